@@ -1,3 +1,3 @@
-pub mod OrderLemmas
+pub mod RowLemmas
 pub mod QuoteLemmas
 pub mod SinkLemmas

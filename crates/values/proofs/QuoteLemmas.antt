@@ -1,5 +1,5 @@
 -- A text with its quotes doubled, run by run.
-use Rattle.std.proofs.Common.{◌≡◌, ◌≢◌, ℕ, zero, suc, ◌+◌, ◌-◌, ◌<◌, ◌≤◌, List, [], ◌∷◌, ◌++◌, take, drop, length, get_or, refl, ap, sym, ◌∙◌, append_assoc, arith, Result, Ok, Err, zero-add, suc-add, add-one, subst}
+use Rattle.std.proofs.Common.{◌≡◌, ◌≢◌, ℕ, zero, suc, ◌+◌, ◌-◌, ◌<◌, ◌≤◌, List, [], ◌∷◌, ◌++◌, take, drop, length, get_or, refl, ap, sym, ◌∙◌, append_assoc, arith, Ok, Err}
 use Rattle.std.proofs.lemmas.Grind.{common_steps}
 use Rattle.std.proofs.lemmas.List.{take-append-drop, drop-drop, drop_more, get_or-drop}
 use Rattle.std.proofs.Common.{length-drop}
@@ -8,7 +8,7 @@ use Rattle.values.specs.Sink.{SinkFacts, Writes}
 use Rattle.values.specs.declared.fault.Fault.{Fault}
 use Rattle.memchr.specs.Find.{IsFirstByte, is_byte}
 use Rattle.std.proofs.lemmas.Bool.{eqb-true, eq-eqb}
-use Rattle.std.proofs.Common.{Option, Some, None, nat_eq, true}
+use Rattle.std.proofs.Common.{Some, None}
 use Rattle.values.proofs.SinkLemmas.{Writes-none, Writes-then, Writes-cut, take-add, take-rest}
 
 quoted-other : (byte : ℕ) → byte ≢ 39 → quoted byte ≡ byte ∷ []
@@ -39,7 +39,7 @@ pub first_quote : (xs : List ℕ) (i : ℕ) → IsFirstByte (is_byte 39) xs (Som
 first_quote xs i found = record {
   within = found.0.high;
   before = λ k below same. found.0.before k (omega arith) below (eq-eqb _ _ same);
-  is = eqb-true _ _ found.1
+  is = eqb-true _ _ found.1;
 }
 
 pub no_quote : (xs : List ℕ) → IsFirstByte (is_byte 39) xs None → (k : ℕ) → k < length xs → get_or xs k 0 ≢ 39
@@ -74,9 +74,9 @@ module _ (text piece : List ℕ) (seen : ℕ) (start now : SinkFacts) (q : Quoti
     pub Quoting-whole : (q.done ++ take (seen + ahead + 1) piece) ++ (39 ∷ quoted_all (drop (seen + ahead + 1) piece)) ≡ quoted_all text
     Quoting-whole =
         let split : take (seen + ahead + 1) piece ≡ take seen piece ++ take (suc ahead) (drop seen piece) =
-          ap (λ n. take n piece) (omega arith) ∙ take-add seen (suc ahead) piece in
+        ap (λ n. take n piece) (omega arith) ∙ take-add seen (suc ahead) piece in
         let rest : drop (seen + ahead + 1) piece ≡ drop (suc ahead) (drop seen piece) =
-          ap (λ n. drop n piece) (omega arith) ∙ sym (drop-drop (suc ahead) seen piece) in
+        ap (λ n. drop n piece) (omega arith) ∙ sym (drop-drop (suc ahead) seen piece) in
         let first = quoted_all-first (drop seen piece) ahead first.within first.before first.is in
         rw (split, rest) (simp append_assoc (ap (λ t. q.done ++ (take seen piece ++ t)) (sym first) ∙ q.whole))
 
@@ -101,5 +101,5 @@ module _ (text piece : List ℕ) (seen : ℕ) (start now : SinkFacts) (q : Quoti
           short = shorter;
           done = q.done ++ take (seen + ahead + 1) piece;
           whole = Quoting-whole;
-          writes = Writes-then _ _ q.done _ _ _ _ q.writes written
+          writes = Writes-then _ _ q.done _ _ _ _ q.writes written;
         })

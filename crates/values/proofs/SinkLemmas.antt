@@ -1,14 +1,12 @@
 -- Writes one after another.
-use Rattle.std.proofs.Common.{refl, ◌≡◌, ℕ, zero, suc, ◌+◌, List, [], ◌∷◌, ◌++◌, take, drop, Option, Some, None, ap, append_assoc, append-nil, suc-add, zero-add, Result, Ok, Err, sym, ◌∙◌, ◌<◌, ◌≤◌, get_or, length, ◌-◌, arith, MatchResult}
+use Rattle.std.proofs.Common.{refl, ◌≡◌, ℕ, zero, suc, ◌+◌, List, [], ◌∷◌, ◌++◌, take, drop, Option, Some, None, ap, append_assoc, append-nil, suc-add, zero-add, Result, Ok, Err, sym, ◌∙◌, ◌<◌, get_or, length, ◌-◌, arith}
 use Rattle.std.proofs.lemmas.Grind.{common_steps}
-use Rattle.std.proofs.lemmas.List.{take-append-drop, take_all}
+use Rattle.std.proofs.lemmas.List.{take-append-drop}
 use Rattle.std.proofs.Math.Seq.{take-nil}
 use Rattle.std.specs.List.{flat_map}
 use Rattle.std.specs.Io.KnownBytes.{Appends}
-use Rattle.values.specs.Sink.{SinkFacts, Writes, WritesTo, WritesFront}
-use Rattle.values.specs.Fault.{Counts}
+use Rattle.values.specs.Sink.{SinkFacts, Writes, WritesFront}
 use Rattle.values.specs.declared.fault.Fault.{Fault}
-use Rattle.values.specs.declared.fault.Fault.TheVariants.{WriteFailed}
 
 pub Appends-none : (a : Option (List ℕ)) → Appends a a []
 Appends-none None = tt
@@ -40,7 +38,7 @@ Writes-front text done old new wrote = record {
   done = take done text;
   rest = drop done text;
   whole = take-append-drop done text;
-  written = wrote
+  written = wrote;
 }
 
 module _ {T : Type 0} where

@@ -32,7 +32,11 @@ fn hex_digit_of(digit: u8) -> u8
     requires { digit < 16 }
     ensures { result ≡ hex_digit digit }
 {
-    if digit < 10 { digit + b'0' } else { digit - 10 + b'A' }
+    if digit < 10 {
+        digit + b'0'
+    } else {
+        digit - 10 + b'A'
+    }
 }
 
 /// Writes two hexadecimal digits for each byte.

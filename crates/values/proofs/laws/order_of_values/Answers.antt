@@ -1,4 +1,4 @@
-use Rattle.values.proofs.OrderLemmas.{datum_cmp_total, datum_cmp-IsAntisymmetric}
+use Rattle.values.specs.OrderLaws.{datum_cmp_total, datum_cmp-IsAntisymmetric}
 use Rattle.values.proofs.laws.order_of_values.Goals as goal
 
 pub returns-clause-total : goal.returns-clause-total

@@ -7,5 +7,5 @@ pub returns-in_err-write_all-clause-writes : goal.returns-in_err-write_all-claus
 returns-in_err-write_all-clause-writes g c =
     let p = err_from_is_err_and c.from_residual.result c.from_residual.ensures.1 in
     rw (p.1, p.2)
-    (Writes-cut_at hex c.args.bytes.now c.loop-byte.byte-index 0 _ _ _ _ c.loop-byte-test.true c.loop-byte.invariant 
+    (Writes-cut_at hex c.args.bytes.now c.loop-byte.byte-index 0 _ _ _ _ c.loop-byte-test.true c.loop-byte.invariant
     (rw (c.hex_digit_of.ensures, c.hex_digit_of-in-loop-byte.ensures) at c.in_err-write_all.ensures.writes))

@@ -1,4 +1,4 @@
-use Rattle.std.proofs.Common.{◌∙◌, arith, sym, take, append-nil}
+use Rattle.std.proofs.Common.{◌∙◌, arith, sym, append-nil}
 use Rattle.std.proofs.lemmas.Grind.{common_steps}
 use Rattle.values.proofs.SinkLemmas.{Appends-more, Appends-then}
 use Rattle.values.proofs.sink.write_front.Goals as goal

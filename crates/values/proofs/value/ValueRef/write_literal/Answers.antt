@@ -1,4 +1,4 @@
-use Rattle.std.proofs.Common.{[], ◌∷◌, Ok}
+use Rattle.std.proofs.Common.{[], ◌∷◌}
 use Rattle.std.proofs.lemmas.Result.{err_from_is_err_and}
 use Rattle.values.specs.Literal.{quoted_all, hex_all}
 use Rattle.values.proofs.SinkLemmas.{Writes-around, Writes-around_cut, Writes-around_open}
