@@ -14,6 +14,8 @@ mod literal;
 mod row;
 mod sink;
 mod sinks;
+#[cfg(test)]
+mod tests;
 mod value;
 
 pub use fault::Fault;
