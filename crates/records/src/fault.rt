@@ -34,6 +34,6 @@ impl<T: Drop> From<AllocFailed<T>> for RecordFault {
     ghost from_gives = { λ _ fault. fault ≡ NoMemory };
 
     fn from(_error: AllocFailed<T>) -> RecordFault {
-        RecordFault::NoMemory
+        RecordFault::from(AllocError)
     }
 }
