@@ -11,7 +11,7 @@ use Rattle.records.specs.declared.fault.RecordFault.TheVariants.{Bad, Float, Tex
 use Rattle.records.specs.Varint.{GoesOn, IsVarint, EndsInside}
 use Rattle.records.specs.Serial.{is_int, is_zero, is_one, is_text, is_ten}
 use Rattle.records.specs.Record.{IsHeader, IsRecord, Breaks}
-use Rattle.records.proofs.HeaderLemmas.{header_fits}
+use Rattle.records.proofs.HeaderLemmas.{split_fits}
 
 -- ---- varints
 
@@ -51,19 +51,15 @@ one_byte n h = record {
 -- headers of one and of two types, each of one byte
 one_type : (s : ℕ) (bodies : List ℕ) → s < 128 → IsHeader (2 ∷ s ∷ bodies) (pos s ∷ []) bodies
 one_type s bodies h = record {
-  size = 2 ∷ [];
   spelt = s ∷ [];
-  parts = refl;
-  counts = one_byte 2 (lit< tt);
+  split = record { size = 2 ∷ []; parts = refl; counts = one_byte 2 (lit< tt) };
   are_types = (s ∷ [], [], refl, one_byte s h, refl);
 }
 
 two_types : (s t : ℕ) (bodies : List ℕ) → s < 128 → t < 128 → IsHeader (3 ∷ s ∷ t ∷ bodies) (pos s ∷ pos t ∷ []) bodies
 two_types s t bodies h k = record {
-  size = 3 ∷ [];
   spelt = s ∷ t ∷ [];
-  parts = refl;
-  counts = one_byte 3 (lit< tt);
+  split = record { size = 3 ∷ []; parts = refl; counts = one_byte 3 (lit< tt) };
   are_types = (s ∷ [], t ∷ [], refl, one_byte s h, (t ∷ [], [], refl, one_byte t k, refl));
 }
 
@@ -88,12 +84,17 @@ zero_and_one = record {
 }
 
 pub no_values : IsRecord (0x01 ∷ []) []
-no_values = record { types = []; bodies = []; header = record { size = 1 ∷ []; spelt = []; parts = refl; counts = one_byte 1 (lit< tt); are_types = refl }; holds = refl }
+no_values = record {
+  types = [];
+  bodies = [];
+  header = record { spelt = []; split = record { size = 1 ∷ []; parts = refl; counts = one_byte 1 (lit< tt) }; are_types = refl };
+  holds = refl;
+}
 
 -- ---- bytes that are no record
 
 pub past_the_end : Breaks Bad (0x02 ∷ [])
-past_the_end = inl (λ types bodies h. omega (arith, (header_fits (2 ∷ []) types bodies 1 2 (record { within = lit≤ tt; is = one_byte 2 (lit< tt) }) h).1))
+past_the_end = inl (λ types bodies h. omega (arith, (split_fits (2 ∷ []) h.spelt bodies 1 2 (record { within = lit≤ tt; is = one_byte 2 (lit< tt) }) h.split).1))
 
 pub one_byte_less : Breaks Bad (0x03 ∷ 0x01 ∷ 0x13 ∷ 0x2a ∷ 0x61 ∷ 0x62 ∷ [])
 one_byte_less = inr (record {

@@ -1,13 +1,11 @@
 -- Headers: what a step of reading types adds, where a header lies, and that bytes have one at most.
 use Rattle.std.proofs.Common.{◌≡◌, ℕ, ◌+◌, ◌-◌, ◌<◌, ◌≤◌, ℤ, pos, negsuc, List, [], ◌∷◌, ◌++◌, length, take, drop, refl, sym, ap, subst, ◌∙◌, arith, SFits, w64, ◌^◌}
 use Rattle.std.specs.Prelude.{unsigned_abs}
-use Rattle.std.proofs.lemmas.List.{take_at, length-append, length-take, length-drop, take-append-drop, drop-drop}
+use Rattle.std.proofs.lemmas.List.{length-append, length-take, length-drop, take-append-drop, drop-drop}
 use Rattle.std.specs.Int.{FitsUnsignedBits}
-use Rattle.records.specs.declared.fault.RecordFault.{RecordFault}
-use Rattle.records.specs.declared.fault.RecordFault.TheVariants.{Bad, Float, Text, NoMemory}
 use Rattle.records.specs.Varint.{IsVarint, BeginsVarint, EndsInside}
-use Rattle.records.specs.Record.{AreTypes, IsHeader, IsBadWhere}
-use Rattle.records.proofs.ListLemmas.{same_split}
+use Rattle.records.specs.Record.{AreTypes, SplitsHeader, IsHeader, HasNoHeader}
+use Rattle.records.proofs.ListLemmas.{SameSplit, same_split}
 use Rattle.records.proofs.VarintLemmas.{one_varint, none_inside, varint_some}
 
 -- ---- types
@@ -40,48 +38,44 @@ one_types bytes (t ∷ ts) (u ∷ us) (a, x, pa, ia, ha) (b, y, pb, ib, hb) =
 -- ---- the header
 
 -- what a header has in common with the varint at the front of the bytes
-pub record AgreesWith (bytes : List ℕ) (start : ℕ) (value : ℤ) (spelt bodies : List ℕ) : Type 0 where
+pub record AgreesWith (bytes : List ℕ) (value : ℤ) (start : ℕ) (spelt bodies : List ℕ) : Type 0 where
   pub value_is : value ≡ pos (start + length spelt)
   pub rest_is : drop start bytes ≡ spelt ++ bodies
 
-pub header_agrees : (bytes : List ℕ) (types : List ℤ) (bodies : List ℕ) (start : ℕ) (value : ℤ) → BeginsVarint bytes value start → (h : IsHeader bytes types bodies) → AgreesWith bytes start value h.spelt bodies
-header_agrees bytes types bodies start value b h =
-    let s = one_varint (take start bytes) (drop start bytes) h.size (h.spelt ++ bodies) value (pos (length h.size + length h.spelt)) b.is h.counts (take-append-drop start bytes ∙ h.parts) in
+pub split_agrees : (bytes spelt bodies : List ℕ) (value : ℤ) (start : ℕ) → BeginsVarint bytes value start → SplitsHeader bytes spelt bodies → AgreesWith bytes value start spelt bodies
+split_agrees bytes spelt bodies value start b h =
+    let s = one_varint (take start bytes) (drop start bytes) h.size (spelt ++ bodies) value (pos (length h.size + length spelt)) b.is h.counts (take-append-drop start bytes ∙ h.parts) in
     let len : start ≡ length h.size = omega (arith, b.within, ap length s.varint, length-take start bytes) in
-    record { value_is = s.value ∙ ap (λ (n : ℕ). pos (n + length h.spelt)) (sym len); rest_is = s.rest }
+    record { value_is = s.value ∙ ap (λ (n : ℕ). pos (n + length spelt)) (sym len); rest_is = s.rest }
 
--- types from the end of the first varint to where it says make a header
-pub header_made : (bytes : List ℕ) (types : List ℤ) (start end : ℕ) → start ≤ end → end ≤ length bytes → BeginsVarint bytes (pos end) start → AreTypes (take (end - start) (drop start bytes)) types → IsHeader bytes types (drop end bytes)
-header_made bytes types start end le within b are =
+-- a header ends where its first varint says
+pub split_made : (bytes : List ℕ) (start end : ℕ) → start ≤ end → end ≤ length bytes → BeginsVarint bytes (pos end) start → SplitsHeader bytes (take (end - start) (drop start bytes)) (drop end bytes)
+split_made bytes start end le within b =
     let gap : start + (end - start) ≡ end = omega arith in
     let spelt = take (end - start) (drop start bytes) in
     let split : drop start bytes ≡ spelt ++ drop end bytes = sym (take-append-drop (end - start) (drop start bytes)) ∙ ap (λ (r : List ℕ). spelt ++ r) (drop-drop (end - start) start bytes ∙ ap (λ (k : ℕ). drop k bytes) gap) in
     record {
       size = take start bytes;
-      spelt = spelt;
       parts = sym (take-append-drop start bytes) ∙ ap (λ (r : List ℕ). take start bytes ++ r) split;
       counts = subst (λ (n : ℕ). IsVarint (take start bytes) (pos n)) (omega (arith, length-take start bytes, length-take (end - start) (drop start bytes), length-drop start bytes)) b.is;
-      are_types = are;
     }
 
--- a header's types lie between its first varint and its end
-pub header_types : (bytes : List ℕ) (types : List ℤ) (bodies : List ℕ) (start end : ℕ) → BeginsVarint bytes (pos end) start → IsHeader bytes types bodies → AreTypes (take (end - start) (drop start bytes)) types
-header_types bytes types bodies start end b h =
-    let a = header_agrees bytes types bodies start (pos end) b h in
-    let n : end ≡ start + length h.spelt = ap unsigned_abs a.value_is in
-    let spelt : take (end - start) (drop start bytes) ≡ h.spelt = ap (take (end - start)) a.rest_is ∙ take_at h.spelt bodies (end - start) (omega arith) in
-    subst (λ (l : List ℕ). AreTypes l types) (sym spelt) h.are_types
-
--- a header's end lies between its first varint and the end of the bytes
-pub header_fits : (bytes : List ℕ) (types : List ℤ) (bodies : List ℕ) (start end : ℕ) → BeginsVarint bytes (pos end) start → IsHeader bytes types bodies → (start ≤ end) × (end ≤ length bytes)
-header_fits bytes types bodies start end b h =
-    let a = header_agrees bytes types bodies start (pos end) b h in
-    let n : end ≡ start + length h.spelt = ap unsigned_abs a.value_is in
-    let r : length bytes - start ≡ length h.spelt + length bodies = sym (length-drop start bytes) ∙ ap length a.rest_is ∙ length-append h.spelt bodies in
+-- that end lies between the first varint and the end of the bytes
+pub split_fits : (bytes spelt bodies : List ℕ) (start end : ℕ) → BeginsVarint bytes (pos end) start → SplitsHeader bytes spelt bodies → (start ≤ end) × (end ≤ length bytes)
+split_fits bytes spelt bodies start end b h =
+    let a = split_agrees bytes spelt bodies (pos end) start b h in
+    let n : end ≡ start + length spelt = ap unsigned_abs a.value_is in
+    let r : length bytes - start ≡ length spelt + length bodies = sym (length-drop start bytes) ∙ ap length a.rest_is ∙ length-append spelt bodies in
     (omega arith, omega (arith, b.within))
 
-pub header_cut : (bytes : List ℕ) (types : List ℤ) (bodies : List ℕ) → EndsInside bytes → IsHeader bytes types bodies → ⊥
-header_cut bytes types bodies cut h = none_inside h.size (h.spelt ++ bodies) _ h.counts (subst EndsInside h.parts cut)
+pub split_cut : (bytes spelt bodies : List ℕ) → EndsInside bytes → SplitsHeader bytes spelt bodies → ⊥
+split_cut bytes spelt bodies cut h = none_inside h.size (spelt ++ bodies) _ h.counts (subst EndsInside h.parts cut)
+
+pub one_split : (bytes a x b y : List ℕ) → SplitsHeader bytes a x → SplitsHeader bytes b y → SameSplit a x b y
+one_split bytes a x b y p q =
+    let s = one_varint p.size (a ++ x) q.size (b ++ y) _ _ p.counts q.counts (sym p.parts ∙ q.parts) in
+    let lens : length p.size + length a ≡ length q.size + length b = ap unsigned_abs s.value in
+    same_split a x b y s.rest (omega (arith, ap length s.varint))
 
 -- what two headers of the same bytes share
 pub record SameHeader (ts us : List ℤ) (xs ys : List ℕ) : Type 0 where
@@ -90,10 +84,14 @@ pub record SameHeader (ts us : List ℤ) (xs ys : List ℕ) : Type 0 where
 
 pub one_header : (bytes : List ℕ) (ts us : List ℤ) (xs ys : List ℕ) → IsHeader bytes ts xs → IsHeader bytes us ys → SameHeader ts us xs ys
 one_header bytes ts us xs ys p q =
-    let s = one_varint p.size (p.spelt ++ xs) q.size (q.spelt ++ ys) _ _ p.counts q.counts (sym p.parts ∙ q.parts) in
-    let lens : length p.size + length p.spelt ≡ length q.size + length q.spelt = ap unsigned_abs s.value in
-    let same = same_split p.spelt xs q.spelt ys s.rest (omega (arith, ap length s.varint)) in
+    let same = one_split bytes p.spelt xs q.spelt ys p.split q.split in
     record { types = one_types q.spelt ts us (subst (λ (l : List ℕ). AreTypes l ts) same.front p.are_types) q.are_types; bodies = same.rest }
+
+-- bytes that spell no types keep a header from being any
+pub no_header : (bytes spelt bodies : List ℕ) → SplitsHeader bytes spelt bodies → ((types : List ℤ) → ¬ (AreTypes spelt types)) → HasNoHeader bytes
+no_header bytes spelt bodies s none types others h =
+    let same = one_split bytes h.spelt others spelt bodies h.split s in
+    none types (subst (λ (l : List ℕ). AreTypes l types) same.front h.are_types)
 
 -- ---- a varint's value as a length
 
@@ -106,11 +104,3 @@ length_fits z n f e =
     let g : SFits w64 (pos n) = subst (SFits w64) e f in
     let small : n < 2 ^ 63 = g.sfits in
     subst (FitsUnsignedBits 64) (sym e) (omega arith)
-
--- ---- faults
-
-pub bad_where : (P Q : Type 0) (f : RecordFault) → (P → Q) → IsBadWhere P f → IsBadWhere Q f
-bad_where P Q Bad g h = g h
-bad_where P Q Float g h = h
-bad_where P Q Text g h = h
-bad_where P Q NoMemory g h = h

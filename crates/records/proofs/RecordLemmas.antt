@@ -3,8 +3,8 @@ use Rattle.std.proofs.Common.{◌≡◌, ℕ, ℤ, List, sym, subst, refl, inl, 
 use Rattle.values.specs.Datum.{Datum}
 use Rattle.records.specs.declared.fault.RecordFault.{RecordFault}
 use Rattle.records.specs.declared.fault.RecordFault.TheVariants.{Bad, Float, Text, NoMemory}
-use Rattle.records.specs.Record.{AreBodies, IsHeader, WithHeader, HasNoHeader, IsRecord, BreaksBodies, Breaks, IsBadWhere}
-use Rattle.records.proofs.HeaderLemmas.{one_header}
+use Rattle.records.specs.Record.{AreTypes, AreBodies, SplitsHeader, IsHeader, WithHeader, IsRecord, BreaksBodies, Breaks, IsBadWhere}
+use Rattle.records.proofs.HeaderLemmas.{one_header, no_header}
 use Rattle.records.proofs.BodyLemmas.{one_bodies, not_broken_bodies}
 
 -- what holds behind some header holds behind the one that was read
@@ -12,6 +12,10 @@ at_header : (bytes : List ℕ) (types : List ℤ) (bodies : List ℕ) (P : List 
 at_header bytes types bodies P h w =
     let same = one_header bytes types w.types bodies w.bodies h w.header in
     subst (λ (ts : List ℤ). P ts bodies) (sym same.types) (subst (P w.types) (sym same.bodies) w.holds)
+
+-- a header, its types and what holds behind it, as one fact
+pub with_header : (P : List ℤ → List ℕ → Type 0) (bytes spelt : List ℕ) (types : List ℤ) (bodies : List ℕ) → SplitsHeader bytes spelt bodies → AreTypes spelt types → P types bodies → WithHeader P bytes
+with_header P bytes spelt types bodies split are holds = record { types = types; bodies = bodies; header = record { spelt = spelt; split = split; are_types = are }; holds = holds }
 
 pub one_record : (bytes : List ℕ) (vs ws : List Datum) → IsRecord bytes vs → IsRecord bytes ws → vs ≡ ws
 one_record bytes vs ws p q = one_bodies q.types q.bodies vs ws (at_header bytes q.types q.bodies (λ types bodies. AreBodies types bodies vs) q.header p) q.holds
@@ -26,12 +30,13 @@ not_broken Float bytes values b is = not_broken_behind Float bytes values b is
 not_broken Text bytes values b is = not_broken_behind Text bytes values b is
 not_broken NoMemory bytes values b is = refl
 
--- what breaks a part breaks the whole
-pub broken_header : (f : RecordFault) (bytes : List ℕ) → IsBadWhere (HasNoHeader bytes) f → Breaks f bytes
-broken_header Bad bytes h = inl h
-broken_header Float bytes h = absurd h
-broken_header Text bytes h = absurd h
-broken_header NoMemory bytes h = tt
+-- ---- what breaks a part breaks the whole
+
+pub broken_types : (f : RecordFault) (bytes spelt bodies : List ℕ) → SplitsHeader bytes spelt bodies → IsBadWhere ((types : List ℤ) → ¬ (AreTypes spelt types)) f → Breaks f bytes
+broken_types Bad bytes spelt bodies s h = inl (no_header bytes spelt bodies s h)
+broken_types Float bytes spelt bodies s h = absurd h
+broken_types Text bytes spelt bodies s h = absurd h
+broken_types NoMemory bytes spelt bodies s h = tt
 
 pub broken_bodies : (f : RecordFault) (bytes : List ℕ) → WithHeader (BreaksBodies f) bytes → Breaks f bytes
 broken_bodies Bad bytes h = inr h

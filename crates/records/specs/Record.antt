@@ -9,22 +9,28 @@ use Rattle.records.specs.Serial.{IsField, IsReserved, body_len}
 -- the bytes are the varints of these types, one after the other
 abbrev pub AreTypes : List ℕ → List ℤ → Type 0
 AreTypes bytes [] = bytes ≡ []
-AreTypes bytes (serial ∷ types) = (first : List ℕ) × (rest : List ℕ) × (bytes ≡ first ++ rest) × IsVarint first serial × AreTypes rest types
+AreTypes bytes (serial ∷ types) =
+    (first : List ℕ) × (rest : List ℕ) × (bytes ≡ first ++ rest) × IsVarint first serial × AreTypes rest types
 
 -- the bytes are the bodies of these values, of these types, one after the other
 abbrev pub AreBodies : List ℤ → List ℕ → List Datum → Type 0
 AreBodies [] bytes [] = bytes ≡ []
-AreBodies (serial ∷ types) bytes (value ∷ values) = (first : List ℕ) × (rest : List ℕ) × (bytes ≡ first ++ rest) × IsField serial first value × AreBodies types rest values
+AreBodies (serial ∷ types) bytes (value ∷ values) =
+    (first : List ℕ) × (rest : List ℕ) × (bytes ≡ first ++ rest) × IsField serial first value × AreBodies types rest values
 AreBodies [] bytes (value ∷ values) = ⊥
 AreBodies (serial ∷ types) bytes [] = ⊥
 
--- The bytes begin with a header of these types, whose first varint is the length of the whole header,
--- its own bytes included. The bodies follow it.
-pub record IsHeader (bytes : List ℕ) (types : List ℤ) (bodies : List ℕ) : Type 0 where
+-- The bytes are a header and the bodies behind it. The header begins with a varint, which is the length of the whole
+-- header, its own bytes included; its types are spelt behind that.
+pub record SplitsHeader (bytes spelt bodies : List ℕ) : Type 0 where
   pub size : List ℕ
-  pub spelt : List ℕ
   pub parts : bytes ≡ size ++ (spelt ++ bodies)
   pub counts : IsVarint size (pos (length size + length spelt))
+
+-- the bytes begin with a header of these types, and the bodies follow it
+pub record IsHeader (bytes : List ℕ) (types : List ℤ) (bodies : List ℕ) : Type 0 where
+  pub spelt : List ℕ
+  pub split : SplitsHeader bytes spelt bodies
   pub are_types : AreTypes spelt types
 
 -- there is a header, and this holds of its types and of the bytes after it

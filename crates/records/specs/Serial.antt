@@ -5,9 +5,10 @@ use Rattle.values.specs.Datum.{Datum, null, int, text, blob}
 use Rattle.records.specs.declared.fault.RecordFault.{RecordFault}
 use Rattle.records.specs.declared.fault.RecordFault.TheVariants.{Bad, Float, Text, NoMemory}
 
--- how many bytes the body of each type takes
+-- how many bytes the body of each type takes; none where the type is reserved
 abbrev pub body_len : ℤ → ℕ
-body_len (pos n) = if nat_lt n 12 then slice_index (0 ∷ 1 ∷ 2 ∷ 3 ∷ 4 ∷ 6 ∷ 8 ∷ 8 ∷ 0 ∷ 0 ∷ 0 ∷ 0 ∷ []) n else (n - 12) / 2
+body_len (pos n) =
+    if nat_lt n 12 then slice_index (0 ∷ 1 ∷ 2 ∷ 3 ∷ 4 ∷ 6 ∷ 8 ∷ 8 ∷ 0 ∷ 0 ∷ 0 ∷ 0 ∷ []) n else (n - 12) / 2
 body_len (negsuc n) = 0
 
 -- the number that the bytes are, the most significant first, in two's complement
@@ -18,7 +19,8 @@ big_endian body = twos_complement (length body) (big_number (length body) body)
 -- here; types 10, 11 and those below 0 have none at all.
 pub data IsField (serial : ℤ) (body : List ℕ) (value : Datum) : Type 0 where
   is_null : serial ≡ pos 0 → body ≡ [] → value ≡ null → IsField serial body value
-  is_int : pos 1 ≤ℤ serial → serial ≤ℤ pos 6 → length body ≡ body_len serial → value ≡ int (big_endian body) → IsField serial body value
+  is_int : pos 1 ≤ℤ serial → serial ≤ℤ pos 6 → length body ≡ body_len serial → value ≡ int (big_endian body)
+      → IsField serial body value
   is_zero : serial ≡ pos 8 → body ≡ [] → value ≡ int (pos 0) → IsField serial body value
   is_one : serial ≡ pos 9 → body ≡ [] → value ≡ int (pos 1) → IsField serial body value
   is_blob : serial ≡ pos (12 + 2 * length body) → value ≡ blob body → IsField serial body value
@@ -47,5 +49,6 @@ pub record BeginsField (serial : ℤ) (bytes : List ℕ) (value : Datum) (rest :
 abbrev pub BreaksFront : RecordFault → ℤ → List ℕ → Type 0
 BreaksFront Bad serial bytes = IsReserved serial ⊎ (length bytes < body_len serial)
 BreaksFront Float serial bytes = serial ≡ pos 7
-BreaksFront Text serial bytes = (body : List ℕ) × (rest : List ℕ) × (bytes ≡ body ++ rest) × (serial ≡ pos (13 + 2 * length body)) × ¬ (IsUtf8 body)
+BreaksFront Text serial bytes =
+    (body : List ℕ) × (rest : List ℕ) × (bytes ≡ body ++ rest) × (serial ≡ pos (13 + 2 * length body)) × ¬ (IsUtf8 body)
 BreaksFront NoMemory serial bytes = ⊥

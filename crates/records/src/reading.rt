@@ -1,7 +1,8 @@
-//! The two parts of a record: the header with its types, and the fields behind it. (Database File Format, section 2.1)
-ghost use Rattle.std.specs.Prelude.{◌≡◌, ℤ, List, map, IfOk, IfErr};
+//! The parts of a record: its header, the types that are spelt there, and the fields whose bodies stand behind it.
+//! (Database File Format, section 2.1)
+ghost use Rattle.std.specs.Prelude.{ℕ, ℤ, List, map, IfSome, IfNone, IfOk, IfErr};
 ghost use Rattle.values.specs.Datum.{datum_of_ref};
-ghost use Rattle.records.specs.Record.{AreTypes, AreBodies, IsHeader, HasNoHeader, BreaksBodies, IsBadWhere};
+ghost use Rattle.records.specs.Record.{SplitsHeader, AreTypes, AreBodies, BreaksBodies, IsBadWhere};
 
 use crate::fault::RecordFault;
 use crate::serials::first_field;
@@ -10,14 +11,30 @@ use smallvec::SmallVec;
 use std::alloc::Global;
 use values::ValueRef;
 
+/// The types of a record's header, as they are spelt, and the bodies behind it; `None` where there is no such header.
+#[inline]
+pub(crate) fn split_header(bytes: &[u8]) -> Option<(&[u8], &[u8])>
+    ensures found { IfSome result (λ parts. SplitsHeader bytes.now parts.0.now parts.1.now) }
+    ensures none { IfNone result ((spelt bodies : List ℕ) → ¬ (SplitsHeader bytes.now spelt bodies)) }
+{
+    let (size, start) = varint(bytes)?;
+    let Ok(end) = usize::try_from(size) else {
+        return None;
+    };
+    if end < start || bytes.len() < end {
+        return None;
+    }
+    Some((&bytes[start..end], &bytes[end..]))
+}
+
 /// The types that the bytes spell, all of the bytes.
 #[inline]
-fn serial_types(alloc: Global, bytes: &[u8]) -> Result<SmallVec<i64, 16>, RecordFault>
-    ensures found { IfOk result (λ types. AreTypes bytes.now types.items) }
-    ensures none { IfErr result (IsBadWhere ((types : List ℤ) → ¬ (AreTypes bytes.now types))) }
+pub(crate) fn types_of(alloc: Global, spelt: &[u8]) -> Result<SmallVec<i64, 16>, RecordFault>
+    ensures found { IfOk result (λ types. AreTypes spelt.now types.items) }
+    ensures none { IfErr result (IsBadWhere ((types : List ℤ) → ¬ (AreTypes spelt.now types))) }
 {
     let mut types = SmallVec::new(alloc);
-    let mut rest = bytes;
+    let mut rest = spelt;
     while !rest.is_empty() {
         let Some((serial, len)) = varint(rest) else {
             return Err(RecordFault::Bad);
@@ -26,25 +43,6 @@ fn serial_types(alloc: Global, bytes: &[u8]) -> Result<SmallVec<i64, 16>, Record
         rest = &rest[len..];
     }
     Ok(types)
-}
-
-/// The types of a record's header, and the bytes behind it.
-#[inline]
-pub(crate) fn header(alloc: Global, bytes: &[u8]) -> Result<(SmallVec<i64, 16>, &[u8]), RecordFault>
-    ensures found { IfOk result (λ header. IsHeader bytes.now header.0.items header.1.now) }
-    ensures none { IfErr result (IsBadWhere (HasNoHeader bytes.now)) }
-{
-    let Some((size, start)) = varint(bytes) else {
-        return Err(RecordFault::Bad);
-    };
-    let Ok(end) = usize::try_from(size) else {
-        return Err(RecordFault::Bad);
-    };
-    if end < start || bytes.len() < end {
-        return Err(RecordFault::Bad);
-    }
-    let types = serial_types(alloc, &bytes[start..end])?;
-    Ok((types, &bytes[end..]))
 }
 
 /// The values of these types whose bodies the bytes are, all of the bytes.

@@ -1,5 +1,5 @@
 //! Serial types: how long a field's body is, and the value that it stands for. (Database File Format, section 2.1)
-ghost use Rattle.std.specs.Prelude.{◌≡◌, length, MatchResult, IfOk, IfErr};
+ghost use Rattle.std.specs.Prelude.{◌≡◌, length, IfOk, IfErr};
 ghost use Rattle.values.specs.Datum.{datum_of_ref};
 ghost use Rattle.records.specs.Serial.{body_len, IsField, BreaksField, BeginsField, BreaksFront};
 
@@ -25,7 +25,8 @@ fn len_of(serial: i64) -> usize
 #[inline]
 fn field(serial: i64, body: &[u8]) -> Result<ValueRef<'_>, RecordFault>
     requires { length body.now ≡ body_len serial }
-    ensures { MatchResult result (λ value. IsField serial body.now (datum_of_ref value)) (λ fault. BreaksField fault serial body.now) }
+    ensures found { IfOk result (λ value. IsField serial body.now (datum_of_ref value)) }
+    ensures fault { IfErr result (λ fault. BreaksField fault serial body.now) }
 {
     match serial {
         0 => Ok(ValueRef::Null),

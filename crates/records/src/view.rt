@@ -4,7 +4,7 @@ ghost use Rattle.values.specs.Datum.{Datum, datum_of_ref};
 ghost use Rattle.records.specs.Record.{IsRecord, Breaks};
 
 use crate::fault::RecordFault;
-use crate::reading::{fields_of, header};
+use crate::reading::{fields_of, split_header, types_of};
 use smallvec::SmallVec;
 use std::alloc::Global;
 use std::marker::Model;
@@ -12,7 +12,7 @@ use values::ValueRef;
 
 /// A record whose texts and blobs are slices of the bytes that it was read from; a clause sees it as the list of its
 /// values.
-#[derive(Drop)]
+#[derive(Debug, Drop)]
 pub struct RecordView<'p> {
     fields: SmallVec<ValueRef<'p>, 8>,
 }
@@ -38,11 +38,15 @@ impl<'p> RecordView<'p> {
         // The fields are the record's values.
         ensures found { IfOk result (λ fields. IsRecord bytes.now fields) }
         // A record is read, unless memory runs out.
-        ensures only { (values : List Datum) → IsRecord bytes.now values → MatchResult result (λ fields. fields ≡ values) (λ fault. fault ≡ RecordFault.NoMemory) }
+        ensures only { (values : List Datum) → IsRecord bytes.now values
+            → MatchResult result (λ fields. fields ≡ values) (λ fault. fault ≡ RecordFault.NoMemory) }
         // A fault's condition stands in the bytes.
         ensures fault { IfErr result (λ fault. Breaks fault bytes.now) }
     {
-        let (types, bodies) = header(alloc, bytes)?;
+        let Some((spelt, bodies)) = split_header(bytes) else {
+            return Err(RecordFault::Bad);
+        };
+        let types = types_of(alloc, spelt)?;
         let fields = fields_of(alloc, types.as_slice(), bodies)?;
         Ok(RecordView { fields })
     }

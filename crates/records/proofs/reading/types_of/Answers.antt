@@ -5,7 +5,7 @@ use Rattle.records.specs.Varint.{BeginsVarint}
 use Rattle.records.specs.Record.{AreTypes}
 use Rattle.records.proofs.ListLemmas.{not_empty, empty}
 use Rattle.records.proofs.HeaderLemmas.{types_step, types_tail, types_cut}
-use Rattle.records.proofs.reading.serial_types.Goals as goal
+use Rattle.records.proofs.reading.types_of.Goals as goal
 
 pub returns-in_default-clause-none : goal.returns-in_default-clause-none
 returns-in_default-clause-none c = λ types are.
@@ -25,7 +25,7 @@ loop-rest-preserved c =
     record {
       found = λ more are.
           let items : c.push.new.self.items ++ more ≡ before ++ (serial ∷ more) = ap (λ (l : List ℤ). l ++ more) pushed ∙ append_assoc before (serial ∷ []) more in
-          subst (λ (l : List ℤ). AreTypes c.args.bytes.now l) (sym items)
+          subst (λ (l : List ℤ). AreTypes c.args.spelt.now l) (sym items)
           (c.loop-rest.invariant.found (serial ∷ more) (types_step rest len serial more begins (subst (λ (b : List ℕ). AreTypes b more) cut are)));
       only = λ all are.
           let tail = c.loop-rest.invariant.only all are in
@@ -36,4 +36,4 @@ loop-rest-preserved c =
 pub returns-clause-found : goal.returns-clause-found
 returns-clause-found c =
     let none = empty c.loop-rest.rest.now c.is_empty.result c.is_empty.ensures c.loop-rest-test.false in
-    subst (λ (l : List ℤ). AreTypes c.args.bytes.now l) (append-nil c.loop-rest.types.items) (c.loop-rest.invariant.found [] none)
+    subst (λ (l : List ℤ). AreTypes c.args.spelt.now l) (append-nil c.loop-rest.types.items) (c.loop-rest.invariant.found [] none)
