@@ -41,7 +41,8 @@ value_at-int (pos n) body low high =
     let h : n ≤ 6 = omega (arith, ints) in
     at n (big_endian body) body l h
   where
-    at : (n : ℕ) (z : ℤ) (body : List ℕ) → 1 ≤ n → n ≤ 6 → int z ≡ cond (eqb n 0) null (cond (ltb n 7) (int z) (cond (eqb n 8) (int (pos 0)) (cond (eqb n 9) (int (pos 1)) (cond (eqb (n % 2) 0) (blob body) (text body)))))
+    at : (n : ℕ) (z : ℤ) (body : List ℕ) → 1 ≤ n → n ≤ 6
+        → int z ≡ cond (eqb n 0) null (cond (ltb n 7) (int z) (cond (eqb n 8) (int (pos 0)) (cond (eqb n 9) (int (pos 1)) (cond (eqb (n % 2) 0) (blob body) (text body)))))
     at n z body l h = grind (arith, nat_tests)
 value_at-int (negsuc n) body low high = absurd (omega (arith, ints))
 
@@ -117,7 +118,8 @@ text_is_utf8 serial body v s h = elim h [
 ]
 
 -- a body at the front that is no value
-pub front_broken : (f : RecordFault) (serial : ℤ) (bytes body rest : List ℕ) → bytes ≡ body ++ rest → BreaksField f serial body → BreaksFront f serial bytes
+pub front_broken : (f : RecordFault) (serial : ℤ) (bytes body rest : List ℕ) → bytes ≡ body ++ rest → BreaksField f serial body
+    → BreaksFront f serial bytes
 front_broken Bad serial bytes body rest e h = inl h
 front_broken Float serial bytes body rest e h = h
 front_broken Text serial bytes body rest e h = (body, rest, e, h.0, h.1)

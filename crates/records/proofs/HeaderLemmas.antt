@@ -11,11 +11,13 @@ use Rattle.records.proofs.VarintLemmas.{one_varint, none_inside, varint_some}
 -- ---- types
 
 -- the bytes at the front are a varint, and the rest spells the others
-pub types_step : (rest : List ℕ) (len : ℕ) (serial : ℤ) (more : List ℤ) → BeginsVarint rest serial len → AreTypes (drop len rest) more → AreTypes rest (serial ∷ more)
+pub types_step : (rest : List ℕ) (len : ℕ) (serial : ℤ) (more : List ℤ) → BeginsVarint rest serial len → AreTypes (drop len rest) more
+    → AreTypes rest (serial ∷ more)
 types_step rest len serial more b h = (take len rest, drop len rest, sym (take-append-drop len rest), b.is, h)
 
 -- bytes that spell types and begin with a varint spell the others behind it
-pub types_tail : (rest : List ℕ) (len : ℕ) (serial : ℤ) (all : List ℤ) → BeginsVarint rest serial len → AreTypes rest all → (more : List ℤ) × AreTypes (drop len rest) more
+pub types_tail : (rest : List ℕ) (len : ℕ) (serial : ℤ) (all : List ℤ) → BeginsVarint rest serial len → AreTypes rest all
+    → (more : List ℤ) × AreTypes (drop len rest) more
 types_tail rest len serial [] b h = absurd (omega (arith, varint_some (take len rest) serial b.is, length-take len rest, ap length h))
 types_tail rest len serial (t ∷ ts) b (first, after, parts, first_is, h) =
     let s = one_varint (take len rest) (drop len rest) first after serial t b.is first_is (take-append-drop len rest ∙ parts) in
@@ -42,18 +44,22 @@ pub record AgreesWith (bytes : List ℕ) (value : ℤ) (start : ℕ) (spelt bodi
   pub value_is : value ≡ pos (start + length spelt)
   pub rest_is : drop start bytes ≡ spelt ++ bodies
 
-pub split_agrees : (bytes spelt bodies : List ℕ) (value : ℤ) (start : ℕ) → BeginsVarint bytes value start → SplitsHeader bytes spelt bodies → AgreesWith bytes value start spelt bodies
+pub split_agrees : (bytes spelt bodies : List ℕ) (value : ℤ) (start : ℕ) → BeginsVarint bytes value start → SplitsHeader bytes spelt bodies
+    → AgreesWith bytes value start spelt bodies
 split_agrees bytes spelt bodies value start b h =
-    let s = one_varint (take start bytes) (drop start bytes) h.size (spelt ++ bodies) value (pos (length h.size + length spelt)) b.is h.counts (take-append-drop start bytes ∙ h.parts) in
+    let s =
+    one_varint (take start bytes) (drop start bytes) h.size (spelt ++ bodies) value (pos (length h.size + length spelt)) b.is h.counts (take-append-drop start bytes ∙ h.parts) in
     let len : start ≡ length h.size = omega (arith, b.within, ap length s.varint, length-take start bytes) in
     record { value_is = s.value ∙ ap (λ (n : ℕ). pos (n + length spelt)) (sym len); rest_is = s.rest }
 
 -- a header ends where its first varint says
-pub split_made : (bytes : List ℕ) (start end : ℕ) → start ≤ end → end ≤ length bytes → BeginsVarint bytes (pos end) start → SplitsHeader bytes (take (end - start) (drop start bytes)) (drop end bytes)
+pub split_made : (bytes : List ℕ) (start end : ℕ) → start ≤ end → end ≤ length bytes → BeginsVarint bytes (pos end) start
+    → SplitsHeader bytes (take (end - start) (drop start bytes)) (drop end bytes)
 split_made bytes start end le within b =
     let gap : start + (end - start) ≡ end = omega arith in
     let spelt = take (end - start) (drop start bytes) in
-    let split : drop start bytes ≡ spelt ++ drop end bytes = sym (take-append-drop (end - start) (drop start bytes)) ∙ ap (λ (r : List ℕ). spelt ++ r) (drop-drop (end - start) start bytes ∙ ap (λ (k : ℕ). drop k bytes) gap) in
+    let split : drop start bytes ≡ spelt ++ drop end bytes =
+    sym (take-append-drop (end - start) (drop start bytes)) ∙ ap (λ (r : List ℕ). spelt ++ r) (drop-drop (end - start) start bytes ∙ ap (λ (k : ℕ). drop k bytes) gap) in
     record {
       size = take start bytes;
       parts = sym (take-append-drop start bytes) ∙ ap (λ (r : List ℕ). take start bytes ++ r) split;
@@ -61,11 +67,13 @@ split_made bytes start end le within b =
     }
 
 -- that end lies between the first varint and the end of the bytes
-pub split_fits : (bytes spelt bodies : List ℕ) (start end : ℕ) → BeginsVarint bytes (pos end) start → SplitsHeader bytes spelt bodies → (start ≤ end) × (end ≤ length bytes)
+pub split_fits : (bytes spelt bodies : List ℕ) (start end : ℕ) → BeginsVarint bytes (pos end) start → SplitsHeader bytes spelt bodies
+    → (start ≤ end) × (end ≤ length bytes)
 split_fits bytes spelt bodies start end b h =
     let a = split_agrees bytes spelt bodies (pos end) start b h in
     let n : end ≡ start + length spelt = ap unsigned_abs a.value_is in
-    let r : length bytes - start ≡ length spelt + length bodies = sym (length-drop start bytes) ∙ ap length a.rest_is ∙ length-append spelt bodies in
+    let r : length bytes - start ≡ length spelt + length bodies =
+    sym (length-drop start bytes) ∙ ap length a.rest_is ∙ length-append spelt bodies in
     (omega arith, omega (arith, b.within))
 
 pub split_cut : (bytes spelt bodies : List ℕ) → EndsInside bytes → SplitsHeader bytes spelt bodies → ⊥
@@ -88,7 +96,8 @@ one_header bytes ts us xs ys p q =
     record { types = one_types q.spelt ts us (subst (λ (l : List ℕ). AreTypes l ts) same.front p.are_types) q.are_types; bodies = same.rest }
 
 -- bytes that spell no types keep a header from being any
-pub no_header : (bytes spelt bodies : List ℕ) → SplitsHeader bytes spelt bodies → ((types : List ℤ) → ¬ (AreTypes spelt types)) → HasNoHeader bytes
+pub no_header : (bytes spelt bodies : List ℕ) → SplitsHeader bytes spelt bodies → ((types : List ℤ) → ¬ (AreTypes spelt types))
+    → HasNoHeader bytes
 no_header bytes spelt bodies s none types others h =
     let same = one_split bytes h.spelt others spelt bodies h.split s in
     none types (subst (λ (l : List ℕ). AreTypes l types) same.front h.are_types)

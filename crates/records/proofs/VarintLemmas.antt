@@ -64,7 +64,8 @@ same_value bytes v w p q =
         | inr t ↦
             let whole : s.front ++ s.last ∷ [] ≡ t.front ++ t.last ∷ [] = sym s.parts ∙ t.parts in
             let fronts = (same_split s.front (s.last ∷ []) t.front (t.last ∷ []) whole (s.eight ∙ sym t.eight)).front in
-            let lasts : s.last ≡ t.last = sym (get_or_at s.front s.last [] 0 8 s.eight) ∙ ap (λ (l : List ℕ). get_or l 8 0) whole ∙ get_or_at t.front t.last [] 0 8 t.eight in
+            let lasts : s.last ≡ t.last =
+            sym (get_or_at s.front s.last [] 0 8 s.eight) ∙ ap (λ (l : List ℕ). get_or l 8 0) whole ∙ get_or_at t.front t.last [] 0 8 t.eight in
             s.number ∙ ap (λ (l : List ℕ). seven_bits l * 256 + s.last) fronts ∙ ap (λ (n : ℕ). seven_bits t.front * 256 + n) lasts ∙ sym t.number
       ]
     ]
@@ -115,10 +116,12 @@ pub none_inside_front : (bytes : List ℕ) (v : ℤ) (len : ℕ) → BeginsVarin
 none_inside_front bytes v len b cut = none_inside (take len bytes) (drop len bytes) v b.is (subst EndsInside (sym (take-append-drop len bytes)) cut)
 
 -- a byte below 128 ends a varint of at most eight
-pub ends_short : (bytes : List ℕ) (read bits byte : ℕ) → read < 8 → read < length bytes → byte ≡ get_or bytes read 0 → byte < 128 → All GoesOn (take read bytes) → bits ≡ seven_bits (take read bytes)
+pub ends_short : (bytes : List ℕ) (read bits byte : ℕ) → read < 8 → read < length bytes → byte ≡ get_or bytes read 0 → byte < 128
+    → All GoesOn (take read bytes) → bits ≡ seven_bits (take read bytes)
     → BeginsVarint bytes (cast_signed w64 (bits * 128 + byte % 128)) (read + 1)
 ends_short bytes read bits byte lt in_it at low go_on so_far =
-    let parts : take (read + 1) bytes ≡ take read bytes ++ byte ∷ [] = take_more bytes read 0 in_it ∙ ap (λ (b : ℕ). take read bytes ++ b ∷ []) (sym at) in
+    let parts : take (read + 1) bytes ≡ take read bytes ++ byte ∷ [] =
+    take_more bytes read 0 in_it ∙ ap (λ (b : ℕ). take read bytes ++ b ∷ []) (sym at) in
     record {
       within = omega arith;
       is = record {
@@ -137,10 +140,12 @@ ends_short bytes read bits byte lt in_it at low go_on so_far =
     }
 
 -- a ninth byte ends one
-pub ends_long : (bytes : List ℕ) (read bits byte : ℕ) → read ≡ 8 → read < length bytes → byte ≡ get_or bytes read 0 → All GoesOn (take read bytes) → bits ≡ seven_bits (take read bytes)
+pub ends_long : (bytes : List ℕ) (read bits byte : ℕ) → read ≡ 8 → read < length bytes → byte ≡ get_or bytes read 0
+    → All GoesOn (take read bytes) → bits ≡ seven_bits (take read bytes)
     → BeginsVarint bytes (cast_signed w64 (bits * 256 + byte)) 9
 ends_long bytes read bits byte eight in_it at go_on so_far =
-    let parts : take 9 bytes ≡ take read bytes ++ byte ∷ [] = ap (λ (k : ℕ). take (k + 1) bytes) (sym eight) ∙ take_more bytes read 0 in_it ∙ ap (λ (b : ℕ). take read bytes ++ b ∷ []) (sym at) in
+    let parts : take 9 bytes ≡ take read bytes ++ byte ∷ [] =
+    ap (λ (k : ℕ). take (k + 1) bytes) (sym eight) ∙ take_more bytes read 0 in_it ∙ ap (λ (b : ℕ). take read bytes ++ b ∷ []) (sym at) in
     record {
       within = omega arith;
       is = record {

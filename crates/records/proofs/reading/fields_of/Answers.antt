@@ -37,11 +37,14 @@ loop-serial-preserved c =
     let values = c.loop-serial.fields.items in
     let serial = get_or types i (pos 0) in
     let fits : SFits w64 serial = search rules in
-    let begins : BeginsField serial rest value after = subst (λ (s : ℤ). BeginsField s rest value after) (to_z-of_z w64 serial fits) c.in_ok-value.ensures.found in
-    let pushed : map datum_of_ref c.push.new.self.items ≡ map datum_of_ref values ++ value ∷ [] = ap (map datum_of_ref) c.in_ok-push.ensures.ok ∙ map_push datum_of_ref values c.in_ok-value.value in
+    let begins : BeginsField serial rest value after =
+    subst (λ (s : ℤ). BeginsField s rest value after) (to_z-of_z w64 serial fits) c.in_ok-value.ensures.found in
+    let pushed : map datum_of_ref c.push.new.self.items ≡ map datum_of_ref values ++ value ∷ [] =
+    ap (map datum_of_ref) c.in_ok-push.ensures.ok ∙ map_push datum_of_ref values c.in_ok-value.value in
     record {
       found = λ more h.
-          let joined : map datum_of_ref c.push.new.self.items ++ more ≡ map datum_of_ref values ++ (value ∷ more) = ap (λ (l : List Datum). l ++ more) pushed ∙ append_assoc (map datum_of_ref values) (value ∷ []) more in
+          let joined : map datum_of_ref c.push.new.self.items ++ more ≡ map datum_of_ref values ++ (value ∷ more) =
+          ap (λ (l : List Datum). l ++ more) pushed ∙ append_assoc (map datum_of_ref values) (value ∷ []) more in
           subst (λ (l : List Datum). AreBodies types c.args.bodies.now l) (sym joined)
           (c.loop-serial.invariant.found (value ∷ more) (bodies_step types i (pos 0) rest after value more c.loop-serial-test.true begins h));
       place = place_step types c.args.bodies.now i (pos 0) rest after value c.loop-serial-test.true c.loop-serial.invariant.place begins;
@@ -51,7 +54,8 @@ pub returns-clause-found : goal.returns-clause-found
 returns-clause-found c =
     let types = c.args.types.now in
     let none = empty c.loop-serial.rest.now c.is_empty.result c.is_empty.ensures c.if-not-is_empty.false in
-    let done = subst (λ (ts : List ℤ). AreBodies ts c.loop-serial.rest.now []) (sym (drop_all c.loop-serial.serial-index types c.loop-serial-test.false)) none in
+    let done =
+    subst (λ (ts : List ℤ). AreBodies ts c.loop-serial.rest.now []) (sym (drop_all c.loop-serial.serial-index types c.loop-serial-test.false)) none in
     subst (λ (l : List Datum). AreBodies types c.args.bodies.now l) (append-nil (map datum_of_ref c.loop-serial.fields.items)) (c.loop-serial.invariant.found [] done)
 
 pub returns-then-not-is_empty-clause-fault : goal.returns-then-not-is_empty-clause-fault

@@ -21,10 +21,12 @@ loop-rest-preserved c =
     let cut = take_rest rest len in
     let begins : BeginsVarint rest serial len = c.in-Some.ensures.found in
     let fits : SFits w64 serial = search rules in
-    let pushed : c.push.new.self.items ≡ before ++ serial ∷ [] = c.in_ok-push.ensures.ok ∙ ap (λ (z : ℤ). before ++ z ∷ []) (to_z-of_z w64 serial fits) in
+    let pushed : c.push.new.self.items ≡ before ++ serial ∷ [] =
+    c.in_ok-push.ensures.ok ∙ ap (λ (z : ℤ). before ++ z ∷ []) (to_z-of_z w64 serial fits) in
     record {
       found = λ more are.
-          let items : c.push.new.self.items ++ more ≡ before ++ (serial ∷ more) = ap (λ (l : List ℤ). l ++ more) pushed ∙ append_assoc before (serial ∷ []) more in
+          let items : c.push.new.self.items ++ more ≡ before ++ (serial ∷ more) =
+          ap (λ (l : List ℤ). l ++ more) pushed ∙ append_assoc before (serial ∷ []) more in
           subst (λ (l : List ℤ). AreTypes c.args.spelt.now l) (sym items)
           (c.loop-rest.invariant.found (serial ∷ more) (types_step rest len serial more begins (subst (λ (b : List ℕ). AreTypes b more) cut are)));
       only = λ all are.

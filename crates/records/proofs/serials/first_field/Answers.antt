@@ -11,7 +11,8 @@ returns-in_err-value-clause-fault c =
     let bytes = c.args.bytes.now in
     let body = c.split_at.result.0.now in
     let rest = c.split_at.result.1.now in
-    let parts : bytes ≡ body ++ rest = rw (c.split_at.ensures.front, c.split_at.ensures.back) (sym (take-append-drop c.len_of-len.result bytes)) in
+    let parts : bytes ≡ body ++ rest =
+    rw (c.split_at.ensures.front, c.split_at.ensures.back) (sym (take-append-drop c.len_of-len.result bytes)) in
     let fault = c.in_err-value.field-0.0 in
     let broken = subst (λ (s : ℤ). BreaksField fault s body) (to_z-of_z w64 c.args.serial c.ranges.serial) c.in_err-value.ensures.fault in
     let p = err_from_is_err_and c.from_residual.result c.from_residual.ensures.1 in

@@ -19,7 +19,8 @@ pub returns-then-read-eq8-clause-only : goal.returns-then-read-eq8-clause-only
 returns-then-read-eq8-clause-only c = λ value len begins.
     let l = c.loop-read.invariant in
     let f : SFits w64 c.cast_signed.result = search rules in
-    let long = ends_long c.args.bytes.now c.loop-read.read c.loop-read.bits c.from-byte.result c.if-read-eq8.true c.loop-read-test.true c.from-byte.ensures l.go_on l.bits in
+    let long =
+    ends_long c.args.bytes.now c.loop-read.read c.loop-read.bits c.from-byte.result c.if-read-eq8.true c.loop-read-test.true c.from-byte.ensures l.go_on l.bits in
     let s = one_front c.args.bytes.now _ value 9 len long begins in
     let back = to_z-of_z w64 c.cast_signed.result f in
     cc (s.0, s.1, back, c.cast_signed.ensures)
@@ -47,7 +48,8 @@ returns-then-byte-lt128-clause-only c = λ value len begins.
     let l = c.loop-read.invariant in
     let r = c.cast_signed-then-byte-lt128 in
     let f : SFits w64 r.result = search rules in
-    let short = ends_short c.args.bytes.now c.loop-read.read c.loop-read.bits c.from-byte.result (omega arith) c.loop-read-test.true c.from-byte.ensures c.if-byte-lt128.true l.go_on l.bits in
+    let short =
+    ends_short c.args.bytes.now c.loop-read.read c.loop-read.bits c.from-byte.result (omega arith) c.loop-read-test.true c.from-byte.ensures c.if-byte-lt128.true l.go_on l.bits in
     let s = one_front c.args.bytes.now _ value (c.loop-read.read + 1) len short begins in
     let back = to_z-of_z w64 r.result f in
     cc (s.0, s.1, back, r.ensures)

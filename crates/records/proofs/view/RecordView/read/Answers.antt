@@ -30,7 +30,8 @@ returns-in_err-fields-clause-only c = λ values is.
     let bytes = c.args.bytes.now in
     let fault = c.in_err-fields.field-0.0 in
     let are = subst (AreTypes c.in-Some.spelt.now) (sym c.as_slice.ensures) c.in_ok-types.ensures.found in
-    let broken = broken_bodies fault bytes (with_header _ bytes c.in-Some.spelt.now c.as_slice.result.now c.in-Some.bodies.now c.in-Some.ensures.found are c.in_err-fields.ensures.fault) in
+    let broken =
+    broken_bodies fault bytes (with_header _ bytes c.in-Some.spelt.now c.as_slice.result.now c.in-Some.bodies.now c.in-Some.ensures.found are c.in_err-fields.ensures.fault) in
     let p = err_from_is_err_and c.from_residual-in_err-fields.result c.from_residual-in_err-fields.ensures.1 in
     rw (p.1, p.2) (not_broken fault bytes values broken is)
 
@@ -38,5 +39,6 @@ pub returns-clause-only : goal.returns-clause-only
 returns-clause-only c = λ values is.
     let bytes = c.args.bytes.now in
     let are = subst (AreTypes c.in-Some.spelt.now) (sym c.as_slice.ensures) c.in_ok-types.ensures.found in
-    let found = with_header (λ types bodies. AreBodies types bodies _) bytes c.in-Some.spelt.now c.as_slice.result.now c.in-Some.bodies.now c.in-Some.ensures.found are c.in_ok-fields.ensures.found in
+    let found =
+    with_header (λ types bodies. AreBodies types bodies _) bytes c.in-Some.spelt.now c.as_slice.result.now c.in-Some.bodies.now c.in-Some.ensures.found are c.in_ok-fields.ensures.found in
     one_record bytes _ values found is
