@@ -1,6 +1,6 @@
 -- Examples of the formats, by computation.
-use Rattle.std.specs.Prelude.{◌≡◌, ◌<◌, ◌-◌, ◌^◌, ℕ, Bool, true, false, List, pos, negsuc, [], ◌∷◌, refl, replicate, IsUtf8}
-use Rattle.std.proofs.Common.{inl, inr, lit<, lit≤, sym, subst, arith, w64}
+use Rattle.std.specs.Prelude.{◌≡◌, ◌<◌, ◌-◌, ◌^◌, ℕ, true, false, List, pos, negsuc, [], ◌∷◌, refl, replicate, IsUtf8}
+use Rattle.std.proofs.Common.{inl, inr, lit<, lit≤, sym, arith, w64}
 use Rattle.std.proofs.lemmas.Int.{ints, to_z_pos}
 use Rattle.std.proofs.lemmas.List.Elements.{All-nil, All-cons, All-replicate}
 use Rattle.std.proofs.lemmas.Str.{is_utf8-from_IsUtf8}

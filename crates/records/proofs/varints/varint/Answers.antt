@@ -1,11 +1,11 @@
-use Rattle.std.proofs.Common.{◌*◌, ◌%◌, ◌++◌, ◌∷◌, [], ◌≤◌, ◌^◌, ◌+◌, ℕ, ℤ, take, subst, arith, rules, sym, ap, ◌∙◌, SFits, w64}
+use Rattle.std.proofs.Common.{◌*◌, ◌%◌, ◌++◌, ◌∷◌, [], ◌≤◌, ◌^◌, ◌+◌, ℕ, take, arith, rules, sym, ap, ◌∙◌, SFits, w64}
 use Rattle.std.proofs.lemmas.Int.{to_z-of_z}
 use Rattle.std.proofs.lemmas.List.{take_more, take_all}
 use Rattle.std.proofs.lemmas.List.Elements.{All-more, All-same}
 use Rattle.std.proofs.lemmas.Grind.{pow_more}
 use Rattle.std.proofs.Math.Nat.{pow-le-pow_right}
 use Rattle.records.proofs.VarintLemmas.{one_front, none_inside_front, ends_short, ends_long, seven_bits-push}
-use Rattle.records.specs.Varint.{seven_bits, GoesOn, BeginsVarint, EndsInside}
+use Rattle.records.specs.Varint.{seven_bits, GoesOn, EndsInside}
 use Rattle.records.proofs.varints.varint.Goals as goal
 
 pub returns-then-read-eq8-clause-found : goal.returns-then-read-eq8-clause-found

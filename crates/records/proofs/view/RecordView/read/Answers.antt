@@ -1,7 +1,6 @@
-use Rattle.std.proofs.Common.{ℤ, List, sym, subst, refl, inl}
+use Rattle.std.proofs.Common.{sym, subst, inl}
 use Rattle.std.proofs.lemmas.Result.{err_from_is_err_and}
-use Rattle.records.specs.declared.fault.RecordFault.TheVariants.{Bad}
-use Rattle.records.specs.Record.{AreBodies, AreTypes, WithHeader}
+use Rattle.records.specs.Record.{AreBodies, AreTypes}
 use Rattle.records.proofs.RecordLemmas.{with_header, one_record, not_broken, broken_types, broken_bodies}
 use Rattle.records.proofs.view.RecordView.read.Goals as goal
 
