@@ -1,0 +1,5 @@
+pub mod Pages
+pub mod Layout
+pub mod Cell
+pub mod Tree
+pub mod Broken
