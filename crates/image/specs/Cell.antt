@@ -1,5 +1,5 @@
 -- The cells of a tree page. (Database File Format, section 1.6, "B-tree Cell Format" and "Cell payload")
-use Rattle.std.specs.Prelude.{◌≡◌, ℕ, ℤ, pos, ◌+◌, ◌-◌, ◌*◌, ◌/◌, ◌%◌, ◌<◌, ◌≤◌, nat_le, List, length, take, drop, Option, Some, None, if◌then◌else◌}
+use Rattle.std.specs.Prelude.{◌≡◌, ℕ, ℤ, pos, ◌+◌, ◌-◌, ◌*◌, ◌/◌, ◌%◌, ◌≤◌, nat_le, List, length, take, drop, Option, Some, None, if◌then◌else◌}
 use Rattle.pager.specs.Header.{field}
 use Rattle.records.specs.Varint.{BeginsVarint}
 use Rattle.image.specs.declared.kind.TreeKind.{TreeKind}

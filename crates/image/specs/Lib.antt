@@ -3,3 +3,4 @@ pub mod Layout
 pub mod Cell
 pub mod Tree
 pub mod Broken
+pub mod Examples

@@ -1,5 +1,5 @@
 -- The trees of an image: their pages, and their cells by places. (Database File Format, section 1.6 "B-tree Pages")
-use Rattle.std.specs.Prelude.{◌≡◌, ℕ, ℤ, suc, ◌+◌, ◌<◌, ◌≤◌, List, Contains, length, take, drop, slice_get, Some}
+use Rattle.std.specs.Prelude.{◌≡◌, ℕ, ℤ, suc, ◌<◌, ◌≤◌, List, Contains, drop, slice_get, Some}
 use Rattle.image.specs.declared.kind.TreeKind.{TreeKind}
 use Rattle.image.specs.declared.kind.TreeKind.TheVariants.{Table, Index}
 use Rattle.image.specs.declared.kind.Level.{Level}

@@ -5,5 +5,6 @@
 #![tactic(auto)]
 
 mod kind;
+pub mod laws;
 
 pub use kind::{Level, TreeKind};
