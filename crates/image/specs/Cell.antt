@@ -75,7 +75,3 @@ IsCell Index usable bytes cell = IsIndexCell usable bytes cell
 pub record IsDivider (bytes : List ℕ) (key : ℤ) : Type 0 where
   pub length : ℕ
   pub key_is : BeginsVarint (drop 4 bytes) key length
-
--- the bytes of a page from a place on, without those that are reserved at its end
-abbrev pub cell_bytes : ℕ → List ℕ → ℕ → List ℕ
-cell_bytes usable page place = drop place (take usable page)

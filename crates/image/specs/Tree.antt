@@ -1,12 +1,12 @@
 -- The trees of an image: their pages, and their cells by places. (Database File Format, section 1.6 "B-tree Pages")
-use Rattle.std.specs.Prelude.{◌≡◌, ℕ, ℤ, suc, ◌<◌, ◌≤◌, List, Contains, drop, slice_get, Some}
+use Rattle.std.specs.Prelude.{◌≡◌, ℕ, ℤ, suc, ◌<◌, ◌≤◌, List, Contains, drop, length, slice_get, Some}
 use Rattle.image.specs.declared.kind.TreeKind.{TreeKind}
 use Rattle.image.specs.declared.kind.TreeKind.TheVariants.{Table, Index}
 use Rattle.image.specs.declared.kind.Level.{Level}
 use Rattle.image.specs.declared.kind.Level.TheVariants.{Leaf, Interior}
 use Rattle.image.specs.Pages.{Pages, IsNumber}
 use Rattle.image.specs.Layout.{header_at, flag_of, flag, cell_count, cell_place, child, places_end}
-use Rattle.image.specs.Cell.{CellData, IsTableCell, IsIndexCell, IsDivider, cell_bytes}
+use Rattle.image.specs.Cell.{CellData, IsTableCell, IsIndexCell, IsDivider}
 
 abbrev pub count_at : Pages → ℕ → ℕ
 count_at pages n = cell_count (header_at n) (pages.page n)
@@ -16,7 +16,7 @@ child_at pages n i = child (header_at n) (pages.page n) i
 
 -- the bytes from cell i of page n on
 abbrev pub cell_at : Pages → Level → ℕ → ℕ → List ℕ
-cell_at pages level n i = cell_bytes pages.usable (pages.page n) (cell_place (header_at n) level (pages.page n) i)
+cell_at pages level n i = drop (cell_place (header_at n) level (pages.page n) i) (pages.page n)
 
 -- a cell, whose payload is no longer than the image
 pub record HasPayload (pages : Pages) (IsCellOf : CellData → Type 0) : Type 0 where
@@ -31,10 +31,14 @@ HasCell pages Table Interior bytes = (key : ℤ) × IsDivider bytes key
 HasCell pages Index Leaf bytes = HasPayload pages (IsIndexCell pages.usable bytes)
 HasCell pages Index Interior bytes = HasPayload pages (IsIndexCell pages.usable (drop 4 bytes))
 
--- Page n is of this kind: its flag says so, and its cell places and cells lie inside it, the cells behind their places.
-pub record IsPageOf (pages : Pages) (kind : TreeKind) (level : Level) (n : ℕ) : Type 0 where
+-- page n is of this kind as its header says, and its cell places lie inside it
+pub record HasHeader (pages : Pages) (kind : TreeKind) (level : Level) (n : ℕ) : Type 0 where
   pub flag_is : flag (header_at n) (pages.page n) ≡ flag_of kind level
-  pub places : places_end (header_at n) level (pages.page n) ≤ pages.usable
+  pub places : places_end (header_at n) level (pages.page n) ≤ length (pages.page n)
+
+-- page n is of this kind, and its cells lie inside it, behind the cell places
+pub record IsPageOf (pages : Pages) (kind : TreeKind) (level : Level) (n : ℕ) : Type 0 where
+  pub header : HasHeader pages kind level n
   pub begins : (i : ℕ) → i < count_at pages n
       → places_end (header_at n) level (pages.page n) ≤ cell_place (header_at n) level (pages.page n) i
   pub cells : (i : ℕ) → i < count_at pages n → HasCell pages kind level (cell_at pages level n i)
