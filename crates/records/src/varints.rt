@@ -2,8 +2,8 @@
 ghost use Rattle.std.specs.Prelude.{◌≡◌, ◌↔◌, ℕ, ℤ, Some, IsNone, IfSome};
 ghost use Rattle.records.specs.Varint.{BeginsVarint, EndsInside};
 
-/// The value of the varint with which the bytes begin, and its length, 1 to 9; `None` where the bytes end inside it.
-/// It may be longer than its value needs. (Database File Format, section 1.6)
+/// The value of the varint with which the bytes begin, and its length, 1 to 9; `None` where the bytes end inside it. One
+/// that is longer than its value needs is read too. (Database File Format, section 1.6)
 #[inline]
 pub fn varint(bytes: &[u8]) -> Option<(i64, usize)>
     // What is read is a front of the bytes.

@@ -59,7 +59,7 @@ impl<'p> RecordView<'p> {
         self.fields.len()
     }
 
-    /// A field, where a text or a blob is a slice of the record's bytes.
+    /// The field at an index, counted from 0; a text or a blob is a slice of the record's bytes.
     #[inline]
     pub fn field(&self, index: usize) -> ValueRef<'p>
         requires { index < length self.now }
