@@ -73,13 +73,21 @@ fn read_payload(kind: TreeKind, usable: u64, size: u64, bytes: &[u8]) -> Option<
     }
     let (local, rest) = bytes.split_at(local_size);
     if size <= most_local_of(kind, usable) {
-        return Some(Payload { size, local, overflow: None });
+        return Some(Payload {
+            size,
+            local,
+            overflow: None,
+        });
     }
     if rest.len() < 4 {
         return None;
     }
     let overflow = Some(BigEndian::read_u32(rest));
-    Some(Payload { size, local, overflow })
+    Some(Payload {
+        size,
+        local,
+        overflow,
+    })
 }
 
 /// The size of a payload, which is none where it is negative or more than the image has bytes.
@@ -107,7 +115,10 @@ pub(crate) fn table_cell(usable: u64, most: u64, bytes: &[u8]) -> Option<Cell<'_
     let (rowid, rowid_length) = varint(rest)?;
     let size = size_of(size, most)?;
     let payload = read_payload(TreeKind::Table, usable, size, &rest[rowid_length..])?;
-    Some(Cell { rowid: Some(rowid), payload })
+    Some(Cell {
+        rowid: Some(rowid),
+        payload,
+    })
 }
 
 /// The cell of an index with which the bytes begin, with a payload of at most `most` bytes.
@@ -121,5 +132,8 @@ pub(crate) fn index_cell(usable: u64, most: u64, bytes: &[u8]) -> Option<Cell<'_
     let (size, size_length) = varint(bytes)?;
     let size = size_of(size, most)?;
     let payload = read_payload(TreeKind::Index, usable, size, &bytes[size_length..])?;
-    Some(Cell { rowid: None, payload })
+    Some(Cell {
+        rowid: None,
+        payload,
+    })
 }

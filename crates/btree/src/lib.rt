@@ -6,7 +6,7 @@
 #![tactic(auto)]
 
 mod cell;
-
+mod page;
 
 pub use cell::{Cell, Payload};
-
+pub use page::PageView;

@@ -18,7 +18,7 @@ pages_in header image = record {
   count = header.pages;
   usable = header.usable;
   size = header.pages * header.page_size;
-  page = λ n. take header.usable (page_of image n)
+  page = λ n. take header.usable (page_of image n);
 }
 
 abbrev pub pages_of : List ℕ → Pages
