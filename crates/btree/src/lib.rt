@@ -6,7 +6,9 @@
 #![tactic(auto)]
 
 mod cell;
+mod cursor;
 mod page;
 
 pub use cell::{Cell, Payload};
+pub use cursor::Cursor;
 pub use page::PageView;
