@@ -162,7 +162,7 @@ module _ (pages : Pages) where
       let here = p.step.children (frame.at + 1) (omega arith) in
       let asks : asked + left.ahead ≤ budget = left.asks in
       let moved : IsStep pages levels (record frame { at = frame.at + 1 }) =
-        record { holds = record { page = p.step.holds.page; count = p.step.holds.count }; page = p.step.page; within = omega arith; children = p.step.children } in
+        record { holds = record { long = p.step.holds.long; page = p.step.holds.page; count = p.step.holds.count }; page = p.step.page; within = omega arith; children = p.step.children } in
       record {
         levels = levels;
         rest = places_from pages levels frame.number (frame.at + 1 + 1) ++ p.rest;
@@ -248,7 +248,7 @@ module _ (pages : Pages) where
       record {
         rest = stands.rest;
         left = stands.left;
-        holds = record { page = stands.holds.page; count = stands.holds.count };
+        holds = record { long = stands.holds.long; page = stands.holds.page; count = stands.holds.count };
         page = stands.page;
         places_is = ap (λ x. drop 1 x) (stands.places_is ∙ ap (λ x. x ++ stands.rest) (places_more leaf.number leaf.at (omega arith)));
         settled = λ past. absurd (omega arith);

@@ -1,6 +1,8 @@
 -- The cells that a cursor over a table still has to give, by the pages that it holds.
-use Rattle.std.specs.Prelude.{◌≡◌, ◌≢◌, ℕ, zero, suc, ◌+◌, ◌-◌, ◌<◌, ◌≤◌, List, [], ◌∷◌, ◌++◌, drop, take, sum_by}
+use Rattle.std.specs.Prelude.{◌≡◌, ◌≢◌, ℕ, zero, suc, ◌+◌, ◌-◌, ◌<◌, ◌≤◌, List, [], ◌∷◌, ◌++◌, drop, length, take, sum_by, Option, None, Some}
 use Rattle.std.specs.List.{range_with_len, flat_map}
+use Rattle.values.specs.declared.fault.Fault.{Fault}
+use Rattle.values.specs.declared.fault.Fault.TheVariants.{ReadFailed, NoMemory, BadPage, BadDepth}
 use Rattle.pager.specs.PagerState.{PagerState}
 use Rattle.image.specs.declared.kind.TreeKind.TheVariants.{Table}
 use Rattle.image.specs.declared.kind.Level.TheVariants.{Leaf, Interior}
@@ -13,6 +15,11 @@ use Rattle.btree.specs.declared.cursor.Frame.{Frame}
 abbrev pub pages_seen : PagerState → Pages
 pages_seen pager = pages_in pager.header pager.source.bytes
 
+-- pages of which so much is used that they can be read
+pub record AreReadable (pages : Pages) : Type 0 where
+  pub least : 480 ≤ pages.usable
+  pub most : pages.usable ≤ 65536
+
 -- the cells under the children of page n from child i on, and how many pages these have
 abbrev pub places_from : Pages → ℕ → ℕ → ℕ → List Place
 places_from pages levels n i = flat_map (λ k. places_under pages Table levels (child_at pages n k)) (range_with_len i (suc (count_at pages n) - i))
@@ -22,6 +29,7 @@ size_from pages levels n i = sum_by (λ k. size_under pages levels (child_at pag
 
 -- a frame holds a page of the image, and how many cells that has
 pub record Holds (pages : Pages) (frame : Frame) : Type 0 where
+  pub long : pages.usable ≤ length frame.page
   pub page : take pages.usable frame.page ≡ pages.page frame.number
   pub count : frame.count ≡ count_at pages frame.number
 
@@ -71,3 +79,16 @@ pub record IsStanding (pages : Pages) (frames : List Frame) (leaf : Frame) (plac
   pub page : IsPageOf pages Table Leaf leaf.number
   pub places_is : places ≡ drop leaf.at (places_in pages leaf.number) ++ rest
   pub settled : leaf.count ≤ leaf.at → rest ≡ []
+
+-- what comes next of a cursor that goes on to the next leaf
+abbrev pub GoesOn : Pages → List Frame → List Place → ℕ → ℕ → Option Frame → Type 0
+GoesOn pages frames rest asked budget None = (rest ≡ []) × (frames ≡ [])
+GoesOn pages frames rest asked budget (Some leaf) = IsStanding pages frames leaf rest asked budget
+
+-- the faults that a cursor may answer before it has ended
+abbrev pub IsCursorFault : Fault → Type 0
+IsCursorFault ReadFailed = Unit {0}
+IsCursorFault NoMemory = Unit {0}
+IsCursorFault (BadPage _) = Unit {0}
+IsCursorFault (BadDepth _) = Unit {0}
+IsCursorFault _ = ⊥

@@ -10,5 +10,5 @@ mod cursor;
 mod page;
 
 pub use cell::{Cell, Payload};
-pub use cursor::Cursor;
+pub use cursor::Frame;
 pub use page::PageView;
