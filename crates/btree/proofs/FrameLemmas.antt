@@ -8,8 +8,8 @@ use Rattle.image.specs.Layout.{header_at, cell_place}
 use Rattle.image.specs.Pages.{Pages}
 use Rattle.image.specs.Tree.{HasHeader, IsPageOf, cell_at, count_at}
 use Rattle.image.specs.Cell.{CellData, IsTableCell}
-use Rattle.image.specs.Layout.{places_end, cell_count}
-use Rattle.btree.specs.Bytes.{HasHeaderAt, LacksChild, IsRowOf, FitsIn}
+use Rattle.image.specs.Layout.{cell_count}
+use Rattle.btree.specs.Bytes.{HasHeaderAt, LacksChild, IsRowOf}
 use Rattle.btree.specs.declared.cursor.Frame.{Frame}
 use Rattle.btree.specs.Rest.{Holds, AreReadable}
 use Rattle.records.specs.Varint.{BeginsVarint}
@@ -60,8 +60,8 @@ module _ (image : Pages) (frame : Frame) (usable : ℕ) (holds : Holds image fra
   has_row most i size page within none =
       let there = page.cells i within in
       let long : length (image.page frame.number) ≡ image.usable =
-        (let e : length (take image.usable frame.page) ≡ length (image.page frame.number) = ap length holds.page in
-        let l = length-take image.usable frame.page in let long = holds.long in omega (arith, e, l)) in
+      (let e : length (take image.usable frame.page) ≡ length (image.page frame.number) = ap length holds.page in
+      let l = length-take image.usable frame.page in let long = holds.long in omega (arith, e, l)) in
       none there.cell (rw used (record {
         begins = page.begins i within;
         is = record { is = subst (λ (u : ℕ). IsTableCell u (cell_at image Leaf frame.number i) there.cell) (sym long) there.is; fits = subst (λ (m : ℕ). there.cell.payload.size ≤ m) size there.fits };

@@ -1,5 +1,5 @@
 -- The steps of a cursor over a sound tree.
-use Rattle.std.proofs.Common.{◌≡◌, ◌≢◌, ℕ, zero, suc, ◌+◌, ◌-◌, ◌<◌, ◌≤◌, List, [], ◌∷◌, ◌++◌, map, length, take, drop, get_or, refl, sym, ◌∙◌, ap, subst, arith, append_assoc, append-nil, ⊎_elim, ◌⊎◌, inl, inr}
+use Rattle.std.proofs.Common.{◌≡◌, ◌≢◌, ℕ, zero, suc, ◌+◌, ◌-◌, ◌<◌, ◌≤◌, List, [], ◌∷◌, ◌++◌, length, drop, get_or, refl, sym, ◌∙◌, ap, subst, arith, append_assoc, append-nil, ⊎_elim, ◌⊎◌, inl, inr}
 use Rattle.std.specs.List.{range_with_len, flat_map}
 use Rattle.std.specs.Prelude.{sum_by}
 use Rattle.std.proofs.lemmas.List.{drop_more, drop_all, length_push, same_from_push}
@@ -8,10 +8,9 @@ use Rattle.std.proofs.lemmas.List.Sums.{sum_by-cons}
 use Rattle.std.proofs.lemmas.Bool.{cases_lt}
 use Rattle.image.specs.declared.kind.TreeKind.TheVariants.{Table}
 use Rattle.image.specs.declared.kind.Level.TheVariants.{Leaf, Interior}
-use Rattle.image.specs.Layout.{flag, header_at}
 use Rattle.image.specs.Pages.{Pages, IsNumber}
 use Rattle.image.specs.Tree.{Place, count_at, child_at, IsPageOf}
-use Rattle.image.specs.Shape.{HasShape, IsFilled, IsBranch, place_at, places_in, places_under, size_under}
+use Rattle.image.specs.Shape.{HasShape, IsFilled, place_at, places_in, places_under, size_under}
 use Rattle.btree.specs.declared.cursor.Frame.{Frame}
 use Rattle.btree.specs.Rest.{places_from, size_from, Holds, IsStep, IsStack, bottom, inner, IsLeft, IsHeading, IsStanding}
 
@@ -141,10 +140,10 @@ module _ (pages : Pages) where
         shape = here.1;
         filled = λ _. here.2;
         places_is =
-          places_is
-          ∙ ap (λ x. x ++ rest) (places_all levels frame.number ∙ places_step levels frame.number 0 (omega arith)
-          ∙ ap (λ (k : ℕ). places_under pages Table levels (child_at pages frame.number 0) ++ places_from pages levels frame.number k) (sym next))
-          ∙ append_assoc (places_under pages Table levels (child_at pages frame.number 0)) (places_from pages levels frame.number (frame.at + 1)) rest;
+            places_is
+            ∙ ap (λ x. x ++ rest) (places_all levels frame.number ∙ places_step levels frame.number 0 (omega arith)
+            ∙ ap (λ (k : ℕ). places_under pages Table levels (child_at pages frame.number 0) ++ places_from pages levels frame.number k) (sym next))
+            ∙ append_assoc (places_under pages Table levels (child_at pages frame.number 0)) (places_from pages levels frame.number (frame.at + 1)) rest;
       }
 
   pub heading_down : (frames : List Frame) (places : List Place) (frame : Frame) (asked now budget : ℕ)
@@ -162,7 +161,7 @@ module _ (pages : Pages) where
       let here = p.step.children (frame.at + 1) (omega arith) in
       let asks : asked + left.ahead ≤ budget = left.asks in
       let moved : IsStep pages levels (record frame { at = frame.at + 1 }) =
-        record { holds = record { long = p.step.holds.long; page = p.step.holds.page; count = p.step.holds.count }; page = p.step.page; within = omega arith; children = p.step.children } in
+      record { holds = record { long = p.step.holds.long; page = p.step.holds.page; count = p.step.holds.count }; page = p.step.page; within = omega arith; children = p.step.children } in
       record {
         levels = levels;
         rest = places_from pages levels frame.number (frame.at + 1 + 1) ++ p.rest;
@@ -178,8 +177,8 @@ module _ (pages : Pages) where
         shape = here.1;
         filled = λ _. here.2;
         places_is =
-          p.places_is ∙ ap (λ x. x ++ p.rest) (places_step levels frame.number (frame.at + 1) (omega arith))
-          ∙ append_assoc (places_under pages Table levels (child_at pages frame.number (frame.at + 1))) (places_from pages levels frame.number (frame.at + 1 + 1)) p.rest;
+            p.places_is ∙ ap (λ x. x ++ p.rest) (places_step levels frame.number (frame.at + 1) (omega arith))
+            ∙ append_assoc (places_under pages Table levels (child_at pages frame.number (frame.at + 1))) (places_from pages levels frame.number (frame.at + 1 + 1)) p.rest;
       }
 
   -- and up a level where there is none
@@ -266,7 +265,7 @@ module _ (pages : Pages) where
   first_place frames leaf places asked budget stands within =
       let c : leaf.count ≡ count_at pages leaf.number = stands.holds.count in
       let is : places ≡ (place_at leaf.number leaf.at ∷ drop (leaf.at + 1) (places_in pages leaf.number)) ++ stands.rest =
-        stands.places_is ∙ ap (λ x. x ++ stands.rest) (places_more leaf.number leaf.at (omega arith)) in
+      stands.places_is ∙ ap (λ x. x ++ stands.rest) (places_more leaf.number leaf.at (omega arith)) in
       is ∙ ap (λ x. place_at leaf.number leaf.at ∷ x) (sym (ap (λ x. drop 1 x) is))
 
   -- the leaf is given up to its end

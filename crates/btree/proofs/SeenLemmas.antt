@@ -1,5 +1,5 @@
 -- The pages that a pager reads, from one call to the next.
-use Rattle.std.proofs.Common.{◌≡◌, ◌≢◌, ℕ, ◌+◌, ◌<◌, ◌≤◌, List, [], ◌∷◌, ◌++◌, All, Contains, IsTrue, length, refl, sym, ◌∙◌, ap, subst, arith, lit≤}
+use Rattle.std.proofs.Common.{◌≡◌, ◌≢◌, ℕ, suc, ◌+◌, ◌<◌, ◌≤◌, List, [], ◌∷◌, ◌++◌, All, IsTrue, sym, ◌∙◌, subst, arith, lit≤}
 use Rattle.std.proofs.lemmas.List.Elements.{All-nil, All-cons, All-contains}
 use Rattle.pager.specs.declared.header.Header.{Header}
 use Rattle.pager.specs.Header.{page_sizes}
@@ -9,11 +9,10 @@ use Rattle.image.specs.declared.kind.Level.{Level}
 use Rattle.image.specs.declared.kind.Level.TheVariants.{Leaf, Interior}
 use Rattle.image.specs.Pages.{Pages, IsNumber, pages_in}
 use Rattle.image.specs.Tree.{Place, HasHeader, IsPageOf, child_at, count_at}
-use Rattle.image.specs.Shape.{HasShape, IsBranch}
 use Rattle.btree.specs.declared.cursor.Frame.{Frame}
-use Rattle.btree.specs.Rest.{AreReadable, Holds, IsHeading, IsStanding, pages_seen}
+use Rattle.btree.specs.Rest.{AreReadable, Holds, IsHeading, IsLeft, IsStanding, IsStep, pages_seen}
 use Rattle.btree.proofs.PageLemmas.{flag_of-same}
-use Rattle.btree.proofs.RestLemmas.{IsTurn, ends, goes, turn_at, heading_filled, heading_leaf, heading_down}
+use Rattle.btree.proofs.RestLemmas.{IsTurn, ends, goes, turn_at, heading_filled, heading_leaf, heading_down, left_next, left_step, left_up}
 
 module _ (a b : PagerState) (stays : Stays a b) where
   pub still_steady : IsTrue a.source.steady → IsTrue b.source.steady
@@ -97,3 +96,28 @@ module _ (pages seen : Pages) (same : seen ≡ pages) (frames : List Frame) (n :
         subst (λ (x : Pages). IsHeading x all m places now budget) same
         (subst (λ (x : List Frame). IsHeading seen x m places now budget) (sym all_is)
         (subst (λ (x : ℕ). IsHeading seen (frames ++ frame ∷ []) x places now budget) (sym m_is) (down_heads at)))
+
+-- The child after the one that the last frame has taken.
+module _ (pages : Pages) (levels : ℕ) (all frames : List Frame) (frame : Frame) (rest : List Place) (asked budget : ℕ) (left : IsLeft pages levels all rest asked budget)
+    (is : all ≡ frames ++ frame ∷ []) where
+  pub last_step : IsStep pages levels frame
+  last_step = left_step pages levels all frames frame rest asked budget left is
+
+  pub last_end : frame.count ≤ frame.at → IsLeft pages (suc levels) frames rest asked budget
+  last_end past =
+      let count : frame.count ≡ count_at pages frame.number = last_step.holds.count in
+      left_up pages levels all frames frame rest asked budget left is (omega arith)
+
+  module _ (more : frame.at < frame.count) where
+    pub next_within : frame.at + 1 ≤ count_at pages frame.number
+    next_within = let count : frame.count ≡ count_at pages frame.number = last_step.holds.count in omega arith
+
+    pub next_number : IsNumber pages (child_at pages frame.number (frame.at + 1))
+    next_number = (last_step.children (frame.at + 1) next_within).0
+
+    pub next_heads : (m : ℕ) → m ≡ child_at pages frame.number (frame.at + 1) → (now : List Frame) → now ≡ frames ++ (record frame { at = frame.at + 1 }) ∷ []
+        → IsHeading pages now m rest asked budget
+    next_heads m m_is now now_is =
+        let here = left_next pages levels all frames frame rest asked budget left is (let w : frame.at + 1 ≤ count_at pages frame.number = next_within in omega arith) in
+        subst (λ (x : List Frame). IsHeading pages x m rest asked budget) (sym now_is)
+        (subst (λ (x : ℕ). IsHeading pages (frames ++ (record frame { at = frame.at + 1 }) ∷ []) x rest asked budget) (sym m_is) here)

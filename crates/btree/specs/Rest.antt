@@ -1,5 +1,5 @@
 -- The cells that a cursor over a table still has to give, by the pages that it holds.
-use Rattle.std.specs.Prelude.{◌≡◌, ◌≢◌, ℕ, zero, suc, ◌+◌, ◌-◌, ◌<◌, ◌≤◌, List, [], ◌∷◌, ◌++◌, drop, length, take, sum_by, Option, None, Some}
+use Rattle.std.specs.Prelude.{◌≡◌, ◌≢◌, ℕ, suc, ◌+◌, ◌-◌, ◌<◌, ◌≤◌, List, [], ◌∷◌, ◌++◌, drop, length, take, sum_by, Option, None, Some}
 use Rattle.std.specs.List.{range_with_len, flat_map}
 use Rattle.values.specs.declared.fault.Fault.{Fault}
 use Rattle.values.specs.declared.fault.Fault.TheVariants.{ReadFailed, NoMemory, BadPage, BadDepth}
@@ -7,7 +7,7 @@ use Rattle.pager.specs.PagerState.{PagerState}
 use Rattle.image.specs.declared.kind.TreeKind.TheVariants.{Table}
 use Rattle.image.specs.declared.kind.Level.TheVariants.{Leaf, Interior}
 use Rattle.image.specs.Pages.{Pages, IsNumber, pages_in}
-use Rattle.image.specs.Tree.{Place, count_at, child_at, IsPageOf, IsRowAt}
+use Rattle.image.specs.Tree.{Place, count_at, child_at, IsPageOf}
 use Rattle.image.specs.Shape.{HasShape, IsFilled, IsBranch, places_in, places_under, size_under}
 use Rattle.btree.specs.declared.cursor.Frame.{Frame}
 

@@ -64,7 +64,15 @@ fn read_frame<S: Source>(pager: &mut Pager<S>, number: u32) -> Result<(Frame, Le
         return Err(Fault::BadPage(number));
     };
     let (level, count) = (view.level(), view.count());
-    Ok((Frame { page, number, count, at: 0 }, level))
+    Ok((
+        Frame {
+            page,
+            number,
+            count,
+            at: 0,
+        },
+        level,
+    ))
 }
 
 /// Child i of an interior page, where that is the number of one of so many pages.
@@ -100,7 +108,12 @@ fn row_of(frame: &Frame, usable: usize, most: u64) -> Option<Cell<'_>>
 }
 
 /// Goes down first children from page `n` to a leaf, which it answers.
-fn descend<S: Source>(root: u32, frames: &mut Vec<Frame>, pager: &mut Pager<S>, n: u32) -> Result<Frame, Fault>
+fn descend<S: Source>(
+    root: u32,
+    frames: &mut Vec<Frame>,
+    pager: &mut Pager<S>,
+    n: u32,
+) -> Result<Frame, Fault>
     requires { IsPageNumber pager.old.state n }
     ensures stands { IsTrue pager.old.state.source.steady → (places : List Place) (budget : ℕ)
         → IsHeading (pages_seen pager.old.state) frames.old.items n places pager.old.state.asked budget
@@ -133,4 +146,36 @@ fn descend<S: Source>(root: u32, frames: &mut Vec<Frame>, pager: &mut Pager<S>, 
         }
     }
     Err(Fault::BadDepth(root))
+}
+
+/// Goes on to the next leaf, if there is one.
+fn next_leaf<S: Source>(
+    root: u32,
+    frames: &mut Vec<Frame>,
+    pager: &mut Pager<S>,
+) -> Result<Option<Frame>, Fault>
+    ensures goes { IsTrue pager.old.state.source.steady → (rest : List Place) (budget : ℕ)
+        → IsLeft (pages_seen pager.old.state) 0 frames.old.items rest pager.old.state.asked budget
+        → IfOk result (GoesOn (pages_seen pager.old.state) frames.new.items rest pager.new.state.asked budget) }
+    ensures sound { IsTrue pager.old.state.source.steady → (rest : List Place) (budget : ℕ)
+        → IsLeft (pages_seen pager.old.state) 0 frames.old.items rest pager.old.state.asked budget
+        → IfErr result (λ e. (e ≡ Fault.ReadFailed) ⊎ (e ≡ Fault.NoMemory)) }
+    ensures only { IfErr result IsCursorFault }
+    ensures failures { Counts Fault.ReadFailed result pager.old.state.source.failures pager.new.state.source.failures }
+    ensures stays { Stays pager.old.state pager.new.state }
+{
+    while let Some(frame) = frames.pop() {
+        if frame.at < frame.count {
+            let header = pager.header();
+            let at = frame.at + 1;
+            let Some(child) = child_of(&frame, header.usable as usize, at as u32, header.pages)
+            else {
+                return Err(Fault::BadPage(frame.number));
+            };
+            frames.push(Frame { at, ..frame })?;
+            let leaf = descend(root, frames, pager, child)?;
+            return Ok(Some(leaf));
+        }
+    }
+    Ok(None)
 }

@@ -1,4 +1,4 @@
-use Rattle.std.proofs.Common.{◌≡◌, ℕ, ◌-◌, ◌≤◌, List, vec_len, IsTrue}
+use Rattle.std.proofs.Common.{◌≡◌, ℕ, ◌-◌, List, vec_len, IsTrue}
 use Rattle.pager.specs.PagerState.{IsPageNumber, Stays}
 use Rattle.image.specs.Tree.{Place}
 use Rattle.btree.specs.Rest.{IsHeading, pages_seen}

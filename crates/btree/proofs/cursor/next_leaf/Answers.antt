@@ -1,0 +1,67 @@
+use Rattle.std.proofs.Common.{◌≡◌, ◌+◌, ◌++◌, [], suc, arith, sym, ◌∙◌, ap, subst, append-nil, vec_len, Some}
+use Rattle.std.proofs.lemmas.Bool.Decides.{nat_tests}
+use Rattle.std.proofs.lemmas.List.{nil_from_length}
+use Rattle.std.proofs.lemmas.Result.{err_from_is_err_and}
+use Rattle.pager.specs.declared.header.Header.{Header}
+use Rattle.pager.specs.PagerState.{IsSound}
+use Rattle.image.specs.Tree.{child_at}
+use Rattle.btree.specs.Rest.{pages_seen}
+use Rattle.btree.proofs.RestLemmas.{left_end}
+use Rattle.btree.proofs.SeenLemmas.{readable, last_step, last_end, next_within, next_number, next_heads}
+use Rattle.btree.proofs.cursor.next_leaf.Goals as goal
+
+pub returns-in_default-child_of-clause-sound : goal.returns-in_default-child_of-clause-sound
+returns-in_default-child_of-clause-sound g c = rw (sym c.loop-frame.invariant.same) (λ steady rest budget h.
+    let seen = pages_seen c.loop-frame.pager.state in
+    let header : c.header-header.result ≡ c.loop-frame.pager.state.header = c.header-header.ensures.value in
+    let left = c.loop-frame.invariant.left steady rest budget h in
+    let all = c.loop-frame.frames.items in
+    let step = last_step seen left.0 all c.pop.new.self.items c.in-Some.frame _ _ _ left.1 c.in-Some.ensures.items in
+    let e = c.in_default-child_of.ensures.found seen step.holds (readable _ _ (subst (λ (x : Header). IsSound x) header c.header-header.ensures.sound)) (ap (λ (x : Header). x.usable) (sym header)) (ap (λ (x : Header). x.pages) (sym header)) step.page
+    (next_within seen left.0 all c.pop.new.self.items c.in-Some.frame _ _ _ left.1 c.in-Some.ensures.items c.if-frame.true) (next_number seen left.0 all c.pop.new.self.items c.in-Some.frame _ _ _ left.1 c.in-Some.ensures.items c.if-frame.true) in cc)
+
+pub returns-in_err-leaf-clause-sound : goal.returns-in_err-leaf-clause-sound
+returns-in_err-leaf-clause-sound g c = rw (sym c.loop-frame.invariant.same) (λ steady rest budget h.
+    let p = err_from_is_err_and c.from_residual-in_err-leaf.result c.from_residual-in_err-leaf.ensures.1 in
+    let seen = pages_seen c.loop-frame.pager.state in
+    let header : c.header-header.result ≡ c.loop-frame.pager.state.header = c.header-header.ensures.value in
+    let left = c.loop-frame.invariant.left steady rest budget h in
+    let all = c.loop-frame.frames.items in
+    let step = last_step seen left.0 all c.pop.new.self.items c.in-Some.frame _ _ _ left.1 c.in-Some.ensures.items in
+    let found : Some c.in-Some-child_of.child ≡ Some (child_at seen c.in-Some.frame.number (c.in-Some.frame.at + 1)) =
+    c.in-Some-child_of.ensures.found seen step.holds (readable _ _ (subst (λ (x : Header). IsSound x) header c.header-header.ensures.sound)) (ap (λ (x : Header). x.usable) (sym header)) (ap (λ (x : Header). x.pages) (sym header)) step.page
+    (next_within seen left.0 all c.pop.new.self.items c.in-Some.frame _ _ _ left.1 c.in-Some.ensures.items c.if-frame.true) (next_number seen left.0 all c.pop.new.self.items c.in-Some.frame _ _ _ left.1 c.in-Some.ensures.items c.if-frame.true) in
+    let child : c.in-Some-child_of.child ≡ child_at seen c.in-Some.frame.number (c.in-Some.frame.at + 1) = cc in
+    rw (p.1, p.2)
+    (c.in_err-leaf.ensures.sound steady rest budget
+    (next_heads seen left.0 all c.pop.new.self.items c.in-Some.frame _ _ _ left.1 c.in-Some.ensures.items c.if-frame.true c.in-Some-child_of.child child c.push.new.self.items c.in_ok-push.ensures.items)))
+
+pub returns-then-frame-clause-goes : goal.returns-then-frame-clause-goes
+returns-then-frame-clause-goes g c = rw (sym c.loop-frame.invariant.same) (λ steady rest budget h.
+    let seen = pages_seen c.loop-frame.pager.state in
+    let header : c.header-header.result ≡ c.loop-frame.pager.state.header = c.header-header.ensures.value in
+    let left = c.loop-frame.invariant.left steady rest budget h in
+    let all = c.loop-frame.frames.items in
+    let step = last_step seen left.0 all c.pop.new.self.items c.in-Some.frame _ _ _ left.1 c.in-Some.ensures.items in
+    let found : Some c.in-Some-child_of.child ≡ Some (child_at seen c.in-Some.frame.number (c.in-Some.frame.at + 1)) =
+    c.in-Some-child_of.ensures.found seen step.holds (readable _ _ (subst (λ (x : Header). IsSound x) header c.header-header.ensures.sound)) (ap (λ (x : Header). x.usable) (sym header)) (ap (λ (x : Header). x.pages) (sym header)) step.page
+    (next_within seen left.0 all c.pop.new.self.items c.in-Some.frame _ _ _ left.1 c.in-Some.ensures.items c.if-frame.true) (next_number seen left.0 all c.pop.new.self.items c.in-Some.frame _ _ _ left.1 c.in-Some.ensures.items c.if-frame.true) in
+    let child : c.in-Some-child_of.child ≡ child_at seen c.in-Some.frame.number (c.in-Some.frame.at + 1) = cc in
+    c.in_ok-leaf.ensures.stands steady rest budget
+    (next_heads seen left.0 all c.pop.new.self.items c.in-Some.frame _ _ _ left.1 c.in-Some.ensures.items c.if-frame.true c.in-Some-child_of.child child c.push.new.self.items c.in_ok-push.ensures.items))
+
+pub loop-frame-preserved : goal.loop-frame-preserved
+loop-frame-preserved g c = record {
+  same = c.loop-frame.invariant.same;
+  left = λ steady rest budget h.
+      let left = c.loop-frame.invariant.left steady rest budget h in
+      (suc left.0, last_end (pages_seen c.loop-frame.pager.state) left.0 c.loop-frame.frames.items c.pop.new.self.items c.in-Some.frame _ _ _ left.1 c.in-Some.ensures.items c.if-frame.false);
+}
+
+pub returns-clause-goes : goal.returns-clause-goes
+returns-clause-goes g c = rw (sym c.loop-frame.invariant.same) (λ steady rest budget h.
+    let left = c.loop-frame.invariant.left steady rest budget h in
+    let e : vec_len c.loop-frame.frames ≡ 0 = grind (arith, nat_tests, c.in_default.ensures.variant) in
+    let none : c.loop-frame.frames.items ≡ [] = nil_from_length c.loop-frame.frames.items (omega (arith, c.loop-frame.frames.ok.0)) in
+    let kept : c.loop-frame.frames.items ≡ c.pop.new.self.items ++ [] = c.in_default.ensures.items in
+    (left_end _ left.0 c.loop-frame.frames.items _ _ _ left.1 none, sym (append-nil c.pop.new.self.items) ∙ sym kept ∙ none))

@@ -1,0 +1,15 @@
+use Rattle.std.proofs.Common.{◌≡◌, ℕ, List, vec_len, IsTrue}
+use Rattle.image.specs.Tree.{Place}
+use Rattle.btree.specs.Rest.{IsLeft, pages_seen}
+use Rattle.btree.proofs.cursor.next_leaf.Given as goal
+
+abbrev pub invariant-loop-frame : goal.invariant-loop-frame
+invariant-loop-frame g l = record {
+  same : l.pager.state ≡ l.fn.pager.state;
+  left : IsTrue l.pager.state.source.steady → (rest : List Place) (budget : ℕ)
+      → IsLeft (pages_seen l.pager.state) 0 l.fn.frames.items rest l.pager.state.asked budget
+      → (levels : ℕ) × IsLeft (pages_seen l.pager.state) levels l.frames.items rest l.pager.state.asked budget;
+}
+
+abbrev pub decreases-loop-frame : goal.decreases-loop-frame
+decreases-loop-frame g l = vec_len l.frames
