@@ -1,0 +1,85 @@
+//! An image that is laid out, and means to break it.
+use crate::pages::Pages;
+use crate::{LayoutError, Tree};
+
+/// The tree of a table or an index.
+#[derive(Drop)]
+pub(crate) struct NamedTree {
+    pub(crate) name: String,
+    pub(crate) tree: Tree,
+}
+
+/// The bytes of an image, and where its trees lie.
+#[derive(Drop)]
+pub struct Layout {
+    pages: Pages,
+    schema: Tree,
+    trees: Vec<NamedTree>,
+}
+
+impl Layout {
+    /// The layout of these pages.
+    pub(crate) fn new(pages: Pages, schema: Tree, trees: Vec<NamedTree>) -> Layout {
+        Layout {
+            pages,
+            schema,
+            trees,
+        }
+    }
+
+    /// The bytes of the image.
+    pub fn as_slice(&self) -> &[u8] {
+        self.pages.as_slice()
+    }
+
+    /// The bytes of the image, without the layout.
+    pub fn into_bytes(self) -> Vec<u8> {
+        let Layout {
+            pages,
+            schema: _,
+            trees: _,
+        } = self;
+        pages.into_bytes()
+    }
+
+    /// How many pages the image has.
+    pub fn page_count(&self) -> u32 {
+        self.pages.count()
+    }
+
+    /// The tree of the schema, whose root is page 1.
+    pub fn schema(&self) -> &Tree {
+        &self.schema
+    }
+
+    /// The tree of a table or an index.
+    pub fn tree(&self, name: &str) -> Option<&Tree> {
+        let named = self.trees.iter().find(|named| named.name.as_str() == name)?;
+        Some(&named.tree)
+    }
+
+    /// The place in the image of a byte of a page.
+    pub fn place(&self, page: u32, offset: usize) -> Option<usize> {
+        self.pages.place(page, offset)
+    }
+
+    /// Sets bytes at a place of the image.
+    pub fn set(&mut self, place: usize, piece: &[u8]) -> Result<(), LayoutError> {
+        self.pages.set(place, piece)
+    }
+
+    /// Sets bytes within a page.
+    pub fn set_in_page(
+        &mut self,
+        page: u32,
+        offset: usize,
+        piece: &[u8],
+    ) -> Result<(), LayoutError> {
+        self.pages.set_in_page(page, offset, piece)
+    }
+
+    /// Sets a number of four bytes within a page, as a page number of the header, a child or a link of a chain.
+    pub fn set_word(&mut self, page: u32, offset: usize, number: u32) -> Result<(), LayoutError> {
+        self.pages.set_in_page(page, offset, &number.to_be_bytes())
+    }
+}

@@ -1,0 +1,34 @@
+//! SQLite database images for tests, laid out from a description of their tables, and sources and sinks that fail where
+//! a test wants it. It is written from SQLite's document and shares no code with the crates that read images, so that
+//! one misreading is not made twice. It promises only that its calls are safe.
+//!
+//! The modules, in the order in which data passes them: `layout_error`, `varint`, `record` (values as a record's
+//! bytes), `image` (the description), `pages` (numbered pages), `cell` (payloads and their overflow chains),
+//! `tree_page` (one page of a tree), `tree` (a tree's levels), `header` (the first 100 bytes), `layout` (what was
+//! laid out, and means to break it), `script_source` and `script_sink`.
+#![tactic(auto)]
+
+mod cell;
+mod header;
+mod image;
+mod layout;
+mod layout_error;
+mod pages;
+mod record;
+mod script_sink;
+mod script_source;
+#[cfg(test)]
+mod tests;
+mod tree;
+mod tree_page;
+mod varint;
+
+pub use image::{Image, Index, Shape, Table};
+pub use layout::Layout;
+pub use layout_error::LayoutError;
+pub use record::{Field, IntegerWidth, encode_record};
+pub use script_sink::ScriptSink;
+pub use script_source::{ReadScript, ScriptSource};
+pub use tree::Tree;
+pub use tree_page::TreePage;
+pub use varint::write_varint;
