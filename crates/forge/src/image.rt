@@ -1,5 +1,6 @@
 //! The description of an image.
 use crate::cell::{Cells, TreeKind};
+use crate::freelist::write_freelist;
 use crate::header::write_header;
 use crate::layout::{Layout, NamedTree};
 use crate::pages::Pages;
@@ -7,7 +8,7 @@ use crate::record::{encode_record, encode_values};
 use crate::tree::write_tree;
 use crate::{Field, LayoutError, Tree};
 use std::alloc::Global;
-use values::ValueRef;
+use values::{Row, ValueRef};
 
 /// How a tree is cut into pages. What doesn't fit into a page makes a further one, whatever is wanted.
 #[derive(Clone, Copy, Debug, PartialEq, Eq)]
@@ -82,6 +83,8 @@ enum Object {
     Table(Table),
     Index(Index),
     Pageless(Pageless),
+    /// A row of any payload.
+    Payload(Vec<u8>),
 }
 
 /// An image: its pages' size, and the objects of its schema in their order.
@@ -116,6 +119,15 @@ impl Table {
         values: &[ValueRef<'_>],
     ) -> Result<(), LayoutError> {
         self.push_payload(rowid, encode_values(alloc, values)?)
+    }
+
+    /// Adds a row of these values. The one of the column that stands for the rowid is to be `Null`.
+    pub fn push_row(&mut self, alloc: Global, rowid: i64, row: &Row) -> Result<(), LayoutError> {
+        let mut values = Vec::with_capacity(alloc, row.len())?;
+        for value in row.as_slice() {
+            values.push(value.as_ref())?;
+        }
+        self.push(alloc, rowid, values.as_slice())
     }
 
     /// Adds a row of these fields, whose record's varints have at least so many bytes.
@@ -197,7 +209,7 @@ impl Object {
                 let root = pages.add()?;
                 (index.name.clone()?, index.write(alloc, pages, root)?)
             }
-            Object::Pageless(_) => return Ok(None),
+            Object::Pageless(_) | Object::Payload(_) => return Ok(None),
         };
         Ok(Some(NamedTree { name, tree }))
     }
@@ -207,6 +219,7 @@ impl Object {
         let (kind, name, table, sql) = match self {
             Object::Table(table) => ("table", &table.name, &table.name, Some(&table.sql)),
             Object::Index(index) => ("index", &index.name, &index.table, index.sql.as_ref()),
+            Object::Payload(payload) => return Ok(payload.clone()?),
             Object::Pageless(row) => (row.kind.as_str(), &row.name, &row.table, Some(&row.sql)),
         };
         let values = [
@@ -270,6 +283,12 @@ impl Image {
         Ok(())
     }
 
+    /// Adds a row to the schema of any payload, which need not be a record.
+    pub fn push_schema_payload(&mut self, payload: Vec<u8>) -> Result<(), LayoutError> {
+        self.objects.push(Object::Payload(payload))?;
+        Ok(())
+    }
+
     /// The bytes of the image: page 1, each object's pages in the order of the schema, its root first, the further
     /// pages of the schema, and the freelist.
     pub fn lay_out(&self) -> Result<Layout, LayoutError> {
@@ -284,8 +303,9 @@ impl Image {
             trees.extend(tree)?;
         }
         let schema = self.write_schema(&mut pages, first, rows.as_slice())?;
-        write_header(&mut pages, self.reserved)?;
-        Ok(Layout::new(pages, schema, trees))
+        let free_pages = write_freelist(self.alloc, &mut pages, self.free_pages)?;
+        write_header(&mut pages, self.reserved, free_pages.as_slice())?;
+        Ok(Layout::new(pages, schema, trees, free_pages))
     }
 
     /// Lays out the table of the schema, whose rowids count from 1.

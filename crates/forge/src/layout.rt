@@ -15,15 +15,22 @@ pub struct Layout {
     pages: Pages,
     schema: Tree,
     trees: Vec<NamedTree>,
+    free_pages: Vec<u32>,
 }
 
 impl Layout {
     /// The layout of these pages.
-    pub(crate) fn new(pages: Pages, schema: Tree, trees: Vec<NamedTree>) -> Layout {
+    pub(crate) fn new(
+        pages: Pages,
+        schema: Tree,
+        trees: Vec<NamedTree>,
+        free_pages: Vec<u32>,
+    ) -> Layout {
         Layout {
             pages,
             schema,
             trees,
+            free_pages,
         }
     }
 
@@ -38,6 +45,7 @@ impl Layout {
             pages,
             schema: _,
             trees: _,
+            free_pages: _,
         } = self;
         pages.into_bytes()
     }
@@ -56,6 +64,11 @@ impl Layout {
     pub fn tree(&self, name: &str) -> Option<&Tree> {
         let named = self.trees.iter().find(|named| named.name.as_str() == name)?;
         Some(&named.tree)
+    }
+
+    /// The pages of the freelist: each trunk page before its leaves.
+    pub fn free_pages(&self) -> &[u32] {
+        self.free_pages.as_slice()
     }
 
     /// The place in the image of a byte of a page.

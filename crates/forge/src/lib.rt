@@ -4,11 +4,12 @@
 //!
 //! The modules, in the order in which data passes them: `layout_error`, `varint`, `record` (values as a record's
 //! bytes), `image` (the description), `pages` (numbered pages), `cell` (payloads and their overflow chains),
-//! `tree_page` (one page of a tree), `tree` (a tree's levels), `header` (the first 100 bytes), `layout` (what was
-//! laid out, and means to break it), `script_source` and `script_sink`.
+//! `tree_page` (one page of a tree), `tree` (a tree's levels), `freelist`, `header` (the first 100 bytes), `layout`
+//! (what was laid out, and means to break it), `script_source` and `script_sink`.
 #![tactic(auto)]
 
 mod cell;
+mod freelist;
 mod header;
 mod image;
 mod layout;

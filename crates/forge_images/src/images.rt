@@ -1,0 +1,151 @@
+//! The images, whose rows compare/forged.sh states again.
+use forge::{Field, Image, Index, IntegerWidth, LayoutError, Shape, Table};
+use std::alloc::Global;
+use values::ValueRef;
+
+/// Integers next to each bound of a serial type.
+const BOUNDS: [i64; 16] = [
+    i64::MIN,
+    -140_737_488_355_329,
+    -140_737_488_355_328,
+    -2_147_483_649,
+    -32_769,
+    -129,
+    -128,
+    0,
+    1,
+    2,
+    127,
+    128,
+    32_768,
+    8_388_608,
+    140_737_488_355_327,
+    i64::MAX,
+];
+
+/// A table with so many rows (id, id * id, 'row id'), beginning with id 1.
+fn squares(alloc: Global, count: i64, shape: Shape) -> Result<Table, LayoutError> {
+    let sql = "CREATE TABLE t(id INTEGER PRIMARY KEY, a INT, b TEXT)";
+    let mut table = Table::new(alloc, "t", sql)?;
+    table.shape = shape;
+    for id in 1..count.saturating_add(1) {
+        let text = format!(in alloc; "row {id}")?;
+        let square = ValueRef::Int(id.wrapping_mul(id));
+        table.push(alloc, id, &[ValueRef::Null, square, ValueRef::Text(text.as_str())])?;
+    }
+    Ok(table)
+}
+
+/// One leaf with values of each type.
+pub fn leaf(alloc: Global) -> Result<Image, LayoutError> {
+    let mut table = Table::new(alloc, "t", "CREATE TABLE t(a, b TEXT, c BLOB)")?;
+    for (rowid, number) in (-8i64..).zip(&BOUNDS) {
+        let values = [
+            ValueRef::Int(*number),
+            ValueRef::Text("it's"),
+            ValueRef::Blob(&[0, 255]),
+        ];
+        table.push(alloc, rowid, &values)?;
+    }
+    let values = [ValueRef::Null, ValueRef::Text(""), ValueRef::Blob(&[])];
+    table.push(alloc, i64::MAX, &values)?;
+    let mut image = Image::new(alloc, 512);
+    image.push_table(table)?;
+    Ok(image)
+}
+
+/// A root and ten leaves.
+pub fn two_levels(alloc: Global) -> Result<Image, LayoutError> {
+    let mut image = Image::new(alloc, 512);
+    image.push_table(squares(alloc, 40, Shape::of(4, 16))?)?;
+    image.free_pages = 200;
+    Ok(image)
+}
+
+/// A table and an index of at least three levels, and rows of one child more than wanted.
+pub fn three_levels(alloc: Global) -> Result<Image, LayoutError> {
+    let mut image = Image::new(alloc, 512);
+    image.push_table(squares(alloc, 201, Shape::of(3, 4))?)?;
+    let mut index = Index::new(alloc, "i", "t", Some("CREATE INDEX i ON t(a)"))?;
+    index.shape = Shape::of(2, 3);
+    for id in 1..202i64 {
+        index.push(alloc, &[ValueRef::Int(id.wrapping_mul(id)), ValueRef::Int(id)])?;
+    }
+    image.push_index(index)?;
+    Ok(image)
+}
+
+/// Pages of the greatest size with reserved bytes, and a table with no rows.
+pub fn reserved(alloc: Global) -> Result<Image, LayoutError> {
+    let mut image = Image::with_reserved(alloc, 65536, 32);
+    image.push_table(squares(alloc, 5000, Shape::FULL)?)?;
+    image.push_table(Table::new(alloc, "e", "CREATE TABLE e(a)")?)?;
+    Ok(image)
+}
+
+/// The first so many bytes of 0123456789 and again.
+fn digits(alloc: Global, length: usize) -> Result<String, LayoutError> {
+    let mut text = String::new(alloc);
+    for digit in ('0'..='9').cycle().take(length) {
+        text.push(digit)?;
+    }
+    Ok(text)
+}
+
+/// Texts about each length at which a payload goes on in one page more, in a table and in an index.
+pub fn chains(alloc: Global) -> Result<Image, LayoutError> {
+    let sql = "CREATE TABLE t(id INTEGER PRIMARY KEY, b TEXT)";
+    let mut table = Table::new(alloc, "t", sql)?;
+    let mut index = Index::new(alloc, "i", "t", Some("CREATE INDEX i ON t(b)"))?;
+    for id in 1..1200usize {
+        let text = digits(alloc, id)?;
+        let number = id as i64;
+        table.push(alloc, number, &[ValueRef::Null, ValueRef::Text(text.as_str())])?;
+        index.push(alloc, &[ValueRef::Text(text.as_str()), ValueRef::Int(number)])?;
+    }
+    let mut image = Image::with_reserved(alloc, 512, 7);
+    image.push_table(table)?;
+    image.push_index(index)?;
+    Ok(image)
+}
+
+/// Integers in wider types, and varints that are longer than needed.
+pub fn spellings(alloc: Global) -> Result<Image, LayoutError> {
+    let widths = [
+        IntegerWidth::One,
+        IntegerWidth::Two,
+        IntegerWidth::Three,
+        IntegerWidth::Four,
+        IntegerWidth::Six,
+        IntegerWidth::Eight,
+    ];
+    let mut table = Table::new(alloc, "t", "CREATE TABLE t(a, b, c, d)")?;
+    table.shape.varint_bytes = 3;
+    for (rowid, width) in (1i64..).zip(&widths) {
+        let fields = [
+            Field::Integer(0, *width),
+            Field::Integer(1, *width),
+            Field::Integer(-2, *width),
+            Field::Shortest(ValueRef::Text("nut")),
+        ];
+        table.push_fields(alloc, rowid, &fields, rowid as usize)?;
+    }
+    let mut image = Image::new(alloc, 1024);
+    image.push_table(table)?;
+    Ok(image)
+}
+
+/// A schema that does not fit into page 1, with an object of each type.
+pub fn schema(alloc: Global) -> Result<Image, LayoutError> {
+    let mut image = Image::new(alloc, 512);
+    for n in 0..30 {
+        let name = format!(in alloc; "t{n}")?;
+        let sql = format!(in alloc; "CREATE TABLE t{n}(a, number_{n} INT, another_column TEXT)")?;
+        image.push_table(Table::new(alloc, name.as_str(), sql.as_str())?)?;
+    }
+    image.push_pageless("view", "v", "v", "CREATE VIEW v AS SELECT a FROM t0")?;
+    let body = "BEGIN DELETE FROM t2; END";
+    let trigger = format!(in alloc; "CREATE TRIGGER r AFTER INSERT ON t1 {body}")?;
+    image.push_pageless("trigger", "r", "t1", trigger.as_str())?;
+    Ok(image)
+}
