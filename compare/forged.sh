@@ -33,7 +33,7 @@ expect() {
     fi
 }
 
-for file in leaf two_levels three_levels reserved chains spellings schema; do
+for file in leaf two_levels three_levels reserved chains spellings gaps schema; do
     echo "'ok'" | expect "$file.db" "PRAGMA integrity_check"
 done
 
@@ -86,6 +86,9 @@ expect spellings.db "SELECT rowid, * FROM t" <<'ROWS'
 5,0,1,-2,'nut'
 6,0,1,-2,'nut'
 ROWS
+
+squares 100 | expect gaps.db "SELECT * FROM t"
+squares 100 | expect gaps.db "SELECT * FROM t INDEXED BY i WHERE a > 0 ORDER BY a"
 
 awk 'BEGIN { for (n = 0; n < 30; n++) printf "\047t%d\047\n", n; print "\047v\047"; print "\047r\047" }' |
     expect schema.db "SELECT name FROM sqlite_schema"

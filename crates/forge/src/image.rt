@@ -20,6 +20,8 @@ pub struct Shape {
     pub children_per_page: usize,
     /// The fewest bytes of each varint of a cell; 1 is SQLite's own spelling, and 9 the longest.
     pub varint_bytes: usize,
+    /// The unused bytes behind each cell, as rows leave that were deleted: a freeblock, or a fragment of up to 3 bytes.
+    pub gap: usize,
 }
 
 impl Shape {
@@ -28,6 +30,7 @@ impl Shape {
         rows_per_leaf: usize::MAX,
         children_per_page: usize::MAX,
         varint_bytes: 1,
+        gap: 0,
     };
 
     /// Pages of at most so many rows and so many children.
@@ -36,6 +39,7 @@ impl Shape {
             rows_per_leaf,
             children_per_page,
             varint_bytes: 1,
+            gap: 0,
         }
     }
 }
@@ -180,6 +184,16 @@ impl Index {
     /// Adds a key: the values of the index's columns, and then the rowid.
     pub fn push(&mut self, alloc: Global, key: &[ValueRef<'_>]) -> Result<(), LayoutError> {
         self.push_payload(encode_values(alloc, key)?)
+    }
+
+    /// Adds a key of these fields, whose record's varints have at least so many bytes.
+    pub fn push_fields(
+        &mut self,
+        alloc: Global,
+        fields: &[Field<'_>],
+        least: usize,
+    ) -> Result<(), LayoutError> {
+        self.push_payload(encode_record(alloc, fields, least)?)
     }
 
     /// Adds a key of any payload, which need not be a record.

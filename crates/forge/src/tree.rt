@@ -1,7 +1,7 @@
 //! The levels of a tree. (Database File Format, section 1.6)
 use crate::cell::{Cells, TreeKind};
 use crate::pages::Pages;
-use crate::tree_page::{Content, PageKind, room, run_end, write_tree_page};
+use crate::tree_page::{Content, Limits, PageKind, room, run_end, write_tree_page};
 use crate::{LayoutError, Shape, TreePage};
 use std::alloc::Global;
 
@@ -95,8 +95,12 @@ impl Plan<'_> {
     /// empty.
     fn leaf_end(&self, start: usize, page_room: usize) -> usize {
         let count = self.cells.bodies.len();
-        let most = self.shape.rows_per_leaf.max(1);
-        let end = run_end(self.cells.bodies.as_slice(), start, most, page_room);
+        let limits = Limits {
+            most: self.shape.rows_per_leaf.max(1),
+            room: page_room,
+            gap: self.shape.gap,
+        };
+        let end = run_end(self.cells.bodies.as_slice(), start, limits);
         match (self.cells.kind, count.saturating_sub(end)) {
             (TreeKind::Index, 1) if end.saturating_sub(start) >= 2 => end - 1,
             (TreeKind::Index, 1) if end > start => count,
@@ -107,8 +111,12 @@ impl Plan<'_> {
     /// The end of an interior page's children, beginning with this one. No page is left with a single child.
     fn children_end(&self, children: &Children, start: usize, page_room: usize) -> usize {
         let count = children.cells.len();
-        let most = self.shape.children_per_page.max(2) - 1;
-        let cells_end = run_end(children.cells.as_slice(), start, most, page_room);
+        let limits = Limits {
+            most: self.shape.children_per_page.max(2) - 1,
+            room: page_room,
+            gap: self.shape.gap,
+        };
+        let cells_end = run_end(children.cells.as_slice(), start, limits);
         let end = cells_end.saturating_add(1).min(count);
         match count.saturating_sub(end) {
             1 if end.saturating_sub(start) >= 3 => end - 1,
@@ -133,6 +141,7 @@ impl Plan<'_> {
                 .get(start..end)
                 .ok_or(LayoutError::Outside)?,
             right_child: None,
+            gap: self.shape.gap,
         };
         write_tree_page(self.alloc, pages, number, content)
     }
@@ -151,6 +160,7 @@ impl Plan<'_> {
             kind: self.cells.kind.interior(),
             cells: children.cells.get(start..last).ok_or(LayoutError::Outside)?,
             right_child: children.numbers.get(last).copied(),
+            gap: self.shape.gap,
         };
         write_tree_page(self.alloc, pages, number, content)
     }

@@ -31,7 +31,11 @@ fn squares(alloc: Global, count: i64, shape: Shape) -> Result<Table, LayoutError
     for id in 1..count.saturating_add(1) {
         let text = format!(in alloc; "row {id}")?;
         let square = ValueRef::Int(id.wrapping_mul(id));
-        table.push(alloc, id, &[ValueRef::Null, square, ValueRef::Text(text.as_str())])?;
+        table.push(
+            alloc,
+            id,
+            &[ValueRef::Null, square, ValueRef::Text(text.as_str())],
+        )?;
     }
     Ok(table)
 }
@@ -69,7 +73,10 @@ pub fn three_levels(alloc: Global) -> Result<Image, LayoutError> {
     let mut index = Index::new(alloc, "i", "t", Some("CREATE INDEX i ON t(a)"))?;
     index.shape = Shape::of(2, 3);
     for id in 1..202i64 {
-        index.push(alloc, &[ValueRef::Int(id.wrapping_mul(id)), ValueRef::Int(id)])?;
+        index.push(
+            alloc,
+            &[ValueRef::Int(id.wrapping_mul(id)), ValueRef::Int(id)],
+        )?;
     }
     image.push_index(index)?;
     Ok(image)
@@ -100,8 +107,15 @@ pub fn chains(alloc: Global) -> Result<Image, LayoutError> {
     for id in 1..1200usize {
         let text = digits(alloc, id)?;
         let number = id as i64;
-        table.push(alloc, number, &[ValueRef::Null, ValueRef::Text(text.as_str())])?;
-        index.push(alloc, &[ValueRef::Text(text.as_str()), ValueRef::Int(number)])?;
+        table.push(
+            alloc,
+            number,
+            &[ValueRef::Null, ValueRef::Text(text.as_str())],
+        )?;
+        index.push(
+            alloc,
+            &[ValueRef::Text(text.as_str()), ValueRef::Int(number)],
+        )?;
     }
     let mut image = Image::with_reserved(alloc, 512, 7);
     image.push_table(table)?;
@@ -112,26 +126,42 @@ pub fn chains(alloc: Global) -> Result<Image, LayoutError> {
 /// Integers in wider types, and varints that are longer than needed.
 pub fn spellings(alloc: Global) -> Result<Image, LayoutError> {
     let widths = [
-        IntegerWidth::One,
-        IntegerWidth::Two,
-        IntegerWidth::Three,
-        IntegerWidth::Four,
-        IntegerWidth::Six,
-        IntegerWidth::Eight,
+        (IntegerWidth::One, 1),
+        (IntegerWidth::Two, 2),
+        (IntegerWidth::Three, 3),
+        (IntegerWidth::Four, 5),
+        (IntegerWidth::Six, 8),
+        (IntegerWidth::Eight, 9),
     ];
     let mut table = Table::new(alloc, "t", "CREATE TABLE t(a, b, c, d)")?;
     table.shape.varint_bytes = 3;
-    for (rowid, width) in (1i64..).zip(&widths) {
+    for (rowid, (width, least)) in (1i64..).zip(&widths) {
         let fields = [
             Field::Integer(0, *width),
             Field::Integer(1, *width),
             Field::Integer(-2, *width),
             Field::Shortest(ValueRef::Text("nut")),
         ];
-        table.push_fields(alloc, rowid, &fields, rowid as usize)?;
+        table.push_fields(alloc, rowid, &fields, *least)?;
     }
     let mut image = Image::new(alloc, 1024);
     image.push_table(table)?;
+    Ok(image)
+}
+
+/// Pages with freeblocks and with fragments, as deleted rows leave them.
+pub fn gaps(alloc: Global) -> Result<Image, LayoutError> {
+    let mut image = Image::new(alloc, 512);
+    let mut table = squares(alloc, 100, Shape::of(9, 5))?;
+    table.shape.gap = 3;
+    image.push_table(table)?;
+    let mut index = Index::new(alloc, "i", "t", Some("CREATE INDEX i ON t(a)"))?;
+    index.shape.gap = 11;
+    for id in 1..101i64 {
+        let square = ValueRef::Int(id.wrapping_mul(id));
+        index.push(alloc, &[square, ValueRef::Int(id)])?;
+    }
+    image.push_index(index)?;
     Ok(image)
 }
 

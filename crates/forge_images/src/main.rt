@@ -40,7 +40,8 @@ fn run(rt: &(impl AllocGlobal + Files + Env + Print)) -> Result<()> {
     write_image(rt, folder, "chains.db", images::chains(alloc))?;
     write_image(rt, folder, "spellings.db", images::spellings(alloc))?;
     write_image(rt, folder, "schema.db", images::schema(alloc))?;
-    println!(rt; "7 images")?;
+    write_image(rt, folder, "gaps.db", images::gaps(alloc))?;
+    println!(rt; "8 images")?;
     Ok(())
 }
 
