@@ -20,24 +20,25 @@ fi
 passed=0
 failed=0
 
-# expect FILE STATEMENT: what sqlite3 answers is to be standard input.
+# expect FILE STATEMENT: what sqlite3 answers is to be what lies in the file $wanted.
+wanted="$folder/wanted"
 expect() {
-    cat >"$folder/wanted"
     sqlite3 -batch -quote "$folder/$1" "$2" >"$folder/answer" 2>&1
-    if cmp -s "$folder/wanted" "$folder/answer"; then
+    if cmp -s "$wanted" "$folder/answer"; then
         passed=$((passed + 1))
     else
         failed=$((failed + 1))
         echo "$1: $2"
-        diff "$folder/wanted" "$folder/answer" | head -n 10
+        diff "$wanted" "$folder/answer" | head -n 10
     fi
 }
 
+echo "'ok'" >"$wanted"
 for file in leaf two_levels three_levels reserved chains spellings gaps schema; do
-    echo "'ok'" | expect "$file.db" "PRAGMA integrity_check"
+    expect "$file.db" "PRAGMA integrity_check"
 done
 
-expect leaf.db "SELECT rowid, * FROM t" <<'ROWS'
+cat >"$wanted" <<'ROWS'
 -8,-9223372036854775808,'it''s',X'00ff'
 -7,-140737488355329,'it''s',X'00ff'
 -6,-140737488355328,'it''s',X'00ff'
@@ -56,29 +57,39 @@ expect leaf.db "SELECT rowid, * FROM t" <<'ROWS'
 7,9223372036854775807,'it''s',X'00ff'
 9223372036854775807,NULL,'',X''
 ROWS
+expect leaf.db "SELECT rowid, * FROM t"
 
 # squares COUNT: the rows (id, id * id, 'row id').
 squares() {
     awk -v count="$1" 'BEGIN { for (id = 1; id <= count; id++) printf "%d,%d,\047row %d\047\n", id, id * id, id }'
 }
 
-squares 40 | expect two_levels.db "SELECT * FROM t"
-echo 200 | expect two_levels.db "PRAGMA freelist_count"
-squares 201 | expect three_levels.db "SELECT * FROM t"
-squares 201 | expect three_levels.db "SELECT * FROM t INDEXED BY i WHERE a > 0 ORDER BY a"
-squares 5000 | expect reserved.db "SELECT * FROM t"
-expect reserved.db "SELECT * FROM e" </dev/null
-echo 65536 | expect reserved.db "PRAGMA page_size"
+squares 40 >"$wanted"
+expect two_levels.db "SELECT * FROM t"
+echo 200 >"$wanted"
+expect two_levels.db "PRAGMA freelist_count"
+squares 201 >"$wanted"
+expect three_levels.db "SELECT * FROM t"
+squares 201 >"$wanted"
+expect three_levels.db "SELECT * FROM t INDEXED BY i WHERE a > 0 ORDER BY a"
+squares 5000 >"$wanted"
+expect reserved.db "SELECT * FROM t"
+: >"$wanted"
+expect reserved.db "SELECT * FROM e"
+echo 65536 >"$wanted"
+expect reserved.db "PRAGMA page_size"
 
 # digits COUNT: the rows (id, the first id bytes of 0123456789 and again).
 digits() {
     awk -v count="$1" 'BEGIN { for (id = 1; id <= count; id++) { text = text (id - 1) % 10; printf "%d,\047%s\047\n", id, text } }'
 }
 
-digits 1199 | expect chains.db "SELECT * FROM t"
-digits 1199 | expect chains.db "SELECT id, b FROM t INDEXED BY i WHERE b > '' ORDER BY b"
+digits 1199 >"$wanted"
+expect chains.db "SELECT * FROM t"
+digits 1199 >"$wanted"
+expect chains.db "SELECT id, b FROM t INDEXED BY i WHERE b > '' ORDER BY b"
 
-expect spellings.db "SELECT rowid, * FROM t" <<'ROWS'
+cat >"$wanted" <<'ROWS'
 1,0,1,-2,'nut'
 2,0,1,-2,'nut'
 3,0,1,-2,'nut'
@@ -86,12 +97,15 @@ expect spellings.db "SELECT rowid, * FROM t" <<'ROWS'
 5,0,1,-2,'nut'
 6,0,1,-2,'nut'
 ROWS
+expect spellings.db "SELECT rowid, * FROM t"
 
-squares 100 | expect gaps.db "SELECT * FROM t"
-squares 100 | expect gaps.db "SELECT * FROM t INDEXED BY i WHERE a > 0 ORDER BY a"
+squares 100 >"$wanted"
+expect gaps.db "SELECT * FROM t"
+squares 100 >"$wanted"
+expect gaps.db "SELECT * FROM t INDEXED BY i WHERE a > 0 ORDER BY a"
 
-awk 'BEGIN { for (n = 0; n < 30; n++) printf "\047t%d\047\n", n; print "\047v\047"; print "\047r\047" }' |
-    expect schema.db "SELECT name FROM sqlite_schema"
+awk 'BEGIN { for (n = 0; n < 30; n++) printf "\047t%d\047\n", n; print "\047v\047"; print "\047r\047" }' >"$wanted"
+expect schema.db "SELECT name FROM sqlite_schema"
 
 echo "$passed passed, $failed failed"
 test "$failed" -eq 0
