@@ -21,6 +21,9 @@ pub(crate) struct Cells {
     pub(crate) keys: Vec<Vec<u8>>,
     /// The pages of each overflow chain.
     pub(crate) chains: Vec<Vec<u32>>,
+    /// The fewest bytes of each varint of a cell.
+    pub(crate) least: usize,
+    pub(crate) alloc: Global,
 }
 
 /// How many bytes of a payload lie in its cell.
@@ -59,67 +62,76 @@ fn write_chain(alloc: Global, pages: &mut Pages, bytes: &[u8]) -> Result<Vec<u32
 }
 
 impl Cells {
-    /// No cells yet.
-    pub(crate) fn new(alloc: Global, kind: TreeKind) -> Cells {
+    /// No cells yet. The varints of those to come have at least so many bytes.
+    pub(crate) fn new(alloc: Global, kind: TreeKind, least: usize) -> Cells {
         Cells {
             kind,
             bodies: Vec::new(alloc),
             keys: Vec::new(alloc),
             chains: Vec::new(alloc),
+            least,
+            alloc,
         }
     }
 
-    /// Puts a payload, or the front of one and the number of its chain, behind what a cell begins with.
-    fn write_payload(
+    /// A cell that ends in a payload, or in the front of one and the number of its chain: the payload's length, what
+    /// stands between, and the payload.
+    fn cell(
         &mut self,
-        alloc: Global,
         pages: &mut Pages,
-        cell: &mut Vec<u8>,
+        between: &[u8],
         payload: &[u8],
-    ) -> Result<(), LayoutError> {
+    ) -> Result<Vec<u8>, LayoutError> {
         let local = local_length(self.kind, pages.usable(), payload.len());
         let (front, rest) = payload.split_at_checked(local).unwrap_or((payload, &[]));
+        let mut cell = Vec::new(self.alloc);
+        write_varint(&mut cell, payload.len() as u64, self.least)?;
+        cell.extend_from_slice(between)?;
         cell.extend_from_slice(front)?;
-        let chain = write_chain(alloc, pages, rest)?;
+        let chain = write_chain(self.alloc, pages, rest)?;
         if let Some(first) = chain.first() {
             cell.extend_from_slice(&first.to_be_bytes())?;
             self.chains.push(chain)?;
         }
-        Ok(())
+        Ok(cell)
     }
 
-    /// Adds a row of a table, whose varints have at least so many bytes.
+    /// Adds a row of a table.
     pub(crate) fn push_row(
         &mut self,
-        alloc: Global,
         pages: &mut Pages,
         rowid: i64,
         payload: &[u8],
-        least: usize,
     ) -> Result<(), LayoutError> {
-        let mut key = Vec::new(alloc);
-        write_varint(&mut key, rowid.cast_unsigned(), least)?;
-        let mut cell = Vec::new(alloc);
-        write_varint(&mut cell, payload.len() as u64, least)?;
-        cell.extend_from_slice(key.as_slice())?;
-        self.write_payload(alloc, pages, &mut cell, payload)?;
+        let mut key = Vec::new(self.alloc);
+        write_varint(&mut key, rowid.cast_unsigned(), self.least)?;
+        let cell = self.cell(pages, key.as_slice(), payload)?;
         self.keys.push(key)?;
         self.bodies.push(cell)?;
         Ok(())
     }
 
-    /// Adds a key of an index, whose varint has at least so many bytes.
+    /// Adds a key of an index.
     pub(crate) fn push_key(
         &mut self,
-        alloc: Global,
         pages: &mut Pages,
         payload: &[u8],
-        least: usize,
     ) -> Result<(), LayoutError> {
-        let mut cell = Vec::new(alloc);
-        write_varint(&mut cell, payload.len() as u64, least)?;
-        self.write_payload(alloc, pages, &mut cell, payload)?;
+        let cell = self.cell(pages, &[], payload)?;
         self.bodies.push(cell)?;
         Ok(())
+    }
+
+    /// The pages of each overflow chain.
+    pub(crate) fn into_chains(self) -> Vec<Vec<u32>> {
+        let Cells {
+            kind: _,
+            bodies: _,
+            keys: _,
+            chains,
+            least: _,
+            alloc: _,
+        } = self;
+        chains
     }
 }

@@ -57,6 +57,7 @@ pub struct Table {
     name: String,
     sql: String,
     rows: Vec<StoredRow>,
+    alloc: Global,
     /// How the table is cut into pages.
     pub shape: Shape,
 }
@@ -68,13 +69,14 @@ pub struct Index {
     table: String,
     sql: Option<String>,
     keys: Vec<Vec<u8>>,
+    alloc: Global,
     /// How the index is cut into pages.
     pub shape: Shape,
 }
 
-/// A row of the schema whose object has no pages, as a view's.
+/// A row of the schema for an object that has no pages, as a view.
 #[derive(Drop)]
-struct Pageless {
+struct SchemaEntry {
     kind: String,
     name: String,
     table: String,
@@ -86,7 +88,7 @@ struct Pageless {
 enum Object {
     Table(Table),
     Index(Index),
-    Pageless(Pageless),
+    Entry(SchemaEntry),
     /// A row of any payload.
     Payload(Vec<u8>),
 }
@@ -111,38 +113,33 @@ impl Table {
             name: String::from_str(alloc, name)?,
             sql: String::from_str(alloc, sql)?,
             rows: Vec::new(alloc),
+            alloc,
             shape: Shape::FULL,
         })
     }
 
     /// Adds a row of these values. The column that stands for the rowid is to be `Null`.
-    pub fn push(
-        &mut self,
-        alloc: Global,
-        rowid: i64,
-        values: &[ValueRef<'_>],
-    ) -> Result<(), LayoutError> {
-        self.push_payload(rowid, encode_values(alloc, values)?)
+    pub fn push(&mut self, rowid: i64, values: &[ValueRef<'_>]) -> Result<(), LayoutError> {
+        self.push_payload(rowid, encode_values(self.alloc, values)?)
     }
 
     /// Adds a row of these values. The one of the column that stands for the rowid is to be `Null`.
-    pub fn push_row(&mut self, alloc: Global, rowid: i64, row: &Row) -> Result<(), LayoutError> {
-        let mut values = Vec::with_capacity(alloc, row.len())?;
+    pub fn push_row(&mut self, rowid: i64, row: &Row) -> Result<(), LayoutError> {
+        let mut values = Vec::with_capacity(self.alloc, row.len())?;
         for value in row.as_slice() {
             values.push(value.as_ref())?;
         }
-        self.push(alloc, rowid, values.as_slice())
+        self.push(rowid, values.as_slice())
     }
 
     /// Adds a row of these fields, whose record's varints have at least so many bytes.
     pub fn push_fields(
         &mut self,
-        alloc: Global,
         rowid: i64,
         fields: &[Field<'_>],
         least: usize,
     ) -> Result<(), LayoutError> {
-        self.push_payload(rowid, encode_record(alloc, fields, least)?)
+        self.push_payload(rowid, encode_record(self.alloc, fields, least)?)
     }
 
     /// Adds a row of any payload, which need not be a record.
@@ -151,13 +148,12 @@ impl Table {
         Ok(())
     }
 
-    fn write(&self, alloc: Global, pages: &mut Pages, root: u32) -> Result<Tree, LayoutError> {
-        let mut cells = Cells::new(alloc, TreeKind::Table);
+    fn write(&self, pages: &mut Pages, root: u32) -> Result<Tree, LayoutError> {
+        let mut cells = Cells::new(self.alloc, TreeKind::Table, self.shape.varint_bytes);
         for row in &self.rows {
-            let payload = row.payload.as_slice();
-            cells.push_row(alloc, pages, row.rowid, payload, self.shape.varint_bytes)?;
+            cells.push_row(pages, row.rowid, row.payload.as_slice())?;
         }
-        write_tree(alloc, pages, root, cells, self.shape)
+        write_tree(pages, root, cells, self.shape)
     }
 }
 
@@ -177,23 +173,19 @@ impl Index {
                 None => None,
             },
             keys: Vec::new(alloc),
+            alloc,
             shape: Shape::FULL,
         })
     }
 
     /// Adds a key: the values of the index's columns, and then the rowid.
-    pub fn push(&mut self, alloc: Global, key: &[ValueRef<'_>]) -> Result<(), LayoutError> {
-        self.push_payload(encode_values(alloc, key)?)
+    pub fn push(&mut self, key: &[ValueRef<'_>]) -> Result<(), LayoutError> {
+        self.push_payload(encode_values(self.alloc, key)?)
     }
 
     /// Adds a key of these fields, whose record's varints have at least so many bytes.
-    pub fn push_fields(
-        &mut self,
-        alloc: Global,
-        fields: &[Field<'_>],
-        least: usize,
-    ) -> Result<(), LayoutError> {
-        self.push_payload(encode_record(alloc, fields, least)?)
+    pub fn push_fields(&mut self, fields: &[Field<'_>], least: usize) -> Result<(), LayoutError> {
+        self.push_payload(encode_record(self.alloc, fields, least)?)
     }
 
     /// Adds a key of any payload, which need not be a record.
@@ -202,28 +194,28 @@ impl Index {
         Ok(())
     }
 
-    fn write(&self, alloc: Global, pages: &mut Pages, root: u32) -> Result<Tree, LayoutError> {
-        let mut cells = Cells::new(alloc, TreeKind::Index);
+    fn write(&self, pages: &mut Pages, root: u32) -> Result<Tree, LayoutError> {
+        let mut cells = Cells::new(self.alloc, TreeKind::Index, self.shape.varint_bytes);
         for key in &self.keys {
-            cells.push_key(alloc, pages, key.as_slice(), self.shape.varint_bytes)?;
+            cells.push_key(pages, key.as_slice())?;
         }
-        write_tree(alloc, pages, root, cells, self.shape)
+        write_tree(pages, root, cells, self.shape)
     }
 }
 
 impl Object {
     /// Lays out the object's tree, if it has one.
-    fn write(&self, alloc: Global, pages: &mut Pages) -> Result<Option<NamedTree>, LayoutError> {
+    fn write(&self, pages: &mut Pages) -> Result<Option<NamedTree>, LayoutError> {
         let (name, tree) = match self {
             Object::Table(table) => {
                 let root = pages.add()?;
-                (table.name.clone()?, table.write(alloc, pages, root)?)
+                (table.name.clone()?, table.write(pages, root)?)
             }
             Object::Index(index) => {
                 let root = pages.add()?;
-                (index.name.clone()?, index.write(alloc, pages, root)?)
+                (index.name.clone()?, index.write(pages, root)?)
             }
-            Object::Pageless(_) | Object::Payload(_) => return Ok(None),
+            Object::Entry(_) | Object::Payload(_) => return Ok(None),
         };
         Ok(Some(NamedTree { name, tree }))
     }
@@ -234,7 +226,12 @@ impl Object {
             Object::Table(table) => ("table", &table.name, &table.name, Some(&table.sql)),
             Object::Index(index) => ("index", &index.name, &index.table, index.sql.as_ref()),
             Object::Payload(payload) => return Ok(payload.clone()?),
-            Object::Pageless(row) => (row.kind.as_str(), &row.name, &row.table, Some(&row.sql)),
+            Object::Entry(entry) => (
+                entry.kind.as_str(),
+                &entry.name,
+                &entry.table,
+                Some(&entry.sql),
+            ),
         };
         let values = [
             ValueRef::Text(kind),
@@ -280,15 +277,15 @@ impl Image {
         Ok(())
     }
 
-    /// Adds a row to the schema whose object has no pages, as a view or a trigger.
-    pub fn push_pageless(
+    /// Adds a row to the schema for an object that has no pages, as a view or a trigger.
+    pub fn push_schema_entry(
         &mut self,
         kind: &str,
         name: &str,
         table: &str,
         sql: &str,
     ) -> Result<(), LayoutError> {
-        self.objects.push(Object::Pageless(Pageless {
+        self.objects.push(Object::Entry(SchemaEntry {
             kind: String::from_str(self.alloc, kind)?,
             name: String::from_str(self.alloc, name)?,
             table: String::from_str(self.alloc, table)?,
@@ -311,7 +308,7 @@ impl Image {
         let mut trees = Vec::new(self.alloc);
         let mut rows = Vec::new(self.alloc);
         for object in &self.objects {
-            let tree = object.write(self.alloc, &mut pages)?;
+            let tree = object.write(&mut pages)?;
             let root = tree.as_ref().map_or(0, |named| named.tree.root);
             rows.push(object.schema_row(self.alloc, root)?)?;
             trees.extend(tree)?;
@@ -329,11 +326,10 @@ impl Image {
         root: u32,
         rows: &[Vec<u8>],
     ) -> Result<Tree, LayoutError> {
-        let mut cells = Cells::new(self.alloc, TreeKind::Table);
-        let least = self.schema_shape.varint_bytes;
+        let mut cells = Cells::new(self.alloc, TreeKind::Table, self.schema_shape.varint_bytes);
         for (rowid, row) in (1i64..).zip(rows) {
-            cells.push_row(self.alloc, pages, rowid, row.as_slice(), least)?;
+            cells.push_row(pages, rowid, row.as_slice())?;
         }
-        write_tree(self.alloc, pages, root, cells, self.schema_shape)
+        write_tree(pages, root, cells, self.schema_shape)
     }
 }

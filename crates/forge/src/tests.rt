@@ -10,7 +10,7 @@ fn numbers(alloc: Global, page_size: u32, count: i64, shape: Shape) -> Result<La
     let mut table = Table::new(alloc, "t", "CREATE TABLE t(id INTEGER PRIMARY KEY, a INT)")?;
     table.shape = shape;
     for rowid in 0..count {
-        table.push(alloc, rowid, &[ValueRef::Null, ValueRef::Int(rowid)])?;
+        table.push(rowid, &[ValueRef::Null, ValueRef::Int(rowid)])?;
     }
     let mut image = Image::new(alloc, page_size);
     image.push_table(table)?;
@@ -22,8 +22,8 @@ fn numbers(alloc: Global, page_size: u32, count: i64, shape: Shape) -> Result<La
 fn lays_out_a_leaf(rt: HostRuntime) -> Result<(), Fail> {
     let alloc = rt.alloc();
     let mut table = Table::new(alloc, "t", "CREATE TABLE t(a)")?;
-    table.push(alloc, -1, &[ValueRef::Int(5)])?;
-    table.push(alloc, 7, &[ValueRef::Text("ab")])?;
+    table.push(-1, &[ValueRef::Int(5)])?;
+    table.push(7, &[ValueRef::Text("ab")])?;
     let mut image = Image::new(alloc, 512);
     image.push_table(table)?;
     let layout = image.lay_out()?;

@@ -267,25 +267,19 @@ fn bytes_at(pieces: &Vec<Vec<u8>>, n: usize) -> &[u8] {
 
 /// Lays out cells as a tree whose root is this page.
 pub(crate) fn write_tree(
-    alloc: Global,
     pages: &mut Pages,
     root: u32,
     cells: Cells,
     shape: Shape,
 ) -> Result<Tree, LayoutError> {
     let plan = Plan {
-        alloc,
+        alloc: cells.alloc,
         cells: &cells,
         root,
         shape,
     };
     let levels = plan.write(pages)?;
-    let Cells {
-        kind: _,
-        bodies: _,
-        keys: _,
-        chains,
-    } = cells;
+    let chains = cells.into_chains();
     Ok(Tree {
         root,
         levels,

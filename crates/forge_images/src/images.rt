@@ -31,11 +31,7 @@ fn squares(alloc: Global, count: i64, shape: Shape) -> Result<Table, LayoutError
     for id in 1..count.saturating_add(1) {
         let text = format!(in alloc; "row {id}")?;
         let square = ValueRef::Int(id.wrapping_mul(id));
-        table.push(
-            alloc,
-            id,
-            &[ValueRef::Null, square, ValueRef::Text(text.as_str())],
-        )?;
+        table.push(id, &[ValueRef::Null, square, ValueRef::Text(text.as_str())])?;
     }
     Ok(table)
 }
@@ -49,10 +45,10 @@ pub fn leaf(alloc: Global) -> Result<Image, LayoutError> {
             ValueRef::Text("it's"),
             ValueRef::Blob(&[0, 255]),
         ];
-        table.push(alloc, rowid, &values)?;
+        table.push(rowid, &values)?;
     }
     let values = [ValueRef::Null, ValueRef::Text(""), ValueRef::Blob(&[])];
-    table.push(alloc, i64::MAX, &values)?;
+    table.push(i64::MAX, &values)?;
     let mut image = Image::new(alloc, 512);
     image.push_table(table)?;
     Ok(image)
@@ -73,10 +69,7 @@ pub fn three_levels(alloc: Global) -> Result<Image, LayoutError> {
     let mut index = Index::new(alloc, "i", "t", Some("CREATE INDEX i ON t(a)"))?;
     index.shape = Shape::of(2, 3);
     for id in 1..202i64 {
-        index.push(
-            alloc,
-            &[ValueRef::Int(id.wrapping_mul(id)), ValueRef::Int(id)],
-        )?;
+        index.push(&[ValueRef::Int(id.wrapping_mul(id)), ValueRef::Int(id)])?;
     }
     image.push_index(index)?;
     Ok(image)
@@ -107,15 +100,8 @@ pub fn chains(alloc: Global) -> Result<Image, LayoutError> {
     for id in 1..1200usize {
         let text = digits(alloc, id)?;
         let number = id as i64;
-        table.push(
-            alloc,
-            number,
-            &[ValueRef::Null, ValueRef::Text(text.as_str())],
-        )?;
-        index.push(
-            alloc,
-            &[ValueRef::Text(text.as_str()), ValueRef::Int(number)],
-        )?;
+        table.push(number, &[ValueRef::Null, ValueRef::Text(text.as_str())])?;
+        index.push(&[ValueRef::Text(text.as_str()), ValueRef::Int(number)])?;
     }
     let mut image = Image::with_reserved(alloc, 512, 7);
     image.push_table(table)?;
@@ -142,7 +128,7 @@ pub fn spellings(alloc: Global) -> Result<Image, LayoutError> {
             Field::Integer(-2, *width),
             Field::Shortest(ValueRef::Text("nut")),
         ];
-        table.push_fields(alloc, rowid, &fields, *least)?;
+        table.push_fields(rowid, &fields, *least)?;
     }
     let mut image = Image::new(alloc, 1024);
     image.push_table(table)?;
@@ -159,7 +145,7 @@ pub fn gaps(alloc: Global) -> Result<Image, LayoutError> {
     index.shape.gap = 11;
     for id in 1..101i64 {
         let square = ValueRef::Int(id.wrapping_mul(id));
-        index.push(alloc, &[square, ValueRef::Int(id)])?;
+        index.push(&[square, ValueRef::Int(id)])?;
     }
     image.push_index(index)?;
     Ok(image)
@@ -173,9 +159,9 @@ pub fn schema(alloc: Global) -> Result<Image, LayoutError> {
         let sql = format!(in alloc; "CREATE TABLE t{n}(a, number_{n} INT, another_column TEXT)")?;
         image.push_table(Table::new(alloc, name.as_str(), sql.as_str())?)?;
     }
-    image.push_pageless("view", "v", "v", "CREATE VIEW v AS SELECT a FROM t0")?;
+    image.push_schema_entry("view", "v", "v", "CREATE VIEW v AS SELECT a FROM t0")?;
     let body = "BEGIN DELETE FROM t2; END";
     let trigger = format!(in alloc; "CREATE TRIGGER r AFTER INSERT ON t1 {body}")?;
-    image.push_pageless("trigger", "r", "t1", trigger.as_str())?;
+    image.push_schema_entry("trigger", "r", "t1", trigger.as_str())?;
     Ok(image)
 }
