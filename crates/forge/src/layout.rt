@@ -76,6 +76,24 @@ impl Layout {
         self.pages.place(page, offset)
     }
 
+    /// So many bytes of a page, from an offset on.
+    pub fn piece(&self, page: u32, offset: usize, length: usize) -> Option<&[u8]> {
+        let start = self.pages.place(page, offset)?;
+        let (_, behind) = self.as_slice().split_at_checked(start)?;
+        let (piece, _) = behind.split_at_checked(length)?;
+        Some(piece)
+    }
+
+    /// A copy of the image's bytes in which some bytes of a page are others. The layout stays as it is.
+    pub fn copy_with(
+        &self,
+        page: u32,
+        offset: usize,
+        piece: &[u8],
+    ) -> Result<Vec<u8>, LayoutError> {
+        self.pages.copy_with(page, offset, piece)
+    }
+
     /// Sets bytes at a place of the image.
     pub fn set(&mut self, place: usize, piece: &[u8]) -> Result<(), LayoutError> {
         self.pages.set(place, piece)

@@ -93,6 +93,19 @@ impl Pages {
         set_bytes(self.bytes.as_mut_slice(), place, piece)
     }
 
+    /// The place of a piece that lies within a page.
+    fn place_of_piece(
+        &self,
+        page: u32,
+        offset: usize,
+        length: usize,
+    ) -> Result<usize, LayoutError> {
+        match (self.place(page, offset), offset.checked_add(length)) {
+            (Some(place), Some(end)) if end <= self.size => Ok(place),
+            _ => Err(LayoutError::Outside),
+        }
+    }
+
     /// Sets bytes within a page.
     pub(crate) fn set_in_page(
         &mut self,
@@ -100,9 +113,20 @@ impl Pages {
         offset: usize,
         piece: &[u8],
     ) -> Result<(), LayoutError> {
-        match (self.place(page, offset), offset.checked_add(piece.len())) {
-            (Some(place), Some(end)) if end <= self.size => self.set(place, piece),
-            _ => Err(LayoutError::Outside),
-        }
+        let place = self.place_of_piece(page, offset, piece.len())?;
+        self.set(place, piece)
+    }
+
+    /// A copy of all the pages' bytes, with these within a page.
+    pub(crate) fn copy_with(
+        &self,
+        page: u32,
+        offset: usize,
+        piece: &[u8],
+    ) -> Result<Vec<u8>, LayoutError> {
+        let place = self.place_of_piece(page, offset, piece.len())?;
+        let mut bytes = self.bytes.clone()?;
+        set_bytes(bytes.as_mut_slice(), place, piece)?;
+        Ok(bytes)
     }
 }

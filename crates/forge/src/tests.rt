@@ -1,5 +1,5 @@
 use super::*;
-use pager::{Pager, Source};
+use pager::{MemSource, Pager, Source};
 use std::alloc::Global;
 use std::num::NonZeroUsize;
 use std::test::Fail;
@@ -59,6 +59,38 @@ fn the_pager_takes_images(rt: HostRuntime) -> Result<(), Fail> {
         let source = pager.into_source();
         assert_eq!(rt; (source.reads(), source.failures()), (3, 1));
     }
+    Ok(())
+}
+
+#[test]
+fn breaks_a_copy(rt: HostRuntime) -> Result<(), Fail> {
+    let alloc = rt.alloc();
+    let mut layout = numbers(alloc, 512, 12, Shape::of(2, 3))?;
+    let tree = layout.tree("t").ok_or("no tree")?;
+    let (root, leaf) = (tree.root, tree.leaf(5).ok_or("no leaf")?);
+    // Rows 10 and 11 take 6 bytes each: the payload's length, the rowid, and the record [3, 0, 1, rowid].
+    let place = tree.cell(5, 1).ok_or("no cell")?;
+    assert_eq!(rt;
+        (tree.levels.len(), tree.leaves().len(), place),
+        (3, 6, 500)
+    );
+    assert_eq!(rt;
+        layout.piece(leaf, place, 6),
+        Some([4, 11, 3, 0, 1, 11].as_slice())
+    );
+    let copy = layout.copy_with(1, 16, &[2, 1])?;
+    let capacity = NonZeroUsize::new(1).ok_or("zero")?;
+    let opened = Pager::open(alloc, MemSource::new(copy), capacity);
+    assert_eq!(rt;
+        opened.err().map(|(fault, _)| fault),
+        Some(Fault::BadPageSize)
+    );
+    layout.set_word(root, 8, 77)?;
+    assert_eq!(rt; layout.piece(root, 8, 4), Some([0, 0, 0, 77].as_slice()));
+    assert_eq!(rt;
+        layout.set_in_page(root, 510, &[1, 2, 3]),
+        Err(LayoutError::Outside)
+    );
     Ok(())
 }
 
