@@ -104,6 +104,29 @@ expect gaps.db "SELECT * FROM t"
 squares 100 >"$wanted"
 expect gaps.db "SELECT * FROM t INDEXED BY i WHERE a > 0 ORDER BY a"
 
+# sized USABLE: twenty texts about a quarter of a page's usable bytes, and twenty about all of them.
+sized() {
+    awk -v usable="$1" 'BEGIN {
+        quarter = int((usable - 12) * 64 / 255)
+        while (length(text) < usable) text = text "0123456789"
+        for (id = 1; id <= 40; id++) {
+            size = id <= 20 ? quarter + id - 33 : usable + id - 66
+            printf "%d,\047%s\047\n", id, substr(text, 1, size)
+        }
+    }'
+}
+
+for size in 512:32 1024:0 2048:1 4096:8 8192:255 16384:0 32768:0 65536:255; do
+    bytes=${size%:*}
+    echo "'ok'" >"$wanted"
+    expect "size_$bytes.db" "PRAGMA integrity_check"
+    echo "$bytes" >"$wanted"
+    expect "size_$bytes.db" "PRAGMA page_size"
+    sized $((bytes - ${size#*:})) >"$wanted"
+    expect "size_$bytes.db" "SELECT * FROM t"
+    expect "size_$bytes.db" "SELECT id, b FROM t INDEXED BY i WHERE b > '' ORDER BY b"
+done
+
 awk 'BEGIN { for (n = 0; n < 30; n++) printf "\047t%d\047\n", n; print "\047v\047"; print "\047r\047" }' >"$wanted"
 expect schema.db "SELECT name FROM sqlite_schema"
 

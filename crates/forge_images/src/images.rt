@@ -109,6 +109,41 @@ pub fn chains(alloc: Global) -> Result<Image, LayoutError> {
     Ok(image)
 }
 
+/// A page size and the bytes reserved at each page's end.
+pub const SIZES: [(u32, u8); 8] = [
+    (512, 32),
+    (1024, 0),
+    (2048, 1),
+    (4096, 8),
+    (8192, 255),
+    (16384, 0),
+    (32768, 0),
+    (65536, 255),
+];
+
+/// Twenty texts about the length at which an index begins a chain, and twenty about that of a table.
+pub fn sized(alloc: Global, page_size: u32, reserved: u8) -> Result<Image, LayoutError> {
+    let usable = (page_size as usize).saturating_sub(reserved as usize);
+    let quarter = usable.saturating_sub(12).saturating_mul(64) / 255;
+    let mut table = Table::new(alloc, "t", "CREATE TABLE t(id INTEGER PRIMARY KEY, b TEXT)")?;
+    let mut index = Index::new(alloc, "i", "t", Some("CREATE INDEX i ON t(b)"))?;
+    for id in 1..41u8 {
+        let length = if id <= 20 {
+            quarter.saturating_add(id as usize).saturating_sub(33)
+        } else {
+            usable.saturating_add(id as usize).saturating_sub(66)
+        };
+        let text = digits(alloc, length)?;
+        let (number, text) = (id as i64, ValueRef::Text(text.as_str()));
+        table.push(number, &[ValueRef::Null, text])?;
+        index.push(&[text, ValueRef::Int(number)])?;
+    }
+    let mut image = Image::with_reserved(alloc, page_size, reserved);
+    image.push_table(table)?;
+    image.push_index(index)?;
+    Ok(image)
+}
+
 /// Integers in wider types, and varints that are longer than needed.
 pub fn spellings(alloc: Global) -> Result<Image, LayoutError> {
     let widths = [
