@@ -127,7 +127,7 @@ for size in 512:32 1024:0 2048:1 4096:8 8192:255 16384:0 32768:0 65536:255; do
     expect "size_$bytes.db" "SELECT id, b FROM t INDEXED BY i WHERE b > '' ORDER BY b"
 done
 
-awk 'BEGIN { for (n = 0; n < 30; n++) printf "\047t%d\047\n", n; print "\047v\047"; print "\047r\047" }' >"$wanted"
+awk 'BEGIN { for (n = 0; n < 30; n++) printf "\047t%d\047\n", n; print "\047v\047"; print "\047r\047"; print "\047w\047" }' >"$wanted"
 expect schema.db "SELECT name FROM sqlite_schema"
 
 echo "$passed passed, $failed failed"

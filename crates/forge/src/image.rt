@@ -183,7 +183,8 @@ impl Index {
         self.push_payload(encode_values(self.alloc, key)?)
     }
 
-    /// Adds a key of these fields, whose record's varints have at least so many bytes.
+    /// Adds a key of these fields, whose record's varints have at least so many bytes. SQLite itself compares keys
+    /// wrongly where these are longer than needed.
     pub fn push_fields(&mut self, fields: &[Field<'_>], least: usize) -> Result<(), LayoutError> {
         self.push_payload(encode_record(self.alloc, fields, least)?)
     }

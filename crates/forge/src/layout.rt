@@ -78,7 +78,7 @@ impl Layout {
 
     /// So many bytes of a page, from an offset on.
     pub fn piece(&self, page: u32, offset: usize, length: usize) -> Option<&[u8]> {
-        let start = self.pages.place(page, offset)?;
+        let start = self.pages.place_of_piece(page, offset, length).ok()?;
         let (_, behind) = self.as_slice().split_at_checked(start)?;
         let (piece, _) = behind.split_at_checked(length)?;
         Some(piece)

@@ -6,6 +6,18 @@
 //! bytes), `image` (the description), `pages` (numbered pages), `cell` (payloads and their overflow chains),
 //! `tree_page` (one page of a tree), `tree` (a tree's levels), `freelist`, `header` (the first 100 bytes), `layout`
 //! (what was laid out, and means to break it), `script_source` and `script_sink`.
+//!
+//! ```text
+//! let mut table = Table::new(alloc, "t", "CREATE TABLE t(id INTEGER PRIMARY KEY, a TEXT)")?;
+//! table.push(1, &[ValueRef::Null, ValueRef::Text("nut")])?;
+//! table.push(2, &[ValueRef::Null, ValueRef::Text("cap")])?;
+//! table.shape = Shape::of(1, 2);
+//! let mut image = Image::new(alloc, 512);
+//! image.push_table(table)?;
+//! let layout = image.lay_out()?;
+//! let root = layout.tree("t").ok_or("no tree")?.root;
+//! let broken = ScriptSource::new(layout.copy_with(root, 0, &[7])?, ReadScript::Never);
+//! ```
 #![tactic(auto)]
 
 mod cell;

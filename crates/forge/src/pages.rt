@@ -94,7 +94,7 @@ impl Pages {
     }
 
     /// The place of a piece that lies within a page.
-    fn place_of_piece(
+    pub(crate) fn place_of_piece(
         &self,
         page: u32,
         offset: usize,

@@ -117,6 +117,9 @@ fn a_script_fails_once(rt: HostRuntime) -> Result<(), Fail> {
         (source.reads(), source.failures(), source.len()),
         (3, 1, Ok(3))
     );
+    let mut source = source.with_script(ReadScript::From(1));
+    assert!(rt; source.read_at(0, &mut read).is_err() && source.reads() == 1);
+    assert!(rt; source.with_script(ReadScript::Length).len().is_err());
     let mut sink = ScriptSink::in_steps(alloc, 2, 5);
     assert!(rt; write_all(&mut sink, b"abcdefg").is_err());
     assert_eq!(rt;

@@ -1,7 +1,7 @@
 //! The images, whose rows compare/forged.sh states again.
-use forge::{Field, Image, Index, IntegerWidth, LayoutError, Shape, Table};
+use forge::{Field, Image, Index, IntegerWidth, LayoutError, Shape, Table, encode_record};
 use std::alloc::Global;
-use values::ValueRef;
+use values::{Row, Value, ValueRef};
 
 /// Integers next to each bound of a serial type.
 const BOUNDS: [i64; 16] = [
@@ -47,8 +47,11 @@ pub fn leaf(alloc: Global) -> Result<Image, LayoutError> {
         ];
         table.push(rowid, &values)?;
     }
-    let values = [ValueRef::Null, ValueRef::Text(""), ValueRef::Blob(&[])];
-    table.push(i64::MAX, &values)?;
+    let mut row = Row::new(alloc);
+    row.push(Value::Null)?;
+    row.push(Value::Text(String::new(alloc)))?;
+    row.push(Value::Blob(Vec::new(alloc)))?;
+    table.push_row(i64::MAX, &row)?;
     let mut image = Image::new(alloc, 512);
     image.push_table(table)?;
     Ok(image)
@@ -179,8 +182,8 @@ pub fn gaps(alloc: Global) -> Result<Image, LayoutError> {
     let mut index = Index::new(alloc, "i", "t", Some("CREATE INDEX i ON t(a)"))?;
     index.shape.gap = 11;
     for id in 1..101i64 {
-        let square = ValueRef::Int(id.wrapping_mul(id));
-        index.push(&[square, ValueRef::Int(id)])?;
+        let square = Field::Integer(id.wrapping_mul(id), IntegerWidth::Four);
+        index.push_fields(&[square, Field::Integer(id, IntegerWidth::Two)], 1)?;
     }
     image.push_index(index)?;
     Ok(image)
@@ -198,5 +201,13 @@ pub fn schema(alloc: Global) -> Result<Image, LayoutError> {
     let body = "BEGIN DELETE FROM t2; END";
     let trigger = format!(in alloc; "CREATE TRIGGER r AFTER INSERT ON t1 {body}")?;
     image.push_schema_entry("trigger", "r", "t1", trigger.as_str())?;
+    let entry = [
+        Field::Shortest(ValueRef::Text("view")),
+        Field::Shortest(ValueRef::Text("w")),
+        Field::Shortest(ValueRef::Text("w")),
+        Field::Integer(0, IntegerWidth::Eight),
+        Field::Shortest(ValueRef::Text("CREATE VIEW w AS SELECT a FROM v")),
+    ];
+    image.push_schema_payload(encode_record(alloc, &entry, 3)?)?;
     Ok(image)
 }
