@@ -1,7 +1,7 @@
 -- A text with its quotes doubled, run by run.
 use Rattle.std.proofs.Common.{◌≡◌, ◌≢◌, ℕ, zero, suc, ◌+◌, ◌-◌, ◌<◌, ◌≤◌, List, [], ◌∷◌, ◌++◌, take, drop, length, get_or, refl, ap, sym, ◌∙◌, append_assoc, arith, Ok, Err}
 use Rattle.std.proofs.lemmas.Grind.{common_steps}
-use Rattle.std.proofs.lemmas.List.{take-append-drop, drop-drop, drop_more, get_or-drop}
+use Rattle.std.proofs.lemmas.List.{take_rest, take-append-drop, drop-drop, drop_more, get_or-drop}
 use Rattle.std.proofs.Common.{length-drop}
 use Rattle.values.specs.Literal.{quoted, quoted_all}
 use Rattle.values.specs.Sink.{SinkFacts, Writes}
@@ -9,7 +9,7 @@ use Rattle.values.specs.declared.fault.Fault.{Fault}
 use Rattle.memchr.specs.Find.{IsFirstByte, is_byte}
 use Rattle.std.proofs.lemmas.Bool.{eqb-true, eq-eqb}
 use Rattle.std.proofs.Common.{Some, None}
-use Rattle.values.proofs.SinkLemmas.{Writes-none, Writes-then, Writes-cut, take-add, take-rest}
+use Rattle.values.proofs.SinkLemmas.{Writes-none, Writes-then, Writes-cut, take-add}
 
 quoted-other : (byte : ℕ) → byte ≢ 39 → quoted byte ≡ byte ∷ []
 quoted-other byte other = grind (arith, common_steps)
@@ -60,12 +60,12 @@ module _ (text piece : List ℕ) (seen : ℕ) (start now : SinkFacts) (q : Quoti
   -- no quote is left
   pub Quoting-last : IsFirstByte (is_byte 39) (take (length piece - seen) (drop seen piece)) None → q.done ++ piece ≡ quoted_all text
   Quoting-last none =
-      let same = quoted_all-none (drop seen piece) (no_quote _ (rw (take-rest seen piece) at none)) in
+      let same = quoted_all-none (drop seen piece) (no_quote _ (rw (take_rest piece seen) at none)) in
       ap (λ t. q.done ++ t) (sym (take-append-drop seen piece) ∙ ap (λ t. take seen piece ++ t) (sym same)) ∙ q.whole
 
   module _ (ahead : ℕ) (found : IsFirstByte (is_byte 39) (take (length piece - seen) (drop seen piece)) (Some ahead)) where
     first : IsFirstQuote (drop seen piece) ahead
-    first = first_quote _ _ (rw (take-rest seen piece) at found)
+    first = first_quote _ _ (rw (take_rest piece seen) at found)
 
     pub Quoting-within : seen + ahead < length piece
     Quoting-within = omega (arith, first.within, length-drop seen piece)
@@ -96,7 +96,7 @@ module _ (text piece : List ℕ) (seen : ℕ) (start now : SinkFacts) (q : Quoti
         let quote : get_or piece (seen + ahead) 0 ≡ 39 = sym (get_or-drop seen piece ahead 0) ∙ first.is in
         let next : drop (seen + ahead) piece ≡ 39 ∷ drop (seen + ahead + 1) piece = drop_more piece (seen + ahead) 0 within ∙ ap (λ b. b ∷ drop (seen + ahead + 1) piece) quote in
         let shorter : length (39 ∷ drop (seen + ahead + 1) piece) ≤ length text = omega (arith, length-drop (seen + ahead + 1) piece, q.short) in
-        rw (take-rest (seen + ahead) piece, next) (record {
+        rw (take_rest piece (seen + ahead), next) (record {
           within = omega arith;
           short = shorter;
           done = q.done ++ take (seen + ahead + 1) piece;

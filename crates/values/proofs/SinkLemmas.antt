@@ -1,7 +1,7 @@
 -- Writes one after another.
 use Rattle.std.proofs.Common.{refl, ◌≡◌, ℕ, zero, suc, ◌+◌, List, [], ◌∷◌, ◌++◌, take, drop, Option, Some, None, ap, append_assoc, append-nil, suc-add, zero-add, Result, Ok, Err, sym, ◌∙◌, ◌<◌, get_or, length, ◌-◌, arith}
 use Rattle.std.proofs.lemmas.Grind.{common_steps}
-use Rattle.std.proofs.lemmas.List.{take-append-drop}
+use Rattle.std.proofs.lemmas.List.{take_rest, take-append-drop}
 use Rattle.std.proofs.Math.Seq.{take-nil}
 use Rattle.std.specs.List.{flat_map}
 use Rattle.std.specs.Io.KnownBytes.{Appends}
@@ -23,14 +23,11 @@ take-add zero n xs = rw (zero-add n)
 take-add (suc m) n [] = rw suc-add (sym (take-nil n))
 take-add (suc m) n (x ∷ xs) = rw suc-add (ap (λ t. x ∷ t) (take-add m n xs))
 
-pub take-rest : (d : ℕ) (xs : List ℕ) → take (length xs - d) (drop d xs) ≡ drop d xs
-take-rest d xs = grind (arith, common_steps)
-
 -- a piece of what is left goes behind what is written
 pub Appends-more : (a b c : Option (List ℕ)) (text : List ℕ) (d k : ℕ) → Appends a b (take d text)
     → Appends b c (take k (take (length text - d) (drop d text))) → Appends a c (take (d + k) text)
 Appends-more a b c text d k first more =
-    rw (take-add d k text) (Appends-then a b c _ _ first (rw (take-rest d text) at more))
+    rw (take-add d k text) (Appends-then a b c _ _ first (rw (take_rest text d) at more))
 
 -- a sink that took so much of a text has written that much, and the rest of it not
 pub Writes-front : (text : List ℕ) (done : ℕ) (old new : SinkFacts) → Appends old.written new.written (take done text) → WritesFront text old new

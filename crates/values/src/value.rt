@@ -16,8 +16,9 @@ pub enum Value {
 }
 
 /// A value whose text or blob lies elsewhere, as in a page.
-#[derive(Clone, Copy, Debug, PartialEq, Eq, PartialOrd, Ord)]
+#[derive(Clone, Copy, Debug, Default, PartialEq, Eq, PartialOrd, Ord)]
 pub enum ValueRef<'a> {
+    #[default]
     Null,
     Int(i64),
     Text(&'a str),

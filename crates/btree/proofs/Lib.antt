@@ -1,0 +1,5 @@
+pub mod CellLemmas
+pub mod FrameLemmas
+pub mod PageLemmas
+pub mod RestLemmas
+pub mod SeenLemmas

@@ -1,0 +1,18 @@
+use Rattle.std.proofs.Common.{◌≡◌, ℕ, ◌-◌, ◌≤◌, List, vec_len, IsTrue}
+use Rattle.pager.specs.PagerState.{IsPageNumber, Stays}
+use Rattle.image.specs.Tree.{Place}
+use Rattle.btree.specs.Rest.{IsHeading, pages_seen}
+use Rattle.btree.proofs.cursor.descend.Given as goal
+
+abbrev pub invariant-loop-pager : goal.invariant-loop-pager
+invariant-loop-pager g l = record {
+  stays : Stays l.fn.pager.state l.pager.state;
+  failures : l.pager.state.source.failures ≡ l.fn.pager.state.source.failures;
+  number : IsPageNumber l.pager.state l.number;
+  heads : IsTrue l.fn.pager.state.source.steady → (places : List Place) (budget : ℕ)
+      → IsHeading (pages_seen l.fn.pager.state) l.fn.frames.items l.n places l.fn.pager.state.asked budget
+      → IsHeading (pages_seen l.fn.pager.state) l.frames.items l.number places l.pager.state.asked budget;
+}
+
+abbrev pub decreases-loop-pager : goal.decreases-loop-pager
+decreases-loop-pager g l = 20 - vec_len l.frames

@@ -1,0 +1,4 @@
+pub mod Bytes
+pub mod ViewData
+pub mod Views
+pub mod Rest

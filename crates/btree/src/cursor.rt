@@ -1,0 +1,136 @@
+//! A cursor over a table's rows.
+ghost use Rattle.std.specs.Prelude.{◌≡◌, ◌⊎◌, ◌+◌, ◌<◌, ◌≤◌, ℕ, List, take, length, IfErr, IfNone, IfOk, IfSome, IsSome, IsTrue, Some};
+ghost use Rattle.image.specs.declared.kind.TreeKind.TheVariants.{Table};
+ghost use Rattle.image.specs.declared.kind.Level.{Level};
+ghost use Rattle.image.specs.declared.kind.Level.TheVariants.{Leaf, Interior};
+ghost use Rattle.image.specs.Layout.{header_at};
+ghost use Rattle.image.specs.Pages.{Pages, IsNumber};
+ghost use Rattle.image.specs.Shape.{place_at};
+ghost use Rattle.image.specs.Tree.{Place, HasHeader, IsPageOf, IsRowAt, child_at, count_at};
+ghost use Rattle.pager.specs.PagerState.{IsPageNumber, IsUsed, Stays};
+ghost use Rattle.values.specs.Fault.{Counts};
+ghost use Rattle.btree.specs.Bytes.{HasHeaderAt};
+ghost use Rattle.btree.specs.Rest.{AreReadable, GoesOn, Holds, IsCursorFault, IsHeading, IsLeft, IsStanding, pages_seen};
+ghost use Rattle.btree.specs.Views.{cell_data};
+
+use crate::{Cell, PageView};
+use image::{Level, TreeKind};
+use pager::{Page, Pager, Source};
+use values::Fault;
+
+/// The most levels that a tree may have.
+const MOST_LEVELS: usize = 20;
+
+/// A page that the cursor holds, how many cells it has, and the cell or the child that was taken.
+#[derive(Drop)]
+pub struct Frame {
+    page: Page,
+    number: u32,
+    count: u16,
+    at: u16,
+}
+
+/// The page of these bytes, of which so many are used.
+#[inline]
+fn view_of(page: &Page, number: u32, usable: usize) -> Option<PageView<'_>>
+    ensures found { IfSome result (λ view. view ≡ record { at = header_at number; kind = Table; level = view.level; page = take usable page.now }) }
+    ensures header { IfSome result (λ view. HasHeaderAt (header_at number) Table view.level (take usable page.now)) }
+    ensures none { 480 ≤ usable → usable ≤ 65536 → usable ≤ length page.now
+        → IfNone result ((level : Level) → ¬ HasHeaderAt (header_at number) Table level (take usable page.now)) }
+{
+    let bytes = page.as_slice();
+    if usable > bytes.len() {
+        return None;
+    }
+    PageView::read(TreeKind::Table, number, &bytes[..usable])
+}
+
+/// Asks for a page and reads its header. Its faults are `ReadFailed`, `NoMemory` and `BadPage` of this page.
+fn read_frame<S: Source>(pager: &mut Pager<S>, number: u32) -> Result<(Frame, Level), Fault>
+    requires { IsPageNumber pager.old.state number }
+    ensures number { IfOk result (λ read. read.0.number ≡ number) }
+    ensures at { IfOk result (λ read. read.0.at ≡ 0) }
+    ensures holds { IsTrue pager.old.state.source.steady → IfOk result (λ read. Holds (pages_seen pager.old.state) read.0) }
+    ensures header { IsTrue pager.old.state.source.steady → IfOk result (λ read. HasHeader (pages_seen pager.old.state) Table read.1 number) }
+    ensures sound { IsTrue pager.old.state.source.steady → (level : Level) → HasHeader (pages_seen pager.old.state) Table level number
+        → IfErr result (λ e. (e ≡ Fault.ReadFailed) ⊎ (e ≡ Fault.NoMemory)) }
+    ensures only { IfErr result IsCursorFault }
+    ensures failures { Counts Fault.ReadFailed result pager.old.state.source.failures pager.new.state.source.failures }
+    ensures used { IsUsed pager.old.state pager.new.state 1 0 }
+{
+    let usable = pager.header().usable as usize;
+    let page = pager.page(number)?;
+    let Some(view) = view_of(&page, number, usable) else {
+        return Err(Fault::BadPage(number));
+    };
+    let (level, count) = (view.level(), view.count());
+    Ok((Frame { page, number, count, at: 0 }, level))
+}
+
+/// Child i of an interior page, where that is the number of one of so many pages.
+fn child_of(frame: &Frame, usable: usize, i: u32, pages: u32) -> Option<u32>
+    ensures number { IfSome result (λ m. (1 ≤ m) × (m ≤ pages)) }
+    ensures found { (image : Pages) → Holds image frame.now → AreReadable image → image.usable ≡ usable → image.count ≡ pages
+        → IsPageOf image Table Interior frame.now.number → i ≤ count_at image frame.now.number → IsNumber image (child_at image frame.now.number i)
+        → result ≡ Some (child_at image frame.now.number i) }
+{
+    let view = view_of(&frame.page, frame.number, usable)?;
+    if view.level() != Level::Interior || i > view.count() as u32 {
+        return None;
+    }
+    let child = view.child(i)?;
+    if child < 1 || child > pages {
+        return None;
+    }
+    Some(child)
+}
+
+/// The cell that a leaf's frame stands at, with a payload of at most `most` bytes.
+fn row_of(frame: &Frame, usable: usize, most: u64) -> Option<Cell<'_>>
+    ensures found { (image : Pages) → Holds image frame.now → image.usable ≡ usable → image.size ≡ most
+        → IfSome result (λ cell. IsRowAt image (place_at frame.now.number frame.now.at) (cell_data cell)) }
+    ensures sure { (image : Pages) → Holds image frame.now → AreReadable image → image.usable ≡ usable → image.size ≡ most
+        → IsPageOf image Table Leaf frame.now.number → frame.now.at < frame.now.count → IsSome result }
+{
+    let view = view_of(&frame.page, frame.number, usable)?;
+    if view.level() != Level::Leaf || frame.at >= view.count() {
+        return None;
+    }
+    view.row(most, frame.at as u32)
+}
+
+/// Goes down first children from page `n` to a leaf, which it answers.
+fn descend<S: Source>(root: u32, frames: &mut Vec<Frame>, pager: &mut Pager<S>, n: u32) -> Result<Frame, Fault>
+    requires { IsPageNumber pager.old.state n }
+    ensures stands { IsTrue pager.old.state.source.steady → (places : List Place) (budget : ℕ)
+        → IsHeading (pages_seen pager.old.state) frames.old.items n places pager.old.state.asked budget
+        → IfOk result (λ leaf. IsStanding (pages_seen pager.old.state) frames.new.items leaf places pager.new.state.asked budget) }
+    ensures sound { IsTrue pager.old.state.source.steady → (places : List Place) (budget : ℕ)
+        → IsHeading (pages_seen pager.old.state) frames.old.items n places pager.old.state.asked budget
+        → IfErr result (λ e. (e ≡ Fault.ReadFailed) ⊎ (e ≡ Fault.NoMemory)) }
+    ensures only { IfErr result IsCursorFault }
+    ensures failures { Counts Fault.ReadFailed result pager.old.state.source.failures pager.new.state.source.failures }
+    ensures stays { Stays pager.old.state pager.new.state }
+{
+    let mut number = n;
+    while frames.len() < MOST_LEVELS {
+        let (frame, level) = read_frame(pager, number)?;
+        match level {
+            Level::Leaf => {
+                if frame.count == 0 && !frames.is_empty() {
+                    return Err(Fault::BadPage(number));
+                }
+                return Ok(frame);
+            }
+            Level::Interior => {
+                let header = pager.header();
+                let Some(child) = child_of(&frame, header.usable as usize, 0, header.pages) else {
+                    return Err(Fault::BadPage(number));
+                };
+                frames.push(frame)?;
+                number = child;
+            }
+        }
+    }
+    Err(Fault::BadDepth(root))
+}

@@ -1,0 +1,28 @@
+-- A leaf of a table, as SQLite 3.40 wrote it: page 2, of 512 bytes, of
+--     CREATE TABLE item(id INTEGER PRIMARY KEY, name TEXT NOT NULL, qty INT) STRICT
+-- with the rows (-3, 'bolt', 40) and (300, 'nut', NULL).
+use Rattle.std.specs.Prelude.{ℕ, List, [], ◌∷◌, ◌++◌, replicate, Some, None, negsuc, pos}
+use Rattle.image.specs.Pages.{Pages}
+use Rattle.image.specs.Cell.{CellData}
+
+-- a header, two cell places, and zeros up to the cells, of which the last begins first
+abbrev pub example_front : List ℕ
+example_front = 13 ∷ 0 ∷ 0 ∷ 0 ∷ 2 ∷ 1 ∷ 227 ∷ 0 ∷ 1 ∷ 237 ∷ 1 ∷ 227 ∷ []
+
+abbrev pub second_bytes : List ℕ
+second_bytes = 7 ∷ 130 ∷ 44 ∷ 4 ∷ 0 ∷ 19 ∷ 0 ∷ 110 ∷ 117 ∷ 116 ∷ []
+
+abbrev pub first_bytes : List ℕ
+first_bytes = 9 ∷ 255 ∷ 255 ∷ 255 ∷ 255 ∷ 255 ∷ 255 ∷ 255 ∷ 255 ∷ 253 ∷ 4 ∷ 0 ∷ 21 ∷ 1 ∷ 98 ∷ 111 ∷ 108 ∷ 116 ∷ 40 ∷ []
+
+abbrev pub example_leaf : List ℕ
+example_leaf = example_front ++ (replicate 471 0 ++ (second_bytes ++ first_bytes))
+
+abbrev pub example_pages : Pages
+example_pages = record { count = 2; usable = 512; size = 1024; page = λ _. example_leaf }
+
+abbrev pub first_cell : CellData
+first_cell = record { rowid = Some (negsuc 2); payload = record { size = 9; local = 4 ∷ 0 ∷ 21 ∷ 1 ∷ 98 ∷ 111 ∷ 108 ∷ 116 ∷ 40 ∷ []; overflow = None } }
+
+abbrev pub second_cell : CellData
+second_cell = record { rowid = Some (pos 300); payload = record { size = 7; local = 4 ∷ 0 ∷ 19 ∷ 0 ∷ 110 ∷ 117 ∷ 116 ∷ []; overflow = None } }

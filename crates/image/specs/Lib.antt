@@ -1,0 +1,7 @@
+pub mod Pages
+pub mod Layout
+pub mod Cell
+pub mod Tree
+pub mod Shape
+pub mod Broken
+pub mod Examples

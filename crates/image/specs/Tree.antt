@@ -1,0 +1,95 @@
+-- The trees of an image: their pages, and their cells by places. (Database File Format, section 1.6 "B-tree Pages")
+use Rattle.std.specs.Prelude.{◌≡◌, ℕ, ℤ, suc, ◌<◌, ◌≤◌, List, Contains, drop, length, slice_get, Some}
+use Rattle.image.specs.declared.kind.TreeKind.{TreeKind}
+use Rattle.image.specs.declared.kind.TreeKind.TheVariants.{Table, Index}
+use Rattle.image.specs.declared.kind.Level.{Level}
+use Rattle.image.specs.declared.kind.Level.TheVariants.{Leaf, Interior}
+use Rattle.image.specs.Pages.{Pages, IsNumber}
+use Rattle.image.specs.Layout.{header_at, flag_of, flag, cell_count, cell_place, child, places_end}
+use Rattle.image.specs.Cell.{CellData, IsTableCell, IsIndexCell, IsDivider}
+
+abbrev pub count_at : Pages → ℕ → ℕ
+count_at pages n = cell_count (header_at n) (pages.page n)
+
+abbrev pub child_at : Pages → ℕ → ℕ → ℕ
+child_at pages n i = child (header_at n) (pages.page n) i
+
+-- the bytes from cell i of page n on
+abbrev pub cell_at : Pages → Level → ℕ → ℕ → List ℕ
+cell_at pages level n i = drop (cell_place (header_at n) level (pages.page n) i) (pages.page n)
+
+-- a cell, whose payload is no longer than the image
+pub record HasPayload (pages : Pages) (IsCellOf : CellData → Type 0) : Type 0 where
+  pub cell : CellData
+  pub is : IsCellOf cell
+  pub fits : cell.payload.size ≤ pages.size
+
+-- the bytes begin with a cell for such a page; on the interior page of an index it stands behind the left child
+abbrev pub HasCell : Pages → TreeKind → Level → List ℕ → Type 0
+HasCell pages Table Leaf bytes = HasPayload pages (IsTableCell pages.usable bytes)
+HasCell pages Table Interior bytes = (key : ℤ) × IsDivider bytes key
+HasCell pages Index Leaf bytes = HasPayload pages (IsIndexCell pages.usable bytes)
+HasCell pages Index Interior bytes = HasPayload pages (IsIndexCell pages.usable (drop 4 bytes))
+
+-- page n is of this kind as its header says, and its cell places lie inside it
+pub record HasHeader (pages : Pages) (kind : TreeKind) (level : Level) (n : ℕ) : Type 0 where
+  pub flag_is : flag (header_at n) (pages.page n) ≡ flag_of kind level
+  pub places : places_end (header_at n) level (pages.page n) ≤ length (pages.page n)
+
+-- page n is of this kind, and its cells lie inside it, behind the cell places
+pub record IsPageOf (pages : Pages) (kind : TreeKind) (level : Level) (n : ℕ) : Type 0 where
+  pub header : HasHeader pages kind level n
+  pub begins : (i : ℕ) → i < count_at pages n
+      → places_end (header_at n) level (pages.page n) ≤ cell_place (header_at n) level (pages.page n) i
+  pub cells : (i : ℕ) → i < count_at pages n → HasCell pages kind level (cell_at pages level n i)
+
+-- Page m is child i of page n. A page that is of neither kind has no children.
+pub record IsChild (pages : Pages) (kind : TreeKind) (n i m : ℕ) : Type 0 where
+  pub interior : IsPageOf pages kind Interior n
+  pub within : i ≤ count_at pages n
+  pub is : child_at pages n i ≡ m
+  pub number : IsNumber pages m
+
+-- Page n stands at this depth under the root, which has depth 1.
+pub data StandsAt (pages : Pages) (kind : TreeKind) (root : ℕ) : ℕ → ℕ → Type 0 where
+  top : StandsAt pages kind root 1 root
+  below : {depth n m : ℕ} (i : ℕ) → StandsAt pages kind root depth n → IsChild pages kind n i m → StandsAt pages kind root (suc depth) m
+
+-- the pages of a tree: the least set that holds the root and the children of its pages
+abbrev pub Reaches : Pages → TreeKind → ℕ → ℕ → Type 0
+Reaches pages kind root n = (depth : ℕ) × StandsAt pages kind root depth n
+
+-- page m is in the tree under child i of page n
+pub record IsUnder (pages : Pages) (kind : TreeKind) (n i m : ℕ) : Type 0 where
+  pub head : ℕ
+  pub is : IsChild pages kind n i head
+  pub reaches : Reaches pages kind head m
+
+-- cell `index` of page `page`
+pub record Place : Type 0 where
+  pub page : ℕ
+  pub index : ℕ
+
+-- A table's cells are those of its leaves. In an index tree those of interior pages are entries too.
+abbrev pub HasEntries : TreeKind → Level → Type 0
+HasEntries Table Leaf = Unit {0}
+HasEntries Table Interior = ⊥
+HasEntries Index level = Unit {0}
+
+pub record IsPlaceOf (pages : Pages) (kind : TreeKind) (root : ℕ) (place : Place) : Type 0 where
+  pub level : Level
+  pub entries : HasEntries kind level
+  pub reaches : Reaches pages kind root place.page
+  pub page : IsPageOf pages kind level place.page
+  pub within : place.index < count_at pages place.page
+
+-- the list has exactly the tree's cells, each once
+pub record ArePlacesOf (pages : Pages) (kind : TreeKind) (root : ℕ) (places : List Place) : Type 0 where
+  pub sound : (place : Place) → Contains places place → IsPlaceOf pages kind root place
+  pub complete : (place : Place) → IsPlaceOf pages kind root place → Contains places place
+  pub once : (i j : ℕ) (place : Place) → slice_get places i ≡ Some place → slice_get places j ≡ Some place → i ≡ j
+
+-- The cell that stands at a place of a table tree.
+pub record IsRowAt (pages : Pages) (place : Place) (cell : CellData) : Type 0 where
+  pub is : IsTableCell pages.usable (cell_at pages Leaf place.page place.index) cell
+  pub fits : cell.payload.size ≤ pages.size

@@ -1,0 +1,10 @@
+//! What the pages and trees of an image are: definitions that the cursor, the check of an image and every plan cite.
+//! It has no code but the names of kinds and the laws of these definitions.
+//!
+//! The modules: `kind` (the kinds of trees and pages) and `laws`.
+#![tactic(auto)]
+
+mod kind;
+pub mod laws;
+
+pub use kind::{Level, TreeKind};

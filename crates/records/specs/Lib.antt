@@ -1,0 +1,3 @@
+pub mod Varint
+pub mod Serial
+pub mod Record

@@ -1,0 +1,22 @@
+//! The record format of a SQLite database file. It promises that a view's fields are exactly the values of the record
+//! that the bytes are, that every record is read unless memory runs out, and that a fault comes only where the bytes
+//! have the condition that it names.
+//!
+//! The modules, in the order in which data passes them: `varints` (the numbers of a header), `serials` (what a field's
+//! type and body stand for), `reading` (a header's types, then the fields behind it), `view` (a record read in place),
+//! `fault` (why bytes are no record), and `laws`.
+#![tactic(auto)]
+
+mod fault;
+pub mod laws;
+mod reading;
+mod serials;
+mod varints;
+mod view;
+
+pub use fault::RecordFault;
+pub use varints::varint;
+pub use view::RecordView;
+
+#[cfg(test)]
+mod tests;
