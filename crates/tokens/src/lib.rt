@@ -1,0 +1,13 @@
+//! Tokens.
+#![tactic(auto)]
+
+mod keyword;
+mod sign;
+mod token;
+
+pub use keyword::{Grammar, Keyword};
+pub use sign::Sign;
+pub use token::{Quoting, Token, TokenKind};
+ghost use Rattle.tokens.specs.Reading.{token};
+ghost use Rattle.tokens.specs.Content.{placed_of};
+ghost use Rattle.tokens.specs.Tokens.{StopsAt};
