@@ -1,5 +1,5 @@
 -- The reader of runs and of what stands between quotes finds exactly what the definitions say.
-use Rattle.std.proofs.Common.{◌≡◌, ℕ, Bool, true, false, not, ◌&&◌, ◌+◌, ◌%◌, ◌⊎◌, List, [], ◌∷◌, length, Option, Some, None, cond, nat_eq, refl, sym, ap, ◌∙◌, subst, arith}
+use Rattle.std.proofs.Common.{◌≡◌, ℕ, Bool, true, false, not, ◌&&◌, suc, ◌+◌, ◌*◌, ◌%◌, ◌⊎◌, List, [], ◌∷◌, length, Option, Some, None, cond, nat_eq, refl, sym, ap, ◌∙◌, subst, arith}
 use mathlib.Core.Logic.{inl, inr}
 use Rattle.std.proofs.lemmas.Bool.{cond-true, cond-false, eqb-true, eq-eqb}
 use Rattle.tokens.specs.Bytes.{is_hex_digit, hex_value, is_not}
@@ -115,3 +115,31 @@ quoted_sound q = quoted_by q false
 
 pub closed_complete : {p : ℕ → Bool} {bs inside after : List ℕ} (c : ℕ) → Run p bs inside (c ∷ after) → closed (run_of p bs) ≡ Some (inside, after)
 closed_complete c r = ap closed (run_complete r)
+
+-- the digits that were read, and the bytes that they are
+pub record ReadHex (bs bytes after : List ℕ) : Type 0 where
+  pub digits : List ℕ
+  pub run : Run is_hex_digit bs digits (39 ∷ after)
+  pub even : length digits % 2 ≡ 0
+  pub bytes_are : unhex digits ≡ bytes
+  pub apart : Stops (λ b. nat_eq b 39) after
+
+pub hex_complete : {bs bytes after : List ℕ} → Hex bs bytes after → ReadHex bs bytes after
+hex_complete (Hex.close h) = record { digits = []; run = Run.stop refl; even = refl; bytes_are = refl; apart = h }
+hex_complete (Hex.pair {high = high} {low = low} h l r) =
+    let x = hex_complete r in
+    record {
+      digits = high ∷ low ∷ x.digits;
+      run = Run.more h (Run.more l x.run);
+      even = (let e : length x.digits % 2 ≡ 0 = x.even in omega arith);
+      bytes_are = ap (λ bs. (16 * hex_value high + hex_value low) ∷ bs) x.bytes_are;
+      apart = x.apart;
+    }
+
+pub hex_sound : {bs digits rest : List ℕ} → Run is_hex_digit bs digits rest → (after : List ℕ) → rest ≡ 39 ∷ after → length digits % 2 ≡ 0
+    → Stops (λ b. nat_eq b 39) after → Hex bs (unhex digits) after
+hex_sound Run.end after e even st = absurd cc
+hex_sound (Run.stop h) after e even st = subst (λ xs. Hex xs [] after) (sym e) (Hex.close st)
+hex_sound (Run.more h Run.end) after e even st = absurd cc
+hex_sound (Run.more h (Run.stop l)) after e even st = absurd (let odd : 1 % 2 ≡ 0 = even in omega arith)
+hex_sound (Run.more h (Run.more {run = digits} l r)) after e even st = Hex.pair h l (hex_sound r after e (let n : suc (suc (length digits)) % 2 ≡ 0 = even in omega arith) st)

@@ -1,3 +1,4 @@
 pub mod FormLemmas
+pub mod SignLemmas
 pub mod LexemeLemmas
 pub mod BlankLemmas

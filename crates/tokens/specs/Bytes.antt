@@ -1,5 +1,5 @@
 -- Kinds of bytes.
-use Rattle.std.specs.Prelude.{ℕ, Bool, ◌||◌, ◌&&◌, ◌==◌, nat_le, ◌+◌, ◌*◌, ◌-◌, List, fold, not, if◌then◌else◌}
+use Rattle.std.specs.Prelude.{ℕ, Bool, ◌||◌, ◌&&◌, ◌==◌, nat_le, ◌+◌, ◌*◌, ◌-◌, List, [], ◌∷◌, false, nat_eq, fold, not, if◌then◌else◌}
 
 abbrev pub is_digit : ℕ → Bool
 is_digit b = nat_le 48 b && nat_le b 57
@@ -42,3 +42,8 @@ is_space b = b == 32 || (b == 9 || (b == 10 || (b == 12 || b == 13)))
 
 abbrev pub is_not : ℕ → ℕ → Bool
 is_not c b = not (b == c)
+
+-- this byte stands at the front
+abbrev pub first_is : ℕ → List ℕ → Bool
+first_is c [] = false
+first_is c (b ∷ bs) = nat_eq b c

@@ -1,7 +1,7 @@
 -- Which bytes are a token, and which stand between tokens. Each rule says what may not follow, so that a token is as
 -- long as can be.
 use Rattle.std.specs.Prelude.{◌≡◌, ℕ, Bool, true, false, ◌&&◌, ◌<◌, ◌+◌, ◌*◌, ◌^◌, ℤ, pos, List, [], ◌∷◌, ◌++◌, nat_eq, Option, Some, None}
-use Rattle.tokens.specs.Bytes.{is_digit, begins_word, is_in_word, joins_number, decimal, is_hex_digit, hex_value, is_x, is_space, is_not}
+use Rattle.tokens.specs.Bytes.{is_digit, begins_word, is_in_word, joins_number, decimal, is_hex_digit, hex_value, is_x, is_space, is_not, first_is}
 use Rattle.tokens.specs.Keyword.{keyword_of}
 use Rattle.tokens.specs.Sign as sign
 use Rattle.tokens.specs.declared.keyword.Grammar.{Grammar}
@@ -45,8 +45,8 @@ pub data Hex : List ℕ → List ℕ → List ℕ → Type 0 where
 
 -- `x` before a quote begins a blob
 abbrev pub begins_blob : List ℕ → Bool
-begins_blob (b ∷ c ∷ bs) = is_x b && nat_eq c 39
-begins_blob _ = false
+begins_blob [] = false
+begins_blob (b ∷ bs) = is_x b && first_is 39 bs
 
 -- an unquoted word at the front of from, and what is behind it
 pub record Word (from word after : List ℕ) : Type 0 where
@@ -77,8 +77,8 @@ pub data Begins (grammar : Grammar) : List ℕ → Lexeme → List ℕ → Type 
 
 -- the bytes begin with `*/`
 abbrev pub ends_comment : List ℕ → Bool
-ends_comment (b ∷ c ∷ bs) = nat_eq b 42 && nat_eq c 47
-ends_comment _ = false
+ends_comment [] = false
+ends_comment (b ∷ bs) = nat_eq b 42 && first_is 47 bs
 
 -- Closes from after: what is behind the first `*/`
 pub data Closes : List ℕ → List ℕ → Type 0 where
