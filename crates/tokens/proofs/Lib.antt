@@ -2,3 +2,4 @@ pub mod FormLemmas
 pub mod SignLemmas
 pub mod LexemeLemmas
 pub mod BlankLemmas
+pub mod ReadLemmas
