@@ -3,3 +3,5 @@ pub mod SignLemmas
 pub mod LexemeLemmas
 pub mod BlankLemmas
 pub mod ReadLemmas
+pub mod RunLemmas
+pub mod CutLemmas

@@ -1,4 +1,5 @@
 pub mod Bytes
+pub mod Class
 pub mod Keyword
 pub mod Sign
 pub mod Lexeme

@@ -1,7 +1,9 @@
 //! Tokens.
 #![tactic(auto)]
 
+mod cuts;
 mod keyword;
+mod runs;
 mod sign;
 mod token;
 
