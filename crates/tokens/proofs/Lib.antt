@@ -5,3 +5,4 @@ pub mod BlankLemmas
 pub mod ReadLemmas
 pub mod RunLemmas
 pub mod CutLemmas
+pub mod CommentLemmas

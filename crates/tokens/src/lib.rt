@@ -1,6 +1,7 @@
 //! Tokens.
 #![tactic(auto)]
 
+mod blank;
 mod cuts;
 mod keyword;
 mod runs;

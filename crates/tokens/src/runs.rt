@@ -40,6 +40,7 @@ impl Class {
 #[tactic(auto, using(crate::proofs::RunLemmas::split_more, crate::proofs::RunLemmas::split_end))]
 pub(crate) fn run_len(text: &[u8], class: Class) -> usize
     ensures within { result ≤ length text.now }
+    ensures stops { result < length text.now → test_of class (slice_index text.now result) ≡ false }
     ensures run { spec.run_of (test_of class) text.now ≡ (take result text.now, drop result text.now) }
 {
     let mut len = 0;
