@@ -6,3 +6,4 @@ pub mod ReadLemmas
 pub mod RunLemmas
 pub mod CutLemmas
 pub mod CommentLemmas
+pub mod NumberLemmas

@@ -4,6 +4,7 @@
 mod blank;
 mod cuts;
 mod keyword;
+mod lexer;
 mod runs;
 mod sign;
 mod token;
