@@ -1,22 +1,13 @@
 -- The reader of signs finds exactly the sign that stands at the front.
-use Rattle.std.proofs.Common.{◌≡◌, ℕ, Bool, true, false, ◌||◌, ◌⊎◌, List, [], ◌∷◌, ◌++◌, Option, Some, None, cond, if◌then◌else◌, nat_eq, refl, sym, ap, ◌∙◌, subst}
+use Rattle.std.proofs.Common.{◌<◌, length, drop, get_or, arith, ◌≡◌, ℕ, Bool, true, false, ◌||◌, ◌⊎◌, List, [], ◌∷◌, ◌++◌, Option, Some, None, cond, if◌then◌else◌, nat_eq, refl, sym, ap, ◌∙◌, subst}
 use mathlib.Core.Logic.{inl, inr}
 use Rattle.std.proofs.lemmas.Bool.{cond-false, eqb-true, or_parts, or_from}
 use Rattle.tokens.proofs.FormLemmas.{chosen}
 use Rattle.tokens.specs.Lexeme.{Stops}
-use Rattle.tokens.specs.Reading.{longer, sign_at, is_long, tail}
+use Rattle.tokens.specs.Reading.{longer, sign_at, is_long, tail, behind, sign_of}
 use Rattle.tokens.specs.Sign.{spelling, joins}
 use Rattle.tokens.specs.declared.sign.Sign.{Sign}
 use Rattle.tokens.specs.declared.sign.Sign.TheVariants as s
-
--- what is behind a sign, by what is behind its first byte
-abbrev pub behind : Sign → List ℕ → List ℕ
-behind s bs = if is_long s then tail bs else bs
-
--- what is found where the bytes begin with a sign
-abbrev pub sign_of : List ℕ → Option Sign
-sign_of [] = None
-sign_of (b ∷ bs) = sign_at b bs
 
 longer_alone : (c : ℕ) (two one : Option Sign) (after : List ℕ) → Stops (λ b. nat_eq b c) after → longer c two one after ≡ one
 longer_alone c two one [] h = refl
@@ -149,3 +140,53 @@ sign_sound b bs sign h =
     row 33 b bs sign _ _ h (not_equal bs sign) (λ h.
     row 60 b bs sign _ _ h (less bs sign) (λ h.
     row 62 b bs sign _ _ h (double 62 61 bs s.GreaterEqual s.Greater sign refl refl (λ b. refl) refl refl (λ st. st)) (λ h. absurd cc)))))))))))))))))
+
+second_is : (b c d : ℕ) (bs cs : List ℕ) → b ∷ bs ≡ c ∷ d ∷ cs → d < 128 → (0 < length bs) × (get_or bs 0 0 < 128)
+second_is b c d [] cs e h = absurd cc
+second_is b c d (x ∷ bs) cs e h = (omega arith, subst (λ y. y < 128) (let i : d ≡ x = cc in i) h)
+
+second : (sign : Sign) (b : ℕ) (bs : List ℕ) → b ∷ bs ≡ spelling sign ++ behind sign bs → is_long sign ≡ true → (0 < length bs) × (get_or bs 0 0 < 128)
+second s.DoubleBar b bs e long = second_is b 124 124 bs (tail bs) e (omega arith)
+second s.DoubleEqual b bs e long = second_is b 61 61 bs (tail bs) e (omega arith)
+second s.NotEqual b bs e long = second_is b 33 61 bs (tail bs) e (omega arith)
+second s.LessGreater b bs e long = second_is b 60 62 bs (tail bs) e (omega arith)
+second s.LessEqual b bs e long = second_is b 60 61 bs (tail bs) e (omega arith)
+second s.GreaterEqual b bs e long = second_is b 62 61 bs (tail bs) e (omega arith)
+second _ b bs e long = absurd cc
+
+-- the second byte of a sign of two
+pub second_byte : (sign : Sign) (text : List ℕ) → sign_of text ≡ Some sign → is_long sign ≡ true → (0 < length (drop 1 text)) × (get_or (drop 1 text) 0 0 < 128)
+second_byte sign [] h long = absurd cc
+second_byte sign (b ∷ bs) h long = second sign b bs (sign_sound b bs sign h).spelt long
+
+same_first : (b c : ℕ) (bs cs : List ℕ) → b ∷ bs ≡ c ∷ cs → c < 128 → b < 128
+same_first b c bs cs e h = subst (λ y. y < 128) (let i : c ≡ b = cc in i) h
+
+ascii : (sign : Sign) (b : ℕ) (bs after : List ℕ) → b ∷ bs ≡ spelling sign ++ after → b < 128
+ascii s.Open b bs after e = same_first b 40 bs after e (omega arith)
+ascii s.Close b bs after e = same_first b 41 bs after e (omega arith)
+ascii s.Comma b bs after e = same_first b 44 bs after e (omega arith)
+ascii s.Dot b bs after e = same_first b 46 bs after e (omega arith)
+ascii s.Semicolon b bs after e = same_first b 59 bs after e (omega arith)
+ascii s.Star b bs after e = same_first b 42 bs after e (omega arith)
+ascii s.Slash b bs after e = same_first b 47 bs after e (omega arith)
+ascii s.Percent b bs after e = same_first b 37 bs after e (omega arith)
+ascii s.Plus b bs after e = same_first b 43 bs after e (omega arith)
+ascii s.Minus b bs after e = same_first b 45 bs after e (omega arith)
+ascii s.Tilde b bs after e = same_first b 126 bs after e (omega arith)
+ascii s.Ampersand b bs after e = same_first b 38 bs after e (omega arith)
+ascii s.Bar b bs after e = same_first b 124 bs after e (omega arith)
+ascii s.DoubleBar b bs after e = same_first b 124 bs (124 ∷ after) e (omega arith)
+ascii s.Equal b bs after e = same_first b 61 bs after e (omega arith)
+ascii s.DoubleEqual b bs after e = same_first b 61 bs (61 ∷ after) e (omega arith)
+ascii s.NotEqual b bs after e = same_first b 33 bs (61 ∷ after) e (omega arith)
+ascii s.LessGreater b bs after e = same_first b 60 bs (62 ∷ after) e (omega arith)
+ascii s.Less b bs after e = same_first b 60 bs after e (omega arith)
+ascii s.LessEqual b bs after e = same_first b 60 bs (61 ∷ after) e (omega arith)
+ascii s.Greater b bs after e = same_first b 62 bs after e (omega arith)
+ascii s.GreaterEqual b bs after e = same_first b 62 bs (61 ∷ after) e (omega arith)
+
+-- the first byte of a sign
+pub first_byte : (sign : Sign) (text : List ℕ) → sign_of text ≡ Some sign → (0 < length text) × (get_or text 0 0 < 128)
+first_byte sign [] h = absurd cc
+first_byte sign (b ∷ bs) h = (omega arith, ascii sign b bs (behind sign bs) (sign_sound b bs sign h).spelt)

@@ -114,9 +114,18 @@ abbrev pub tail : List ℕ → List ℕ
 tail [] = []
 tail (b ∷ bs) = bs
 
+-- what is behind a sign, by what is behind its first byte
+abbrev pub behind : Sign → List ℕ → List ℕ
+behind s bs = if is_long s then tail bs else bs
+
+-- the sign that the bytes begin with
+abbrev pub sign_of : List ℕ → Option Sign
+sign_of [] = None
+sign_of (b ∷ bs) = sign_at b bs
+
 abbrev pub sign : Option Sign → List ℕ → Found
 sign None bs = None
-sign (Some s) bs = Some (Lexeme.Punctuation s, if is_long s then tail bs else bs)
+sign (Some s) bs = Some (Lexeme.Punctuation s, behind s bs)
 
 -- the token at the front, and what is behind it
 unfoldable pub token : Grammar → List ℕ → Found

@@ -3,11 +3,12 @@ ghost use Rattle.std.specs.Prelude.{◌≡◌, ◌<◌, ◌^◌, length, not, fa
 ghost use Rattle.tokens.specs.Bytes as bytes;
 ghost use Rattle.tokens.specs.Content.{lexeme_of};
 ghost use Rattle.tokens.specs.Reading as spec;
+ghost use Rattle.tokens.specs.Reading.{behind, sign_of};
 
 use crate::cuts::{after_first, split_before};
 use crate::runs::{Class, begins_word, quoted_len, run_len};
 use crate::sign::sign_at_front;
-use crate::{Grammar, Quoting, TokenKind};
+use crate::{Grammar, Quoting, Sign, TokenKind};
 
 /// The number that digits are, unless it leaves 63 bits.
 #[tactic(auto, using(crate::proofs::NumberLemmas::too_large))]
@@ -115,5 +116,40 @@ fn blob(text: &str) -> Option<(TokenKind<'_>, &str)>
             Some((TokenKind::Blob(digits), after_first(rest)))
         }
         _ => None,
+    }
+}
+
+/// What is behind a sign.
+#[tactic(auto, using(crate::proofs::SignLemmas::first_byte, crate::proofs::SignLemmas::second_byte))]
+fn after_sign(sign: Sign, text: &str) -> &str
+    requires { sign_of text.now ≡ Some sign }
+    ensures { result.now ≡ behind sign (spec.tail text.now) }
+{
+    let after = after_first(text);
+    if sign.is_long() {
+        after_first(after)
+    } else {
+        after
+    }
+}
+
+/// The token at the front, and what is behind it.
+#[tactic(auto, unfolding(crate::specs::Reading::token))]
+pub(crate) fn token_at_front<'a>(grammar: Grammar, source: &'a str) -> Option<(TokenKind<'a>, &'a str)>
+    ensures { option_map (λ r. (lexeme_of r.0, r.1.now)) result ≡ spec.token grammar source.now }
+{
+    match source.as_bytes() {
+        [b'x' | b'X', b'\'', ..] => blob(after_first(after_first(source))),
+        [first, ..] if begins_word(*first) => Some(word(grammar, source)),
+        [b'0'..=b'9', ..] => number(source),
+        [b'\'', ..] => text(split_quoted(after_first(source), b'\'')),
+        [b'"', ..] => name(Quoting::DoubleQuotes, split_quoted(after_first(source), b'"')),
+        [b'[', ..] => name(Quoting::Brackets, split_closed(after_first(source), b']')),
+        [b'`', ..] => name(Quoting::Backquotes, split_closed(after_first(source), b'`')),
+        [first, rest @ ..] => {
+            let sign = sign_at_front(*first, rest)?;
+            Some((TokenKind::Sign(sign), after_sign(sign, source)))
+        }
+        [] => None,
     }
 }

@@ -1,6 +1,6 @@
 //! Operators and punctuation.
 ghost use Rattle.std.specs.Prelude.{◌≡◌};
-ghost use Rattle.tokens.specs.Reading.{sign_at};
+ghost use Rattle.tokens.specs.Reading.{is_long, sign_at};
 ghost use Rattle.tokens.specs.Sign.{spelling};
 
 /// An operator or a punctuation mark. (SQL Language Expressions, "Operators, and Parse-Affecting Attributes")
@@ -59,6 +59,21 @@ impl Sign {
             Sign::Greater => ">",
             Sign::GreaterEqual => ">=",
         }
+    }
+
+    /// Whether the sign is two bytes long.
+    pub(crate) fn is_long(self) -> bool
+        ensures { result ≡ is_long self }
+    {
+        matches!(
+            self,
+            Sign::DoubleBar
+                | Sign::DoubleEqual
+                | Sign::NotEqual
+                | Sign::LessGreater
+                | Sign::LessEqual
+                | Sign::GreaterEqual
+        )
     }
 }
 
