@@ -7,3 +7,5 @@ pub mod RunLemmas
 pub mod CutLemmas
 pub mod CommentLemmas
 pub mod NumberLemmas
+pub mod LeavesLemmas
+pub mod PushLemmas

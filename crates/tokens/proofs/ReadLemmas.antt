@@ -141,3 +141,51 @@ pub more_token : {grammar : Grammar} {len : ℕ} {from mid after : List ℕ} {ts
 more_token Reads.none b = Reads.token b Reads.none
 more_token (Reads.blank a r) b = Reads.blank a (more_token r b)
 more_token (Reads.token t r) b = Reads.token t (more_token r b)
+
+-- the same, by what a reader found
+pub blank_step : (grammar : Grammar) (len : ℕ) (from mid after : List ℕ) (ts : List Placed) → Reads grammar len from ts mid → blank mid ≡ Some after → Reads grammar len from ts after
+blank_step grammar len from mid after ts r h = more_blank r (blank_sound mid after h)
+
+pub token_step : (grammar : Grammar) (len : ℕ) (from mid after : List ℕ) (ts : List Placed) (t : Lexeme) → Reads grammar len from ts mid → token grammar mid ≡ Some (t, after)
+    → Reads grammar len from (ts ++ between len mid t after ∷ []) after
+token_step grammar len from mid after ts t r h = more_token r (sound grammar mid (t, after) h)
+
+pub stops_at : (grammar : Grammar) (text rest : List ℕ) (ts : List Placed) (place : ℕ) → Reads grammar (length text) text ts rest → place ≡ length text - length rest → 0 < length rest
+    → blank rest ≡ None → token grammar rest ≡ None → StopsAt grammar text place
+stops_at grammar text rest ts place r e more b t = record {
+  front = ts;
+  rest = rest;
+  read = r;
+  at = e;
+  more = more;
+  no_blank = λ after x. (let y = blank_complete x in cc);
+  no_token = λ u after x. (let y = complete x in cc);
+}
+
+-- no token, space or comment stands at the front
+abbrev IsStuck : Grammar → List ℕ → Type 0
+IsStuck grammar rest = ((after : List ℕ) → ¬ (Blank rest after)) × ((t : Lexeme) (after : List ℕ) → ¬ (Begins grammar rest t after))
+
+-- where a reading is stuck, any other reading comes
+reaches : {grammar : Grammar} {len : ℕ} {from mid rest : List ℕ} {ts : List Placed} → Reads grammar len from ts mid
+    → (us : List Placed) → Reads grammar len from us rest → IsStuck grammar rest → (vs : List Placed) × Reads grammar len mid vs rest
+reaches Reads.none us y stuck = (us, y)
+reaches {grammar = grammar} {len = len} {rest = rest} (Reads.blank {from = from} {mid = middle} b r) us y stuck = elim (first y) [
+    inl k ↦ absurd (stuck.0 middle (subst (λ xs. Blank xs middle) k.0 b))
+  | inr (inl f) ↦ reaches r us (subst (λ xs. Reads grammar len xs us rest) (one_blank f.is b) f.rest) stuck
+  | inr (inr f) ↦ absurd (apart b f.begins)
+  ]
+reaches {grammar = grammar} {len = len} {rest = rest} (Reads.token {from = from} {mid = middle} {t = t} b r) us y stuck = elim (first y) [
+    inl k ↦ absurd (stuck.1 t middle (subst (λ xs. Begins grammar xs t middle) k.0 b))
+  | inr (inl f) ↦ absurd (apart f.is b)
+  | inr (inr f) ↦ reaches r f.vs (subst (λ xs. Reads grammar len xs f.vs rest) (one_token f.begins b).1 f.rest) stuck
+  ]
+
+pub one_stop : {grammar : Grammar} {text : List ℕ} {p q : ℕ} → StopsAt grammar text p → StopsAt grammar text q → p ≡ q
+one_stop {text = text} x y =
+    let z = reaches x.read y.front y.read (y.no_blank, y.no_token) in
+    elim (first z.1) [
+      inl k ↦ x.at ∙ (ap (λ rest. length text - length rest) k.0 ∙ sym y.at)
+    | inr (inl f) ↦ absurd (x.no_blank f.mid f.is)
+    | inr (inr f) ↦ absurd (x.no_token f.t f.mid f.begins)
+    ]

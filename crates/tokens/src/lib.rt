@@ -4,14 +4,14 @@
 mod blank;
 mod cuts;
 mod keyword;
+pub mod laws;
 mod lexer;
+mod reading;
 mod runs;
 mod sign;
 mod token;
 
 pub use keyword::{Grammar, Keyword};
+pub use reading::read_tokens;
 pub use sign::Sign;
 pub use token::{Quoting, Token, TokenKind};
-ghost use Rattle.tokens.specs.Reading.{token};
-ghost use Rattle.tokens.specs.Content.{placed_of};
-ghost use Rattle.tokens.specs.Tokens.{StopsAt};
