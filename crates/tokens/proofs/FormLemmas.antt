@@ -66,7 +66,7 @@ quoted_complete {q = q} (Quoted.doubled {bs = bs} {content = content} {after = a
     record {
       inside = q ∷ q ∷ x.inside;
       found = cond-true (nat_eq q q) (quoted q true (q ∷ bs)) (cons_some q (quoted q false (q ∷ bs))) same
-        ∙ (cond-true (nat_eq q q) (cons_some q (cons_some q (quoted q false bs))) (Some ([], q ∷ bs)) same ∙ ap (λ o. cons_some q (cons_some q o)) x.found);
+          ∙ (cond-true (nat_eq q q) (cons_some q (cons_some q (quoted q false bs))) (Some ([], q ∷ bs)) same ∙ ap (λ o. cons_some q (cons_some q o)) x.found);
       content_is = undoubled_pair q x.inside ∙ ap (λ c. q ∷ c) x.content_is;
     }
 quoted_complete {q = q} (Quoted.plain {b = b} {bs = bs} h r) =
@@ -99,16 +99,16 @@ quoted_by : (q : ℕ) (passed : Bool) (bs : List ℕ) (r : Taken) → quoted q p
 quoted_by q false [] r h = absurd cc
 quoted_by q true [] r h = subst (QuotedAt q (q ∷ [])) (let i : ([], []) ≡ r = cc in i) (Quoted.close Stops.at_end)
 quoted_by q false (b ∷ bs) r h = elim (chosen (nat_eq b q) (quoted q true bs) (cons_some b (quoted q false bs)) (Some r) h) [
-    inl k ↦ subst (λ c. QuotedAt q (c ∷ bs) r) (sym (eqb-true b q k.0)) (quoted_by q true bs r k.1)
+  | inl k ↦ subst (λ c. QuotedAt q (c ∷ bs) r) (sym (eqb-true b q k.0)) (quoted_by q true bs r k.1)
   | inr k ↦ let a = some_cons b (quoted q false bs) r k.1 in subst (QuotedAt q (b ∷ bs)) a.2 (quoted_other q b bs a.0 k.0 (quoted_by q false bs a.0 a.1))
-  ]
+]
 quoted_by q true (b ∷ bs) r h = elim (chosen (nat_eq b q) (cons_some q (cons_some q (quoted q false bs))) (Some ([], b ∷ bs)) (Some r) h) [
-    inl k ↦
+  | inl k ↦
       let a = some_cons q (cons_some q (quoted q false bs)) r k.1 in
       let c = some_cons q (quoted q false bs) a.0 a.1 in
       subst (λ d. QuotedAt q (q ∷ d ∷ bs) r) (sym (eqb-true b q k.0)) (subst (QuotedAt q (q ∷ q ∷ bs)) (ap (cons_taken q) c.2 ∙ a.2) (quoted_pair q bs c.0 (quoted_by q false bs c.0 c.1)))
   | inr k ↦ subst (QuotedAt q (q ∷ b ∷ bs)) (let i : ([], b ∷ bs) ≡ r = (let j = k.1 in cc) in i) (Quoted.close (Stops.at_byte k.0))
-  ]
+]
 
 pub quoted_sound : (q : ℕ) (bs : List ℕ) (r : Taken) → quoted q false bs ≡ Some r → Quoted q bs (undoubled q false r.0) r.1
 quoted_sound q = quoted_by q false

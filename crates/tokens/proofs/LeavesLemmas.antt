@@ -119,4 +119,4 @@ token_boundary grammar from after t u h =
     let l = begins_leaves (sound grammar from (t, after) h) in
     let e = ap length l.parts in
     subst (IsCharBoundary from) (let i : length (l.first ∷ l.front) ≡ length from - length after = omega (arith, length-append l.front after) in i)
-      (IsCharBoundary-at_seam from (l.first ∷ l.front) after l.parts u)
+    (IsCharBoundary-at_seam from (l.first ∷ l.front) after l.parts u)

@@ -73,7 +73,7 @@ complete (Begins.blob {b = b} {bs = bs} {after = after} h r) =
     cond-true (begins_blob (b ∷ 39 ∷ bs)) _ _ (and_from (is_x b) true h refl)
     ∙ (ap blob (run_complete x.run)
     ∙ (cond-true (nat_eq (length x.digits % 2) 0 && stops (λ c. nat_eq c 39) after) _ _
-        (and_from (nat_eq (length x.digits % 2) 0) (stops (λ c. nat_eq c 39) after) (eq-eqb _ _ x.even) (stops_true x.apart))
+    (and_from (nat_eq (length x.digits % 2) 0) (stops (λ c. nat_eq c 39) after) (eq-eqb _ _ x.even) (stops_true x.apart))
     ∙ ap (λ bytes. Some (Lexeme.Blob bytes, after)) x.bytes_are))
 complete {grammar = grammar} (Begins.word {b = b} {bs = bs} {run = run} {after = after} h w none) =
     cond-false (begins_blob (b ∷ bs)) _ _ w.no_blob
@@ -166,7 +166,7 @@ blob_closes grammar b bs (digits, d ∷ after) x w i h =
     let rest = and_parts (nat_eq (length digits % 2) 0) (stops (λ c. nat_eq c 39) after) quote.1 in
     let run = subst (λ (p : List ℕ × List ℕ). Run is_hex_digit bs p.0 p.1) i (run_sound is_hex_digit bs) in
     subst (BeginsAt grammar (b ∷ 39 ∷ bs)) k.1
-      (Begins.blob w (hex_sound run after (ap (λ e. e ∷ after) (eqb-true d 39 quote.0)) (eqb-true _ _ rest.0) (true_stops (λ c. nat_eq c 39) after rest.1)))
+    (Begins.blob w (hex_sound run after (ap (λ e. e ∷ after) (eqb-true d 39 quote.0)) (eqb-true _ _ rest.0) (true_stops (λ c. nat_eq c 39) after rest.1)))
 
 blob_sound : (grammar : Grammar) (b : ℕ) (bs : List ℕ) (x : Lexeme × List ℕ) → begins_blob (b ∷ bs) ≡ true → blob (run_of is_hex_digit (tail bs)) ≡ Some x → BeginsAt grammar (b ∷ bs) x
 blob_sound grammar b [] x n h = absurd (let k = (and_parts (is_x b) false n).1 in cc)
@@ -184,26 +184,26 @@ sign_is grammar b bs (Some s) x i h =
 try_byte : (grammar : Grammar) (c b : ℕ) (bs : List ℕ) (x : Lexeme × List ℕ) (here other : Found) → cond (nat_eq b c) here other ≡ Some x
     → (here ≡ Some x → BeginsAt grammar (c ∷ bs) x) → (other ≡ Some x → BeginsAt grammar (b ∷ bs) x) → BeginsAt grammar (b ∷ bs) x
 try_byte grammar c b bs x here other h f g = elim (chosen (nat_eq b c) here other (Some x) h) [
-    inl k ↦ subst (λ a. BeginsAt grammar (a ∷ bs) x) (sym (eqb-true b c k.0)) (f k.1)
+  | inl k ↦ subst (λ a. BeginsAt grammar (a ∷ bs) x) (sym (eqb-true b c k.0)) (f k.1)
   | inr k ↦ g k.1
-  ]
+]
 
 -- what is found stands at the front
 pub sound : (grammar : Grammar) (from : List ℕ) (x : Lexeme × List ℕ) → token grammar from ≡ Some x → Begins grammar from x.0 x.1
 unfolding token
 sound grammar [] x h = absurd cc
 sound grammar (b ∷ bs) x h = elim (chosen (begins_blob (b ∷ bs)) (blob (run_of is_hex_digit (tail bs))) _ (Some x) h) [
-    inl k ↦ blob_sound grammar b bs x k.0 k.1
+  | inl k ↦ blob_sound grammar b bs x k.0 k.1
   | inr n ↦ elim (chosen (begins_word b) (word grammar (run_of is_in_word (b ∷ bs))) _ (Some x) n.1) [
-      inl k ↦ word_sound grammar b bs (keyword_of grammar (run_of is_in_word (b ∷ bs)).0) x k.0 n.0 refl k.1
+    | inl k ↦ word_sound grammar b bs (keyword_of grammar (run_of is_in_word (b ∷ bs)).0) x k.0 n.0 refl k.1
     | inr k ↦ elim (chosen (is_digit b) (number (run_of is_digit (b ∷ bs))) _ (Some x) k.1) [
-        inl j ↦ number_sound grammar b bs x j.0 j.1
+      | inl j ↦ number_sound grammar b bs x j.0 j.1
       | inr j ↦
           try_byte grammar 39 b bs x _ _ j.1 (text_sound grammar bs (quoted 39 false bs) x refl) (λ h.
           try_byte grammar 34 b bs x _ _ h (double_quotes_sound grammar bs (quoted 34 false bs) x refl) (λ h.
           try_byte grammar 91 b bs x _ _ h (brackets_sound grammar bs (closed (run_of (is_not 93) bs)) x refl) (λ h.
           try_byte grammar 96 b bs x _ _ h (backquotes_sound grammar bs (closed (run_of (is_not 96) bs)) x refl) (λ h.
           sign_is grammar b bs (sign_at b bs) x refl h))))
-      ]
     ]
   ]
+]

@@ -20,4 +20,4 @@ pub read_more : (grammar : Grammar) (len : ℕ) (from mid after : List ℕ) (ts 
     → Reads grammar len from (map placed_of us) after
 read_more grammar len from mid after ts us t e r h p =
     subst (λ xs. Reads grammar len from xs after) (sym (ap (map placed_of) e ∙ (map_push placed_of ts t ∙ ap (λ x. map placed_of ts ++ x ∷ []) p)))
-      (token_step grammar len from mid after (map placed_of ts) (lexeme_of t.kind) r h)
+    (token_step grammar len from mid after (map placed_of ts) (lexeme_of t.kind) r h)

@@ -15,18 +15,18 @@ use Rattle.tokens.specs.declared.keyword.Grammar.{Grammar}
 space_begins : (grammar : Grammar) (b : ℕ) (bs : List ℕ) → is_space b ≡ true → token grammar (b ∷ bs) ≡ None
 unfolding token
 space_begins grammar b bs h = elim (or_cases (b == 32) (b == 9 || (b == 10 || (b == 12 || b == 13))) h) [
-    inl e ↦ ap (λ c. token grammar (c ∷ bs)) (eqb-true b 32 e)
+  | inl e ↦ ap (λ c. token grammar (c ∷ bs)) (eqb-true b 32 e)
   | inr h ↦ elim (or_cases (b == 9) (b == 10 || (b == 12 || b == 13)) h) [
-      inl e ↦ ap (λ c. token grammar (c ∷ bs)) (eqb-true b 9 e)
+    | inl e ↦ ap (λ c. token grammar (c ∷ bs)) (eqb-true b 9 e)
     | inr h ↦ elim (or_cases (b == 10) (b == 12 || b == 13) h) [
-        inl e ↦ ap (λ c. token grammar (c ∷ bs)) (eqb-true b 10 e)
+      | inl e ↦ ap (λ c. token grammar (c ∷ bs)) (eqb-true b 10 e)
       | inr h ↦ elim (or_cases (b == 12) (b == 13) h) [
-          inl e ↦ ap (λ c. token grammar (c ∷ bs)) (eqb-true b 12 e)
+        | inl e ↦ ap (λ c. token grammar (c ∷ bs)) (eqb-true b 12 e)
         | inr e ↦ ap (λ c. token grammar (c ∷ bs)) (eqb-true b 13 e)
-        ]
       ]
     ]
   ]
+]
 
 blank_begins : {from mid : List ℕ} (grammar : Grammar) → Blank from mid → token grammar from ≡ None
 unfolding token
@@ -93,12 +93,12 @@ pub goes_on : {grammar : Grammar} {len : ℕ} {from mid : List ℕ} {front : Lis
     → (us : List Placed) → Reads grammar len from us [] → Follows grammar len front us mid
 goes_on Reads.none us y = record { vs = us; list_is = refl; rest = y }
 goes_on {grammar = grammar} {len = len} (Reads.blank {mid = middle} b r) us y = elim (first y) [
-    inl k ↦ absurd (nothing_blank (subst (λ xs. Blank xs middle) k.0 b))
+  | inl k ↦ absurd (nothing_blank (subst (λ xs. Blank xs middle) k.0 b))
   | inr (inl f) ↦ goes_on r us (subst (λ xs. Reads grammar len xs us []) (one_blank f.is b) f.rest)
   | inr (inr f) ↦ absurd (apart b f.begins)
-  ]
+]
 goes_on {grammar = grammar} {len = len} {from = from} (Reads.token {mid = middle} {t = t} {ts = ts} b r) us y = elim (first y) [
-    inl k ↦ absurd (nothing_begins (subst (λ xs. Begins grammar xs t middle) k.0 b))
+  | inl k ↦ absurd (nothing_begins (subst (λ xs. Begins grammar xs t middle) k.0 b))
   | inr (inl f) ↦ absurd (apart f.is b)
   | inr (inr f) ↦
       let same = one_token f.begins b in
@@ -106,17 +106,17 @@ goes_on {grammar = grammar} {len = len} {from = from} (Reads.token {mid = middle
       record {
         vs = x.vs;
         list_is = f.list_is ∙ (ap (λ u. between len from u f.mid ∷ f.vs) same.0
-          ∙ (ap (λ xs. between len from t xs ∷ f.vs) same.1 ∙ ap (λ vs. between len from t middle ∷ vs) x.list_is));
+            ∙ (ap (λ xs. between len from t xs ∷ f.vs) same.1 ∙ ap (λ vs. between len from t middle ∷ vs) x.list_is));
         rest = x.rest;
       }
-  ]
+]
 
 at_end : {grammar : Grammar} {len : ℕ} {us : List Placed} → Reads grammar len [] us [] → us ≡ []
 at_end y = elim (first y) [
-    inl k ↦ k.1
+  | inl k ↦ k.1
   | inr (inl f) ↦ absurd (nothing_blank f.is)
   | inr (inr f) ↦ absurd (nothing_begins f.begins)
-  ]
+]
 
 pub one_list : {grammar : Grammar} {text : List ℕ} {ts us : List Placed} → Tokens grammar text ts → Tokens grammar text us → ts ≡ us
 one_list {ts = ts} {us = us} x y =
@@ -125,10 +125,10 @@ one_list {ts = ts} {us = us} x y =
 
 pub no_list : {grammar : Grammar} {text : List ℕ} {place : ℕ} → StopsAt grammar text place → (us : List Placed) → ¬ (Tokens grammar text us)
 no_list s us y = let f = goes_on s.read us y in elim (first f.rest) [
-    inl k ↦ (let n : 0 < length s.rest = s.more in let e = ap length k.0 in omega arith)
+  | inl k ↦ (let n : 0 < length s.rest = s.more in let e = ap length k.0 in omega arith)
   | inr (inl b) ↦ s.no_blank b.mid b.is
   | inr (inr t) ↦ s.no_token t.t t.mid t.begins
-  ]
+]
 
 -- one more at the end
 pub more_blank : {grammar : Grammar} {len : ℕ} {from mid after : List ℕ} {ts : List Placed} → Reads grammar len from ts mid → Blank mid after → Reads grammar len from ts after
@@ -171,21 +171,21 @@ reaches : {grammar : Grammar} {len : ℕ} {from mid rest : List ℕ} {ts : List 
     → (us : List Placed) → Reads grammar len from us rest → IsStuck grammar rest → (vs : List Placed) × Reads grammar len mid vs rest
 reaches Reads.none us y stuck = (us, y)
 reaches {grammar = grammar} {len = len} {rest = rest} (Reads.blank {from = from} {mid = middle} b r) us y stuck = elim (first y) [
-    inl k ↦ absurd (stuck.0 middle (subst (λ xs. Blank xs middle) k.0 b))
+  | inl k ↦ absurd (stuck.0 middle (subst (λ xs. Blank xs middle) k.0 b))
   | inr (inl f) ↦ reaches r us (subst (λ xs. Reads grammar len xs us rest) (one_blank f.is b) f.rest) stuck
   | inr (inr f) ↦ absurd (apart b f.begins)
-  ]
+]
 reaches {grammar = grammar} {len = len} {rest = rest} (Reads.token {from = from} {mid = middle} {t = t} b r) us y stuck = elim (first y) [
-    inl k ↦ absurd (stuck.1 t middle (subst (λ xs. Begins grammar xs t middle) k.0 b))
+  | inl k ↦ absurd (stuck.1 t middle (subst (λ xs. Begins grammar xs t middle) k.0 b))
   | inr (inl f) ↦ absurd (apart f.is b)
   | inr (inr f) ↦ reaches r f.vs (subst (λ xs. Reads grammar len xs f.vs rest) (one_token f.begins b).1 f.rest) stuck
-  ]
+]
 
 pub one_stop : {grammar : Grammar} {text : List ℕ} {p q : ℕ} → StopsAt grammar text p → StopsAt grammar text q → p ≡ q
 one_stop {text = text} x y =
     let z = reaches x.read y.front y.read (y.no_blank, y.no_token) in
     elim (first z.1) [
-      inl k ↦ x.at ∙ (ap (λ rest. length text - length rest) k.0 ∙ sym y.at)
-    | inr (inl f) ↦ absurd (x.no_blank f.mid f.is)
-    | inr (inr f) ↦ absurd (x.no_token f.t f.mid f.begins)
+      | inl k ↦ x.at ∙ (ap (λ rest. length text - length rest) k.0 ∙ sym y.at)
+      | inr (inl f) ↦ absurd (x.no_blank f.mid f.is)
+      | inr (inr f) ↦ absurd (x.no_token f.t f.mid f.begins)
     ]

@@ -69,15 +69,15 @@ quoted_doubled q xs n h t u s =
     let same : nat_eq q q ≡ true = eq-eqb q q refl in
     let two : drop n xs ≡ q ∷ q ∷ ys = next xs n (omega arith) ∙ (ap (λ b. b ∷ drop (n + 1) xs) t ∙ ap (λ zs. q ∷ zs) (next xs (n + 1) h ∙ ap (λ b. b ∷ ys) u)) in
     let reads : quoted q false (q ∷ q ∷ ys) ≡ cons_some q (cons_some q (quoted q false ys)) =
-      cond-true (nat_eq q q) (quoted q true (q ∷ ys)) (cons_some q (quoted q false (q ∷ ys))) same
-      ∙ cond-true (nat_eq q q) (cons_some q (cons_some q (quoted q false ys))) (Some ([], q ∷ ys)) same in
+    cond-true (nat_eq q q) (quoted q true (q ∷ ys)) (cons_some q (quoted q false (q ∷ ys))) same
+    ∙ cond-true (nat_eq q q) (cons_some q (cons_some q (quoted q false ys))) (Some ([], q ∷ ys)) same in
     let front : take (n + 1 + 1) xs ≡ (take n xs ++ q ∷ []) ++ q ∷ [] = taken_more xs (n + 1) h ∙ (ap (λ b. take (n + 1) xs ++ b ∷ []) u ∙ ap (λ zs. zs ++ q ∷ []) (taken_more xs n (omega arith) ∙ ap (λ b. take n xs ++ b ∷ []) t)) in
     subst (QuotedSo q xs) (let i : n + 1 + 1 ≡ n + 2 = omega arith in i)
-      (s ∙ (ap (λ zs. before_some (take n xs) (quoted q false zs)) two
-      ∙ (ap (before_some (take n xs)) reads
-      ∙ (before_cons (take n xs) q (cons_some q (quoted q false ys))
-      ∙ (before_cons (take n xs ++ q ∷ []) q (quoted q false ys)
-      ∙ ap (λ zs. before_some zs (quoted q false ys)) (sym front))))))
+    (s ∙ (ap (λ zs. before_some (take n xs) (quoted q false zs)) two
+    ∙ (ap (before_some (take n xs)) reads
+    ∙ (before_cons (take n xs) q (cons_some q (quoted q false ys))
+    ∙ (before_cons (take n xs ++ q ∷ []) q (quoted q false ys)
+    ∙ ap (λ zs. before_some zs (quoted q false ys)) (sym front))))))
 
 abbrev taken_some : List ℕ → List ℕ → Option Taken
 taken_some xs ys = Some (xs, ys)
@@ -92,7 +92,7 @@ quoted_close q xs n h t u s =
     let ys = drop (n + 1) xs in
     let one : drop n xs ≡ q ∷ ys = next xs n h ∙ ap (λ b. b ∷ ys) t in
     let reads : quoted q false (q ∷ ys) ≡ taken_some [] ys =
-      cond-true (nat_eq q q) (quoted q true ys) (cons_some q (quoted q false ys)) (eq-eqb q q refl) ∙ after_quote q ys (λ k e. u (omega (arith, length-drop (n + 1) xs)) (ap (λ i. get_or xs i 0) (let i : n + 1 ≡ n + 1 + 0 = omega arith in i) ∙ (sym (get_or-drop (n + 1) xs 0 0) ∙ e))) in
+    cond-true (nat_eq q q) (quoted q true ys) (cons_some q (quoted q false ys)) (eq-eqb q q refl) ∙ after_quote q ys (λ k e. u (omega (arith, length-drop (n + 1) xs)) (ap (λ i. get_or xs i 0) (let i : n + 1 ≡ n + 1 + 0 = omega arith in i) ∙ (sym (get_or-drop (n + 1) xs 0 0) ∙ e))) in
     s ∙ (ap (λ zs. before_some (take n xs) (quoted q false zs)) one
     ∙ (ap (before_some (take n xs)) reads ∙ ap (λ zs. taken_some zs ys) (append-nil (take n xs))))
 

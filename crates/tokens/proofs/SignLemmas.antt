@@ -72,17 +72,17 @@ longer_cases : (c : ℕ) (two one : Option Sign) (bs : List ℕ) (sign : Sign) �
     → ((two ≡ Some sign) × (bs ≡ c ∷ tail bs)) ⊎ ((one ≡ Some sign) × Stops (λ b. nat_eq b c) bs)
 longer_cases c two one [] sign h = inr (h, Stops.at_end)
 longer_cases c two one (b ∷ bs) sign h = elim (chosen (nat_eq b c) two one (Some sign) h) [
-    inl k ↦ inl (k.1, ap (λ d. d ∷ bs) (eqb-true b c k.0))
+  | inl k ↦ inl (k.1, ap (λ d. d ∷ bs) (eqb-true b c k.0))
   | inr k ↦ inr (k.1, Stops.at_byte k.0)
-  ]
+]
 
 -- one row of the table: where the byte is this one, and else the rows below
 row : (c b : ℕ) (bs : List ℕ) (sign : Sign) (here other : Option Sign) → cond (nat_eq b c) here other ≡ Some sign
     → (here ≡ Some sign → SignAt c bs sign) → (other ≡ Some sign → SignAt b bs sign) → SignAt b bs sign
 row c b bs sign here other h f g = elim (chosen (nat_eq b c) here other (Some sign) h) [
-    inl k ↦ subst (λ a. SignAt a bs sign) (sym (eqb-true b c k.0)) (f k.1)
+  | inl k ↦ subst (λ a. SignAt a bs sign) (sym (eqb-true b c k.0)) (f k.1)
   | inr k ↦ g k.1
-  ]
+]
 
 -- a row of one sign
 single : (c : ℕ) (bs : List ℕ) (is sign : Sign) → is_long is ≡ false → spelling is ≡ c ∷ [] → ((b : ℕ) → joins is b ≡ false) → Some is ≡ Some sign → SignAt c bs sign
@@ -93,17 +93,17 @@ double : (c d : ℕ) (bs : List ℕ) (two one sign : Sign) → is_long two ≡ t
     → is_long one ≡ false → spelling one ≡ c ∷ [] → (Stops (λ b. nat_eq b d) bs → Stops (joins one) bs)
     → longer d (Some two) (Some one) bs ≡ Some sign → SignAt c bs sign
 double c d bs two one sign long t ends short o st h = elim (longer_cases d (Some two) (Some one) bs sign h) [
-    inl k ↦ subst (SignAt c bs) (some_inj two sign k.0) (pair c d bs two long t ends k.1)
+  | inl k ↦ subst (SignAt c bs) (some_inj two sign k.0) (pair c d bs two long t ends k.1)
   | inr k ↦ subst (SignAt c bs) (some_inj one sign k.0) (alone c bs one short o (st k.1))
-  ]
+]
 
 -- a row of a sign that isn't one where another byte follows
 barred : (c d : ℕ) (bs : List ℕ) (one sign : Sign) → is_long one ≡ false → spelling one ≡ c ∷ [] → (Stops (λ b. nat_eq b d) bs → Stops (joins one) bs)
     → longer d None (Some one) bs ≡ Some sign → SignAt c bs sign
 barred c d bs one sign short o st h = elim (longer_cases d None (Some one) bs sign h) [
-    inl k ↦ absurd (let n = k.0 in cc)
+  | inl k ↦ absurd (let n = k.0 in cc)
   | inr k ↦ subst (SignAt c bs) (some_inj one sign k.0) (alone c bs one short o (st k.1))
-  ]
+]
 
 both_stop : (bs : List ℕ) → Stops (λ b. nat_eq b 61) bs → Stops (λ b. nat_eq b 62) bs → Stops (λ b. nat_eq b 61 || nat_eq b 62) bs
 both_stop [] h k = Stops.at_end
@@ -111,15 +111,15 @@ both_stop (b ∷ bs) (Stops.at_byte h) (Stops.at_byte k) = Stops.at_byte (or_fro
 
 not_equal : (bs : List ℕ) (sign : Sign) → longer 61 (Some s.NotEqual) None bs ≡ Some sign → SignAt 33 bs sign
 not_equal bs sign h = elim (longer_cases 61 (Some s.NotEqual) None bs sign h) [
-    inl k ↦ subst (SignAt 33 bs) (some_inj s.NotEqual sign k.0) (pair 33 61 bs s.NotEqual refl refl (λ b. refl) k.1)
+  | inl k ↦ subst (SignAt 33 bs) (some_inj s.NotEqual sign k.0) (pair 33 61 bs s.NotEqual refl refl (λ b. refl) k.1)
   | inr k ↦ absurd (let n = k.0 in cc)
-  ]
+]
 
 less : (bs : List ℕ) (sign : Sign) → longer 62 (Some s.LessGreater) (longer 61 (Some s.LessEqual) (Some s.Less) bs) bs ≡ Some sign → SignAt 60 bs sign
 less bs sign h = elim (longer_cases 62 (Some s.LessGreater) (longer 61 (Some s.LessEqual) (Some s.Less) bs) bs sign h) [
-    inl k ↦ subst (SignAt 60 bs) (some_inj s.LessGreater sign k.0) (pair 60 62 bs s.LessGreater refl refl (λ b. refl) k.1)
+  | inl k ↦ subst (SignAt 60 bs) (some_inj s.LessGreater sign k.0) (pair 60 62 bs s.LessGreater refl refl (λ b. refl) k.1)
   | inr k ↦ double 60 61 bs s.LessEqual s.Less sign refl refl (λ b. refl) refl refl (λ st. both_stop bs st k.1) k.0
-  ]
+]
 
 pub sign_sound : (b : ℕ) (bs : List ℕ) (sign : Sign) → sign_at b bs ≡ Some sign → SignAt b bs sign
 sign_sound b bs sign h =

@@ -135,7 +135,10 @@ fn after_sign(sign: Sign, text: &str) -> &str
 
 /// The token at the front, and what is behind it.
 #[tactic(auto, unfolding(crate::specs::Reading::token))]
-pub(crate) fn token_at_front<'a>(grammar: Grammar, source: &'a str) -> Option<(TokenKind<'a>, &'a str)>
+pub(crate) fn token_at_front<'a>(
+    grammar: Grammar,
+    source: &'a str,
+) -> Option<(TokenKind<'a>, &'a str)>
     ensures { option_map (λ r. (lexeme_of r.0, r.1.now)) result ≡ spec.token grammar source.now }
 {
     match source.as_bytes() {
@@ -143,7 +146,10 @@ pub(crate) fn token_at_front<'a>(grammar: Grammar, source: &'a str) -> Option<(T
         [first, ..] if begins_word(*first) => Some(word(grammar, source)),
         [b'0'..=b'9', ..] => number(source),
         [b'\'', ..] => text(split_quoted(after_first(source), b'\'')),
-        [b'"', ..] => name(Quoting::DoubleQuotes, split_quoted(after_first(source), b'"')),
+        [b'"', ..] => name(
+            Quoting::DoubleQuotes,
+            split_quoted(after_first(source), b'"'),
+        ),
         [b'[', ..] => name(Quoting::Brackets, split_closed(after_first(source), b']')),
         [b'`', ..] => name(Quoting::Backquotes, split_closed(after_first(source), b'`')),
         [first, rest @ ..] => {

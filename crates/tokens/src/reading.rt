@@ -27,7 +27,11 @@ fn placed_token<'a>(grammar: Grammar, len: usize, rest: &'a str) -> Option<(Toke
 /// The tokens of a text. The fault is `Syntax` with the first place that is neither in a token nor between tokens, or
 /// `NoMemory`.
 #[tactic(auto, using(crate::proofs::ReadLemmas::blank_step, crate::proofs::ReadLemmas::stops_at, crate::proofs::LeavesLemmas::blank_less))]
-pub fn read_tokens<'a>(alloc: Global, grammar: Grammar, text: &'a str) -> Result<Vec<Token<'a>>, Fault>
+pub fn read_tokens<'a>(
+    alloc: Global,
+    grammar: Grammar,
+    text: &'a str,
+) -> Result<Vec<Token<'a>>, Fault>
     ensures spelt { IfOk result (λ tokens. Tokens grammar text.now (map placed_of tokens.items)) }
     ensures refused { IfErr result (λ fault. IsRefused grammar text.now fault) }
 {

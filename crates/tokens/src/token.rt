@@ -15,7 +15,7 @@ pub enum Quoting {
 }
 
 /// What a token says. What stands between quotes is a slice of the source, as it is written there.
-#[derive(Clone, Copy, Debug)]
+#[derive(Clone, Copy, Debug, PartialEq, Eq)]
 pub enum TokenKind<'a> {
     /// Decimal digits, at most 9223372036854775807. (Literal Values)
     Number(i64),
@@ -31,7 +31,7 @@ pub enum TokenKind<'a> {
 }
 
 /// A token where it stands.
-#[derive(Clone, Copy, Debug)]
+#[derive(Clone, Copy, Debug, PartialEq, Eq)]
 pub struct Token<'a> {
     /// How many bytes of the source are before it.
     pub place: usize,

@@ -14,5 +14,5 @@ loop-rest-preserved c = record {
   is_text = search rules;
   within = omega (arith, c.in-Some-placed_token.ensures.shorter);
   read = read_more c.args.grammar (length c.args.text.now) c.args.text.now c.loop-rest.rest.now c.in-Some-placed_token.after.now c.loop-rest.tokens.items c.push.new.self.items c.in-Some-placed_token.token
-    c.in_ok-push.ensures.items c.loop-rest.invariant.read (sym c.in-Some-placed_token.ensures.found) c.in-Some-placed_token.ensures.placed;
+      c.in_ok-push.ensures.items c.loop-rest.invariant.read (sym c.in-Some-placed_token.ensures.found) c.in-Some-placed_token.ensures.placed;
 }
