@@ -1,0 +1,8 @@
+pub mod Bytes
+pub mod Class
+pub mod Keyword
+pub mod Sign
+pub mod Lexeme
+pub mod Tokens
+pub mod Content
+pub mod Reading
