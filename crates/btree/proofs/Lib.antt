@@ -1,5 +1,6 @@
 pub mod CellLemmas
 pub mod FrameLemmas
 pub mod PageLemmas
+pub mod ListingLemmas
 pub mod RestLemmas
 pub mod SeenLemmas

@@ -101,6 +101,9 @@ module _ (pages : Pages) where
   pub left_end : (levels : ℕ) (all : List Frame) (rest : List Place) (asked budget : ℕ) → IsLeft pages levels all rest asked budget → all ≡ [] → rest ≡ []
   left_end levels all rest asked budget left e = stack_end left.total left.stack e
 
+  pub left_within : (levels : ℕ) (all : List Frame) (rest : List Place) (asked budget : ℕ) → IsLeft pages levels all rest asked budget → asked ≤ budget
+  left_within levels all rest asked budget left = let asks : asked + left.ahead ≤ budget = left.asks in omega arith
+
   -- all that is under an interior page is under its children
   places_all : (levels n : ℕ) → places_under pages Table (suc levels) n ≡ places_from pages levels n 0
   places_all levels n =
@@ -281,20 +284,25 @@ module _ (pages : Pages) where
       subst (λ (x : List Place). IsLeft pages 0 frames x asked budget) (sym is) stands.left
 
   -- past the last cell a cursor stays
-  pub standing_end : (levels : ℕ) (all frames : List Frame) (leaf : Frame) (rest : List Place) (asked budget : ℕ)
-      → IsLeft pages levels all rest asked budget → all ≡ [] → frames ≡ [] → IsPageOf pages Table Leaf leaf.number → Holds pages leaf → leaf.count ≤ leaf.at
+  pub standing_end : (frames : List Frame) (leaf : Frame) (rest : List Place) (asked budget : ℕ)
+      → rest ≡ [] → frames ≡ [] → asked ≤ budget → IsPageOf pages Table Leaf leaf.number → Holds pages leaf → leaf.count ≤ leaf.at
       → IsStanding pages frames leaf rest asked budget
-  standing_end levels all frames leaf rest asked budget left none now_none page holds past =
-      let asks : asked + left.ahead ≤ budget = left.asks in
+  standing_end frames leaf rest asked budget none empty within page holds past =
       let c : leaf.count ≡ count_at pages leaf.number = holds.count in
       record {
         rest = [];
-        left = record { total = 0; shallow = omega arith; ahead = 0; stack = subst (λ (x : List Frame). IsStack pages 0 0 x [] 0) (sym now_none) bottom; asks = omega arith };
+        left = record { total = 0; shallow = omega arith; ahead = 0; stack = subst (λ (x : List Frame). IsStack pages 0 0 x [] 0) (sym empty) bottom; asks = omega arith };
         holds = holds;
         page = page;
-        places_is = left_end levels all rest asked budget left none ∙ sym (ap (λ x. x ++ []) (places_end leaf.number leaf.at (omega arith)));
+        places_is = none ∙ sym (ap (λ x. x ++ []) (places_end leaf.number leaf.at (omega arith)));
         settled = λ h. refl;
       }
+
+  pub standing_stays : (frames : List Frame) (leaf : Frame) (places : List Place) (asked budget : ℕ)
+      → IsStanding pages frames leaf places asked budget → leaf.count ≤ leaf.at → IsStanding pages frames leaf (drop 1 places) asked budget
+  standing_stays frames leaf places asked budget stands past =
+      let none : places ≡ [] = none_left frames leaf places asked budget stands past in
+      subst (λ (x : List Place). IsStanding pages frames leaf x asked budget) (none ∙ sym (ap (λ x. drop 1 x) none)) stands
 
   -- a cursor that begins at a root
   pub heading_first : (levels n : ℕ) (frames : List Frame) (asked : ℕ) → levels < 20 → HasShape pages Table levels n → IsNumber pages n → frames ≡ []

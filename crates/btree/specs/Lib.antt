@@ -1,4 +1,5 @@
 pub mod Bytes
 pub mod ViewData
 pub mod Views
+pub mod Listing
 pub mod Rest

@@ -82,7 +82,7 @@ pub record IsStanding (pages : Pages) (frames : List Frame) (leaf : Frame) (plac
 
 -- what comes next of a cursor that goes on to the next leaf
 abbrev pub GoesOn : Pages → List Frame → List Place → ℕ → ℕ → Option Frame → Type 0
-GoesOn pages frames rest asked budget None = (rest ≡ []) × (frames ≡ [])
+GoesOn pages frames rest asked budget None = (rest ≡ []) × ((frames ≡ []) × (asked ≤ budget))
 GoesOn pages frames rest asked budget (Some leaf) = IsStanding pages frames leaf rest asked budget
 
 -- the faults that a cursor may answer before it has ended

@@ -1,21 +1,23 @@
 //! A cursor over a table's rows.
-ghost use Rattle.std.specs.Prelude.{◌≡◌, ◌⊎◌, ◌+◌, ◌<◌, ◌≤◌, ℕ, List, take, length, IfErr, IfNone, IfOk, IfSome, IsSome, IsTrue, Some};
+ghost use Rattle.std.specs.Prelude.{◌≡◌, ◌⊎◌, ◌+◌, ◌<◌, ◌≤◌, ℕ, List, drop, length, option_map, take, IfErr, IfNone, IfOk, IfSome, IsSome, IsTrue, Some};
 ghost use Rattle.image.specs.declared.kind.TreeKind.TheVariants.{Table};
 ghost use Rattle.image.specs.declared.kind.Level.{Level};
 ghost use Rattle.image.specs.declared.kind.Level.TheVariants.{Leaf, Interior};
 ghost use Rattle.image.specs.Layout.{header_at};
 ghost use Rattle.image.specs.Pages.{Pages, IsNumber};
-ghost use Rattle.image.specs.Shape.{place_at};
+ghost use Rattle.image.specs.Shape.{HasShape, place_at, places_under, size_under};
 ghost use Rattle.image.specs.Tree.{Place, HasHeader, IsPageOf, IsRowAt, child_at, count_at};
 ghost use Rattle.pager.specs.PagerState.{IsPageNumber, IsUsed, Stays};
 ghost use Rattle.values.specs.Fault.{Counts};
 ghost use Rattle.btree.specs.Bytes.{HasHeaderAt};
+ghost use Rattle.btree.specs.Listing.{IsAt, IsEnded, IsEntry, IsStepFault};
 ghost use Rattle.btree.specs.Rest.{AreReadable, GoesOn, Holds, IsCursorFault, IsHeading, IsLeft, IsStanding, pages_seen};
 ghost use Rattle.btree.specs.Views.{cell_data};
 
 use crate::{Cell, PageView};
 use image::{Level, TreeKind};
 use pager::{Page, Pager, Source};
+use std::alloc::Global;
 use values::Fault;
 
 /// The most levels that a tree may have.
@@ -99,7 +101,11 @@ fn row_of(frame: &Frame, usable: usize, most: u64) -> Option<Cell<'_>>
         → IfSome result (λ cell. IsRowAt image (place_at frame.now.number frame.now.at) (cell_data cell)) }
     ensures sure { (image : Pages) → Holds image frame.now → AreReadable image → image.usable ≡ usable → image.size ≡ most
         → IsPageOf image Table Leaf frame.now.number → frame.now.at < frame.now.count → IsSome result }
+    ensures past { frame.now.count ≤ frame.now.at → IfSome result (λ cell. ⊥) }
 {
+    if frame.at >= frame.count {
+        return None;
+    }
     let view = view_of(&frame.page, frame.number, usable)?;
     if view.level() != Level::Leaf || frame.at >= view.count() {
         return None;
@@ -178,4 +184,125 @@ fn next_leaf<S: Source>(
         }
     }
     Ok(None)
+}
+
+/// The leaf and the cell in it that come after these; past the last cell a cursor stays.
+fn step<S: Source>(
+    root: u32,
+    frames: &mut Vec<Frame>,
+    pager: &mut Pager<S>,
+    leaf: Frame,
+) -> Result<Frame, Fault>
+    ensures stands { IsTrue pager.old.state.source.steady → (places : List Place) (budget : ℕ)
+        → IsStanding (pages_seen pager.old.state) frames.old.items leaf places pager.old.state.asked budget
+        → IfOk result (λ next. IsStanding (pages_seen pager.old.state) frames.new.items next (drop 1 places) pager.new.state.asked budget) }
+    ensures sound { IsTrue pager.old.state.source.steady → (places : List Place) (budget : ℕ)
+        → IsStanding (pages_seen pager.old.state) frames.old.items leaf places pager.old.state.asked budget
+        → IfErr result (λ e. (e ≡ Fault.ReadFailed) ⊎ (e ≡ Fault.NoMemory)) }
+    ensures only { IfErr result IsCursorFault }
+    ensures failures { Counts Fault.ReadFailed result pager.old.state.source.failures pager.new.state.source.failures }
+    ensures stays { Stays pager.old.state pager.new.state }
+{
+    if leaf.at >= leaf.count {
+        return Ok(leaf);
+    }
+    let next = Frame {
+        at: leaf.at + 1,
+        ..leaf
+    };
+    if next.at < next.count {
+        return Ok(next);
+    }
+    match next_leaf(root, frames, pager)? {
+        Some(leaf) => Ok(leaf),
+        None => Ok(next),
+    }
+}
+
+/// Whether the leaf has a row where the cursor stands, or the cursor stands past its last.
+fn has_row(leaf: &Frame, usable: usize, most: u64) -> bool
+    ensures sure { (image : Pages) → Holds image leaf.now → AreReadable image → image.usable ≡ usable → image.size ≡ most
+        → IsPageOf image Table Leaf leaf.now.number → IsTrue result }
+{
+    leaf.at >= leaf.count || row_of(leaf, usable, most).is_some()
+}
+
+/// A cursor over the rows of a table, in the order of their rowids.
+#[derive(Drop)]
+pub struct Cursor {
+    root: u32,
+    frames: Vec<Frame>,
+    leaf: Option<Frame>,
+    usable: usize,
+    most: u64,
+}
+
+impl Cursor {
+    /// A cursor at the first row of the table that has this root. Its faults are `ReadFailed`, `NoMemory`, and `BadPage`
+    /// and `BadDepth`, which no sound tree gives.
+    pub fn first<S: Source>(alloc: Global, pager: &mut Pager<S>, root: u32) -> Result<Cursor, Fault>
+        ensures lists { IsTrue pager.old.state.source.steady → (levels : ℕ) → levels < 20 → IsNumber (pages_seen pager.old.state) root
+            → HasShape (pages_seen pager.old.state) Table levels root
+            → IfOk result (λ cursor. IsAt (pages_seen pager.old.state) cursor (places_under (pages_seen pager.old.state) Table levels root)
+            pager.new.state.asked (pager.old.state.asked + size_under (pages_seen pager.old.state) levels root)) }
+        ensures sound { IsTrue pager.old.state.source.steady → (levels : ℕ) → levels < 20 → IsNumber (pages_seen pager.old.state) root
+            → HasShape (pages_seen pager.old.state) Table levels root
+            → IfErr result (λ e. (e ≡ Fault.ReadFailed) ⊎ (e ≡ Fault.NoMemory)) }
+        ensures only { IfErr result IsCursorFault }
+        ensures failures { Counts Fault.ReadFailed result pager.old.state.source.failures pager.new.state.source.failures }
+        ensures stays { Stays pager.old.state pager.new.state }
+    {
+        let header = pager.header();
+        if root < 1 || root > header.pages {
+            return Err(Fault::BadPage(root));
+        }
+        let usable = header.usable as usize;
+        let most = header.pages as u64 * header.page_size as u64;
+        let mut frames = Vec::new(alloc);
+        let leaf = descend(root, &mut frames, pager, root)?;
+        if !has_row(&leaf, usable, most) {
+            return Err(Fault::BadPage(leaf.number));
+        }
+        Ok(Cursor {
+            root,
+            frames,
+            leaf: Some(leaf),
+            usable,
+            most,
+        })
+    }
+
+    /// Goes on to the next row; past the last it stays. After a fault each further call answers `Finished`.
+    pub fn next<S: Source>(&mut self, pager: &mut Pager<S>) -> Result<(), Fault>
+        ensures lists { IsTrue pager.old.state.source.steady → (places : List Place) (budget : ℕ)
+            → IsAt (pages_seen pager.old.state) self.old places pager.old.state.asked budget
+            → IfOk result (λ _. IsAt (pages_seen pager.old.state) self.new (drop 1 places) pager.new.state.asked budget) }
+        ensures sound { IsTrue pager.old.state.source.steady → (places : List Place) (budget : ℕ)
+            → IsAt (pages_seen pager.old.state) self.old places pager.old.state.asked budget
+            → IfErr result (λ e. (e ≡ Fault.ReadFailed) ⊎ (e ≡ Fault.NoMemory)) }
+        ensures finished { IsEnded self.old → IfErr result (λ e. e ≡ Fault.Finished) × IfOk result (λ _. ⊥) }
+        ensures ends { IfErr result (λ e. IsEnded self.new) }
+        ensures only { IfErr result IsStepFault }
+        ensures failures { Counts Fault.ReadFailed result pager.old.state.source.failures pager.new.state.source.failures }
+        ensures stays { Stays pager.old.state pager.new.state }
+    {
+        let Some(leaf) = self.leaf.take() else {
+            return Err(Fault::Finished);
+        };
+        let leaf = step(self.root, &mut self.frames, pager, leaf)?;
+        if !has_row(&leaf, self.usable, self.most) {
+            return Err(Fault::BadPage(leaf.number));
+        }
+        self.leaf = Some(leaf);
+        Ok(())
+    }
+
+    /// The row that the cursor stands at, or none past the last and after a fault.
+    pub fn entry(&self) -> Option<Cell<'_>>
+        ensures entry { (image : Pages) (places : List Place) (asked budget : ℕ) → IsAt image self.now places asked budget
+            → IsEntry image places (option_map cell_data result) }
+        ensures ended { IsEnded self.now → IfSome result (λ cell. ⊥) }
+    {
+        row_of(self.leaf.as_ref()?, self.usable, self.most)
+    }
 }

@@ -1,8 +1,9 @@
-//! Pages and cells of an image's trees, read with every bound tested and none trusted. It promises that a page is taken
-//! for one exactly where its header says so, and that a cell is given exactly where the bytes have it.
+//! Pages and trees of an image, read with every bound tested and none trusted. It promises that a page is taken for one
+//! exactly where its header says so, that a cell is given exactly where the bytes have it, and that a cursor over a sound
+//! table gives the table's cells, each once and from the first on, and asks for each of its pages at most once.
 //!
-//! The modules, in the order in which data passes them: `page` (a page's header and cell places) and `cell` (a cell
-//! and the part of its payload that stands there).
+//! The modules, in the order in which data passes them: `page` (a page's header and cell places), `cell` (a cell and the
+//! part of its payload that stands there) and `cursor` (the way from one leaf to the next).
 #![tactic(auto)]
 
 mod cell;
@@ -10,5 +11,5 @@ mod cursor;
 mod page;
 
 pub use cell::{Cell, Payload};
-pub use cursor::Frame;
+pub use cursor::Cursor;
 pub use page::PageView;

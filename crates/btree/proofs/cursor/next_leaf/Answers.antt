@@ -6,7 +6,7 @@ use Rattle.pager.specs.declared.header.Header.{Header}
 use Rattle.pager.specs.PagerState.{IsSound}
 use Rattle.image.specs.Tree.{child_at}
 use Rattle.btree.specs.Rest.{pages_seen}
-use Rattle.btree.proofs.RestLemmas.{left_end}
+use Rattle.btree.proofs.RestLemmas.{left_end, left_within}
 use Rattle.btree.proofs.SeenLemmas.{readable, last_step, last_end, next_within, next_number, next_heads}
 use Rattle.btree.proofs.cursor.next_leaf.Goals as goal
 
@@ -64,4 +64,4 @@ returns-clause-goes g c = rw (sym c.loop-frame.invariant.same) (λ steady rest b
     let e : vec_len c.loop-frame.frames ≡ 0 = grind (arith, nat_tests, c.in_default.ensures.variant) in
     let none : c.loop-frame.frames.items ≡ [] = nil_from_length c.loop-frame.frames.items (omega (arith, c.loop-frame.frames.ok.0)) in
     let kept : c.loop-frame.frames.items ≡ c.pop.new.self.items ++ [] = c.in_default.ensures.items in
-    (left_end _ left.0 c.loop-frame.frames.items _ _ _ left.1 none, sym (append-nil c.pop.new.self.items) ∙ sym kept ∙ none))
+    (left_end _ left.0 c.loop-frame.frames.items _ _ _ left.1 none, (sym (append-nil c.pop.new.self.items) ∙ sym kept ∙ none, left_within _ left.0 c.loop-frame.frames.items _ _ _ left.1)))

@@ -1,0 +1,25 @@
+use Rattle.std.proofs.Common.{◌≡◌, subst}
+use Rattle.std.proofs.lemmas.Result.{err_from_is_err_and}
+use Rattle.btree.specs.declared.cursor.Frame.{Frame}
+use Rattle.btree.specs.Rest.{IsStanding, pages_seen}
+use Rattle.btree.proofs.cursor.Cursor.next.Goals as goal
+
+pub returns-in_err-leaf-clause-sound : goal.returns-in_err-leaf-clause-sound
+returns-in_err-leaf-clause-sound g c = λ steady places budget at.
+    let p = err_from_is_err_and c.from_residual.result c.from_residual.ensures.1 in
+    let v = c.in-Some.ensures.value in
+    let l = at.leaf_is in
+    let same : at.leaf ≡ c.in-Some.leaf = cc in
+    rw (p.1, p.2)
+    (c.in_err-leaf.ensures.sound steady places budget
+    (subst (λ (x : Frame). IsStanding (pages_seen c.args.pager.now.state) c.args.self.now.frames.items x places c.args.pager.now.state.asked budget) same at.stands))
+
+pub returns-then-not-has_row-clause-sound : goal.returns-then-not-has_row-clause-sound
+returns-then-not-has_row-clause-sound g c = λ steady places budget at.
+    let v = c.in-Some.ensures.value in
+    let l = at.leaf_is in
+    let same : at.leaf ≡ c.in-Some.leaf = cc in
+    let stands = c.in_ok-leaf.ensures.stands steady places budget
+    (subst (λ (x : Frame). IsStanding (pages_seen c.args.pager.now.state) c.args.self.now.frames.items x places c.args.pager.now.state.asked budget) same at.stands) in
+    let sure = c.has_row.ensures.sure (pages_seen c.args.pager.now.state) stands.holds at.readable at.usable at.most stands.page in
+    let not = c.if-not-has_row.true in absurd (cc)
