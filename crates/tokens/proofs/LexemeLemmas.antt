@@ -131,7 +131,7 @@ stopped Run.end d after e = absurd cc
 stopped {p = p} (Run.stop {b = b} h) d after e = subst (λ c. p c ≡ false) (let i : b ≡ d = cc in i) h
 stopped (Run.more h r) d after e = stopped r d after e
 
-is_it : (c d : ℕ) → is_not c d ≡ false → d ≡ c
+pub is_it : (c d : ℕ) → is_not c d ≡ false → d ≡ c
 is_it c d h = grind (arith, nat_tests)
 
 closing_is : (c : ℕ) (bs : List ℕ) (x : List ℕ × List ℕ) → closed (run_of (is_not c) bs) ≡ Some x → Run (is_not c) bs x.0 (c ∷ x.1)

@@ -16,7 +16,7 @@ Split p xs n = run_of p xs ≡ before (take n xs) (run_of p (drop n xs))
 pub next : (xs : List ℕ) (n : ℕ) → n < length xs → drop n xs ≡ get_or xs n 0 ∷ drop (n + 1) xs
 next xs n h = rw (add-one, drop-cons xs n 0)
 
-taken_more : (xs : List ℕ) (n : ℕ) → n < length xs → take (n + 1) xs ≡ take n xs ++ get_or xs n 0 ∷ []
+pub taken_more : (xs : List ℕ) (n : ℕ) → n < length xs → take (n + 1) xs ≡ take n xs ++ get_or xs n 0 ∷ []
 taken_more xs n h = rw add-one (take-suc xs n 0 h)
 
 pub no_bytes : (xs : List ℕ) (n : ℕ) → length xs ≤ n → drop n xs ≡ []
