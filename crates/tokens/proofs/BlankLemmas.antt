@@ -1,10 +1,10 @@
 -- The reader of spaces and comments finds exactly the one that stands at the front.
-use Rattle.std.proofs.Common.{◌≡◌, ℕ, Bool, true, false, ◌&&◌, ◌⊎◌, List, [], ◌∷◌, Option, Some, None, cond, nat_eq, refl, sym, ap, ◌∙◌, subst, arith}
+use Rattle.std.proofs.Common.{◌≡◌, ℕ, true, false, List, [], ◌∷◌, Some, None, nat_eq, refl, sym, ap, ◌∙◌, subst}
 use mathlib.Core.Logic.{inl, inr}
-use Rattle.std.proofs.lemmas.Bool.{cond-true, cond-false, eqb-true, and_from, and_parts}
+use Rattle.std.proofs.lemmas.Bool.{cond-true, cond-false, eqb-true, and_parts}
 use Rattle.tokens.proofs.FormLemmas.{chosen, run_complete, run_sound}
-use Rattle.tokens.specs.Bytes.{is_space, is_not, first_is}
-use Rattle.tokens.specs.Lexeme.{Run, Closes, Blank, ends_comment}
+use Rattle.tokens.specs.Bytes.{is_space, is_not}
+use Rattle.tokens.specs.Lexeme.{Closes, Blank, ends_comment}
 use Rattle.tokens.specs.Reading.{run_of, tail, after_comment, line_comment, block_comment, blank}
 
 pub closes_complete : {bs after : List ℕ} → Closes bs after → after_comment bs ≡ Some after

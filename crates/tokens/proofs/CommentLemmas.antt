@@ -1,10 +1,8 @@
 -- Comments that are skipped byte by byte.
-use Rattle.std.proofs.Common.{◌≡◌, ℕ, zero, suc, Bool, true, false, ◌&&◌, ◌⊎◌, ◌+◌, ◌-◌, ◌<◌, ◌≤◌, List, [], ◌∷◌, length, take, drop, get_or, Option, Some, None, cond, nat_eq, refl, sym, ap, ◌∙◌, subst, arith, length-drop}
-use mathlib.Core.Logic.{inl, inr}
-use Rattle.std.proofs.lemmas.List.{get_or-drop}
+use Rattle.std.proofs.Common.{◌≡◌, ℕ, zero, suc, Bool, false, ◌&&◌, ◌+◌, ◌-◌, ◌<◌, ◌≤◌, List, [], ◌∷◌, length, drop, get_or, Some, None, nat_eq, refl, ap, ◌∙◌, arith, length-drop}
 use Rattle.std.proofs.lemmas.Bool.Decides.{nat_tests}
-use Rattle.std.proofs.lemmas.Bool.{cond-true, cond-false, cases_lt, eq-eqb, and_from, and_left, and_right}
-use Rattle.tokens.proofs.RunLemmas.{next, no_bytes}
+use Rattle.std.proofs.lemmas.Bool.{cond-true, cond-false, eq-eqb, and_from, and_right}
+use Rattle.tokens.proofs.RunLemmas.{next}
 use Rattle.tokens.specs.Bytes.{is_not, first_is}
 use Rattle.tokens.specs.Lexeme.{ends_comment}
 use Rattle.tokens.specs.Reading.{after_comment, tail}

@@ -1,8 +1,8 @@
 -- The reader of runs and of what stands between quotes finds exactly what the definitions say.
-use Rattle.std.proofs.Common.{◌≡◌, ℕ, Bool, true, false, not, ◌&&◌, suc, ◌+◌, ◌*◌, ◌%◌, ◌⊎◌, List, [], ◌∷◌, length, Option, Some, None, cond, nat_eq, refl, sym, ap, ◌∙◌, subst, arith}
+use Rattle.std.proofs.Common.{◌≡◌, ℕ, Bool, true, false, not, suc, ◌+◌, ◌*◌, ◌%◌, ◌⊎◌, List, [], ◌∷◌, length, Option, Some, None, cond, nat_eq, refl, sym, ap, ◌∙◌, subst, arith}
 use mathlib.Core.Logic.{inl, inr}
 use Rattle.std.proofs.lemmas.Bool.{cond-true, cond-false, eqb-true, eq-eqb}
-use Rattle.tokens.specs.Bytes.{is_hex_digit, hex_value, is_not}
+use Rattle.tokens.specs.Bytes.{is_hex_digit, hex_value}
 use Rattle.tokens.specs.Content.{undoubled, unhex}
 use Rattle.tokens.specs.Lexeme.{Run, Stops, Quoted, Hex}
 use Rattle.tokens.specs.Reading.{Taken, cons_taken, run_of, stops, cons_some, quoted, closed}

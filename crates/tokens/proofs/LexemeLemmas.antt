@@ -1,5 +1,5 @@
 -- The reader of tokens finds exactly the token that stands at the front.
-use Rattle.std.proofs.Common.{◌≡◌, ℕ, Bool, true, false, ◌&&◌, ◌%◌, ◌<◌, ◌^◌, ◌⊎◌, List, [], ◌∷◌, ◌++◌, length, Option, Some, None, cond, nat_eq, nat_lt, refl, sym, ap, ◌∙◌, subst, arith}
+use Rattle.std.proofs.Common.{◌≡◌, ℕ, Bool, true, false, ◌&&◌, ◌%◌, ◌^◌, List, [], ◌∷◌, ◌++◌, length, Option, Some, None, cond, nat_eq, nat_lt, refl, sym, ap, ◌∙◌, subst, arith}
 use mathlib.Core.Logic.{inl, inr}
 use Rattle.std.proofs.lemmas.Bool.Decides.{nat_tests}
 use Rattle.std.proofs.lemmas.Bool.{cond-true, cond-false, eqb-true, eq-eqb, lt-ltb, ltb-true, and_left, and_from, and_parts}
@@ -7,9 +7,9 @@ use Rattle.std.specs.Prelude.{pos}
 use Rattle.tokens.proofs.FormLemmas.{chosen, run_complete, run_sound, stops_true, true_stops, quoted_complete, quoted_sound, closed_complete, hex_complete, hex_sound}
 use Rattle.tokens.proofs.SignLemmas.{sign_complete, sign_sound}
 use Rattle.tokens.specs.Bytes.{is_digit, begins_word, is_in_word, joins_number, decimal, is_hex_digit, is_x, is_not, first_is}
-use Rattle.tokens.specs.Content.{undoubled, unhex, content_of}
+use Rattle.tokens.specs.Content.{unhex, content_of}
 use Rattle.tokens.specs.Keyword.{keyword_of}
-use Rattle.tokens.specs.Lexeme.{Lexeme, Run, Stops, Quoted, Word, Begins, begins_blob}
+use Rattle.tokens.specs.Lexeme.{Lexeme, Run, Stops, Begins, begins_blob}
 use Rattle.tokens.specs.Reading.{Taken, Found, run_of, stops, quoted, closed, text, name, blob, number, named, word, sign_at, tail, sign, behind, token}
 use Rattle.tokens.specs.Sign.{spelling, joins}
 use Rattle.tokens.specs.declared.keyword.Grammar.{Grammar}
@@ -131,7 +131,7 @@ stopped Run.end d after e = absurd cc
 stopped {p = p} (Run.stop {b = b} h) d after e = subst (λ c. p c ≡ false) (let i : b ≡ d = cc in i) h
 stopped (Run.more h r) d after e = stopped r d after e
 
-is_it : (c d : ℕ) → is_not c d ≡ false → d ≡ c
+pub is_it : (c d : ℕ) → is_not c d ≡ false → d ≡ c
 is_it c d h = grind (arith, nat_tests)
 
 closing_is : (c : ℕ) (bs : List ℕ) (x : List ℕ × List ℕ) → closed (run_of (is_not c) bs) ≡ Some x → Run (is_not c) bs x.0 (c ∷ x.1)

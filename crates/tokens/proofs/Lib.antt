@@ -9,3 +9,4 @@ pub mod CommentLemmas
 pub mod NumberLemmas
 pub mod LeavesLemmas
 pub mod PushLemmas
+pub mod ContentLemmas

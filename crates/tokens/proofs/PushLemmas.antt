@@ -1,10 +1,9 @@
 -- Tokens that are read one after the other.
-use Rattle.std.proofs.Common.{◌≡◌, ℕ, List, [], ◌∷◌, ◌++◌, map, Option, Some, refl, sym, ap, ◌∙◌, subst}
+use Rattle.std.proofs.Common.{◌≡◌, ℕ, List, [], ◌∷◌, ◌++◌, map, Some, refl, sym, ap, ◌∙◌, subst}
 use Rattle.tokens.proofs.ReadLemmas.{token_step}
 use Rattle.tokens.specs.Content.{lexeme_of, placed_of}
-use Rattle.tokens.specs.Lexeme.{Lexeme}
 use Rattle.tokens.specs.Reading.{token}
-use Rattle.tokens.specs.Tokens.{Placed, between, Reads}
+use Rattle.tokens.specs.Tokens.{between, Reads}
 use Rattle.tokens.specs.declared.keyword.Grammar.{Grammar}
 use Rattle.tokens.specs.declared.token.Token.{Token}
 

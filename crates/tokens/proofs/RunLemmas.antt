@@ -1,5 +1,5 @@
 -- Runs, and what stands between quotes, that are found byte by byte.
-use Rattle.std.proofs.Common.{◌≡◌, ◌≢◌, ℕ, zero, suc, ◌+◌, ◌<◌, ◌≤◌, Bool, true, false, List, [], ◌∷◌, ◌++◌, length, take, drop, get_or, Option, Some, None, cond, nat_eq, option_map, refl, sym, ap, ◌∙◌, subst, arith, add-one, append_assoc, length-drop}
+use Rattle.std.proofs.Common.{◌≡◌, ◌≢◌, ℕ, zero, suc, ◌+◌, ◌<◌, ◌≤◌, Bool, true, false, List, [], ◌∷◌, ◌++◌, length, take, drop, get_or, Option, Some, None, nat_eq, option_map, refl, sym, ap, ◌∙◌, subst, arith, add-one, append_assoc, length-drop}
 use Rattle.std.proofs.Math.Seq.{drop-cons, take-suc}
 use Rattle.std.proofs.lemmas.List.{append-nil, get_or-drop}
 use Rattle.std.proofs.lemmas.Bool.{cond-true, cond-false, eq-eqb, ne_eqb}
@@ -16,7 +16,7 @@ Split p xs n = run_of p xs ≡ before (take n xs) (run_of p (drop n xs))
 pub next : (xs : List ℕ) (n : ℕ) → n < length xs → drop n xs ≡ get_or xs n 0 ∷ drop (n + 1) xs
 next xs n h = rw (add-one, drop-cons xs n 0)
 
-taken_more : (xs : List ℕ) (n : ℕ) → n < length xs → take (n + 1) xs ≡ take n xs ++ get_or xs n 0 ∷ []
+pub taken_more : (xs : List ℕ) (n : ℕ) → n < length xs → take (n + 1) xs ≡ take n xs ++ get_or xs n 0 ∷ []
 taken_more xs n h = rw add-one (take-suc xs n 0 h)
 
 pub no_bytes : (xs : List ℕ) (n : ℕ) → length xs ≤ n → drop n xs ≡ []

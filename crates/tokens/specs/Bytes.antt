@@ -30,7 +30,11 @@ abbrev pub is_hex_digit : ℕ → Bool
 is_hex_digit b = is_digit b || ((nat_le 65 b && nat_le b 70) || (nat_le 97 b && nat_le b 102))
 
 abbrev pub hex_value : ℕ → ℕ
-hex_value b = if nat_le b 57 then b - 48 else (if nat_le b 70 then b - 55 else b - 87)
+hex_value b =
+    if is_digit b then b - 48
+    else (if nat_le 65 b && nat_le b 70 then b - 55
+    else (if nat_le 97 b && nat_le b 102 then b - 87
+    else 0))
 
 -- `x` or `X`
 abbrev pub is_x : ℕ → Bool

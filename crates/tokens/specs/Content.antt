@@ -1,5 +1,6 @@
 -- What a token of the program says: its lexeme, and what stands between its quotes.
 use Rattle.std.specs.Prelude.{ℕ, Bool, true, false, ◌+◌, ◌*◌, List, [], ◌∷◌, nat_eq, if◌then◌else◌}
+use Rattle.std.specs.Str.{str_eq_ignore_ascii_case}
 use Rattle.tokens.specs.Bytes.{hex_value}
 use Rattle.tokens.specs.Lexeme.{Lexeme}
 use Rattle.tokens.specs.Tokens.{Placed}
@@ -32,6 +33,11 @@ lexeme_of (t.Blob digits) = Lexeme.Blob (unhex digits.now)
 lexeme_of (t.Name quoting inside) = Lexeme.Name quoting (content_of quoting inside.now)
 lexeme_of (t.Keyword keyword) = Lexeme.Reserved keyword
 lexeme_of (t.Sign sign) = Lexeme.Punctuation sign
+
+-- an unquoted name that is this word, without ASCII case
+abbrev pub is_bare_word : Lexeme → List ℕ → Bool
+is_bare_word (Lexeme.Name q.Bare name) word = str_eq_ignore_ascii_case name word
+is_bare_word _ word = false
 
 abbrev pub placed_of : Token → Placed
 placed_of t = record { place = t.place; bytes = t.text.now; lexeme = lexeme_of t.kind }

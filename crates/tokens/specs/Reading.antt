@@ -1,7 +1,7 @@
 -- What a reader that goes from left to right makes of bytes. No public clause cites it: proofs show that it finds what
 -- the definitions of `Lexeme` say, and nothing else.
-use Rattle.std.specs.Prelude.{ℕ, Bool, true, false, not, ◌&&◌, ◌||◌, ◌%◌, ◌^◌, ℤ, pos, List, [], ◌∷◌, length, Option, Some, None, nat_eq, nat_lt, if◌then◌else◌}
-use Rattle.tokens.specs.Bytes.{is_digit, begins_word, is_in_word, joins_number, decimal, is_hex_digit, is_x, is_space, is_not}
+use Rattle.std.specs.Prelude.{ℕ, Bool, true, false, not, ◌&&◌, ◌%◌, ◌^◌, pos, List, [], ◌∷◌, length, Option, Some, None, nat_eq, nat_lt, if◌then◌else◌}
+use Rattle.tokens.specs.Bytes.{is_digit, begins_word, is_in_word, joins_number, decimal, is_hex_digit, is_space, is_not}
 use Rattle.tokens.specs.Content.{undoubled, unhex, content_of}
 use Rattle.tokens.specs.Keyword.{keyword_of}
 use Rattle.tokens.specs.Lexeme.{Lexeme, begins_blob, ends_comment}

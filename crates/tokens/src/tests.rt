@@ -1,5 +1,8 @@
 //! Worked texts, from the rules that SQLite documents.
-use crate::{Grammar, Keyword, Quoting, Sign, Token, TokenKind, read_tokens};
+use crate::{
+    Grammar, Keyword, Quoting, Sign, Token, TokenKind, blob_content, name_content, read_tokens,
+    text_content,
+};
 use std::alloc::Global;
 use std::process::Abort;
 use std::test::Fail;
@@ -84,7 +87,7 @@ fn places(rt: HostRuntime) -> Result<(), Fail> {
     ];
     assert_eq!(rt; tokens.len(), 3);
     for (token, right) in tokens.iter().zip(&expected) {
-        assert!(rt; token == right, "{token:?}");
+        assert!(rt; token == right, "at {}", token.place);
     }
     Ok(())
 }
@@ -198,8 +201,8 @@ fn signs(rt: HostRuntime) -> Result<(), Fail> {
     let tokens = read_tokens(rt.alloc(), Grammar::Create, text)?;
     assert_eq!(rt; tokens.len(), expected.len());
     for (token, sign) in tokens.iter().zip(&expected) {
-        assert!(rt; token.kind == TokenKind::Sign(*sign), "{token:?}");
-        assert!(rt; token.text == sign.as_str(), "{token:?}");
+        assert!(rt; token.kind == TokenKind::Sign(*sign), "at {}", token.place);
+        assert!(rt; token.text == sign.as_str(), "at {}", token.place);
     }
     Ok(())
 }
@@ -241,5 +244,22 @@ fn reserved_words(rt: HostRuntime) -> Result<(), Fail> {
             );
         }
     }
+    Ok(())
+}
+
+#[test]
+fn contents(rt: HostRuntime) -> Result<(), Fail> {
+    let alloc = rt.alloc();
+    let text = text_content(alloc, "it''s é''")?;
+    assert!(rt; text.as_str() == "it's é'");
+    let name = name_content(alloc, Quoting::DoubleQuotes, "a\"\"b")?;
+    assert!(rt; name.as_str() == "a\"b");
+    let kept = name_content(alloc, Quoting::Brackets, "a\"\"b")?;
+    assert!(rt; kept.as_str() == "a\"\"b");
+    let bytes = blob_content(alloc, "0aFf10")?;
+    assert!(rt; bytes.as_slice() == [0x0a, 0xff, 0x10].as_slice());
+    assert!(rt; bare("Key").is_word("KEY"));
+    assert!(rt; !bare("keys").is_word("KEY"));
+    assert!(rt; !TokenKind::Name(Quoting::Brackets, "key").is_word("KEY"));
     Ok(())
 }

@@ -1,4 +1,4 @@
-use Rattle.std.proofs.Common.{rules, ◌≡◌, ◌≤◌, length, map, List, [], sym, arith}
+use Rattle.std.proofs.Common.{rules, length, sym, arith}
 use Rattle.tokens.proofs.PushLemmas.{read_none, read_more}
 use Rattle.tokens.proofs.reading.read_tokens.Goals as goal
 
