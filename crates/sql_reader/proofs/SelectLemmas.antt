@@ -12,7 +12,7 @@ use Rattle.sql_reader.specs.Reading.{Rest, cons_name, names, named, results, end
 
 -- what is found before FROM
 names_complete : {ns : List Name} {from after : Rest} → Names ns from after → (rest : Rest) → after ≡ Lexeme.Reserved k.From ∷ rest → names from ≡ Some (ns, after)
-names_complete (Names.last {q = q} {name = n} {after = after} ) rest e =
+names_complete (Names.last {q = q} {name = n} {after = after}) rest e =
     ap (λ ts. names (Lexeme.Name q n ∷ ts)) e ∙ ap (λ ts. Some (n ∷ [], ts)) (sym e)
 names_complete (Names.more {name = n} r) rest e = ap (cons_name n) (names_complete r rest e)
 

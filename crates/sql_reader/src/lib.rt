@@ -13,3 +13,6 @@ mod tree;
 
 pub use select::read_select;
 pub use tree::{ResultColumns, Select};
+
+#[cfg(test)]
+mod tests;

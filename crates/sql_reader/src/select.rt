@@ -5,7 +5,9 @@ ghost use Rattle.sql_reader.specs.Reading as spec;
 ghost use Rattle.sql_reader.specs.Reading.{Gives};
 ghost use Rattle.sql_reader.specs.View.{columns_of, lexemes_of, select_of};
 
-use crate::steps::{after_comma, after_from, after_select, after_star, ends, name, syntax_at};
+use crate::steps::{
+    after_comma, after_from, after_select, after_semicolon, after_star, ends, name, syntax_at,
+};
 use crate::{ResultColumns, Select};
 use std::alloc::Global;
 use tokens::{Grammar, Token, read_tokens};
@@ -58,7 +60,7 @@ fn statement(alloc: Global, tokens: &[Token<'_>], end: usize) -> Result<Select, 
     };
     let (table, rest) = name(alloc, source, end)?;
     if !ends(rest) {
-        return Err(syntax_at(rest, end));
+        return Err(syntax_at(after_semicolon(rest), end));
     }
     Ok(Select { columns, table })
 }

@@ -12,7 +12,13 @@ pub(crate) fn after_select<'t>(tokens: &'t [Token<'t>]) -> Option<&'t [Token<'t>
     ensures { option_map (λ r. lexemes_of r.now) result ≡ spec.after_select (lexemes_of tokens.now) }
 {
     match tokens {
-        [Token { kind: TokenKind::Keyword(Keyword::Select), .. }, rest @ ..] => Some(rest),
+        [
+            Token {
+                kind: TokenKind::Keyword(Keyword::Select),
+                ..
+            },
+            rest @ ..,
+        ] => Some(rest),
         _ => None,
     }
 }
@@ -22,7 +28,13 @@ pub(crate) fn after_comma<'t>(tokens: &'t [Token<'t>]) -> Option<&'t [Token<'t>]
     ensures shorter { IfSome result (λ r. length r.now < length tokens.now) }
 {
     match tokens {
-        [Token { kind: TokenKind::Sign(Sign::Comma), .. }, rest @ ..] => Some(rest),
+        [
+            Token {
+                kind: TokenKind::Sign(Sign::Comma),
+                ..
+            },
+            rest @ ..,
+        ] => Some(rest),
         _ => None,
     }
 }
@@ -31,7 +43,13 @@ pub(crate) fn after_from<'t>(tokens: &'t [Token<'t>]) -> Option<&'t [Token<'t>]>
     ensures { option_map (λ r. lexemes_of r.now) result ≡ spec.after_from (lexemes_of tokens.now) }
 {
     match tokens {
-        [Token { kind: TokenKind::Keyword(Keyword::From), .. }, rest @ ..] => Some(rest),
+        [
+            Token {
+                kind: TokenKind::Keyword(Keyword::From),
+                ..
+            },
+            rest @ ..,
+        ] => Some(rest),
         _ => None,
     }
 }
@@ -40,7 +58,13 @@ pub(crate) fn after_star<'t>(tokens: &'t [Token<'t>]) -> Option<&'t [Token<'t>]>
     ensures { option_map (λ r. lexemes_of r.now) result ≡ spec.after_star (lexemes_of tokens.now) }
 {
     match tokens {
-        [Token { kind: TokenKind::Sign(Sign::Star), .. }, rest @ ..] => Some(rest),
+        [
+            Token {
+                kind: TokenKind::Sign(Sign::Star),
+                ..
+            },
+            rest @ ..,
+        ] => Some(rest),
         _ => None,
     }
 }
@@ -49,7 +73,27 @@ pub(crate) fn after_star<'t>(tokens: &'t [Token<'t>]) -> Option<&'t [Token<'t>]>
 pub(crate) fn ends(tokens: &[Token<'_>]) -> bool
     ensures { result ≡ spec.ends (lexemes_of tokens.now) }
 {
-    matches!(tokens, [] | [Token { kind: TokenKind::Sign(Sign::Semicolon), .. }])
+    matches!(
+        tokens,
+        [] | [Token {
+            kind: TokenKind::Sign(Sign::Semicolon),
+            ..
+        }]
+    )
+}
+
+/// What is behind a semicolon, if one stands at the front.
+pub(crate) fn after_semicolon<'t>(tokens: &'t [Token<'t>]) -> &'t [Token<'t>] {
+    match tokens {
+        [
+            Token {
+                kind: TokenKind::Sign(Sign::Semicolon),
+                ..
+            },
+            rest @ ..,
+        ] => rest,
+        _ => tokens,
+    }
 }
 
 /// The fault of a text that can't go on with these tokens: its place is that of the first, or the end of the text.
