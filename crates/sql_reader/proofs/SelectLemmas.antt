@@ -1,11 +1,9 @@
 -- The reader of a SELECT finds exactly what its grammar says.
-use Rattle.std.proofs.Common.{◌≡◌, ℕ, Bool, true, false, ◌⊎◌, List, [], ◌∷◌, Option, Some, None, cond, refl, sym, ap, ◌∙◌, subst}
-use mathlib.Core.Logic.{inl, inr}
+use Rattle.std.proofs.Common.{◌≡◌, Bool, true, false, List, [], ◌∷◌, Option, Some, None, cond, refl, sym, ap, ◌∙◌, subst}
 use Rattle.std.proofs.lemmas.Bool.{cond-true}
 use Rattle.tokens.specs.Lexeme.{Lexeme}
 use Rattle.tokens.specs.declared.keyword.Keyword.TheVariants as k
 use Rattle.tokens.specs.declared.sign.Sign.TheVariants as s
-use Rattle.tokens.specs.declared.token.Quoting.{Quoting}
 use Rattle.sql_reader.specs.Tree.{Name, Columns, SelectTree}
 use Rattle.sql_reader.specs.Grammar.{Names, Results, Ends, Statement}
 use Rattle.sql_reader.specs.Reading.{Rest, cons_name, names, named, results, ends, source, source_of, select}
