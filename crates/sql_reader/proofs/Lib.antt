@@ -1,0 +1,3 @@
+pub mod SelectLemmas
+pub mod NamesLemmas
+pub mod StatementLemmas

@@ -1,0 +1,10 @@
+use Rattle.std.proofs.Common.{length}
+use Rattle.sql_reader.proofs.NamesLemmas.{GoesOn}
+use Rattle.sql_reader.proofs.select.names.Given as goal
+use Rattle.sql_reader.specs.View.{lexemes_of}
+
+abbrev pub invariant-loop-more : goal.invariant-loop-more
+invariant-loop-more l = GoesOn (lexemes_of l.tokens) l.names.items (lexemes_of l.rest)
+
+abbrev pub decreases-loop-more : goal.decreases-loop-more
+decreases-loop-more l = length l.rest
