@@ -1,6 +1,6 @@
 //! Pages and trees of an image, read with every bound tested and none trusted. It promises that a page is taken for one
 //! exactly where its header says so, that a cell is given exactly where the bytes have it, and that a cursor over a sound
-//! table gives the table's cells, each once and from the first on, and asks for each of its pages at most once.
+//! table gives the cells of its leaves from left to right and asks for no more pages than the tree has.
 //!
 //! The modules, in the order in which data passes them: `page` (a page's header and cell places), `cell` (a cell and the
 //! part of its payload that stands there) and `cursor` (the way from one leaf to the next).
