@@ -1,5 +1,5 @@
-//! The tokens of SQL texts. It promises that `read_tokens` answers Ok exactly where a text is spelt as tokens, with that
-//! list and the place of each; that a refusal names the place at which the text stops being spelt; and that a text is
+//! The tokens of SQL texts. It promises that, want of memory aside, `read_tokens` answers Ok exactly where a text is
+//! spelt as tokens, with that list and the place of each; that a refusal names the place at which the text stops being spelt; and that a text is
 //! spelt as at most one list. What a token is follows SQLite's documents, with fewer forms: numbers are whole, a name may
 //! stand in double quotes, brackets or backquotes, and a comment has to be closed.
 //!
