@@ -4,3 +4,4 @@ pub mod PageLemmas
 pub mod ListingLemmas
 pub mod RestLemmas
 pub mod SeenLemmas
+pub mod LeftLemmas

@@ -3,3 +3,4 @@ pub mod ViewData
 pub mod Views
 pub mod Listing
 pub mod Rest
+pub mod Left

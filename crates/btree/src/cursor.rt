@@ -1,5 +1,5 @@
 //! A cursor over a table's rows.
-ghost use Rattle.std.specs.Prelude.{◌≡◌, ◌⊎◌, ◌+◌, ◌<◌, ◌≤◌, ℕ, List, drop, length, option_map, take, IfErr, IfNone, IfOk, IfSome, IsSome, IsTrue, Some};
+ghost use Rattle.std.specs.Prelude.{◌≡◌, ◌⊎◌, ◌+◌, ◌-◌, ◌<◌, ◌≤◌, ℕ, List, drop, length, option_map, take, IfErr, IfNone, IfOk, IfSome, IsSome, IsTrue, Some};
 ghost use Rattle.image.specs.declared.kind.TreeKind.TheVariants.{Table};
 ghost use Rattle.image.specs.declared.kind.Level.{Level};
 ghost use Rattle.image.specs.declared.kind.Level.TheVariants.{Leaf, Interior};
@@ -10,6 +10,7 @@ ghost use Rattle.image.specs.Tree.{Place, HasHeader, IsPageOf, IsRowAt, child_at
 ghost use Rattle.pager.specs.PagerState.{IsPageNumber, IsUsed, Stays};
 ghost use Rattle.values.specs.Fault.{Counts};
 ghost use Rattle.btree.specs.Bytes.{HasHeaderAt};
+ghost use Rattle.btree.specs.Left.{IsLess, frame_left, frames_left, steps_left, worth};
 ghost use Rattle.btree.specs.Listing.{IsAt, IsEnded, IsEntry, IsStepFault};
 ghost use Rattle.btree.specs.Rest.{AreReadable, GoesOn, Holds, IsCursorFault, IsHeading, IsLeft, IsStanding, pages_seen};
 ghost use Rattle.btree.specs.Views.{cell_data};
@@ -52,6 +53,7 @@ fn read_frame<S: Source>(pager: &mut Pager<S>, number: u32) -> Result<(Frame, Le
     requires { IsPageNumber pager.old.state number }
     ensures number { IfOk result (λ read. read.0.number ≡ number) }
     ensures at { IfOk result (λ read. read.0.at ≡ 0) }
+    ensures small { IfOk result (λ read. read.0.count ≤ 65535) }
     ensures holds { IsTrue pager.old.state.source.steady → IfOk result (λ read. Holds (pages_seen pager.old.state) read.0) }
     ensures header { IsTrue pager.old.state.source.steady → IfOk result (λ read. HasHeader (pages_seen pager.old.state) Table read.1 number) }
     ensures sound { IsTrue pager.old.state.source.steady → (level : Level) → HasHeader (pages_seen pager.old.state) Table level number
@@ -127,6 +129,7 @@ fn descend<S: Source>(
     ensures sound { IsTrue pager.old.state.source.steady → (places : List Place) (budget : ℕ)
         → IsHeading (pages_seen pager.old.state) frames.old.items n places pager.old.state.asked budget
         → IfErr result (λ e. (e ≡ Fault.ReadFailed) ⊎ (e ≡ Fault.NoMemory)) }
+    ensures left { IfOk result (λ leaf. frames_left 20 frames.new.items + frame_left leaf < frames_left 20 frames.old.items + worth (21 - length frames.old.items)) }
     ensures only { IfErr result IsCursorFault }
     ensures failures { Counts Fault.ReadFailed result pager.old.state.source.failures pager.new.state.source.failures }
     ensures stays { Stays pager.old.state pager.new.state }
@@ -166,6 +169,7 @@ fn next_leaf<S: Source>(
     ensures sound { IsTrue pager.old.state.source.steady → (rest : List Place) (budget : ℕ)
         → IsLeft (pages_seen pager.old.state) 0 frames.old.items rest pager.old.state.asked budget
         → IfErr result (λ e. (e ≡ Fault.ReadFailed) ⊎ (e ≡ Fault.NoMemory)) }
+    ensures left { IfOk result (IsLess frames.old.items frames.new.items) }
     ensures only { IfErr result IsCursorFault }
     ensures failures { Counts Fault.ReadFailed result pager.old.state.source.failures pager.new.state.source.failures }
     ensures stays { Stays pager.old.state pager.new.state }
@@ -199,6 +203,8 @@ fn step<S: Source>(
     ensures sound { IsTrue pager.old.state.source.steady → (places : List Place) (budget : ℕ)
         → IsStanding (pages_seen pager.old.state) frames.old.items leaf places pager.old.state.asked budget
         → IfErr result (λ e. (e ≡ Fault.ReadFailed) ⊎ (e ≡ Fault.NoMemory)) }
+    ensures left { IfOk result (λ next. leaf.at < leaf.count
+        → frames_left 20 frames.new.items + frame_left next < frames_left 20 frames.old.items + frame_left leaf) }
     ensures only { IfErr result IsCursorFault }
     ensures failures { Counts Fault.ReadFailed result pager.old.state.source.failures pager.new.state.source.failures }
     ensures stays { Stays pager.old.state pager.new.state }
@@ -280,6 +286,7 @@ impl Cursor {
         ensures sound { IsTrue pager.old.state.source.steady → (places : List Place) (budget : ℕ)
             → IsAt (pages_seen pager.old.state) self.old places pager.old.state.asked budget
             → IfErr result (λ e. (e ≡ Fault.ReadFailed) ⊎ (e ≡ Fault.NoMemory)) }
+        ensures left { IfOk result (λ _. 0 < steps_left self.old → steps_left self.new < steps_left self.old) }
         ensures finished { IsEnded self.old → IfErr result (λ e. e ≡ Fault.Finished) × IfOk result (λ _. ⊥) }
         ensures ends { IfErr result (λ e. IsEnded self.new) }
         ensures only { IfErr result IsStepFault }
@@ -301,6 +308,7 @@ impl Cursor {
     pub fn entry(&self) -> Option<Cell<'_>>
         ensures entry { (image : Pages) (places : List Place) (asked budget : ℕ) → IsAt image self.now places asked budget
             → IsEntry image places (option_map cell_data result) }
+        ensures left { IfSome result (λ cell. 0 < steps_left self.now) }
         ensures ended { IsEnded self.now → IfSome result (λ cell. ⊥) }
     {
         row_of(self.leaf.as_ref()?, self.usable, self.most)

@@ -8,6 +8,7 @@ use Rattle.image.specs.declared.kind.TreeKind.TheVariants.{Table}
 use Rattle.image.specs.Pages.{Pages}
 use Rattle.image.specs.Tree.{HasHeader, child_at}
 use Rattle.btree.specs.Rest.{pages_seen}
+use Rattle.btree.proofs.LeftLemmas.{left_down, left_leaf}
 use Rattle.btree.proofs.RestLemmas.{heading_short}
 use Rattle.btree.proofs.SeenLemmas.{still_steady, same_pages, heading_header, readable, leaf_filled, leaf_stands, interior_page, first_child, goes_down}
 use Rattle.btree.proofs.cursor.descend.Goals as goal
@@ -38,6 +39,13 @@ returns-in-Leaf-clause-stands g c = λ steady places budget h.
     let now = still_steady _ _ inv.stays steady in
     leaf_stands _ _ (same_pages _ _ inv.stays) _ _ c.in_ok-frame.frame c.in_ok-frame.ensures.number _ _ _ _ (inv.heads steady places budget h)
     (c.in_ok-frame.ensures.holds now) c.read_frame.ensures.used.asked_most (rw c.in-Leaf.is at (c.in_ok-frame.ensures.header now)) c.in_ok-frame.ensures.at
+
+pub returns-in-Leaf-clause-left : goal.returns-in-Leaf-clause-left
+returns-in-Leaf-clause-left g c =
+    let inv = c.loop-pager.invariant in
+    let short : length c.loop-pager.frames.items < 20 = omega (arith, c.loop-pager.frames.ok.0) in
+    let leaf = left_leaf c.loop-pager.frames.items c.in_ok-frame.frame short c.in_ok-frame.ensures.small in
+    omega (arith, leaf, inv.left)
 
 pub returns-in_default-clause-sound : goal.returns-in_default-clause-sound
 returns-in_default-clause-sound g c = λ steady places budget h.
@@ -71,6 +79,10 @@ loop-pager-preserved g c =
           let child : c.in-Some.child ≡ child_at seen c.in_ok-frame.frame.number 0 = cc in
           goes_down _ _ (same_pages _ _ inv.stays) _ _ c.in_ok-frame.frame c.in_ok-frame.ensures.number _ _ _ _ (inv.heads steady places budget h) holds c.read_frame.ensures.used.asked_most header
           c.in-Some.child child c.push.new.self.items c.in_ok-push-in-Interior.ensures.items c.in_ok-frame.ensures.at;
+      left =
+          let short : length c.loop-pager.frames.items < 20 = omega (arith, c.loop-pager.frames.ok.0) in
+          let down = left_down c.loop-pager.frames.items c.push.new.self.items c.in_ok-frame.frame c.in_ok-push-in-Interior.ensures.items short c.in_ok-frame.ensures.small in
+          omega (arith, down, inv.left);
     }
 
 pub returns-clause-sound : goal.returns-clause-sound

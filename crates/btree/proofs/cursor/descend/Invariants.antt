@@ -1,6 +1,7 @@
-use Rattle.std.proofs.Common.{◌≡◌, ℕ, ◌-◌, List, vec_len, IsTrue}
+use Rattle.std.proofs.Common.{◌≡◌, ℕ, ◌+◌, ◌-◌, ◌≤◌, List, length, vec_len, IsTrue}
 use Rattle.pager.specs.PagerState.{IsPageNumber, Stays}
 use Rattle.image.specs.Tree.{Place}
+use Rattle.btree.specs.Left.{frames_left, worth}
 use Rattle.btree.specs.Rest.{IsHeading, pages_seen}
 use Rattle.btree.proofs.cursor.descend.Given as goal
 
@@ -12,6 +13,7 @@ invariant-loop-pager g l = record {
   heads : IsTrue l.fn.pager.state.source.steady → (places : List Place) (budget : ℕ)
       → IsHeading (pages_seen l.fn.pager.state) l.fn.frames.items l.n places l.fn.pager.state.asked budget
       → IsHeading (pages_seen l.fn.pager.state) l.frames.items l.number places l.pager.state.asked budget;
+  left : frames_left 20 l.frames.items + worth (21 - length l.frames.items) ≤ frames_left 20 l.fn.frames.items + worth (21 - length l.fn.frames.items);
 }
 
 abbrev pub decreases-loop-pager : goal.decreases-loop-pager

@@ -6,6 +6,7 @@ use Rattle.pager.specs.declared.header.Header.{Header}
 use Rattle.pager.specs.PagerState.{IsSound}
 use Rattle.image.specs.Tree.{child_at}
 use Rattle.btree.specs.Rest.{pages_seen}
+use Rattle.btree.proofs.LeftLemmas.{left_next, left_up}
 use Rattle.btree.proofs.RestLemmas.{left_end, left_within}
 use Rattle.btree.proofs.SeenLemmas.{readable, last_step, last_end, next_within, next_number, next_heads}
 use Rattle.btree.proofs.cursor.next_leaf.Goals as goal
@@ -50,12 +51,20 @@ returns-then-frame-clause-goes g c = rw (sym c.loop-frame.invariant.same) (λ st
     c.in_ok-leaf.ensures.stands steady rest budget
     (next_heads seen left.0 all c.pop.new.self.items c.in-Some.frame _ _ _ left.1 c.in-Some.ensures.items c.if-frame.true c.in-Some-child_of.child child c.push.new.self.items c.in_ok-push.ensures.items))
 
+pub returns-then-frame-clause-left : goal.returns-then-frame-clause-left
+returns-then-frame-clause-left g c =
+    let next = left_next c.pop.new.self.items c.loop-frame.frames.items c.push.new.self.items c.in-Some.frame c.in-Some.ensures.items c.in_ok-push.ensures.items c.if-frame.true in
+    omega (arith, next, c.in_ok-leaf.ensures.left, c.loop-frame.invariant.less)
+
 pub loop-frame-preserved : goal.loop-frame-preserved
 loop-frame-preserved g c = record {
   same = c.loop-frame.invariant.same;
   left = λ steady rest budget h.
       let left = c.loop-frame.invariant.left steady rest budget h in
       (suc left.0, last_end (pages_seen c.loop-frame.pager.state) left.0 c.loop-frame.frames.items c.pop.new.self.items c.in-Some.frame _ _ _ left.1 c.in-Some.ensures.items c.if-frame.false);
+  less =
+      let up = left_up c.pop.new.self.items c.loop-frame.frames.items c.in-Some.frame c.in-Some.ensures.items in
+      omega (arith, up, c.loop-frame.invariant.less);
 }
 
 pub returns-clause-goes : goal.returns-clause-goes

@@ -1,7 +1,8 @@
-use Rattle.std.proofs.Common.{◌≡◌, subst}
+use Rattle.std.proofs.Common.{◌≡◌, Some, subst}
 use Rattle.std.proofs.lemmas.Result.{err_from_is_err_and}
 use Rattle.btree.specs.declared.cursor.Frame.{Frame}
 use Rattle.btree.specs.Rest.{IsStanding, pages_seen}
+use Rattle.btree.proofs.LeftLemmas.{less_left}
 use Rattle.btree.proofs.cursor.Cursor.next.Goals as goal
 
 pub returns-in_err-leaf-clause-sound : goal.returns-in_err-leaf-clause-sound
@@ -23,3 +24,9 @@ returns-then-not-has_row-clause-sound g c = λ steady places budget at.
     (subst (λ (x : Frame). IsStanding (pages_seen c.args.pager.now.state) c.args.self.now.frames.items x places c.args.pager.now.state.asked budget) same at.stands) in
     let sure = c.has_row.ensures.sure (pages_seen c.args.pager.now.state) stands.holds at.readable at.usable at.most stands.page in
     let not = c.if-not-has_row.true in absurd (cc)
+
+pub returns-clause-left : goal.returns-clause-left
+returns-clause-left g c =
+    let v = c.in-Some.ensures.value in
+    let old : c.args.self.now.leaf ≡ Some c.in-Some.leaf = cc in
+    rw old (less_left c.args.self.now.frames.items c.step.new.frames.items c.in-Some.leaf c.in_ok-leaf.leaf c.in_ok-leaf.ensures.left)

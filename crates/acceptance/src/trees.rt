@@ -1,0 +1,211 @@
+//! A cursor over the rows of a table.
+use btree::Cursor;
+use forge::{Image, Layout, LayoutError, ReadScript, ScriptSource, Shape, Table};
+use pager::{MemSource, Pager, Source};
+use std::alloc::{AllocError, Global};
+use std::num::NonZeroUsize;
+use std::process::Abort;
+use std::test::Fail;
+use values::{Fault, ValueRef};
+
+/// An image of one table of the rows first, first + 1 and so on, each of two values and NULL before them.
+fn numbers(
+    alloc: Global,
+    page_size: u32,
+    first: i64,
+    count: i64,
+    shape: Shape,
+) -> Result<Layout, LayoutError> {
+    let mut table = Table::new(
+        alloc,
+        "t",
+        "CREATE TABLE t(id INTEGER PRIMARY KEY, a INT, b TEXT) STRICT",
+    )?;
+    table.shape = shape;
+    for rowid in first..first.saturating_add(count) {
+        let row = [ValueRef::Null, ValueRef::Int(rowid), ValueRef::Text("row")];
+        table.push(rowid, &row)?;
+    }
+    let mut image = Image::new(alloc, page_size);
+    image.push_table(table)?;
+    image.lay_out()
+}
+
+/// A pager that keeps so many pages.
+fn open<S: Source + Drop>(alloc: Global, source: S, capacity: usize) -> Result<Pager<S>, Fail> {
+    let capacity = NonZeroUsize::new(capacity).ok_or("zero")?;
+    match Pager::open(alloc, source, capacity) {
+        Ok(pager) => Ok(pager),
+        Err((fault, _)) => Err(fault.into()),
+    }
+}
+
+/// What a cursor gave before it ended, and with which fault.
+#[derive(Drop)]
+struct Listing {
+    rowids: Vec<i64>,
+    fault: Option<Fault>,
+    /// What a further step answers.
+    further: Option<Fault>,
+}
+
+/// Lists the rows of the table with this root.
+fn list_rows<S: Source>(
+    alloc: Global,
+    pager: &mut Pager<S>,
+    root: u32,
+) -> Result<Listing, AllocError> {
+    let mut rowids = Vec::new(alloc);
+    let mut cursor = match Cursor::first(alloc, pager, root) {
+        Ok(cursor) => cursor,
+        Err(fault) => {
+            return Ok(Listing {
+                rowids,
+                fault: Some(fault),
+                further: None,
+            });
+        }
+    };
+    let mut fault = None;
+    while let Some(cell) = cursor.entry() {
+        rowids.push(cell.rowid.unwrap_or(i64::MIN))?;
+        if let Err(found) = cursor.next(pager) {
+            fault = Some(found);
+            break;
+        }
+    }
+    let further = cursor.next(pager).err();
+    Ok(Listing {
+        rowids,
+        fault,
+        further,
+    })
+}
+
+/// The numbers are first, first + 1 and so on.
+fn expect_run(rt: &impl Abort, rowids: &[i64], first: i64) {
+    for (rowid, wanted) in rowids.iter().zip(first..) {
+        assert_eq!(rt; *rowid, wanted);
+    }
+}
+
+/// How many pages the tree of the table `t` has, and its root.
+fn size_and_root(layout: &Layout) -> Result<(u64, u32), Fail> {
+    let tree = layout.tree("t").ok_or("no tree")?;
+    let mut pages = 0usize;
+    for level in &tree.levels {
+        pages = level.len().saturating_add(pages);
+    }
+    Ok((pages as u64, tree.root))
+}
+
+#[test]
+fn three_levels_on_small_pages(rt: HostRuntime) -> Result<(), Fail> {
+    let alloc = rt.alloc();
+    let layout = numbers(alloc, 512, -700, 2400, Shape::FULL)?;
+    let (pages, root) = size_and_root(&layout)?;
+    assert_eq!(rt; layout.tree("t").map(|tree| tree.levels.len()), Some(3));
+    let bytes = layout.into_bytes();
+    for capacity in [1, 1000] {
+        let source = MemSource::new(bytes.clone()?);
+        let mut pager = open(alloc, source, capacity)?;
+        let walked = list_rows(alloc, &mut pager, root)?;
+        assert_eq!(rt; walked.rowids.len(), 2400);
+        expect_run(&rt, walked.rowids.as_slice(), -700);
+        assert!(rt; walked.fault.is_none() && walked.further.is_none());
+        assert_eq!(rt; pager.asked(), pages);
+    }
+    Ok(())
+}
+
+#[test]
+fn an_empty_table(rt: HostRuntime) -> Result<(), Fail> {
+    let alloc = rt.alloc();
+    let layout = numbers(alloc, 512, 0, 0, Shape::FULL)?;
+    let (_, root) = size_and_root(&layout)?;
+    let mut pager = open(alloc, MemSource::new(layout.into_bytes()), 1)?;
+    let walked = list_rows(alloc, &mut pager, root)?;
+    assert!(rt; walked.rowids.is_empty() && walked.fault.is_none() && walked.further.is_none());
+    assert_eq!(rt; pager.asked(), 1);
+    Ok(())
+}
+
+#[test]
+fn each_read_fails_in_turn(rt: HostRuntime) -> Result<(), Fail> {
+    let alloc = rt.alloc();
+    let layout = numbers(alloc, 512, 1, 60, Shape::of(4, 3))?;
+    let (pages, root) = size_and_root(&layout)?;
+    assert!(rt; pages > 20);
+    let bytes = layout.into_bytes();
+    // The first read is that of the header, and each further one is of a page.
+    for read in 2..pages.saturating_add(2) {
+        let source = ScriptSource::new(bytes.clone()?, ReadScript::At(read));
+        let mut pager = open(alloc, source, 1000)?;
+        let walked = list_rows(alloc, &mut pager, root)?;
+        assert_eq!(rt; walked.fault, Some(Fault::ReadFailed));
+        assert!(rt; walked.rowids.len() < 60);
+        assert!(rt; walked.rowids.is_empty() || walked.further == Some(Fault::Finished));
+        expect_run(&rt, walked.rowids.as_slice(), 1);
+        assert_eq!(rt; pager.into_source().failures(), 1);
+    }
+    Ok(())
+}
+
+#[test]
+fn a_child_that_is_its_own_page(rt: HostRuntime) -> Result<(), Fail> {
+    let alloc = rt.alloc();
+    let layout = numbers(alloc, 512, 1, 60, Shape::of(4, 3))?;
+    let (_, root) = size_and_root(&layout)?;
+    // The right child of an interior page stands behind its flag, its counts and its places.
+    let right = layout.copy_with(root, 8, &root.to_be_bytes())?;
+    let mut pager = open(alloc, MemSource::new(right), 1000)?;
+    let walked = list_rows(alloc, &mut pager, root)?;
+    assert_eq!(rt; walked.fault, Some(Fault::BadDepth(root)));
+    assert_eq!(rt; walked.further, Some(Fault::Finished));
+    assert!(rt; !walked.rowids.is_empty());
+    Ok(())
+}
+
+#[test]
+fn a_first_child_that_is_its_own_page(rt: HostRuntime) -> Result<(), Fail> {
+    let alloc = rt.alloc();
+    let layout = numbers(alloc, 512, 1, 60, Shape::of(4, 3))?;
+    let (_, root) = size_and_root(&layout)?;
+    let place = layout.piece(root, 12, 2).ok_or("no place")?;
+    let (high, low) = match place {
+        [high, low] => (*high, *low),
+        _ => return Err("no place".into()),
+    };
+    let cell = u16::from_be_bytes([high, low]) as usize;
+    let first = layout.copy_with(root, cell, &root.to_be_bytes())?;
+    let mut pager = open(alloc, MemSource::new(first), 1000)?;
+    let walked = list_rows(alloc, &mut pager, root)?;
+    assert!(rt; walked.rowids.is_empty());
+    assert_eq!(rt; walked.fault, Some(Fault::BadDepth(root)));
+    assert_eq!(rt; pager.asked(), 20);
+    Ok(())
+}
+
+#[test]
+fn a_source_that_changes(rt: HostRuntime) -> Result<(), Fail> {
+    let alloc = rt.alloc();
+    let layout = numbers(alloc, 512, 1, 60, Shape::of(4, 3))?;
+    let (pages, root) = size_and_root(&layout)?;
+    let other = numbers(alloc, 512, 1000, 60, Shape::of(3, 2))?.into_bytes();
+    let bytes = layout.into_bytes();
+    for read in 2..pages.saturating_add(2) {
+        let source = ScriptSource::changing(
+            bytes.clone()?,
+            other.clone()?,
+            read,
+            ReadScript::Never,
+        );
+        let mut pager = open(alloc, source, 1)?;
+        // It ends, and each row that it gives is one of the two tables'.
+        let walked = list_rows(alloc, &mut pager, root)?;
+        for rowid in walked.rowids.iter() {
+            assert!(rt; (1..61).contains(rowid) || (1000..1060).contains(rowid));
+        }
+    }
+    Ok(())
+}

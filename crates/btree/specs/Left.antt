@@ -1,0 +1,30 @@
+-- A measure of a cursor that falls with each row that it gives, over any source. A page has fewer than 65536 cells and a
+-- cursor holds at most 20 pages, so what is left in each of them is a digit, and a page nearer the root counts more.
+use Rattle.std.specs.Prelude.{ℕ, zero, suc, ◌+◌, ◌-◌, ◌*◌, ◌<◌, ◌≤◌, nat_lt, List, [], ◌∷◌, Option, None, Some, if◌then◌else◌}
+use Rattle.btree.specs.declared.cursor.Cursor.{Cursor}
+use Rattle.btree.specs.declared.cursor.Frame.{Frame}
+
+abbrev pub frame_left : Frame → ℕ
+frame_left frame = frame.count - frame.at
+
+-- how much one more child of a page counts that has so many levels of pages below it
+abbrev pub worth : ℕ → ℕ
+worth zero = 1
+worth (suc room) = 65536 * worth room
+
+-- of frames from one that has so many levels of pages below it
+abbrev pub frames_left : ℕ → List Frame → ℕ
+frames_left room [] = 0
+frames_left room (frame ∷ frames) = frame_left frame * worth room + frames_left (room - 1) frames
+
+abbrev pub all_left : List Frame → Option Frame → ℕ
+all_left frames None = 0
+all_left frames (Some leaf) = if nat_lt leaf.at leaf.count then frames_left 20 frames + frame_left leaf else 0
+
+abbrev pub steps_left : Cursor → ℕ
+steps_left cursor = all_left cursor.frames.items cursor.leaf
+
+-- less is left after a cursor has gone on to another leaf, and no more where there is none
+abbrev pub IsLess : List Frame → List Frame → Option Frame → Type 0
+IsLess old new None = frames_left 20 new ≤ frames_left 20 old
+IsLess old new (Some leaf) = frames_left 20 new + frame_left leaf < frames_left 20 old
