@@ -1,1 +1,6 @@
 pub mod Worked
+mod ShapeLemmas
+mod ListLemmas
+mod PlaceLemmas
+mod OrderLemmas
+mod TableLemmas

@@ -1,10 +1,15 @@
-//! Examples of the definitions, computed.
-ghost use Rattle.std.specs.Prelude.{◌≡◌};
+//! Examples of the definitions, computed, and what follows from them: laws of trees.
+ghost use Rattle.std.specs.Prelude.{◌≡◌, ℕ};
+ghost use Rattle.image.specs.declared.kind.TreeKind.{TreeKind};
 ghost use Rattle.image.specs.declared.kind.TreeKind.TheVariants.{Table, Index};
 ghost use Rattle.image.specs.declared.kind.Level.TheVariants.{Leaf};
 ghost use Rattle.image.specs.Layout.{header_at, flag, cell_count, cell_place};
 ghost use Rattle.image.specs.Cell.{local_size};
-ghost use Rattle.image.specs.Tree.{IsPageOf, IsRowAt};
+ghost use Rattle.image.specs.Tree.{IsPageOf, IsRowAt, Reaches};
+ghost use Rattle.image.specs.Pages.{Pages};
+ghost use Rattle.image.specs.Shape.{HasShape, places_under};
+ghost use Rattle.image.specs.Broken.{IsRowOrder};
+ghost use Rattle.image.specs.Sound.{IsSoundTree, IsSoundTable, HasSomeShape, AreRowsOf, HasRows};
 ghost use Rattle.image.specs.Examples.{example_pages, example_leaf, first_cell, second_cell};
 
 /// How much of a payload stands in its cell, where 512 bytes of each page are used.
@@ -27,4 +32,23 @@ pub fn example_page()
     ensures first_row { IsRowAt example_pages (record { page = 2; index = 0 }) first_cell }
     ensures second_row { IsRowAt example_pages (record { page = 2; index = 1 }) second_cell }
     ensures page { IsPageOf example_pages Table Leaf 2 }
+{}
+
+/// A tree none of whose pages is broken has a shape: all its leaves have so many levels above them, fewer than 20.
+/// (Database File Format, section 1.6 "B-tree Pages")
+pub fn sound_tree_has_shape()
+    ensures shape { (pages : Pages) (kind : TreeKind) (root : ℕ) → IsSoundTree pages kind root → HasSomeShape pages kind root }
+{}
+
+/// The cells under the root of a table's tree, from left to right, are those of its leaves, each once, and their rowids
+/// ascend, where its pages are in order. (Database File Format, section 1.6 "B-tree Pages")
+pub fn places_of_table()
+    ensures rows { (pages : Pages) (root levels : ℕ) → HasShape pages Table levels root
+        → ((n : ℕ) → Reaches pages Table root n → IsRowOrder pages root n) → AreRowsOf pages root (places_under pages Table levels root) }
+{}
+
+/// A table's tree none of whose pages is broken has a shape of fewer than 20 levels, and the cells under its root are its
+/// rows in the order of their rowids. (Database File Format, section 1.6 "B-tree Pages")
+pub fn sound_table()
+    ensures rows { (pages : Pages) (root : ℕ) → IsSoundTable pages root → HasRows pages root }
 {}
