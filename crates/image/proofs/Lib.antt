@@ -1,6 +1,8 @@
 pub mod Worked
-mod ShapeLemmas
-mod ListLemmas
-mod PlaceLemmas
-mod OrderLemmas
-mod TableLemmas
+pub mod ShapeLemmas
+pub mod ListLemmas
+pub mod PlaceLemmas
+pub mod OrderLemmas
+pub mod TableLemmas
+pub mod NamedLemmas
+pub mod EntryLemmas

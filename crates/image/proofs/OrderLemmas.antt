@@ -1,20 +1,19 @@
 -- Where the keys of a tree's pages ascend within the bounds above them, the keys under a page ascend from left to right.
-use Rattle.std.proofs.Common.{◌≡◌, ℕ, zero, suc, ◌+◌, ◌-◌, ◌<◌, ◌≤◌, ◌⊎◌, List, Contains, refl, sym, subst, inl, inr, ⊎_elim, arith}
+use Rattle.std.proofs.Common.{◌≡◌, ℕ, zero, suc, ◌+◌, ◌-◌, ◌<◌, ◌≤◌, ◌⊎◌, Contains, refl, sym, subst, inl, inr, ⊎_elim, arith}
 use Rattle.std.proofs.lemmas.Bool.{cases_lt}
 use Rattle.image.specs.declared.kind.TreeKind.{TreeKind}
-use Rattle.image.specs.declared.kind.TreeKind.TheVariants.{Table, Index}
 use Rattle.image.specs.declared.kind.Level.{Level}
 use Rattle.image.specs.declared.kind.Level.TheVariants.{Leaf, Interior}
 use Rattle.image.specs.Pages.{Pages}
 use Rattle.image.specs.Tree.{Place, IsPageOf, StandsAt, top, below, Reaches, IsUnder, HasEntries, ArePlacesOf, count_at, child_at}
-use Rattle.image.specs.Shape.{HasShape, place_at, places_under, with_own, own_places}
+use Rattle.image.specs.Shape.{HasShape, place_at, places_under, own_places}
 use Rattle.image.specs.Broken.{IsInOrder}
-use Rattle.image.proofs.ListLemmas.{in_none, Pairs, pairs_append, pairs_map, pairs_fan, pairs_once}
+use Rattle.image.proofs.ListLemmas.{Pairs, pairs_map, pairs_fan, pairs_once}
 use Rattle.image.proofs.ShapeLemmas.{one_level, shape_child}
-use Rattle.image.proofs.PlaceLemmas.{with_own_cases, own_is, own_none, from_own, branch, sound, complete}
+use Rattle.image.proofs.PlaceLemmas.{with_own_cases, with_own_pairs, from_own, branch, sound, complete}
 
 -- the root reaches what stands below a page that it reaches
-joined : (pages : Pages) (kind : TreeKind) (root : ℕ) {depth n : ℕ} → StandsAt pages kind root depth n → {low m : ℕ} → StandsAt pages kind n low m → Reaches pages kind root m
+pub joined : (pages : Pages) (kind : TreeKind) (root : ℕ) {depth n : ℕ} → StandsAt pages kind root depth n → {low m : ℕ} → StandsAt pages kind n low m → Reaches pages kind root m
 joined pages kind root {depth} stands top = (depth, stands)
 joined pages kind root stands (below j more last) = let r = joined pages kind root stands more in (suc r.0, below j r.1 last)
 
@@ -106,10 +105,10 @@ module _ {K : Type 0} (HasKey : Level → ℕ → ℕ → K → Type 0) (IsBefor
       let within : last < count_at pages n = omega arith in
       let h_next = subst (λ (k : ℕ). Contains (branch pages kind height n k) y) next h in
       ⊎_elim
-      (λ (before : i < last).
+      (λ (earlier : i < last).
       let there = keys.key_of Interior n last shape.0 within in
       keys.after key there.0 b
-      (on_page depth n stands Interior shape.0 i last before within Interior Interior key there.0 shape.0 (omega arith) shape.0 within key_here there.1)
+      (on_page depth n stands Interior shape.0 i last earlier within Interior Interior key there.0 shape.0 (omega arith) shape.0 within key_here there.1)
       (past_cell height depth n last stands shape (omega arith) y h_next level there.0 b page inside there.1 key_y))
       (λ (not_before : last ≤ i).
       let same : i ≡ last = omega arith in
@@ -125,17 +124,6 @@ module _ {K : Type 0} (HasKey : Level → ℕ → ℕ → K → Type 0) (IsBefor
       (λ (at_most : IsAtMost a up.0). keys.after_most a up.0 b at_most past)
       (λ (same : a ≡ up.0). subst (λ (k : K). IsBefore k b) (sym same) past)
       up.2
-
-  with_own_pairs : (k : TreeKind) (under own : List Place) → Pairs Before under → Pairs Before own
-      → (HasEntries k Interior → (x y : Place) → Contains under x → Contains own y → Before x y) → Pairs Before (with_own k under own)
-  with_own_pairs Table under own a b cross = a
-  with_own_pairs Index under own a b cross = pairs_append Before under own a b (cross tt)
-
-  own_pairs : (n i : ℕ) → Pairs Before (own_places pages n i)
-  own_pairs n i = ⊎_elim
-      (λ (within : i < count_at pages n). subst (Pairs Before) (sym (own_is pages n i within)) (λ y h. absurd (in_none y h), tt))
-      (λ (past : count_at pages n ≤ i). subst (Pairs Before) (sym (own_none pages n i past)) tt)
-      (cases_lt i (count_at pages n))
 
   -- in an index tree, what is under child i is before cell i
   before_own : (height depth n i : ℕ) → StandsAt pages kind root depth n → HasShape pages kind (suc height) n → i ≤ count_at pages n
@@ -157,9 +145,8 @@ module _ {K : Type 0} (HasKey : Level → ℕ → ℕ → K → Type 0) (IsBefor
       pairs_fan Before (branch pages kind height n) (suc (count_at pages n)) 0
       (λ i least most.
       let within : i ≤ count_at pages n = omega arith in
-      with_own_pairs kind (places_under pages kind height (child_at pages n i)) (own_places pages n i)
+      with_own_pairs pages kind Before height n i
       (rises height (suc depth) (child_at pages n i) (below i stands (shape_child pages kind height n i shape within)) (shape.1 i within).1)
-      (own_pairs n i)
       (before_own height depth n i stands shape within))
       (λ i j x y least less most. across height depth n i j stands shape less (omega arith) x y)
 

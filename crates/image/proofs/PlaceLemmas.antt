@@ -9,7 +9,7 @@ use Rattle.image.specs.declared.kind.Level.TheVariants.{Leaf, Interior}
 use Rattle.image.specs.Pages.{Pages}
 use Rattle.image.specs.Tree.{Place, IsPageOf, IsChild, StandsAt, top, below, HasEntries, IsPlaceOf, count_at, child_at}
 use Rattle.image.specs.Shape.{HasShape, place_at, places_under, with_own, own_places}
-use Rattle.image.proofs.ListLemmas.{in_head, in_none, cons_cases, from_map, to_map, from_fan, to_fan}
+use Rattle.image.proofs.ListLemmas.{in_head, in_none, cons_cases, Pairs, pairs_append, from_map, to_map, from_fan, to_fan}
 use Rattle.image.proofs.ShapeLemmas.{not_both, one_level, shape_child}
 
 -- an interior page's cells are entries only in an index tree
@@ -32,10 +32,10 @@ with_own_cases Table under own x h = inl h
 with_own_cases Index under own x h = ⊎_elim (λ (a : Contains under x). inl a) (λ (b : Contains own x). inr (tt, b)) (Contains-append_cases under own x h)
 
 module _ (pages : Pages) where
-  pub own_is : (n i : ℕ) → i < count_at pages n → own_places pages n i ≡ place_at n i ∷ []
+  own_is : (n i : ℕ) → i < count_at pages n → own_places pages n i ≡ place_at n i ∷ []
   own_is n i within = cond-true _ _ _ (lt-ltb i (count_at pages n) within)
 
-  pub own_none : (n i : ℕ) → count_at pages n ≤ i → own_places pages n i ≡ []
+  own_none : (n i : ℕ) → count_at pages n ≤ i → own_places pages n i ≡ []
   own_none n i past = cond-false _ _ _ (let e : nat_lt i (count_at pages n) ≡ false = grind arith in e)
 
   pub from_own : (n i : ℕ) (x : Place) → Contains (own_places pages n i) x → (i < count_at pages n) × (place_at n i ≡ x)
@@ -131,3 +131,22 @@ module _ (pages : Pages) (kind : TreeKind) where
   complete levels n shape x place =
       let up = among n levels shape place.reaches.1 in
       up.among x (here_in place.level up.height x.page x.index up.shape place.entries place.page place.within)
+
+-- a relation of places, over the cells under a child and the cell behind it
+joined_pairs : (kind : TreeKind) (R : Place → Place → Type 0) (under own : List Place) → Pairs R under → Pairs R own
+    → (HasEntries kind Interior → (x y : Place) → Contains under x → Contains own y → R x y) → Pairs R (with_own kind under own)
+joined_pairs Table R under own a b cross = a
+joined_pairs Index R under own a b cross = pairs_append R under own a b (cross tt)
+
+own_pairs : (pages : Pages) (R : Place → Place → Type 0) (n i : ℕ) → Pairs R (own_places pages n i)
+own_pairs pages R n i = ⊎_elim
+    (λ (within : i < count_at pages n). subst (λ (l : List Place). Pairs R l) (sym (own_is pages n i within)) (λ y h. absurd (in_none y h), tt))
+    (λ (past : count_at pages n ≤ i). subst (λ (l : List Place). Pairs R l) (sym (own_none pages n i past)) tt)
+    (cases_lt i (count_at pages n))
+
+pub with_own_pairs : (pages : Pages) (kind : TreeKind) (R : Place → Place → Type 0) (height n i : ℕ)
+    → Pairs R (places_under pages kind height (child_at pages n i))
+    → (HasEntries kind Interior → (x y : Place) → Contains (places_under pages kind height (child_at pages n i)) x → Contains (own_places pages n i) y → R x y)
+    → Pairs R (branch pages kind height n i)
+with_own_pairs pages kind R height n i pairs cross =
+    joined_pairs kind R (places_under pages kind height (child_at pages n i)) (own_places pages n i) pairs (own_pairs pages R n i) cross

@@ -5,4 +5,5 @@ pub mod Tree
 pub mod Shape
 pub mod Broken
 pub mod Sound
+pub mod Entries
 pub mod Examples

@@ -5,7 +5,7 @@ use Rattle.image.specs.declared.kind.TreeKind.{TreeKind}
 use Rattle.image.specs.declared.kind.TreeKind.TheVariants.{Table}
 use Rattle.image.specs.declared.kind.Level.TheVariants.{Leaf}
 use Rattle.image.specs.Pages.{Pages}
-use Rattle.image.specs.Tree.{Place, Reaches, ArePlacesOf}
+use Rattle.image.specs.Tree.{Place, IsChild, Reaches, ArePlacesOf}
 use Rattle.image.specs.Shape.{HasShape, places_under}
 use Rattle.image.specs.Broken.{IsSound, HasRowid, IsRowOrder, HasUnevenLeaves, IsTooDeep}
 
@@ -43,3 +43,8 @@ pub record HasRows (pages : Pages) (root : ℕ) : Type 0 where
   pub few : levels < 20
   pub shape : HasShape pages Table levels root
   pub rows : AreRowsOf pages root (places_under pages Table levels root)
+
+-- a page is a child of one page of the tree at most, and that at one place
+abbrev pub IsNamedOnce : Pages → TreeKind → ℕ → ℕ → Type 0
+IsNamedOnce pages kind root m =
+    (p q i j : ℕ) → Reaches pages kind root p → Reaches pages kind root q → IsChild pages kind p i m → IsChild pages kind q j m → (p ≡ q) × (i ≡ j)

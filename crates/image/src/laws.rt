@@ -1,15 +1,16 @@
 //! Examples of the definitions, computed, and what follows from them: laws of trees.
-ghost use Rattle.std.specs.Prelude.{◌≡◌, ℕ};
+ghost use Rattle.std.specs.Prelude.{◌≡◌, ℕ, Bool};
 ghost use Rattle.image.specs.declared.kind.TreeKind.{TreeKind};
 ghost use Rattle.image.specs.declared.kind.TreeKind.TheVariants.{Table, Index};
 ghost use Rattle.image.specs.declared.kind.Level.TheVariants.{Leaf};
 ghost use Rattle.image.specs.Layout.{header_at, flag, cell_count, cell_place};
 ghost use Rattle.image.specs.Cell.{local_size};
-ghost use Rattle.image.specs.Tree.{IsPageOf, IsRowAt, Reaches};
+ghost use Rattle.image.specs.Tree.{Place, IsPageOf, IsRowAt, Reaches, ArePlacesOf};
 ghost use Rattle.image.specs.Pages.{Pages};
 ghost use Rattle.image.specs.Shape.{HasShape, places_under};
 ghost use Rattle.image.specs.Broken.{IsRowOrder};
-ghost use Rattle.image.specs.Sound.{IsSoundTree, IsSoundTable, HasSomeShape, AreRowsOf, HasRows};
+ghost use Rattle.image.specs.Sound.{IsSoundTree, IsSoundTable, HasSomeShape, IsNamedOnce, AreRowsOf, HasRows};
+ghost use Rattle.image.specs.Entries.{IsStrictOrder, IsEntryOrder, AreEntriesOf};
 ghost use Rattle.image.specs.Examples.{example_pages, example_leaf, first_cell, second_cell};
 
 /// How much of a payload stands in its cell, where 512 bytes of each page are used.
@@ -51,4 +52,19 @@ pub fn places_of_table()
 /// rows in the order of their rowids. (Database File Format, section 1.6 "B-tree Pages")
 pub fn sound_table()
     ensures rows { (pages : Pages) (root : ℕ) → IsSoundTable pages root → HasRows pages root }
+{}
+
+/// The cells under the root of a tree of either kind, from left to right, are the tree's, each once, where no page of the
+/// tree is named twice. (Database File Format, section 1.6 "B-tree Pages")
+pub fn places_of_tree()
+    ensures places { (pages : Pages) (kind : TreeKind) (root levels : ℕ) → HasShape pages kind levels root
+        → ((m : ℕ) → IsNamedOnce pages kind root m) → ArePlacesOf pages kind root (places_under pages kind levels root) }
+{}
+
+/// The cells under the root of an index tree, from left to right, are its entries, each once and in their order, where its
+/// pages are in order. (Database File Format, section 1.6 "B-tree Pages")
+pub fn places_of_index()
+    ensures entries { (pages : Pages) (before : Place → Place → Bool) (root levels : ℕ) → IsStrictOrder before → HasShape pages Index levels root
+        → ((n : ℕ) → Reaches pages Index root n → IsEntryOrder pages before root n)
+        → AreEntriesOf pages before root (places_under pages Index levels root) }
 {}
