@@ -8,6 +8,7 @@ use Rattle.image.specs.Tree.{Place, ArePlacesOf}
 use Rattle.image.specs.Shape.{place_at}
 use Rattle.image.specs.Broken.{IsInOrder}
 
+-- no entry comes before itself, nor before one that comes before it
 pub record IsStrictOrder (before : Place → Place → Bool) : Type 0 where
   pub never : (x : Place) → IsTrue (before x x) → ⊥
   pub after : (x y z : Place) → IsTrue (before x y) → IsTrue (before y z) → IsTrue (before x z)
