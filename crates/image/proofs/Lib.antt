@@ -6,3 +6,5 @@ pub mod OrderLemmas
 pub mod TableLemmas
 pub mod NamedLemmas
 pub mod EntryLemmas
+pub mod RowidLemmas
+pub mod WorkedTable

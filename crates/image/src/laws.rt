@@ -1,17 +1,18 @@
 //! Examples of the definitions, computed, and what follows from them: laws of trees.
-ghost use Rattle.std.specs.Prelude.{◌≡◌, ℕ, Bool};
+ghost use Rattle.std.specs.Prelude.{◌≡◌, ℕ, ℤ, Bool, [], ◌∷◌};
 ghost use Rattle.image.specs.declared.kind.TreeKind.{TreeKind};
 ghost use Rattle.image.specs.declared.kind.TreeKind.TheVariants.{Table, Index};
+ghost use Rattle.image.specs.declared.kind.Level.{Level};
 ghost use Rattle.image.specs.declared.kind.Level.TheVariants.{Leaf};
 ghost use Rattle.image.specs.Layout.{header_at, flag, cell_count, cell_place};
 ghost use Rattle.image.specs.Cell.{local_size};
 ghost use Rattle.image.specs.Tree.{Place, IsPageOf, IsRowAt, Reaches, ArePlacesOf};
 ghost use Rattle.image.specs.Pages.{Pages};
-ghost use Rattle.image.specs.Shape.{HasShape, places_under};
-ghost use Rattle.image.specs.Broken.{IsRowOrder};
+ghost use Rattle.image.specs.Shape.{HasShape, place_at, places_under};
+ghost use Rattle.image.specs.Broken.{HasRowid, IsRowOrder};
 ghost use Rattle.image.specs.Sound.{IsSoundTree, IsSoundTable, HasSomeShape, IsNamedOnce, AreRowsOf, HasRows};
 ghost use Rattle.image.specs.Entries.{IsStrictOrder, IsEntryOrder, AreEntriesOf};
-ghost use Rattle.image.specs.Examples.{example_pages, example_leaf, first_cell, second_cell};
+ghost use Rattle.image.specs.Examples.{example_pages, example_leaf, first_cell, second_cell, table_pages};
 
 /// How much of a payload stands in its cell, where 512 bytes of each page are used.
 pub fn local_sizes()
@@ -33,6 +34,18 @@ pub fn example_page()
     ensures first_row { IsRowAt example_pages (record { page = 2; index = 0 }) first_cell }
     ensures second_row { IsRowAt example_pages (record { page = 2; index = 1 }) second_cell }
     ensures page { IsPageOf example_pages Table Leaf 2 }
+{}
+
+/// A table's tree of an interior page and two leaves, that SQLite wrote: it is sound, and its cells from left to right.
+pub fn example_table()
+    ensures sound { IsSoundTable table_pages 2 }
+    ensures cells { places_under table_pages Table 1 2 ≡ place_at 3 0 ∷ place_at 4 0 ∷ [] }
+{}
+
+/// A cell of a table's leaf has one rowid at most, and so has a cell of an interior page. (Database File Format, section
+/// 1.6 "B-tree Cell Format")
+pub fn one_rowid()
+    ensures same { (pages : Pages) (level : Level) (n i : ℕ) (a b : ℤ) → HasRowid pages level n i a → HasRowid pages level n i b → a ≡ b }
 {}
 
 /// A tree none of whose pages is broken has a shape: all its leaves have so many levels above them, fewer than 20.
