@@ -1,11 +1,11 @@
 -- A cell has one rowid, and an interior page's cell one key.
-use Rattle.std.proofs.Common.{◌≡◌, ℕ, ℤ, pos, drop, List, Some, refl, sym, ◌∙◌, subst}
+use Rattle.std.proofs.Common.{◌≡◌, ℕ, ℤ, pos, drop, List, Some, sym, ◌∙◌, subst}
 use Rattle.records.specs.Varint.{BeginsVarint}
 use Rattle.records.proofs.VarintLemmas.{one_front}
 use Rattle.image.specs.declared.kind.Level.{Level}
 use Rattle.image.specs.declared.kind.Level.TheVariants.{Leaf, Interior}
 use Rattle.image.specs.Pages.{Pages}
-use Rattle.image.specs.Cell.{CellData, IsTableCell, IsDivider}
+use Rattle.image.specs.Cell.{CellData, IsTableCell}
 use Rattle.image.specs.Tree.{cell_at}
 use Rattle.image.specs.Broken.{HasRowid}
 

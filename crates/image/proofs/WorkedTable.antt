@@ -1,8 +1,8 @@
 -- The example of a table's tree, computed.
-use Rattle.std.specs.Prelude.{◌≡◌, ◌<◌, ◌≤◌, ◌<ℤ◌, ◌≤ℤ◌, ◌⊎◌, ◌+◌, ℕ, ℤ, zero, suc, negsuc, pos, List, [], ◌∷◌, ◌++◌, refl, replicate}
+use Rattle.std.specs.Prelude.{◌≡◌, ◌<◌, ◌≤◌, ◌<ℤ◌, ◌≤ℤ◌, ◌⊎◌, ◌+◌, ℕ, ℤ, zero, suc, negsuc, pos, [], ◌∷◌, refl}
 use Rattle.std.proofs.Common.{inl, inr, ⊎_elim, subst, sym, ◌∙◌, lit<, lit≤, arith}
 use Rattle.std.proofs.lemmas.Int.{ints}
-use Rattle.std.proofs.lemmas.List.Elements.{All-nil, All-cons, All-replicate}
+use Rattle.std.proofs.lemmas.List.Elements.{All-nil, All-cons}
 use Rattle.pager.specs.Header.{field}
 use Rattle.records.specs.Varint.{GoesOn, IsVarint}
 use Rattle.image.specs.declared.kind.TreeKind.TheVariants.{Table}
@@ -10,11 +10,11 @@ use Rattle.image.specs.declared.kind.Level.{Level}
 use Rattle.image.specs.declared.kind.Level.TheVariants.{Leaf, Interior}
 use Rattle.image.specs.Pages.{IsNumber}
 use Rattle.image.specs.Layout.{flag, cell_count, cell_place, child, right_child}
-use Rattle.image.specs.Cell.{IsTableCell, IsDivider}
+use Rattle.image.specs.Cell.{IsTableCell}
 use Rattle.image.specs.Examples.{table_pages, table_root, left_leaf, right_leaf, left_bytes, right_bytes, left_cell, right_cell}
 use Rattle.image.specs.Tree.{HasCell, IsPageOf, IsChild, StandsAt, top, below, Reaches, IsUnder, cell_at, child_at, count_at}
 use Rattle.image.specs.Shape.{place_at, places_under}
-use Rattle.image.specs.Broken.{IsSound, HasRowid, IsRowOrder, HasUnevenLeaves, IsTooDeep}
+use Rattle.image.specs.Broken.{IsSound, HasRowid, IsRowOrder}
 use Rattle.image.specs.Sound.{IsSoundTree, IsSoundTable}
 use Rattle.image.proofs.Worked.{minus_three, three_hundred}
 use Rattle.image.proofs.RowidLemmas.{one_rowid}
@@ -228,9 +228,9 @@ table_tree : IsSoundTree table_pages Table 2
 table_tree = record {
   each = λ n reaches. page_sound reaches.0 n (stands_in reaches.1);
   even = λ u.
-  let one = leaf_depth u.depth u.one (stands_in u.one_at) u.one_leaf in
-  let other = leaf_depth u.deeper u.other (stands_in u.other_at) u.other_leaf in
-  omega (arith, u.differ);
+      let one = leaf_depth u.depth u.one (stands_in u.one_at) u.one_leaf in
+      let other = leaf_depth u.deeper u.other (stands_in u.other_at) u.other_leaf in
+      omega (arith, u.differ);
   shallow = λ d. let most = shallow_in d.depth d.page (stands_in d.stands) in omega (arith, d.deep);
 }
 
@@ -282,12 +282,12 @@ table_order : (n : ℕ) → Reaches table_pages Table 2 n → IsRowOrder table_p
 table_order n reaches = record {
   ascends = λ level i j x y page less most key_x key_y. absurd (single n i j (one_each reaches.0 n (stands_in reaches.1)) less most);
   most = λ level a i j x y reach_a under less page within key_x key_y.
-  let is = interior_root a reach_a under.is.interior in
-  let first : i < 1 = subst (λ (k : ℕ). i < k) root_count (subst (λ (k : ℕ). i < count_at table_pages k) is less) in
-  most_at i n first (at_root a i n is under) level j x y (subst (λ (k : ℕ). HasRowid table_pages Interior k i x) is key_x) (page, within, key_y);
+      let is = interior_root a reach_a under.is.interior in
+      let first : i < 1 = subst (λ (k : ℕ). i < k) root_count (subst (λ (k : ℕ). i < count_at table_pages k) is less) in
+      most_at i n first (at_root a i n is under) level j x y (subst (λ (k : ℕ). HasRowid table_pages Interior k i x) is key_x) (page, within, key_y);
   above = λ level a i j x y reach_a under page within key_x key_y.
-  let is = interior_root a reach_a under.is.interior in
-  above_at i n (at_root a (i + 1) n is under) level j x y (subst (λ (k : ℕ). HasRowid table_pages Interior k i x) is key_x) (page, within, key_y);
+      let is = interior_root a reach_a under.is.interior in
+      above_at i n (at_root a (i + 1) n is under) level j x y (subst (λ (k : ℕ). HasRowid table_pages Interior k i x) is key_x) (page, within, key_y);
 }
 
 pub table_sound : IsSoundTable table_pages 2
