@@ -22,7 +22,8 @@ module _ (pages : Pages) (before : Place → Place → Bool) (strict : IsStrictO
     key_of = λ level n i page within. (place_at n i, refl);
   }
 
-  pub entries_of : (root levels : ℕ) → HasShape pages Index levels root → ((n : ℕ) → Reaches pages Index root n → IsEntryOrder pages before root n)
+  pub entries_of : (root levels : ℕ) → HasShape pages Index levels root
+      → ((n : ℕ) → Reaches pages Index root n → IsEntryOrder pages before root n)
       → AreEntriesOf pages before root (places_under pages Index levels root)
   entries_of root levels shape order = record {
     cells = root_places IsAtPlace IsEarlier IsEarlier pages Index root entries order levels shape;

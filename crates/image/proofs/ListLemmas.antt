@@ -18,7 +18,8 @@ module _ {X : Type 0} where
   cons_cases x y xs (zero, l, e) = inl e
   cons_cases x y xs (suc k, l, e) = inr (k, omega arith, e)
 
-  pub from_map : (f : ℕ → X) (x : X) (m i : ℕ) → Contains (map f (range_with_len i m)) x → (j : ℕ) × (i ≤ j) × (j < i + m) × (f j ≡ x)
+  pub from_map : (f : ℕ → X) (x : X) (m i : ℕ) → Contains (map f (range_with_len i m)) x
+      → (j : ℕ) × (i ≤ j) × (j < i + m) × (f j ≡ x)
   from_map f x zero i h = absurd (in_none x h)
   from_map f x (suc m) i h = ⊎_elim
       (λ (e : f i ≡ x). (i, omega arith, omega arith, e))
@@ -32,14 +33,16 @@ module _ {X : Type 0} where
       (λ (ne : i ≡ j → ⊥). in_tail (f i) (f j) (map f (range_with_len (i + 1) m)) (to_map f m (i + 1) j (omega arith) (omega arith)))
       (cases_eq i j)
 
-  pub from_fan : (f : ℕ → List X) (x : X) (m i : ℕ) → Contains (flat_map f (range_with_len i m)) x → (j : ℕ) × (i ≤ j) × (j < i + m) × Contains (f j) x
+  pub from_fan : (f : ℕ → List X) (x : X) (m i : ℕ) → Contains (flat_map f (range_with_len i m)) x
+      → (j : ℕ) × (i ≤ j) × (j < i + m) × Contains (f j) x
   from_fan f x zero i h = absurd (in_none x h)
   from_fan f x (suc m) i h = ⊎_elim
       (λ (a : Contains (f i) x). (i, omega arith, omega arith, a))
       (λ (b : Contains (flat_map f (range_with_len (i + 1) m)) x). let r = from_fan f x m (i + 1) b in (r.0, omega (arith, r.1), omega (arith, r.2), r.3))
       (Contains-append_cases (f i) (flat_map f (range_with_len (i + 1) m)) x h)
 
-  pub to_fan : (f : ℕ → List X) (x : X) (m i j : ℕ) → i ≤ j → j < i + m → Contains (f j) x → Contains (flat_map f (range_with_len i m)) x
+  pub to_fan : (f : ℕ → List X) (x : X) (m i j : ℕ) → i ≤ j → j < i + m → Contains (f j) x
+      → Contains (flat_map f (range_with_len i m)) x
   to_fan f x zero i j least most h = absurd (omega arith)
   to_fan f x (suc m) i j least most h = ⊎_elim
       (λ (s : j ≡ i). Contains-append_left (f i) (flat_map f (range_with_len (i + 1) m)) x (subst (λ (k : ℕ). Contains (f k) x) s h))
@@ -73,14 +76,16 @@ module _ {X : Type 0} where
   )
 
   pub pairs_fan : (R : X → X → Type 0) (f : ℕ → List X) (m i : ℕ) → ((j : ℕ) → i ≤ j → j < i + m → Pairs R (f j))
-      → ((j k : ℕ) (x y : X) → i ≤ j → j < k → k < i + m → Contains (f j) x → Contains (f k) y → R x y) → Pairs R (flat_map f (range_with_len i m))
+      → ((j k : ℕ) (x y : X) → i ≤ j → j < k → k < i + m → Contains (f j) x → Contains (f k) y → R x y)
+      → Pairs R (flat_map f (range_with_len i m))
   pairs_fan R f zero i each across = tt
   pairs_fan R f (suc m) i each across =
       pairs_append R (f i) (flat_map f (range_with_len (i + 1) m)) (each i (omega arith) (omega arith))
       (pairs_fan R f m (i + 1) (λ j least most. each j (omega arith) (omega arith)) (λ j k x y least less most a b. across j k x y (omega arith) less (omega arith) a b))
       (λ x y a b. let r = from_fan f y m (i + 1) b in across i r.0 x y (omega arith) (omega (arith, r.1)) (omega (arith, r.2)) a r.3)
 
-  pub pairs_at : (R : X → X → Type 0) (xs : List X) → Pairs R xs → (i j : ℕ) (x y : X) → i < j → slice_get xs i ≡ Some x → slice_get xs j ≡ Some y → R x y
+  pub pairs_at : (R : X → X → Type 0) (xs : List X) → Pairs R xs → (i j : ℕ) (x y : X) → i < j
+      → slice_get xs i ≡ Some x → slice_get xs j ≡ Some y → R x y
   pairs_at R [] h i j x y less a b = absurd (let f : None ≡ Some y = b in cc)
   pairs_at R (z ∷ xs) h i zero x y less a b = absurd (omega arith)
   pairs_at R (z ∷ xs) h zero (suc j) x y less a b = let s : z ≡ x = cc in subst (λ (w : X). R w y) s (h.0 y (get_contains xs j y b))

@@ -27,7 +27,8 @@ module _ (pages : Pages) (kind : TreeKind) where
       let within : 0 ≤ count_at pages n = omega arith in
       ap suc (one_shape a b (child_at pages n 0) (s.1 0 within).1 (t.1 0 within).1)
 
-  shape_next : (head levels n i m depth height : ℕ) → height + depth ≡ suc levels → HasShape pages kind height n → IsChild pages kind n i m
+  shape_next : (head levels n i m depth height : ℕ) → height + depth ≡ suc levels → HasShape pages kind height n
+      → IsChild pages kind n i m
       → (low : ℕ) × (low + suc depth ≡ suc levels) × HasShape pages kind low m
   shape_next head levels n i m depth zero e shape c = absurd (not_both pages kind n shape c.interior)
   shape_next head levels n i m depth (suc height) e shape c =
@@ -46,7 +47,8 @@ module _ (pages : Pages) (kind : TreeKind) where
   depth_some head (below i stands c) = omega arith
 
   -- what has a child above it that heads a tree isn't in that tree
-  not_below : (height n i : ℕ) → HasShape pages kind (suc height) n → i ≤ count_at pages n → Reaches pages kind (child_at pages n i) n → ⊥
+  not_below : (height n i : ℕ) → HasShape pages kind (suc height) n → i ≤ count_at pages n
+      → Reaches pages kind (child_at pages n i) n → ⊥
   not_below height n i shape within reaches =
       let low = shape_at (child_at pages n i) height (shape.1 i within).1 reaches.1 in
       let same : low.0 ≡ suc height = one_shape low.0 (suc height) n low.2 shape in
@@ -55,7 +57,8 @@ module _ (pages : Pages) (kind : TreeKind) where
 
 module _ (pages : Pages) (kind : TreeKind) (root : ℕ) (named : (m : ℕ) → IsNamedOnce pages kind root m) where
   -- a page stands at one depth below one page at most
-  one_head : (c d : ℕ) → Reaches pages kind root c → Reaches pages kind root d → {depth m : ℕ} → StandsAt pages kind c depth m
+  one_head : (c d : ℕ) → Reaches pages kind root c → Reaches pages kind root d → {depth m : ℕ}
+      → StandsAt pages kind c depth m
       → {other n : ℕ} → StandsAt pages kind d other n → depth ≡ other → m ≡ n → c ≡ d
   one_head c d reach_c reach_d top top e s = s
   one_head c d reach_c reach_d top (below j more last) e s = absurd (let some = depth_some pages kind d more in omega arith)
@@ -66,12 +69,14 @@ module _ (pages : Pages) (kind : TreeKind) (root : ℕ) (named : (m : ℕ) → I
       let same = (named n p q i j up_p up_q (subst (λ (k : ℕ). IsChild pages kind p i k) s kid) last).0 in
       one_head c d reach_c reach_d stands more (omega arith) same
 
-  child_reached : (depth height n i : ℕ) → StandsAt pages kind root depth n → HasShape pages kind (suc height) n → i ≤ count_at pages n
+  child_reached : (depth height n i : ℕ) → StandsAt pages kind root depth n → HasShape pages kind (suc height) n
+      → i ≤ count_at pages n
       → Reaches pages kind root (child_at pages n i)
   child_reached depth height n i stands shape within = (suc depth, below i stands (shape_child pages kind height n i shape within))
 
   -- no page is in the trees under two children of a page
-  children_apart : (depth height n i j m : ℕ) → StandsAt pages kind root depth n → HasShape pages kind (suc height) n → i < j → j ≤ count_at pages n
+  children_apart : (depth height n i j m : ℕ) → StandsAt pages kind root depth n → HasShape pages kind (suc height) n
+      → i < j → j ≤ count_at pages n
       → Reaches pages kind (child_at pages n i) m → Reaches pages kind (child_at pages n j) m → ⊥
   children_apart depth height n i j m stands shape less most in_i in_j =
       let within : i ≤ count_at pages n = omega arith in
@@ -86,19 +91,23 @@ module _ (pages : Pages) (kind : TreeKind) (root : ℕ) (named : (m : ℕ) → I
       omega arith
 
   under_page : (height n i : ℕ) → HasShape pages kind (suc height) n → i ≤ count_at pages n → (x : Place)
-      → Contains (places_under pages kind height (child_at pages n i)) x → Reaches pages kind (child_at pages n i) x.page
+      → Contains (places_under pages kind height (child_at pages n i)) x
+      → Reaches pages kind (child_at pages n i) x.page
   under_page height n i shape within x h = (sound pages kind height (child_at pages n i) (shape.1 i within).1 x h).reaches
 
   -- what is under a child isn't a cell of its page
   under_own : (height n i j : ℕ) → HasShape pages kind (suc height) n → i ≤ count_at pages n → (x y : Place)
-      → Contains (places_under pages kind height (child_at pages n i)) x → Contains (own_places pages n j) y → Differ x y
+      → Contains (places_under pages kind height (child_at pages n i)) x → Contains (own_places pages n j) y
+      → Differ x y
   under_own height n i j shape within x y in_x in_y e =
       let at_n : x.page ≡ n = ap (λ (z : Place). z.page) (e ∙ sym (from_own pages n j y in_y).1) in
       not_below pages kind height n i shape within
       (subst (λ (m : ℕ). Reaches pages kind (child_at pages n i) m) at_n (under_page height n i shape within x in_x))
 
-  across_under : (depth height n i j : ℕ) → StandsAt pages kind root depth n → HasShape pages kind (suc height) n → i < j → j ≤ count_at pages n → (x y : Place)
-      → Contains (places_under pages kind height (child_at pages n i)) x → Contains (branch pages kind height n j) y → Differ x y
+  across_under : (depth height n i j : ℕ) → StandsAt pages kind root depth n → HasShape pages kind (suc height) n
+      → i < j → j ≤ count_at pages n → (x y : Place)
+      → Contains (places_under pages kind height (child_at pages n i)) x → Contains (branch pages kind height n j) y
+      → Differ x y
   across_under depth height n i j stands shape less most x y in_x in_y e = ⊎_elim
       (λ (under : Contains (places_under pages kind height (child_at pages n j)) y).
       let page_y = subst (λ (z : Place). Reaches pages kind (child_at pages n j) z.page) (sym e) (under_page height n j shape most y under) in
@@ -114,14 +123,16 @@ module _ (pages : Pages) (kind : TreeKind) (root : ℕ) (named : (m : ℕ) → I
       apart n n i j less ((from_own pages n i x in_x).1 ∙ e ∙ sym (from_own pages n j y own.1).1))
       (with_own_cases kind (places_under pages kind height (child_at pages n j)) (own_places pages n j) y in_y)
 
-  across : (depth height n i j : ℕ) → StandsAt pages kind root depth n → HasShape pages kind (suc height) n → i < j → j ≤ count_at pages n → (x y : Place)
+  across : (depth height n i j : ℕ) → StandsAt pages kind root depth n → HasShape pages kind (suc height) n → i < j
+      → j ≤ count_at pages n → (x y : Place)
       → Contains (branch pages kind height n i) x → Contains (branch pages kind height n j) y → Differ x y
   across depth height n i j stands shape less most x y in_x in_y = ⊎_elim
       (λ (under : Contains (places_under pages kind height (child_at pages n i)) x). across_under depth height n i j stands shape less most x y under in_y)
       (λ (own : HasEntries kind Interior × Contains (own_places pages n i) x). across_own height n i j shape less most x y own.1 in_y)
       (with_own_cases kind (places_under pages kind height (child_at pages n i)) (own_places pages n i) x in_x)
 
-  under_differ : (levels depth n : ℕ) → StandsAt pages kind root depth n → HasShape pages kind levels n → Pairs Differ (places_under pages kind levels n)
+  under_differ : (levels depth n : ℕ) → StandsAt pages kind root depth n → HasShape pages kind levels n
+      → Pairs Differ (places_under pages kind levels n)
   under_differ zero depth n stands shape = pairs_map Differ (place_at n) (count_at pages n) 0 (λ i j least less most. apart n n i j less)
   under_differ (suc height) depth n stands shape =
       pairs_fan Differ (branch pages kind height n) (suc (count_at pages n)) 0
@@ -132,7 +143,8 @@ module _ (pages : Pages) (kind : TreeKind) (root : ℕ) (named : (m : ℕ) → I
       (λ entries x y. under_own height n i i shape within x y))
       (λ i j x y least less most. across depth height n i j stands shape less (omega arith) x y)
 
-  pub named_places : (levels : ℕ) → HasShape pages kind levels root → ArePlacesOf pages kind root (places_under pages kind levels root)
+  pub named_places : (levels : ℕ) → HasShape pages kind levels root
+      → ArePlacesOf pages kind root (places_under pages kind levels root)
   named_places levels shape = record {
     sound = sound pages kind levels root shape;
     complete = complete pages kind levels root shape;

@@ -13,7 +13,8 @@ use Rattle.image.proofs.ShapeLemmas.{one_level, shape_child}
 use Rattle.image.proofs.PlaceLemmas.{with_own_cases, with_own_pairs, from_own, branch, sound, complete}
 
 -- the root reaches what stands below a page that it reaches
-pub joined : (pages : Pages) (kind : TreeKind) (root : ℕ) {depth n : ℕ} → StandsAt pages kind root depth n → {low m : ℕ} → StandsAt pages kind n low m → Reaches pages kind root m
+pub joined : (pages : Pages) (kind : TreeKind) (root : ℕ) {depth n : ℕ} → StandsAt pages kind root depth n
+    → {low m : ℕ} → StandsAt pages kind n low m → Reaches pages kind root m
 joined pages kind root {depth} stands top = (depth, stands)
 joined pages kind root stands (below j more last) = let r = joined pages kind root stands more in (suc r.0, below j r.1 last)
 
@@ -25,7 +26,8 @@ module _ {K : Type 0} (HasKey : Level → ℕ → ℕ → K → Type 0) (IsBefor
     -- where an interior page's cells are entries too, what is under a child is before the cell
     pub strict : HasEntries kind Interior → (x y : K) → IsAtMost x y → IsBefore x y
     pub never : (x : K) → IsBefore x x → ⊥
-    pub key_of : (level : Level) (n i : ℕ) → IsPageOf pages kind level n → i < count_at pages n → (key : K) × HasKey level n i key
+    pub key_of : (level : Level) (n i : ℕ) → IsPageOf pages kind level n → i < count_at pages n
+        → (key : K) × HasKey level n i key
 
 -- the key of one place is before that of another
 module _ {K : Type 0} (HasKey : Level → ℕ → ℕ → K → Type 0) (IsBefore : K → K → Type 0) (pages : Pages) (kind : TreeKind) where
@@ -45,7 +47,8 @@ module _ {K : Type 0} (HasKey : Level → ℕ → ℕ → K → Type 0) (IsBefor
   UpTo n i a = (key : K) × HasKey Interior n i key × (IsAtMost a key ⊎ (a ≡ key))
 
   -- one page's keys
-  on_page : (depth n : ℕ) → StandsAt pages kind root depth n → (level : Level) → IsPageOf pages kind level n → (i j : ℕ) → i < j → j < count_at pages n
+  on_page : (depth n : ℕ) → StandsAt pages kind root depth n → (level : Level) → IsPageOf pages kind level n
+      → (i j : ℕ) → i < j → j < count_at pages n
       → Before (place_at n i) (place_at n j)
   on_page depth n stands level page i j less most one other a b page_a within_a page_b within_b key_a key_b =
       (order n (depth, stands)).ascends level i j a b page less most
@@ -60,12 +63,15 @@ module _ {K : Type 0} (HasKey : Level → ℕ → ℕ → K → Type 0) (IsBefor
     reaches = (sound pages kind height (child_at pages n i) (shape.1 i within).1 x h).reaches;
   }
 
-  under_root : (depth n i m : ℕ) → StandsAt pages kind root depth n → IsUnder pages kind n i m → Reaches pages kind root m
+  under_root : (depth n i m : ℕ) → StandsAt pages kind root depth n → IsUnder pages kind n i m
+      → Reaches pages kind root m
   under_root depth n i m stands under = joined pages kind root (below i stands under.is) under.reaches.1
 
   -- a key under child i, or of cell i itself
-  up_to : (height depth n i : ℕ) → StandsAt pages kind root depth n → HasShape pages kind (suc height) n → i < count_at pages n → (x : Place)
-      → Contains (branch pages kind height n i) x → (level : Level) (a : K) → IsPageOf pages kind level x.page → x.index < count_at pages x.page
+  up_to : (height depth n i : ℕ) → StandsAt pages kind root depth n → HasShape pages kind (suc height) n
+      → i < count_at pages n → (x : Place)
+      → Contains (branch pages kind height n i) x → (level : Level) (a : K) → IsPageOf pages kind level x.page
+      → x.index < count_at pages x.page
       → HasKey level x.page x.index a → UpTo n i a
   up_to height depth n i stands shape within x h level a page inside key = ⊎_elim
       (λ (under : Contains (places_under pages kind height (child_at pages n i)) x).
@@ -81,8 +87,10 @@ module _ {K : Type 0} (HasKey : Level → ℕ → ℕ → K → Type 0) (IsBefor
       (with_own_cases kind (places_under pages kind height (child_at pages n i)) (own_places pages n i) x h)
 
   -- a key under child i + 1, or of cell i + 1, is after that of cell i
-  past_cell : (height depth n i : ℕ) → StandsAt pages kind root depth n → HasShape pages kind (suc height) n → i + 1 ≤ count_at pages n → (y : Place)
-      → Contains (branch pages kind height n (i + 1)) y → (level : Level) (key b : K) → IsPageOf pages kind level y.page → y.index < count_at pages y.page
+  past_cell : (height depth n i : ℕ) → StandsAt pages kind root depth n → HasShape pages kind (suc height) n
+      → i + 1 ≤ count_at pages n → (y : Place)
+      → Contains (branch pages kind height n (i + 1)) y → (level : Level) (key b : K)
+      → IsPageOf pages kind level y.page → y.index < count_at pages y.page
       → HasKey Interior n i key → HasKey level y.page y.index b → IsBefore key b
   past_cell height depth n i stands shape within y h level key b page inside key_here key_y = ⊎_elim
       (λ (under : Contains (places_under pages kind height (child_at pages n (i + 1))) y).
@@ -96,8 +104,10 @@ module _ {K : Type 0} (HasKey : Level → ℕ → ℕ → K → Type 0) (IsBefor
       (with_own_cases kind (places_under pages kind height (child_at pages n (i + 1))) (own_places pages n (i + 1)) y h)
 
   -- so is one further on
-  past_cells : (height depth n i j : ℕ) → StandsAt pages kind root depth n → HasShape pages kind (suc height) n → i < j → j ≤ count_at pages n → (y : Place)
-      → Contains (branch pages kind height n j) y → (level : Level) (key b : K) → IsPageOf pages kind level y.page → y.index < count_at pages y.page
+  past_cells : (height depth n i j : ℕ) → StandsAt pages kind root depth n → HasShape pages kind (suc height) n → i < j
+      → j ≤ count_at pages n → (y : Place)
+      → Contains (branch pages kind height n j) y → (level : Level) (key b : K) → IsPageOf pages kind level y.page
+      → y.index < count_at pages y.page
       → HasKey Interior n i key → HasKey level y.page y.index b → IsBefore key b
   past_cells height depth n i j stands shape less most y h level key b page inside key_here key_y =
       let last = j - 1 in
@@ -115,7 +125,8 @@ module _ {K : Type 0} (HasKey : Level → ℕ → ℕ → K → Type 0) (IsBefor
       past_cell height depth n last stands shape (omega arith) y h_next level key b page inside (subst (λ (k : ℕ). HasKey Interior n k key) same key_here) key_y)
       (cases_lt i last)
 
-  across : (height depth n i j : ℕ) → StandsAt pages kind root depth n → HasShape pages kind (suc height) n → i < j → j ≤ count_at pages n → (x y : Place)
+  across : (height depth n i j : ℕ) → StandsAt pages kind root depth n → HasShape pages kind (suc height) n → i < j
+      → j ≤ count_at pages n → (x y : Place)
       → Contains (branch pages kind height n i) x → Contains (branch pages kind height n j) y → Before x y
   across height depth n i j stands shape less most x y in_x in_y level other a b page_x inside_x page_y inside_y key_x key_y =
       let up = up_to height depth n i stands shape (omega arith) x in_x level a page_x inside_x key_x in
@@ -126,8 +137,10 @@ module _ {K : Type 0} (HasKey : Level → ℕ → ℕ → K → Type 0) (IsBefor
       up.2
 
   -- in an index tree, what is under child i is before cell i
-  before_own : (height depth n i : ℕ) → StandsAt pages kind root depth n → HasShape pages kind (suc height) n → i ≤ count_at pages n
-      → HasEntries kind Interior → (x y : Place) → Contains (places_under pages kind height (child_at pages n i)) x → Contains (own_places pages n i) y
+  before_own : (height depth n i : ℕ) → StandsAt pages kind root depth n → HasShape pages kind (suc height) n
+      → i ≤ count_at pages n
+      → HasEntries kind Interior → (x y : Place) → Contains (places_under pages kind height (child_at pages n i)) x
+      → Contains (own_places pages n i) y
       → Before x y
   before_own height depth n i stands shape within entries x y under own level other a b page_x inside_x page_y inside_y key_x key_y =
       let is = from_own pages n i y own in
@@ -138,7 +151,8 @@ module _ {K : Type 0} (HasKey : Level → ℕ → ℕ → K → Type 0) (IsBefor
       keys.strict entries a b
       ((order x.page (under_root depth n i x.page stands below_here)).most level n i x.index b a (depth, stands) below_here is.0 page_x inside_x key_here key_x)
 
-  rises : (levels depth n : ℕ) → StandsAt pages kind root depth n → HasShape pages kind levels n → Pairs Before (places_under pages kind levels n)
+  rises : (levels depth n : ℕ) → StandsAt pages kind root depth n → HasShape pages kind levels n
+      → Pairs Before (places_under pages kind levels n)
   rises zero depth n stands shape =
       pairs_map Before (place_at n) (count_at pages n) 0 (λ i j least less most. on_page depth n stands Leaf shape i j less (omega arith))
   rises (suc height) depth n stands shape =
@@ -154,7 +168,8 @@ module _ {K : Type 0} (HasKey : Level → ℕ → ℕ → K → Type 0) (IsBefor
   root_rises levels shape = rises levels 1 root top shape
 
   -- the cells under the root are the tree's, each once
-  pub root_places : (levels : ℕ) → HasShape pages kind levels root → ArePlacesOf pages kind root (places_under pages kind levels root)
+  pub root_places : (levels : ℕ) → HasShape pages kind levels root
+      → ArePlacesOf pages kind root (places_under pages kind levels root)
   root_places levels shape = record {
     sound = sound pages kind levels root shape;
     complete = complete pages kind levels root shape;

@@ -18,11 +18,13 @@ pub leaf_entries : (kind : TreeKind) → HasEntries kind Leaf
 leaf_entries Table = tt
 leaf_entries Index = tt
 
-under_with_own : (kind : TreeKind) (under own : List Place) (x : Place) → Contains under x → Contains (with_own kind under own) x
+under_with_own : (kind : TreeKind) (under own : List Place) (x : Place) → Contains under x
+    → Contains (with_own kind under own) x
 under_with_own Table under own x h = h
 under_with_own Index under own x h = Contains-append_left under own x h
 
-own_with_own : (kind : TreeKind) (under own : List Place) (x : Place) → HasEntries kind Interior → Contains own x → Contains (with_own kind under own) x
+own_with_own : (kind : TreeKind) (under own : List Place) (x : Place) → HasEntries kind Interior → Contains own x
+    → Contains (with_own kind under own) x
 own_with_own Table under own x entries h = absurd entries
 own_with_own Index under own x entries h = Contains-append_right under own x h
 
@@ -55,7 +57,8 @@ module _ (pages : Pages) where
 
 module _ (pages : Pages) (kind : TreeKind) where
   -- what stands under a child stands under its page
-  stands_up : (n i c : ℕ) → IsChild pages kind n i c → {depth m : ℕ} → StandsAt pages kind c depth m → StandsAt pages kind n (suc depth) m
+  stands_up : (n i c : ℕ) → IsChild pages kind n i c → {depth m : ℕ} → StandsAt pages kind c depth m
+      → StandsAt pages kind n (suc depth) m
   stands_up n i c kid top = below i top kid
   stands_up n i c kid (below j stands last) = below j (stands_up n i c kid stands) last
 
@@ -72,10 +75,12 @@ module _ (pages : Pages) (kind : TreeKind) where
     within = place.within;
   }
 
-  here_place : (level : Level) (n i : ℕ) → HasEntries kind level → IsPageOf pages kind level n → i < count_at pages n → IsPlaceOf pages kind n (place_at n i)
+  here_place : (level : Level) (n i : ℕ) → HasEntries kind level → IsPageOf pages kind level n → i < count_at pages n
+      → IsPlaceOf pages kind n (place_at n i)
   here_place level n i entries page within = record { level = level; entries = entries; reaches = (1, top); page = page; within = within }
 
-  pub sound : (levels n : ℕ) → HasShape pages kind levels n → (x : Place) → Contains (places_under pages kind levels n) x → IsPlaceOf pages kind n x
+  pub sound : (levels n : ℕ) → HasShape pages kind levels n → (x : Place)
+      → Contains (places_under pages kind levels n) x → IsPlaceOf pages kind n x
   sound zero n shape x h =
       let r = from_map (place_at n) x (count_at pages n) 0 h in
       let within : r.0 < count_at pages n = omega (arith, r.2) in
@@ -96,7 +101,8 @@ module _ (pages : Pages) (kind : TreeKind) where
   record IsAmong (head levels m : ℕ) : Type 0 where
     height : ℕ
     shape : HasShape pages kind height m
-    among : (x : Place) → Contains (places_under pages kind height m) x → Contains (places_under pages kind levels head) x
+    among : (x : Place) → Contains (places_under pages kind height m) x
+        → Contains (places_under pages kind levels head) x
 
   among_child : (head levels n i m height : ℕ) → HasShape pages kind height n
       → ((x : Place) → Contains (places_under pages kind height n) x → Contains (places_under pages kind levels head) x)
@@ -113,13 +119,15 @@ module _ (pages : Pages) (kind : TreeKind) where
             among x (to_fan (branch height n) x (suc (count_at pages n)) 0 i (omega arith) (omega arith) own);
       }
 
-  among : (head levels : ℕ) → HasShape pages kind levels head → {depth m : ℕ} → StandsAt pages kind head depth m → IsAmong head levels m
+  among : (head levels : ℕ) → HasShape pages kind levels head → {depth m : ℕ} → StandsAt pages kind head depth m
+      → IsAmong head levels m
   among head levels shape top = record { height = levels; shape = shape; among = λ x h. h }
   among head levels shape (below {depth} {n} {m} i stands c) =
       let up = among head levels shape stands in
       among_child head levels n i m up.height up.shape up.among c
 
-  here_in : (level : Level) (height m i : ℕ) → HasShape pages kind height m → HasEntries kind level → IsPageOf pages kind level m → i < count_at pages m
+  here_in : (level : Level) (height m i : ℕ) → HasShape pages kind height m → HasEntries kind level
+      → IsPageOf pages kind level m → i < count_at pages m
       → Contains (places_under pages kind height m) (place_at m i)
   here_in level zero m i shape entries page within = to_map (place_at m) (count_at pages m) 0 i (omega arith) (omega arith)
   here_in level (suc height) m i shape entries page within =
@@ -127,14 +135,16 @@ module _ (pages : Pages) (kind : TreeKind) where
       let own = own_with_own kind (places_under pages kind height (child_at pages m i)) (own_places pages m i) (place_at m i) inner (to_own pages m i within) in
       to_fan (branch height m) (place_at m i) (suc (count_at pages m)) 0 i (omega arith) (omega arith) own
 
-  pub complete : (levels n : ℕ) → HasShape pages kind levels n → (x : Place) → IsPlaceOf pages kind n x → Contains (places_under pages kind levels n) x
+  pub complete : (levels n : ℕ) → HasShape pages kind levels n → (x : Place) → IsPlaceOf pages kind n x
+      → Contains (places_under pages kind levels n) x
   complete levels n shape x place =
       let up = among n levels shape place.reaches.1 in
       up.among x (here_in place.level up.height x.page x.index up.shape place.entries place.page place.within)
 
 -- a relation of places, over the cells under a child and the cell behind it
 joined_pairs : (kind : TreeKind) (R : Place → Place → Type 0) (under own : List Place) → Pairs R under → Pairs R own
-    → (HasEntries kind Interior → (x y : Place) → Contains under x → Contains own y → R x y) → Pairs R (with_own kind under own)
+    → (HasEntries kind Interior → (x y : Place) → Contains under x → Contains own y → R x y)
+    → Pairs R (with_own kind under own)
 joined_pairs Table R under own a b cross = a
 joined_pairs Index R under own a b cross = pairs_append R under own a b (cross tt)
 

@@ -18,7 +18,8 @@ one_cell_rowid usable bytes c d one other =
 some_one : (a b : ℤ) → Some a ≡ Some b → a ≡ b
 some_one a b e = cc
 
-pub one_rowid : (pages : Pages) (level : Level) (n i : ℕ) (a b : ℤ) → HasRowid pages level n i a → HasRowid pages level n i b → a ≡ b
+pub one_rowid : (pages : Pages) (level : Level) (n i : ℕ) (a b : ℤ) → HasRowid pages level n i a
+    → HasRowid pages level n i b → a ≡ b
 one_rowid pages Leaf n i a b (c, one, c_is) (d, other, d_is) =
     let same = one_cell_rowid pages.usable (cell_at pages Leaf n i) c d one other in
     some_one a one.rowid (sym c_is ∙ one.has_rowid) ∙ same ∙ sym (some_one b other.rowid (sym d_is ∙ other.has_rowid))

@@ -20,7 +20,8 @@ module _ (pages : Pages) (kind : TreeKind) where
   pub not_both : (n : ℕ) → IsPageOf pages kind Leaf n → IsPageOf pages kind Interior n → ⊥
   not_both n leaf interior = flags_differ kind (sym leaf.header.flag_is ∙ interior.header.flag_is)
 
-  pub one_level : (level other : Level) (n : ℕ) → IsPageOf pages kind level n → IsPageOf pages kind other n → level ≡ other
+  pub one_level : (level other : Level) (n : ℕ) → IsPageOf pages kind level n → IsPageOf pages kind other n
+      → level ≡ other
   one_level Leaf Leaf n a b = refl
   one_level Leaf Interior n a b = absurd (not_both n a b)
   one_level Interior Leaf n a b = absurd (not_both n b a)
@@ -31,12 +32,14 @@ module _ (pages : Pages) (kind : TreeKind) where
   child_of n i interior within number = record { interior = interior; within = within; is = refl; number = number }
 
   -- what a shape says of a child
-  pub shape_child : (height n i : ℕ) → HasShape pages kind (suc height) n → i ≤ count_at pages n → IsChild pages kind n i (child_at pages n i)
+  pub shape_child : (height n i : ℕ) → HasShape pages kind (suc height) n → i ≤ count_at pages n
+      → IsChild pages kind n i (child_at pages n i)
   shape_child height n i shape within = child_of n i shape.0 within (shape.1 i within).0
 
 module _ (pages : Pages) (kind : TreeKind) (root : ℕ) where
   -- the root of a tree that has an interior page is one
-  root_interior : {depth n : ℕ} → StandsAt pages kind root depth n → IsPageOf pages kind Interior n → IsPageOf pages kind Interior root
+  root_interior : {depth n : ℕ} → StandsAt pages kind root depth n → IsPageOf pages kind Interior n
+      → IsPageOf pages kind Interior root
   root_interior top interior = interior
   root_interior (below i stands c) interior = root_interior stands c.interior
 
@@ -49,7 +52,8 @@ module _ (pages : Pages) (kind : TreeKind) (root : ℕ) where
       let r = first_leaf levels (suc depth) (child_at pages n 0) (below 0 stands (shape_child pages kind levels n 0 shape within)) (shape.1 0 within).1 in
       let e : levels + suc depth ≡ suc levels + depth = omega arith in (r.0, subst (λ (d : ℕ). StandsAt pages kind root d r.0) e r.1, r.2)
 
-  leaves_differ : (one other depth m n : ℕ) → one < other → StandsAt pages kind root depth m → StandsAt pages kind root depth n
+  leaves_differ : (one other depth m n : ℕ) → one < other → StandsAt pages kind root depth m
+      → StandsAt pages kind root depth n
       → HasShape pages kind one m → HasShape pages kind other n → HasUnevenLeaves pages kind root
   leaves_differ one other depth m n less at_m at_n shape_m shape_n =
       let a = first_leaf one depth m at_m shape_m in
@@ -68,7 +72,8 @@ module _ (pages : Pages) (kind : TreeKind) (root : ℕ) where
 
 module _ (pages : Pages) (kind : TreeKind) (root : ℕ) (tree : IsSoundTree pages kind root) where
   -- shapes at one depth have the same levels
-  even_levels : (one other depth m n : ℕ) → StandsAt pages kind root depth m → StandsAt pages kind root depth n → HasShape pages kind one m
+  even_levels : (one other depth m n : ℕ) → StandsAt pages kind root depth m → StandsAt pages kind root depth n
+      → HasShape pages kind one m
       → HasShape pages kind other n → one ≡ other
   even_levels one other depth m n at_m at_n shape_m shape_n = ⊎_elim
       (λ (less : one < other). absurd (tree.even (leaves_differ pages kind root one other depth m n less at_m at_n shape_m shape_n)))
@@ -78,7 +83,8 @@ module _ (pages : Pages) (kind : TreeKind) (root : ℕ) (tree : IsSoundTree page
       (cases_lt other one))
       (cases_lt one other)
 
-  filled_below : (levels m : ℕ) → Reaches pages kind root m → IsPageOf pages kind Interior root → HasShape pages kind levels m → IsFilled pages levels m
+  filled_below : (levels m : ℕ) → Reaches pages kind root m → IsPageOf pages kind Interior root
+      → HasShape pages kind levels m → IsFilled pages levels m
   filled_below zero m reaches interior shape =
       let sound = tree.each m reaches in
       sound.filled (one_level pages kind sound.level Leaf m sound.page shape)
@@ -124,7 +130,8 @@ module _ (pages : Pages) (kind : TreeKind) (root : ℕ) (tree : IsSoundTree page
 
   level_shape : (level : Level) (most depth n : ℕ) → StandsAt pages kind root depth n → IsPageOf pages kind level n
       → (level ≡ Interior → (i : ℕ) → i ≤ count_at pages n → IsNumber pages (child_at pages n i))
-      → ((i : ℕ) → IsChild pages kind n i (child_at pages n i) → HasLevels most (child_at pages n i)) → HasLevels (suc most) n
+      → ((i : ℕ) → IsChild pages kind n i (child_at pages n i) → HasLevels most (child_at pages n i))
+      → HasLevels (suc most) n
   level_shape Leaf most depth n stands page numbers each = (0, omega arith, page)
   level_shape Interior most depth n stands page numbers each =
       fan_shape most depth n stands page (λ i within. let c = child_of pages kind n i page within (numbers refl i within) in (c, each i c))

@@ -1,13 +1,15 @@
 -- The cells of a table's tree, by ascending rowids.
-use Rattle.std.proofs.Common.{ℕ, ℤ, ◌<◌, ◌<ℤ◌, ◌≤ℤ◌, arith}
+use Rattle.std.proofs.Common.{⊎_elim, ℕ, ℤ, ◌<◌, ◌<ℤ◌, ◌≤ℤ◌, arith}
 use Rattle.std.proofs.lemmas.Int.{ints}
+use Rattle.values.specs.declared.fault.Fault.{Fault}
+use Rattle.values.specs.declared.fault.Fault.TheVariants.{BadPage, BadOrder, BadDepth}
 use Rattle.image.specs.declared.kind.TreeKind.TheVariants.{Table}
 use Rattle.image.specs.declared.kind.Level.{Level}
 use Rattle.image.specs.declared.kind.Level.TheVariants.{Leaf, Interior}
 use Rattle.image.specs.Pages.{Pages}
 use Rattle.image.specs.Tree.{IsPageOf, Reaches, HasEntries, count_at}
 use Rattle.image.specs.Shape.{HasShape, places_under}
-use Rattle.image.specs.Broken.{HasRowid, IsRowOrder}
+use Rattle.image.specs.Broken.{HasRowid, IsRowOrder, IsBroken}
 use Rattle.image.specs.Sound.{IsSoundTable, AreRowsOf, HasRows}
 use Rattle.image.proofs.ListLemmas.{get_contains, pairs_at}
 use Rattle.image.proofs.ShapeLemmas.{sound_shape}
@@ -29,19 +31,22 @@ most_below x y z a b = omega (arith, ints)
 never_below : (x : ℤ) → x <ℤ x → ⊥
 never_below x a = omega (arith, ints)
 
-rowid_of : (pages : Pages) (level : Level) (n i : ℕ) → IsPageOf pages Table level n → i < count_at pages n → (rowid : ℤ) × HasRowid pages level n i rowid
+rowid_of : (pages : Pages) (level : Level) (n i : ℕ) → IsPageOf pages Table level n → i < count_at pages n
+    → (rowid : ℤ) × HasRowid pages level n i rowid
 rowid_of pages Leaf n i page within = let c = page.cells i within in (c.is.rowid, (c.cell, c.is, c.is.has_rowid))
 rowid_of pages Interior n i page within = let c = page.cells i within in (c.0, c.1)
 
 rowids : (pages : Pages) → AreKeys (HasRowid pages) Below AtMost pages Table
 rowids pages = record { after = below_below; after_most = most_below; strict = λ none. absurd none; never = never_below; key_of = rowid_of pages }
 
-leaf_place : (pages : Pages) (level : Level) (n : ℕ) → HasEntries Table level → IsPageOf pages Table level n → IsPageOf pages Table Leaf n
+leaf_place : (pages : Pages) (level : Level) (n : ℕ) → HasEntries Table level → IsPageOf pages Table level n
+    → IsPageOf pages Table Leaf n
 leaf_place pages Leaf n entries page = page
 leaf_place pages Interior n entries page = absurd entries
 
 module _ (pages : Pages) (root : ℕ) where
-  pub rows_of : (levels : ℕ) → HasShape pages Table levels root → ((n : ℕ) → Reaches pages Table root n → IsRowOrder pages root n)
+  pub rows_of : (levels : ℕ) → HasShape pages Table levels root
+      → ((n : ℕ) → Reaches pages Table root n → IsRowOrder pages root n)
       → AreRowsOf pages root (places_under pages Table levels root)
   rows_of levels shape order = record {
     cells = root_places (HasRowid pages) Below AtMost pages Table root (rowids pages) order levels shape;
@@ -58,3 +63,9 @@ module _ (pages : Pages) (root : ℕ) where
   sound_rows table =
       let s = sound_shape pages Table root table.tree in
       record { levels = s.levels; few = s.few; shape = s.shape; rows = rows_of s.levels s.shape table.order }
+
+  pub unbroken : IsSoundTable pages root → (fault : Fault) → IsBroken pages root fault → ⊥
+  unbroken table (BadPage n) broken = broken.1 (table.tree.each n broken.0)
+  unbroken table (BadOrder n) broken = broken.1 (table.order n broken.0)
+  unbroken table (BadDepth n) broken = ⊎_elim table.tree.even table.tree.shallow broken.1
+  unbroken table fault broken = absurd broken

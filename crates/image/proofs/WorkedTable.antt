@@ -250,7 +250,8 @@ key_at_root i x e key = one_rowid table_pages Interior 2 0 x (negsuc 2) (subst (
 abbrev HasRowidOf : Level → ℕ → ℕ → ℤ → Type 0
 HasRowidOf level n j y = IsPageOf table_pages Table level n × (j < count_at table_pages n) × HasRowid table_pages level n j y
 
-key_at_leaf : (m : ℕ) (known : ℤ) → IsPageOf table_pages Table Leaf m → count_at table_pages m ≡ 1 → HasRowid table_pages Leaf m 0 known
+key_at_leaf : (m : ℕ) (known : ℤ) → IsPageOf table_pages Table Leaf m → count_at table_pages m ≡ 1
+    → HasRowid table_pages Leaf m 0 known
     → (level : Level) (n j : ℕ) (y : ℤ) → n ≡ m → HasRowidOf level n j y → y ≡ known
 key_at_leaf m known leaf count key level n j y e h =
     let page = subst (λ (k : ℕ). IsPageOf table_pages Table level k) e h.0 in
@@ -260,14 +261,16 @@ key_at_leaf m known leaf count key level n j y e h =
     let at_leaf = subst (λ (l : Level). HasRowid table_pages l m j y) (one_level table_pages Table level Leaf m page leaf) at_m in
     one_rowid table_pages Leaf m 0 y known (subst (λ (k : ℕ). HasRowid table_pages Leaf m k y) zero_is at_leaf) key
 
-most_at : (i n : ℕ) → i < 1 → IsBranchAt i n → (level : Level) (j : ℕ) (x y : ℤ) → HasRowid table_pages Interior 2 i x → HasRowidOf level n j y → y ≤ℤ x
+most_at : (i n : ℕ) → i < 1 → IsBranchAt i n → (level : Level) (j : ℕ) (x y : ℤ) → HasRowid table_pages Interior 2 i x
+    → HasRowidOf level n j y → y ≤ℤ x
 most_at i n less (inr e) level j x y key_x key_y = absurd (let one = e.0 in omega arith)
 most_at i n less (inl e) level j x y key_x key_y =
     let x_is = key_at_root i x e.0 key_x in
     let y_is = key_at_leaf 3 (negsuc 2) left_page left_count left_key level n j y e.1 key_y in
     rw (x_is, y_is) (omega (arith, ints))
 
-above_at : (i n : ℕ) → IsBranchAt (i + 1) n → (level : Level) (j : ℕ) (x y : ℤ) → HasRowid table_pages Interior 2 i x → HasRowidOf level n j y → x <ℤ y
+above_at : (i n : ℕ) → IsBranchAt (i + 1) n → (level : Level) (j : ℕ) (x y : ℤ) → HasRowid table_pages Interior 2 i x
+    → HasRowidOf level n j y → x <ℤ y
 above_at i n (inl e) level j x y key_x key_y = absurd (let none = e.0 in omega arith)
 above_at i n (inr e) level j x y key_x key_y =
     let first : i ≡ 0 = omega (arith, e.0) in

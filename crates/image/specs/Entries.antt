@@ -1,5 +1,5 @@
--- The entries of an index tree: all its cells, those of interior pages too. Here an entry is told by its place, and a test
--- tells which of two comes first, whatever collations it goes by. (Database File Format, section 1.6 "B-tree Pages")
+-- The entries of an index tree: all its cells, those of interior pages too. Here an entry is told by its place, and a
+-- test tells which of two comes first, whatever collations it goes by. (Database File Format, section 1.6 "B-tree Pages")
 use Rattle.std.specs.Prelude.{◌≡◌, ℕ, ◌<◌, List, slice_get, Some, Bool, IsTrue}
 use Rattle.image.specs.declared.kind.TreeKind.TheVariants.{Index}
 use Rattle.image.specs.declared.kind.Level.{Level}
@@ -18,9 +18,11 @@ IsAtPlace level n i place = place ≡ place_at n i
 
 -- no two entries are alike, so that the bounds are strict on both sides
 abbrev pub IsEntryOrder : Pages → (Place → Place → Bool) → ℕ → ℕ → Type 0
-IsEntryOrder pages before root n = IsInOrder IsAtPlace (λ x y. IsTrue (before x y)) (λ x y. IsTrue (before x y)) pages Index root n
+IsEntryOrder pages before root n =
+    IsInOrder IsAtPlace (λ x y. IsTrue (before x y)) (λ x y. IsTrue (before x y)) pages Index root n
 
 -- the list has exactly the entries of an index tree, each once, in their order
 pub record AreEntriesOf (pages : Pages) (before : Place → Place → Bool) (root : ℕ) (places : List Place) : Type 0 where
   pub cells : ArePlacesOf pages Index root places
-  pub ascend : (i j : ℕ) (x y : Place) → i < j → slice_get places i ≡ Some x → slice_get places j ≡ Some y → IsTrue (before x y)
+  pub ascend : (i j : ℕ) (x y : Place) → i < j → slice_get places i ≡ Some x → slice_get places j ≡ Some y
+      → IsTrue (before x y)

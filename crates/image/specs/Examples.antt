@@ -52,7 +52,12 @@ abbrev pub right_leaf : List ℕ
 right_leaf = (13 ∷ 0 ∷ 0 ∷ 0 ∷ 1 ∷ 0 ∷ 204 ∷ 0 ∷ 0 ∷ 204 ∷ []) ++ (replicate 194 0 ++ right_bytes)
 
 abbrev pub table_pages : Pages
-table_pages = record { count = 4; usable = 512; size = 2048; page = λ n. if n == 2 then table_root else if n == 3 then left_leaf else right_leaf }
+table_pages = record {
+  count = 4;
+  usable = 512;
+  size = 2048;
+  page = λ n. if n == 2 then table_root else if n == 3 then left_leaf else right_leaf;
+}
 
 abbrev pub left_cell : CellData
 left_cell = record { rowid = Some (negsuc 2); payload = record { size = 304; local = blob_payload; overflow = None } }

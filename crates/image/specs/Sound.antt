@@ -47,4 +47,5 @@ pub record HasRows (pages : Pages) (root : ℕ) : Type 0 where
 -- a page is a child of one page of the tree at most, and that at one place
 abbrev pub IsNamedOnce : Pages → TreeKind → ℕ → ℕ → Type 0
 IsNamedOnce pages kind root m =
-    (p q i j : ℕ) → Reaches pages kind root p → Reaches pages kind root q → IsChild pages kind p i m → IsChild pages kind q j m → (p ≡ q) × (i ≡ j)
+    (p q i j : ℕ) → Reaches pages kind root p → Reaches pages kind root q → IsChild pages kind p i m
+    → IsChild pages kind q j m → (p ≡ q) × (i ≡ j)
