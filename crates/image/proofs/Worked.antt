@@ -41,14 +41,14 @@ seven = record {
   signed = refl;
 }
 
-minus_three : IsVarint (replicate 8 0xff ++ 0xfd ∷ []) (negsuc 2)
+pub minus_three : IsVarint (replicate 8 0xff ++ 0xfd ∷ []) (negsuc 2)
 minus_three = record {
   bits = 18446744073709551613;
   spelt = inr (record { front = replicate 8 0xff; last = 0xfd; parts = refl; eight = refl; go_on = All-replicate GoesOn 8 0xff (lit≤ tt); number = refl });
   signed = refl;
 }
 
-three_hundred : IsVarint (0x82 ∷ 0x2c ∷ []) (pos 300)
+pub three_hundred : IsVarint (0x82 ∷ 0x2c ∷ []) (pos 300)
 three_hundred = record {
   bits = 300;
   spelt = inl (record { front = 0x82 ∷ []; last = 0x2c; parts = refl; at_most_eight = lit< tt; go_on = All-cons GoesOn 0x82 [] (lit≤ tt) (All-nil GoesOn); ends = lit< tt; number = refl });

@@ -1,7 +1,7 @@
 -- A leaf of a table, as SQLite 3.40 wrote it: page 2, of 512 bytes, of
 --     CREATE TABLE item(id INTEGER PRIMARY KEY, name TEXT NOT NULL, qty INT) STRICT
 -- with the rows (-3, 'bolt', 40) and (300, 'nut', NULL).
-use Rattle.std.specs.Prelude.{ℕ, List, [], ◌∷◌, ◌++◌, replicate, Some, None, negsuc, pos}
+use Rattle.std.specs.Prelude.{ℕ, ◌==◌, if◌then◌else◌, List, [], ◌∷◌, ◌++◌, replicate, Some, None, negsuc, pos}
 use Rattle.image.specs.Pages.{Pages}
 use Rattle.image.specs.Cell.{CellData}
 
@@ -26,3 +26,41 @@ first_cell = record { rowid = Some (negsuc 2); payload = record { size = 9; loca
 
 abbrev pub second_cell : CellData
 second_cell = record { rowid = Some (pos 300); payload = record { size = 7; local = 4 ∷ 0 ∷ 19 ∷ 0 ∷ 110 ∷ 117 ∷ 116 ∷ []; overflow = None } }
+
+-- A table's tree of two leaves, as SQLite 3.40 wrote it: pages 2 to 4, of 512 bytes, of
+--     CREATE TABLE item(id INTEGER PRIMARY KEY, body BLOB) STRICT
+-- with the rows (-3, zeroblob(300)) and (300, zeroblob(300)).
+
+abbrev pub table_root : List ℕ
+table_root = (5 ∷ 0 ∷ 0 ∷ 0 ∷ 1 ∷ 1 ∷ 243 ∷ 0 ∷ 0 ∷ 0 ∷ 0 ∷ 4 ∷ 1 ∷ 243 ∷ [])
+    ++ (replicate 485 0 ++ (0 ∷ 0 ∷ 0 ∷ 3 ∷ 255 ∷ 255 ∷ 255 ∷ 255 ∷ 255 ∷ 255 ∷ 255 ∷ 255 ∷ 253 ∷ []))
+
+-- the payload of a row: 304 bytes
+abbrev pub blob_payload : List ℕ
+blob_payload = 4 ∷ 0 ∷ 132 ∷ 100 ∷ replicate 300 0
+
+abbrev pub left_bytes : List ℕ
+left_bytes = 130 ∷ 48 ∷ 255 ∷ 255 ∷ 255 ∷ 255 ∷ 255 ∷ 255 ∷ 255 ∷ 255 ∷ 253 ∷ blob_payload
+
+abbrev pub right_bytes : List ℕ
+right_bytes = 130 ∷ 48 ∷ 130 ∷ 44 ∷ blob_payload
+
+abbrev pub left_leaf : List ℕ
+left_leaf = (13 ∷ 0 ∷ 0 ∷ 0 ∷ 1 ∷ 0 ∷ 197 ∷ 0 ∷ 0 ∷ 197 ∷ []) ++ (replicate 187 0 ++ left_bytes)
+
+abbrev pub right_leaf : List ℕ
+right_leaf = (13 ∷ 0 ∷ 0 ∷ 0 ∷ 1 ∷ 0 ∷ 204 ∷ 0 ∷ 0 ∷ 204 ∷ []) ++ (replicate 194 0 ++ right_bytes)
+
+abbrev pub table_pages : Pages
+table_pages = record {
+  count = 4;
+  usable = 512;
+  size = 2048;
+  page = λ n. if n == 2 then table_root else if n == 3 then left_leaf else right_leaf;
+}
+
+abbrev pub left_cell : CellData
+left_cell = record { rowid = Some (negsuc 2); payload = record { size = 304; local = blob_payload; overflow = None } }
+
+abbrev pub right_cell : CellData
+right_cell = record { rowid = Some (pos 300); payload = record { size = 304; local = blob_payload; overflow = None } }

@@ -4,4 +4,6 @@ pub mod Cell
 pub mod Tree
 pub mod Shape
 pub mod Broken
+pub mod Sound
+pub mod Entries
 pub mod Examples

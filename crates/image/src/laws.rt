@@ -1,11 +1,19 @@
-//! Examples of the definitions, computed.
-ghost use Rattle.std.specs.Prelude.{◌≡◌};
+//! Examples of the definitions, computed, and what follows from them: laws of trees.
+ghost use Rattle.std.specs.Prelude.{◌≡◌, ℕ, ℤ, Bool, [], ◌∷◌};
+ghost use Rattle.values.specs.declared.fault.Fault.{Fault};
+ghost use Rattle.image.specs.declared.kind.TreeKind.{TreeKind};
 ghost use Rattle.image.specs.declared.kind.TreeKind.TheVariants.{Table, Index};
+ghost use Rattle.image.specs.declared.kind.Level.{Level};
 ghost use Rattle.image.specs.declared.kind.Level.TheVariants.{Leaf};
 ghost use Rattle.image.specs.Layout.{header_at, flag, cell_count, cell_place};
 ghost use Rattle.image.specs.Cell.{local_size};
-ghost use Rattle.image.specs.Tree.{IsPageOf, IsRowAt};
-ghost use Rattle.image.specs.Examples.{example_pages, example_leaf, first_cell, second_cell};
+ghost use Rattle.image.specs.Tree.{Place, IsPageOf, IsRowAt, Reaches, ArePlacesOf};
+ghost use Rattle.image.specs.Pages.{Pages};
+ghost use Rattle.image.specs.Shape.{HasShape, place_at, places_under};
+ghost use Rattle.image.specs.Broken.{HasRowid, IsRowOrder, IsBroken};
+ghost use Rattle.image.specs.Sound.{IsSoundTree, IsSoundTable, HasSomeShape, IsNamedOnce, AreRowsOf, HasRows};
+ghost use Rattle.image.specs.Entries.{IsStrictOrder, IsEntryOrder, AreEntriesOf};
+ghost use Rattle.image.specs.Examples.{example_pages, example_leaf, first_cell, second_cell, table_pages};
 
 /// How much of a payload stands in its cell, where 512 bytes of each page are used.
 pub fn local_sizes()
@@ -27,4 +35,61 @@ pub fn example_page()
     ensures first_row { IsRowAt example_pages (record { page = 2; index = 0 }) first_cell }
     ensures second_row { IsRowAt example_pages (record { page = 2; index = 1 }) second_cell }
     ensures page { IsPageOf example_pages Table Leaf 2 }
+{}
+
+/// A table's tree of an interior page and two leaves, that SQLite wrote: it is sound, and its cells from left to right.
+pub fn example_table()
+    ensures sound { IsSoundTable table_pages 2 }
+    ensures cells { places_under table_pages Table 1 2 ≡ place_at 3 0 ∷ place_at 4 0 ∷ [] }
+{}
+
+/// A cell of a table's leaf has one rowid at most, and so has a cell of an interior page. (Database File Format,
+/// section 1.6 "B-tree Cell Format")
+pub fn one_rowid()
+    ensures same { (pages : Pages) (level : Level) (n i : ℕ) (a b : ℤ) → HasRowid pages level n i a
+        → HasRowid pages level n i b → a ≡ b }
+{}
+
+/// A tree none of whose pages is broken has a shape: all its leaves have so many levels above them, fewer than 20.
+/// (Database File Format, section 1.6 "B-tree Pages")
+pub fn sound_tree_has_shape()
+    ensures shape { (pages : Pages) (kind : TreeKind) (root : ℕ) → IsSoundTree pages kind root
+        → HasSomeShape pages kind root }
+{}
+
+/// The cells under the root of a table's tree, from left to right, are those of its leaves, each once, and their rowids
+/// ascend, where its pages are in order. (Database File Format, section 1.6 "B-tree Pages")
+pub fn places_of_table()
+    ensures rows { (pages : Pages) (root levels : ℕ) → HasShape pages Table levels root
+        → ((n : ℕ) → Reaches pages Table root n → IsRowOrder pages root n)
+        → AreRowsOf pages root (places_under pages Table levels root) }
+{}
+
+/// A table's tree none of whose pages is broken has a shape of fewer than 20 levels, and the cells under its root are
+/// its rows in the order of their rowids. (Database File Format, section 1.6 "B-tree Pages")
+pub fn sound_table()
+    ensures rows { (pages : Pages) (root : ℕ) → IsSoundTable pages root → HasRows pages root }
+{}
+
+/// No fault has its condition in a sound table's tree.
+pub fn no_sound_table_is_broken()
+    ensures unbroken { (pages : Pages) (root : ℕ) → IsSoundTable pages root → (fault : Fault)
+        → IsBroken pages root fault → ⊥ }
+{}
+
+/// The cells under the root of a tree of either kind, from left to right, are the tree's, each once, where no page of
+/// the tree is named twice. (Database File Format, section 1.6 "B-tree Pages")
+pub fn places_of_tree()
+    ensures places { (pages : Pages) (kind : TreeKind) (root levels : ℕ) → HasShape pages kind levels root
+        → ((m : ℕ) → IsNamedOnce pages kind root m)
+        → ArePlacesOf pages kind root (places_under pages kind levels root) }
+{}
+
+/// The cells under the root of an index tree, from left to right, are its entries, each once and in their order, where
+/// its pages are in order. (Database File Format, section 1.6 "B-tree Pages")
+pub fn places_of_index()
+    ensures entries { (pages : Pages) (before : Place → Place → Bool) (root levels : ℕ) → IsStrictOrder before
+        → HasShape pages Index levels root
+        → ((n : ℕ) → Reaches pages Index root n → IsEntryOrder pages before root n)
+        → AreEntriesOf pages before root (places_under pages Index levels root) }
 {}
