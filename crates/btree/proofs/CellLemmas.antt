@@ -1,14 +1,17 @@
 -- What is read of a cell, and why there is none.
-use Rattle.std.proofs.Common.{◌≡◌, ℕ, ℤ, pos, ◌+◌, ◌-◌, ◌<◌, ◌≤◌, List, length, take, drop, Option, Some, None, refl, ap, sym, ◌∙◌, subst, arith}
+use Rattle.std.proofs.Common.{◌≡◌, ℕ, ℤ, pos, ◌+◌, ◌-◌, ◌<◌, ◌≤◌, List, length, take, drop, Option, Some, None, refl, ap, sym, ◌∙◌, subst, arith, length-drop, length-take}
 use Rattle.std.specs.Prelude.{IfNone}
 use Rattle.std.proofs.lemmas.List.{take_rest, drop-drop}
 use Rattle.records.specs.Varint.{BeginsVarint}
+use Rattle.records.proofs.VarintLemmas.{varint_some}
+use Rattle.image.specs.declared.kind.Level.TheVariants.{Interior}
+use Rattle.image.specs.Layout.{cell_place, places_end}
 use Rattle.image.specs.declared.kind.TreeKind.{TreeKind}
 use Rattle.image.specs.declared.kind.TreeKind.TheVariants.{Table, Index}
 use Rattle.std.proofs.lemmas.Bool.Decides.{nat_tests}
 use Rattle.pager.specs.Header.{field}
 use Rattle.image.specs.Cell.{most_local, local_size, overflow_size, overflow_of, CellData, PayloadData, IsPayload, IsTableCell, IsIndexCell}
-use Rattle.btree.specs.Bytes.{FitsIn}
+use Rattle.btree.specs.Bytes.{FitsIn, IsDividerOf}
 
 pub IfNone-always : {T : Type 0} {P : Type 0} (r : Option T) → P → IfNone r P
 IfNone-always None p = p
@@ -35,6 +38,10 @@ overflow_size-long kind usable size long = grind (arith, nat_tests)
 pub overflow_of-long : (kind : TreeKind) (usable size : ℕ) (bytes : List ℕ) → most_local kind usable < size
     → overflow_of kind usable size bytes ≡ Some (field bytes (local_size kind usable size) 4)
 overflow_of-long kind usable size bytes long = grind (arith, nat_tests)
+
+-- a varint has a byte
+pub begins_some : (xs : List ℕ) (v : ℤ) (len : ℕ) → BeginsVarint xs v len → 0 < length xs
+begins_some xs v len begins = let l : 0 < length (take len xs) = varint_some (take len xs) v begins.is in omega (arith, length-take len xs)
 
 -- so many bytes are behind a place, as a slice has them
 abbrev pub rest_of : List ℕ → ℕ → List ℕ
@@ -120,3 +127,31 @@ module _ (usable most : ℕ) (bytes : List ℕ) (size : ℤ) (size_length : ℕ)
       };
       fits = rw same fits;
     }
+
+-- the key of a cell of an interior page, which stands behind the number of its child
+module _ (at : ℕ) (page : List ℕ) (i place : ℕ) (is : place ≡ cell_place at Interior page i) where
+  abbrev key_bytes : List ℕ
+  key_bytes = drop 4 (drop (cell_place at Interior page i) page)
+
+  key_at : rest_of page (place + 4) ≡ key_bytes
+  key_at = take_rest page (place + 4) ∙ ap (λ (n : ℕ). drop (n + 4) page) is ∙ sym (drop-drop 4 (cell_place at Interior page i) page)
+
+  pub no_divider_before : place < places_end at Interior page → (key : ℤ) → ¬ IsDividerOf at page i key
+  no_divider_before before key h = let begins = h.begins in absurd (omega (arith, is, begins))
+
+  pub no_divider_inside : length page < place + 4 → (key : ℤ) → ¬ IsDividerOf at page i key
+  no_divider_inside past key h =
+      let some = begins_some key_bytes key h.is.length h.is.key_is in
+      let inner = length-drop (cell_place at Interior page i) page in
+      let outer = length-drop 4 (drop (cell_place at Interior page i) page) in
+      absurd (omega (arith, is, some, inner, outer))
+
+  pub no_divider_key : IsOnly (rest_of page (place + 4)) None → (key : ℤ) → ¬ IsDividerOf at page i key
+  no_divider_key none key h =
+      let e = none key h.is.length (subst (λ (b : List ℕ). BeginsVarint b key h.is.length) (sym key_at) h.is.key_is) in cc
+
+  pub divider_found : (key : ℤ) (len : ℕ) → places_end at Interior page ≤ place → BeginsVarint (rest_of page (place + 4)) key len → IsDividerOf at page i key
+  divider_found key len behind begins = record {
+    begins = omega (arith, is);
+    is = record { length = len; key_is = subst (λ (b : List ℕ). BeginsVarint b key len) key_at begins };
+  }

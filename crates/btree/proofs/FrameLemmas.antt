@@ -1,5 +1,5 @@
 -- What a frame knows of its page.
-use Rattle.std.proofs.Common.{◌≡◌, ℕ, ℤ, Option, None, Some, ◌+◌, ◌<◌, ◌≤◌, List, length, take, drop, refl, sym, ◌∙◌, ap, subst, arith, length-drop, length-take}
+use Rattle.std.proofs.Common.{◌≡◌, ℕ, Option, None, Some, ◌+◌, ◌<◌, ◌≤◌, length, take, drop, refl, sym, ◌∙◌, ap, subst, arith, length-drop, length-take}
 use Rattle.std.specs.Prelude.{IfNone, IsSome}
 use Rattle.image.specs.declared.kind.TreeKind.TheVariants.{Table}
 use Rattle.image.specs.declared.kind.Level.{Level}
@@ -12,12 +12,8 @@ use Rattle.image.specs.Layout.{cell_count}
 use Rattle.btree.specs.Bytes.{HasHeaderAt, LacksChild, IsRowOf}
 use Rattle.btree.specs.declared.cursor.Frame.{Frame}
 use Rattle.btree.specs.Rest.{Holds, AreReadable}
-use Rattle.records.specs.Varint.{BeginsVarint}
-use Rattle.records.proofs.VarintLemmas.{varint_some}
+use Rattle.btree.proofs.CellLemmas.{begins_some}
 use Rattle.btree.proofs.PageLemmas.{flag_of-same}
-
-begins_some : (xs : List ℕ) (v : ℤ) (len : ℕ) → BeginsVarint xs v len → 0 < length xs
-begins_some xs v len begins = let l : 0 < length (take len xs) = varint_some (take len xs) v begins.is in omega (arith, length-take len xs)
 
 pub IsSome-unless : {T : Type 0} {P : Type 0} (r : Option T) → IfNone r P → (P → ⊥) → IsSome r
 IsSome-unless None p refused = absurd (refused p)

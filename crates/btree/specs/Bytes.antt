@@ -1,10 +1,10 @@
 -- What a page's used bytes alone say, of a page whose header begins at a place.
-use Rattle.std.specs.Prelude.{◌≡◌, ℕ, ◌+◌, ◌<◌, ◌≤◌, List, length, drop}
+use Rattle.std.specs.Prelude.{◌≡◌, ℕ, ℤ, ◌+◌, ◌<◌, ◌≤◌, List, length, drop}
 use Rattle.image.specs.declared.kind.TreeKind.{TreeKind}
 use Rattle.image.specs.declared.kind.Level.{Level}
 use Rattle.image.specs.declared.kind.Level.TheVariants.{Leaf, Interior}
 use Rattle.image.specs.Layout.{flag, flag_of, places_end, cell_place}
-use Rattle.image.specs.Cell.{CellData, IsTableCell}
+use Rattle.image.specs.Cell.{CellData, IsTableCell, IsDivider}
 
 -- the bytes are a page of this kind as its header says, and its cell places lie inside it
 pub record HasHeaderAt (at : ℕ) (kind : TreeKind) (level : Level) (page : List ℕ) : Type 0 where
@@ -24,3 +24,8 @@ pub record IsRowOf (at most : ℕ) (page : List ℕ) (i : ℕ) (cell : CellData)
 -- the left child of cell i doesn't lie inside the page
 pub record LacksChild (at : ℕ) (page : List ℕ) (i : ℕ) : Type 0 where
   pub outside : length page < cell_place at Interior page i + 4
+
+-- cell i of a table's interior page lies behind the cell places, and has this key
+pub record IsDividerOf (at : ℕ) (page : List ℕ) (i : ℕ) (key : ℤ) : Type 0 where
+  pub begins : places_end at Interior page ≤ cell_place at Interior page i
+  pub is : IsDivider (drop (cell_place at Interior page i) page) key

@@ -1,17 +1,18 @@
 //! A tree page, read in place.
-ghost use Rattle.std.specs.Prelude.{◌≡◌, ◌≢◌, ◌+◌, ◌*◌, ◌≤◌, ◌<◌, length, IfNone, IfSome};
+ghost use Rattle.std.specs.Prelude.{◌≡◌, ◌≢◌, ◌+◌, ◌*◌, ◌≤◌, ◌<◌, ℤ, length, IfNone, IfSome};
 ghost use Rattle.image.specs.declared.kind.TreeKind.TheVariants.{Table};
 ghost use Rattle.image.specs.declared.kind.Level.{Level};
 ghost use Rattle.image.specs.declared.kind.Level.TheVariants.{Leaf, Interior};
 ghost use Rattle.image.specs.Cell.{CellData};
 ghost use Rattle.pager.specs.Header.{field};
 ghost use Rattle.image.specs.Layout.{cell_count, cell_place, child, flag, flag_of, header_at, header_size, right_child};
-ghost use Rattle.btree.specs.Bytes.{HasHeaderAt, IsRowOf, LacksChild};
+ghost use Rattle.btree.specs.Bytes.{HasHeaderAt, IsDividerOf, IsRowOf, LacksChild};
 ghost use Rattle.btree.specs.Views.{cell_data};
 
 use crate::cell::{Cell, table_cell};
 use byteorder::{BigEndian, ByteOrder};
 use image::{Level, TreeKind};
+use records::varint;
 use std::marker::Model;
 
 /// A page of a tree, of which the header was tested. (Database File Format, section 1.6 "B-tree Pages")
@@ -186,5 +187,23 @@ impl<'p> PageView<'p> {
         }
         let from = place.min(self.bytes.len());
         table_cell(self.bytes.len() as u64, most, &self.bytes[from..])
+    }
+
+    /// The key of cell i of a table's interior page, which divides the rowids under the child before it from those under
+    /// the next; `None` where no cell is there.
+    pub fn divider(&self, i: u32) -> Option<i64>
+        requires kind { self.now.kind ≡ TreeKind.Table }
+        requires level { self.now.level ≡ Level.Interior }
+        requires within { i < cell_count self.now.at self.now.page }
+        ensures found { IfSome result (λ key. IsDividerOf self.now.at self.now.page i key) }
+        ensures none { IfNone result ((key : ℤ) → ¬ IsDividerOf self.now.at self.now.page i key) }
+    {
+        let place = place_of(self.at, self.level, self.bytes, i) as usize;
+        let places_end = self.at + size_of_header(self.level) + 2 * self.count() as usize;
+        if place < places_end || place + 4 > self.bytes.len() {
+            return None;
+        }
+        let (key, _) = varint(&self.bytes[place + 4..])?;
+        Some(key)
     }
 }
