@@ -1,11 +1,8 @@
 -- A literal that a comma or a line feed follows is read off in one way.
-use Rattle.std.proofs.Common.{◌≡◌, ◌≢◌, ◌≤◌, ◌<◌, ◌⊎◌, ◌/◌, ◌%◌, ◌^◌, ◌==◌, true, false, ℕ, ℤ, pos, negsuc, suc, List, [], ◌∷◌, ◌++◌, length, get_or, drop, refl, sym, ap, ◌∙◌, arith, append_assoc, inl, inr, ⊎_elim, FitsSigned}
-use Rattle.std.specs.Int.{w64}
-use Rattle.std.specs.Fmt.{decimal, signed_decimal}
-use Rattle.std.specs.Str.Parse.{AllDigits}
-use Rattle.std.proofs.lemmas.Bool.{cases_Bool, eqb-true}
-use Rattle.std.proofs.lemmas.Fmt.{decimal_is_IsNumeral, signed_decimal_injective}
-use Rattle.std.proofs.lemmas.Str.Parse.{digit_from_value}
+use Rattle.std.proofs.Common.{zero, ◌+◌, ◌≡◌, ◌≢◌, ◌≤◌, ◌<◌, ◌⊎◌, ◌/◌, ◌%◌, ◌==◌, true, false, cond, ℕ, ℤ, pos, negsuc, suc, List, [], ◌∷◌, ◌++◌, get_or, drop, refl, sym, ap, ◌∙◌, arith, append_assoc, inl, inr, ⊎_elim}
+use Rattle.std.specs.Fmt.{decimal, signed_decimal, digits, digits_onto, digit_glyph}
+use Rattle.std.proofs.lemmas.Bool.{cases_Bool, eqb-true, lt-ltb}
+use Rattle.std.proofs.lemmas.Fmt.{signed_decimal_injective}
 use Rattle.std.proofs.lemmas.Grind.{common_steps}
 use Rattle.values.specs.Datum.{Datum, null, int, text, blob}
 use Rattle.values.specs.Literal.{literal, quoted, quoted_all, hex_digit, hex_all}
@@ -33,25 +30,42 @@ abbrev pub AreOfNumber : List ℕ → Type 0
 AreOfNumber [] = Unit {0}
 AreOfNumber (c ∷ cs) = (45 ≤ c) × (c ≤ 57) × AreOfNumber cs
 
-digits_of_number : (ds : List ℕ) → AllDigits 10 ds → AreOfNumber ds
-digits_of_number [] all = tt
-digits_of_number (c ∷ cs) all =
-    let digit = digit_from_value c all.0 in (omega (arith, digit), omega (arith, digit), digits_of_number cs all.1)
+-- the same, and at least one byte
+abbrev IsNumberText : List ℕ → Type 0
+IsNumberText [] = ⊥
+IsNumberText (c ∷ cs) = (45 ≤ c) × (c ≤ 57) × AreOfNumber cs
 
-decimal_bytes : (n : ℕ) → n < 2 ^ 64 → (0 < length (decimal n)) × AreOfNumber (decimal n)
-decimal_bytes n small =
-    let numeral = (decimal_is_IsNumeral n small).0 in (numeral.0, digits_of_number (decimal n) numeral.1)
+glyph_bytes : (n : ℕ) (cs : List ℕ) → AreOfNumber cs → IsNumberText (digit_glyph false (n % 10) ∷ cs)
+glyph_bytes n cs all =
+    let small : n % 10 < 10 = omega arith in
+    let glyph : digit_glyph false (n % 10) ≡ 48 + n % 10 = rw (lt-ltb (n % 10) 10 small) refl in
+    rw glyph (omega arith, omega (arith, small), all)
 
-number_bytes : (z : ℤ) → FitsSigned w64 z → (0 < length (signed_decimal z)) × AreOfNumber (signed_decimal z)
-number_bytes (pos n) fits = decimal_bytes n (omega (arith, fits.sfits))
-number_bytes (negsuc n) fits =
-    let digits = decimal_bytes (suc n) (omega (arith, fits.sfits)) in (omega arith, (omega arith, omega arith, digits.1))
+digits_bytes : (k n : ℕ) (cs : List ℕ) → AreOfNumber cs → IsNumberText (digits_onto (suc k) 10 false n cs)
+digits_bytes zero n cs all =
+    elim (n / 10 == 0) as (λ b. IsNumberText (cond b (digit_glyph false (n % 10) ∷ cs) (digit_glyph false (n % 10) ∷ cs)))
+    [ true ↦ glyph_bytes n cs all | false ↦ glyph_bytes n cs all ]
+digits_bytes (suc k) n cs all =
+    let glyph = digit_glyph false (n % 10) in
+    elim (n / 10 == 0) as (λ b. IsNumberText (cond b (glyph ∷ cs) (digits_onto (suc k) 10 false (n / 10) (glyph ∷ cs))))
+    [ true ↦ glyph_bytes n cs all | false ↦ digits_bytes k (n / 10) (glyph ∷ cs) (glyph_bytes n cs all) ]
+
+decimal_bytes : (n : ℕ) → IsNumberText (decimal n)
+unfolding digits
+decimal_bytes n = digits_bytes 63 n [] tt
+
+any_bytes : (cs : List ℕ) → IsNumberText cs → AreOfNumber cs
+any_bytes [] bytes = tt
+any_bytes (c ∷ cs) bytes = bytes
+
+number_bytes : (z : ℤ) → IsNumberText (signed_decimal z)
+number_bytes (pos n) = decimal_bytes n
+number_bytes (negsuc n) = (omega arith, omega arith, any_bytes (decimal (suc n)) (decimal_bytes (suc n)))
 
 -- the first byte of a number
-number_first : (ds : List ℕ) → (0 < length ds) × AreOfNumber ds → (c : ℕ) (s t : List ℕ) → ds ++ s ≡ c ∷ t
-    → (45 ≤ c) × (c ≤ 57)
-number_first [] bytes c s t e = absurd (omega (arith, bytes.0))
-number_first (d ∷ ds) bytes c s t e = (omega (arith, head e, bytes.1.0), omega (arith, head e, bytes.1.1))
+number_first : (ds : List ℕ) → IsNumberText ds → (c : ℕ) (s t : List ℕ) → ds ++ s ≡ c ∷ t → (45 ≤ c) × (c ≤ 57)
+number_first [] bytes c s t e = absurd bytes
+number_first (d ∷ ds) bytes c s t e = (omega (arith, head e, bytes.0), omega (arith, head e, bytes.1))
 
 -- a number ends where what is behind it begins
 numbers_told : (xs ys s t : List ℕ) → AreOfNumber xs → AreOfNumber ys → IsBehind s → IsBehind t → xs ++ s ≡ ys ++ t
@@ -127,37 +141,44 @@ closed : (inner s : List ℕ) → (inner ++ 39 ∷ []) ++ s ≡ inner ++ (39 ∷
 closed inner s = append_assoc inner (39 ∷ []) s
 
 -- the first byte of a literal tells its class
-number_not : (z : ℤ) → FitsSigned w64 z → (c : ℕ) (s t : List ℕ) → signed_decimal z ++ s ≡ c ∷ t → (45 ≤ c) × (c ≤ 57)
-number_not z fits c s t e = number_first (signed_decimal z) (number_bytes z fits) c s t e
+number_not : (z : ℤ) (c : ℕ) (s t : List ℕ) → signed_decimal z ++ s ≡ c ∷ t → (45 ≤ c) × (c ≤ 57)
+number_not z c s t e = number_first (signed_decimal z) (number_bytes z) c s t e
 
-pub literal_told : (x y : Datum) → IsInRange x → IsInRange y → (s t : List ℕ) → IsBehind s → IsBehind t
-    → literal x ++ s ≡ literal y ++ t → (x ≡ y) × (s ≡ t)
-literal_told null null fits other s t behind next e = (refl, tail (tail (tail (tail e))))
-literal_told null (int n) fits other s t behind next e = absurd (omega (arith, number_not n other _ t _ (sym e)))
-literal_told null (text b) fits other s t behind next e = absurd (omega (arith, head e))
-literal_told null (blob b) fits other s t behind next e = absurd (omega (arith, head e))
-literal_told (int m) null fits other s t behind next e = absurd (omega (arith, number_not m fits _ s _ e))
-literal_told (int m) (int n) fits other s t behind next e =
-    let told = numbers_told (signed_decimal m) (signed_decimal n) s t (number_bytes m fits).1 (number_bytes n other).1 behind next e in
-    (ap int (signed_decimal_injective m n fits.sfits other.sfits told.0), told.1)
-literal_told (int m) (text b) fits other s t behind next e = absurd (omega (arith, number_not m fits _ s _ e))
-literal_told (int m) (blob b) fits other s t behind next e = absurd (omega (arith, number_not m fits _ s _ e))
-literal_told (text a) null fits other s t behind next e = absurd (omega (arith, head e))
-literal_told (text a) (int n) fits other s t behind next e = absurd (omega (arith, number_not n other _ t _ (sym e)))
-literal_told (text a) (text b) fits other s t behind next e =
-    let told = quoted_told a b s t behind next (sym (closed (quoted_all a) s) ∙ tail e ∙ closed (quoted_all b) t) in
-    (ap text told.0, told.1)
-literal_told (text a) (blob b) fits other s t behind next e = absurd (omega (arith, head e))
-literal_told (blob a) null fits other s t behind next e = absurd (omega (arith, head e))
-literal_told (blob a) (int n) fits other s t behind next e = absurd (omega (arith, number_not n other _ t _ (sym e)))
-literal_told (blob a) (text b) fits other s t behind next e = absurd (omega (arith, head e))
-literal_told (blob a) (blob b) fits other s t behind next e =
+-- whole numbers of 64 bits are told apart by their texts
+abbrev pub AreOneInRange : Datum → Datum → Type 0
+AreOneInRange x y = IsInRange x → IsInRange y → x ≡ y
+
+pub literal_told : (x y : Datum) (s t : List ℕ) → IsBehind s → IsBehind t → literal x ++ s ≡ literal y ++ t
+    → AreOneInRange x y × (s ≡ t)
+literal_told null null s t behind next e = (λ _ _. refl, tail (tail (tail (tail e))))
+literal_told null (int n) s t behind next e = absurd (omega (arith, number_not n _ t _ (sym e)))
+literal_told null (text b) s t behind next e = absurd (omega (arith, head e))
+literal_told null (blob b) s t behind next e = absurd (omega (arith, head e))
+literal_told (int m) null s t behind next e = absurd (omega (arith, number_not m _ s _ e))
+literal_told (int m) (int n) s t behind next e =
+    let all = any_bytes (signed_decimal m) (number_bytes m) in
+    let others = any_bytes (signed_decimal n) (number_bytes n) in
+    let told = numbers_told (signed_decimal m) (signed_decimal n) s t all others behind next e in
+    (λ fits other. ap int (signed_decimal_injective m n fits.sfits other.sfits told.0), told.1)
+literal_told (int m) (text b) s t behind next e = absurd (omega (arith, number_not m _ s _ e))
+literal_told (int m) (blob b) s t behind next e = absurd (omega (arith, number_not m _ s _ e))
+literal_told (text a) null s t behind next e = absurd (omega (arith, head e))
+literal_told (text a) (int n) s t behind next e = absurd (omega (arith, number_not n _ t _ (sym e)))
+literal_told (text a) (text b) s t behind next e =
+    let inner = sym (closed (quoted_all a) s) ∙ tail e ∙ closed (quoted_all b) t in
+    let told = quoted_told a b s t behind next inner in
+    (λ _ _. ap text told.0, told.1)
+literal_told (text a) (blob b) s t behind next e = absurd (omega (arith, head e))
+literal_told (blob a) null s t behind next e = absurd (omega (arith, head e))
+literal_told (blob a) (int n) s t behind next e = absurd (omega (arith, number_not n _ t _ (sym e)))
+literal_told (blob a) (text b) s t behind next e = absurd (omega (arith, head e))
+literal_told (blob a) (blob b) s t behind next e =
     let told = hex_told a b s t (sym (closed (hex_all a) s) ∙ tail (tail e) ∙ closed (hex_all b) t) in
-    (ap blob told.0, told.1)
+    (λ _ _. ap blob told.0, told.1)
 
 -- no literal begins with a line feed
-pub literal-no_feed : (x : Datum) → IsInRange x → (s t : List ℕ) → literal x ++ s ≢ 10 ∷ t
-literal-no_feed null fits s t e = omega (arith, head e)
-literal-no_feed (int n) fits s t e = omega (arith, number_not n fits 10 s t e)
-literal-no_feed (text b) fits s t e = omega (arith, head e)
-literal-no_feed (blob b) fits s t e = omega (arith, head e)
+pub literal-no_feed : (x : Datum) (s t : List ℕ) → literal x ++ s ≢ 10 ∷ t
+literal-no_feed null s t e = omega (arith, head e)
+literal-no_feed (int n) s t e = omega (arith, number_not n 10 s t e)
+literal-no_feed (text b) s t e = omega (arith, head e)
+literal-no_feed (blob b) s t e = omega (arith, head e)

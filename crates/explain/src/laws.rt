@@ -3,10 +3,13 @@ ghost use Rattle.std.specs.Prelude.{◌≡◌, ℕ, All, List, [], ◌++◌};
 ghost use Rattle.meaning.specs.Body.{Row};
 ghost use Rattle.explain.specs.Text.{IsInRange, row_text, rows_text};
 
-/// No row's text begins another's: where it does, the rows are one.
+/// No row's text begins another's: where one does, the texts are one. The rows are one too, as their whole numbers have
+/// 64 bits.
 pub fn one_row()
-    ensures { (first second : Row) (rest : List ℕ) → All IsInRange first → All IsInRange second
-        → row_text first ++ rest ≡ row_text second → (first ≡ second) × (rest ≡ []) }
+    ensures text { (first second : Row) (rest : List ℕ) → row_text first ++ rest ≡ row_text second
+        → row_text first ≡ row_text second }
+    ensures row { (first second : Row) (rest : List ℕ) → row_text first ++ rest ≡ row_text second
+        → All IsInRange first → All IsInRange second → first ≡ second }
 {}
 
 /// A text is that of one list of rows at most.
