@@ -1,5 +1,5 @@
--- Rows as text: one line for each, as the mode `quote` of SQLite's shell prints them.
--- (Command Line Shell For SQLite, "Changing Output Formats")
+-- Rows as text: a line for each, of its values as quote(X) of SQLite writes them, with commas between.
+-- (Built-In Scalar SQL Functions, "quote(X)")
 use Rattle.std.specs.Prelude.{ℕ, List, [], ◌∷◌, ◌++◌, map, FitsSigned, ⊤}
 use Rattle.std.specs.Int.{w64}
 use Rattle.std.specs.List.{flat_map, join_with_byte}
