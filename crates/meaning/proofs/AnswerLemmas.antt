@@ -1,8 +1,8 @@
 -- What a query permits.
-use Rattle.std.proofs.Common.{◌≡◌, ℕ, zero, suc, Bool, false, All, List, [], ◌∷◌, map, length, refl, ap, ◌∙◌, slice_index_or, IsPermutation}
+use Rattle.std.proofs.Common.{◌≡◌, ℕ, zero, suc, Bool, false, All, List, [], ◌∷◌, ◌++◌, map, length, refl, ap, subst, ◌∙◌, slice_index_or, IsPermutation}
 use Rattle.std.specs.List.{AllZip}
 use Rattle.std.specs.Ordering.{is_lt}
-use Rattle.std.proofs.lemmas.List.{length-map}
+use Rattle.std.proofs.lemmas.List.{length-map, map-append}
 use Rattle.std.proofs.lemmas.List.Elements.{All-map}
 use Rattle.std.proofs.lemmas.List.Sorted.{ranks_by, length_permutation, All-permutation, IsPermutation-refl, IsPermutation-sym, IsPermutation-trans, IsPermutation-map}
 use Rattle.values.specs.Datum.{Datum}
@@ -97,3 +97,12 @@ Permits-bags w db other query rows same p = record {
 
 pub Begins-empty : (w : Datum) (db : Database) (query : QueryData) → Begins w db query []
 Begins-empty w db query = let some = some_permitted w db query in record { rest = some.0; permitted = some.1 }
+
+pub Begins-scan : (w : Datum) (db : Database) (query : QueryData) (given rest : List Row) → query.order ≡ []
+    → source_rows w db query.source ≡ given ++ rest → Begins w db query (map (term_values w query.columns) given)
+Begins-scan w db query given rest unordered whole =
+    let parts = ap (map (term_values w query.columns)) whole ∙ map-append (term_values w query.columns) given rest in
+    record {
+      rest = map (term_values w query.columns) rest;
+      permitted = subst (Permits w db query) parts (scan_permitted w db query unordered);
+    }

@@ -33,8 +33,12 @@ by_qty = record { source = table 0; columns = column 2 ∷ column 0 ∷ []; orde
 
 -- (40,1), (NULL,2), (7,3), (7,4)
 abbrev pub shown_rows : List Row
-shown_rows = (int (pos 40) ∷ int (pos 1) ∷ []) ∷ (null ∷ int (pos 2) ∷ []) ∷ (int (pos 7) ∷ int (pos 3) ∷ []) ∷ (int (pos 7) ∷ int (pos 4) ∷ []) ∷ []
+shown_rows =
+    (int (pos 40) ∷ int (pos 1) ∷ []) ∷ (null ∷ int (pos 2) ∷ []) ∷
+    (int (pos 7) ∷ int (pos 3) ∷ []) ∷ (int (pos 7) ∷ int (pos 4) ∷ []) ∷ []
 
 -- NULL first, and the two sevens in either order
 abbrev pub ascending_rows : List Row
-ascending_rows = (null ∷ int (pos 2) ∷ []) ∷ (int (pos 7) ∷ int (pos 4) ∷ []) ∷ (int (pos 7) ∷ int (pos 3) ∷ []) ∷ (int (pos 40) ∷ int (pos 1) ∷ []) ∷ []
+ascending_rows =
+    (null ∷ int (pos 2) ∷ []) ∷ (int (pos 7) ∷ int (pos 4) ∷ []) ∷
+    (int (pos 7) ∷ int (pos 3) ∷ []) ∷ (int (pos 40) ∷ int (pos 1) ∷ []) ∷ []

@@ -32,11 +32,15 @@ pub fn tables_are_bags()
         → Permits w db query rows → Permits w other query rows }
 {}
 
-/// Every answer begins with the empty list, and with each of its own beginnings.
+/// Every answer begins with the empty list, and with each of its own beginnings. Without ORDER BY the first rows of the
+/// source begin one.
 pub fn beginnings()
     ensures empty { (w : Datum) (db : Database) (query : QueryData) → Begins w db query [] }
     ensures front { (w : Datum) (db : Database) (query : QueryData) (given rest : List Row)
         → Permits w db query (given ++ rest) → Begins w db query given }
+    ensures scan { (w : Datum) (db : Database) (query : QueryData) (given rest : List Row) → query.order ≡ []
+        → source_rows w db query.source ≡ given ++ rest
+        → Begins w db query (map (term_values w query.columns) given) }
 {}
 
 /// A table of four rows: two of its columns, as stored and by the first of them.
