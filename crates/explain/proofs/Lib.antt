@@ -1,0 +1,4 @@
+pub mod LineLemmas
+pub mod LiteralLemmas
+pub mod RowLemmas
+pub mod ExampleLemmas

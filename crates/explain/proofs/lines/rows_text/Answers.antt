@@ -1,0 +1,11 @@
+use Rattle.std.proofs.lemmas.Result.{err_from_is_err_and}
+use Rattle.explain.specs.Text.{row_text}
+use Rattle.explain.proofs.LineLemmas.{Writes-cut_item}
+use Rattle.explain.proofs.lines.rows_text.Goals as goal
+
+pub returns-in_err-write_row-clause-writes : goal.returns-in_err-write_row-clause-writes
+returns-in_err-write_row-clause-writes g c =
+    let p = err_from_is_err_and c.from_residual.result c.from_residual.ensures.1 in
+    rw (p.1, p.2)
+    (Writes-cut_item row_text c.args.rows.now c.loop-row.row-index c.row-item.result _ _ _ _
+    c.loop-row-test.true c.row-item.is c.loop-row.invariant (rw c.as_slice.ensures at c.in_err-write_row.ensures.writes))

@@ -1,0 +1,3 @@
+pub mod OrderLemmas
+pub mod AnswerLemmas
+pub mod ExampleLemmas

@@ -1,0 +1,4 @@
+pub mod Query
+pub mod Body
+pub mod Answer
+pub mod Examples
