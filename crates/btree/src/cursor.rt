@@ -15,8 +15,9 @@ ghost use Rattle.btree.specs.Listing.{IsAt, IsEnded, IsEntry, IsStepFault};
 ghost use Rattle.btree.specs.Rest.{AreReadable, GoesOn, Holds, IsCursorFault, IsHeading, IsLeft, IsStanding, pages_seen};
 ghost use Rattle.btree.specs.Views.{cell_data};
 
-use crate::{Cell, PageView};
-use image::{Level, TreeKind};
+use crate::Cell;
+use crate::page::view_of;
+use image::Level;
 use pager::{Page, Pager, Source};
 use std::alloc::Global;
 use values::Fault;
@@ -31,21 +32,6 @@ pub struct Frame {
     number: u32,
     count: u16,
     at: u16,
-}
-
-/// The page of these bytes, of which so many are used.
-#[inline]
-fn view_of(page: &Page, number: u32, usable: usize) -> Option<PageView<'_>>
-    ensures found { IfSome result (λ view. view ≡ record { at = header_at number; kind = Table; level = view.level; page = take usable page.now }) }
-    ensures header { IfSome result (λ view. HasHeaderAt (header_at number) Table view.level (take usable page.now)) }
-    ensures none { 480 ≤ usable → usable ≤ 65536 → usable ≤ length page.now
-        → IfNone result ((level : Level) → ¬ HasHeaderAt (header_at number) Table level (take usable page.now)) }
-{
-    let bytes = page.as_slice();
-    if usable > bytes.len() {
-        return None;
-    }
-    PageView::read(TreeKind::Table, number, &bytes[..usable])
 }
 
 /// Asks for a page and reads its header. Its faults are `ReadFailed`, `NoMemory` and `BadPage` of this page.

@@ -12,4 +12,4 @@ mod page;
 
 pub use cell::{Cell, Payload};
 pub use cursor::Cursor;
-pub use page::PageView;
+pub use page::{PageView, view_of};

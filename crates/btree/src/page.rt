@@ -1,5 +1,5 @@
 //! A tree page, read in place.
-ghost use Rattle.std.specs.Prelude.{◌≡◌, ◌≢◌, ◌+◌, ◌*◌, ◌≤◌, ◌<◌, ℤ, length, IfNone, IfSome};
+ghost use Rattle.std.specs.Prelude.{◌≡◌, ◌≢◌, ◌+◌, ◌*◌, ◌≤◌, ◌<◌, ℤ, length, take, IfNone, IfSome};
 ghost use Rattle.image.specs.declared.kind.TreeKind.TheVariants.{Table};
 ghost use Rattle.image.specs.declared.kind.Level.{Level};
 ghost use Rattle.image.specs.declared.kind.Level.TheVariants.{Leaf, Interior};
@@ -12,6 +12,7 @@ ghost use Rattle.btree.specs.Views.{cell_data};
 use crate::cell::{Cell, table_cell};
 use byteorder::{BigEndian, ByteOrder};
 use image::{Level, TreeKind};
+use pager::Page;
 use records::varint;
 use std::marker::Model;
 
@@ -206,4 +207,20 @@ impl<'p> PageView<'p> {
         let (key, _) = varint(&self.bytes[place + 4..])?;
         Some(key)
     }
+}
+
+/// Page `number` of a table's tree, of which so many bytes are used; `None` where it is shorter or its header says that it
+/// is none.
+#[inline]
+pub fn view_of(page: &Page, number: u32, usable: usize) -> Option<PageView<'_>>
+    ensures found { IfSome result (λ view. view ≡ record { at = header_at number; kind = Table; level = view.level; page = take usable page.now }) }
+    ensures header { IfSome result (λ view. HasHeaderAt (header_at number) Table view.level (take usable page.now)) }
+    ensures none { 480 ≤ usable → usable ≤ 65536 → usable ≤ length page.now
+        → IfNone result ((level : Level) → ¬ HasHeaderAt (header_at number) Table level (take usable page.now)) }
+{
+    let bytes = page.as_slice();
+    if usable > bytes.len() {
+        return None;
+    }
+    PageView::read(TreeKind::Table, number, &bytes[..usable])
 }

@@ -9,7 +9,7 @@ use Rattle.image.specs.Cell.{CellData, IsTableCell}
 use Rattle.image.specs.Tree.{cell_at}
 use Rattle.image.specs.Broken.{HasRowid}
 
-one_cell_rowid : (usable : ℕ) (bytes : List ℕ) (c d : CellData) (one : IsTableCell usable bytes c) (other : IsTableCell usable bytes d) → one.rowid ≡ other.rowid
+pub one_cell_rowid : (usable : ℕ) (bytes : List ℕ) (c d : CellData) (one : IsTableCell usable bytes c) (other : IsTableCell usable bytes d) → one.rowid ≡ other.rowid
 one_cell_rowid usable bytes c d one other =
     let size = one_front bytes (pos c.payload.size) (pos d.payload.size) one.size_length other.size_length one.size_is other.size_is in
     let other_is = subst (λ (k : ℕ). BeginsVarint (drop k bytes) other.rowid other.rowid_length) (sym size.1) other.rowid_is in

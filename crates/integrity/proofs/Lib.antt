@@ -1,0 +1,6 @@
+pub mod KeyLemmas
+pub mod BoundLemmas
+pub mod HeadLemmas
+pub mod TreeLemmas
+pub mod WalkLemmas
+pub mod CountLemmas

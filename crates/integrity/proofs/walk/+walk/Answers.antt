@@ -1,0 +1,165 @@
+use Rattle.std.proofs.Common.{◌≡◌, ◌≢◌, ◌⊎◌, ◌+◌, ◌*◌, ◌<◌, ◌≤◌, ℕ, ℤ, zero, suc, List, length, Option, Some, rules, arith, refl, sym, ◌∙◌, ap, subst, inl, inr, IsTrue, ⊎_elim, add-one}
+use Rattle.std.proofs.lemmas.Bool.{cases_lt}
+use Rattle.std.proofs.lemmas.Result.{err_from_is_err_and}
+use Rattle.pager.specs.declared.header.Header.{Header}
+use Rattle.pager.proofs.StaysLemmas.{Stays-trans}
+use Rattle.image.specs.declared.kind.Level.TheVariants.{Leaf, Interior}
+use Rattle.image.specs.Layout.{cell_count, child}
+use Rattle.image.specs.Tree.{child_at}
+use Rattle.image.specs.Pages.{Pages}
+use Rattle.btree.specs.Rest.{pages_seen}
+use Rattle.btree.proofs.SeenLemmas.{still_steady, same_pages}
+use Rattle.integrity.specs.Walked.{IsMet, IsTree, AreCounts, IsBranch, counted}
+use Rattle.integrity.proofs.WalkLemmas.{too_deep, broken_header, broken_head, leaf_tree, leaf_counts, inner, broken_child, step_met, step_branch, step_under, here_within, uneven, more_branches, end_is, inner_tree}
+use Rattle.integrity.proofs.CountLemmas.{rows_step, size_step, rows_all, size_all}
+use Rattle.integrity.proofs.walk.+walk.Goals as goal
+
+pub returns-in_default-clause-fault : goal.returns-in_default-clause-fault
+returns-in_default-clause-fault g t c = λ steady.
+    inr (inr (broken_header c.args.pager.now.state c.header-header.result c.header-header.ensures.value c.header-header.ensures.sound c.args.n c.in_ok-page.page
+    (c.in_ok-page.ensures.page steady) c.in_ok-page.ensures.long c.args.root c.args.depth c.args.low c.args.high (c.requires.met steady) c.in_default.ensures.none))
+
+pub returns-in_err-level-clause-fault : goal.returns-in_err-level-clause-fault
+returns-in_err-level-clause-fault g t c = λ steady.
+    let p = err_from_is_err_and c.from_residual-in_err-level.result c.from_residual-in_err-level.ensures.1 in
+    rw (p.1, p.2)
+    (inr (inr (broken_head c.args.pager.now.state c.header-header.result c.header-header.ensures.value c.header-header.ensures.sound c.args.n c.in_ok-page.page
+    (c.in_ok-page.ensures.page steady) c.in_ok-page.ensures.long c.args.root c.args.depth c.args.low c.args.high (c.requires.met steady)
+    c.in-Some.view c.in-Some.ensures.found c.in-Some.ensures.header _ c.in_err-level.ensures.fault)))
+
+pub returns-then-eq-clause-tree : goal.returns-then-eq-clause-tree
+returns-then-eq-clause-tree g t c = λ steady.
+    let leaf : c.in-Some.view.level ≡ Leaf = sym c.in_ok-level.ensures.level ∙ search rules in
+    leaf_tree c.args.pager.now.state c.header-header.result c.header-header.ensures.value c.header-header.ensures.sound c.args.n c.in_ok-page.page
+    (c.in_ok-page.ensures.page steady) c.in_ok-page.ensures.long c.args.root c.args.depth c.args.low c.args.high (c.requires.met steady)
+    c.in-Some.view c.in-Some.ensures.found c.in-Some.ensures.header c.in_ok-level.ensures.head leaf
+
+pub returns-then-eq-clause-counts : goal.returns-then-eq-clause-counts
+returns-then-eq-clause-counts g t c = λ steady.
+    leaf_counts c.args.pager.now.state c.header-header.result c.header-header.ensures.value c.header-header.ensures.sound c.args.n c.in_ok-page.page
+    (c.in_ok-page.ensures.page steady) c.in_ok-page.ensures.long c.args.root c.args.depth c.args.low c.args.high (c.requires.met steady)
+    c.in-Some.view c.in-Some.ensures.found c.in-Some.ensures.header c.from.result (search rules) (search rules)
+
+pub returns-in_default-child_within-clause-fault : goal.returns-in_default-child_within-clause-fault
+returns-in_default-child_within-clause-fault g t c = λ steady.
+    let interior : c.in-Some.view.level ≡ Interior = search rules in
+    let within : c.loop-i.i ≤ cell_count c.in-Some.view.at c.in-Some.view.page = search rules in
+    let all = inner c.args.pager.now.state c.header-header.result c.header-header.ensures.value c.header-header.ensures.sound c.args.n c.in_ok-page.page
+    (c.in_ok-page.ensures.page steady) c.in_ok-page.ensures.long c.args.root c.args.depth c.args.low c.args.high (c.requires.met steady)
+    c.in-Some.view c.in-Some.ensures.found c.in-Some.ensures.header c.in_ok-level.ensures.head interior in
+    let header : c.header-header.result ≡ c.args.pager.now.state.header = c.header-header.ensures.value in
+    inr (inr (broken_child _ _ _ _ _ _ _ _ _ all c.loop-i.i within (subst (λ (h : Header). ¬ ((1 ≤ child c.in-Some.view.at c.in-Some.view.page c.loop-i.i) × (child c.in-Some.view.at c.in-Some.view.page c.loop-i.i ≤ h.pages))) header (c.in_default-child_within.ensures.none (c.header-header.result.pages * c.header-header.result.page_size) all.cells))))
+
+pub walk-requires : goal.walk-requires
+walk-requires g t c κs within =
+    let inv = c.loop-i.invariant in
+    let header : c.header-header.result ≡ c.args.pager.now.state.header = c.header-header.ensures.value in
+    let kid = c.in-Some-child_within.ensures.found in
+    (omega arith, (within, ((kid.1, subst (λ (h : Header). c.in-Some-child_within.child ≤ h.pages) (header ∙ sym inv.stays.header) kid.2), λ now.
+    let steady : IsTrue c.args.pager.now.state.source.steady = sym inv.stays.steady ∙ now in
+    let interior : c.in-Some.view.level ≡ Interior = search rules in
+    let in_count : c.loop-i.i ≤ cell_count c.in-Some.view.at c.in-Some.view.page = search rules in
+    let all = inner c.args.pager.now.state c.header-header.result c.header-header.ensures.value c.header-header.ensures.sound c.args.n c.in_ok-page.page
+    (c.in_ok-page.ensures.page steady) c.in_ok-page.ensures.long c.args.root c.args.depth c.args.low c.args.high (c.requires.met steady)
+    c.in-Some.view c.in-Some.ensures.found c.in-Some.ensures.header c.in_ok-level.ensures.head interior in
+    subst (λ (p : Pages). IsMet p c.args.root (c.args.depth + 1) c.low_bound-low.result c.high_bound-high.result c.in-Some-child_within.child) (sym (same_pages _ _ inv.stays))
+    (step_met _ _ _ _ _ _ _ _ _ all c.loop-i.i in_count c.in-Some-child_within.child c.low_bound-low.result c.high_bound-high.result kid.0
+    (kid.1, subst (λ (h : Header). c.in-Some-child_within.child ≤ h.pages) header kid.2)
+    c.low_bound-low.ensures.first (λ k. c.low_bound-low.ensures.inner (c.header-header.result.pages * c.header-header.result.page_size) k all.cells) (c.high_bound-high.ensures.inner (c.header-header.result.pages * c.header-header.result.page_size) all.cells) c.high_bound-high.ensures.last))))
+
+pub returns-then-is_uneven-clause-fault : goal.returns-then-is_uneven-clause-fault
+returns-then-is_uneven-clause-fault g t c = λ steady.
+    let inv = c.loop-i.invariant in
+    let header : c.header-header.result ≡ c.args.pager.now.state.header = c.header-header.ensures.value in
+    let kid = c.in-Some-child_within.ensures.found in
+    let now = still_steady _ _ inv.stays steady in
+    let interior : c.in-Some.view.level ≡ Interior = search rules in
+    let in_count : c.loop-i.i ≤ cell_count c.in-Some.view.at c.in-Some.view.page = search rules in
+    let all = inner c.args.pager.now.state c.header-header.result c.header-header.ensures.value c.header-header.ensures.sound c.args.n c.in_ok-page.page
+    (c.in_ok-page.ensures.page steady) c.in_ok-page.ensures.long c.args.root c.args.depth c.args.low c.args.high (c.requires.met steady)
+    c.in-Some.view c.in-Some.ensures.found c.in-Some.ensures.header c.in_ok-level.ensures.head interior in
+    let tree = subst (λ (p : Pages). IsTree p c.args.root c.in_ok-below.below.levels c.low_bound-low.result c.high_bound-high.result c.in-Some-child_within.child) (same_pages _ _ inv.stays) (c.in_ok-below.ensures.tree now) in
+    let later = step_branch _ _ _ _ _ _ _ _ _ all c.loop-i.i in_count c.in-Some-child_within.child c.low_bound-low.result c.high_bound-high.result kid.0
+    (kid.1, subst (λ (h : Header). c.in-Some-child_within.child ≤ h.pages) header kid.2)
+    c.low_bound-low.ensures.first (λ k. c.low_bound-low.ensures.inner (c.header-header.result.pages * c.header-header.result.page_size) k all.cells) (c.high_bound-high.ensures.inner (c.header-header.result.pages * c.header-header.result.page_size) all.cells) c.high_bound-high.ensures.last
+    c.in_ok-below.below.levels tree in
+    let odd = c.is_uneven.ensures.uneven c.if-is_uneven.true in
+    let here : c.loop-i.i ≤ _ = here_within _ _ _ _ _ _ _ _ _ all c.loop-i.i in_count in
+    inr (inr (uneven _ _ _ _ _ _ all.met c.loop-i.i c.loop-i.counts.levels c.in_ok-below.below.levels all.page_is here (inv.branches steady 0 odd.0) later odd.1))
+
+pub loop-i-preserved : goal.loop-i-preserved
+loop-i-preserved g t c =
+    let inv = c.loop-i.invariant in
+    let even = c.is_uneven.ensures.even c.if-is_uneven.false in
+    let deep = c.in_ok-below.ensures.deep in
+    let levels : c.join-counts.result.levels ≡ c.in_ok-below.below.levels = c.join-counts.ensures.levels in
+    let same : 0 < c.loop-i.i → c.loop-i.counts.levels ≡ c.join-counts.result.levels = λ some. even some ∙ sym levels in
+    let header : c.header-header.result ≡ c.args.pager.now.state.header = c.header-header.ensures.value in
+    let kid = c.in-Some-child_within.ensures.found in
+    let interior : c.in-Some.view.level ≡ Interior = search rules in
+    let in_count : c.loop-i.i ≤ cell_count c.in-Some.view.at c.in-Some.view.page = search rules in
+    record {
+      stays = Stays-trans _ _ _ inv.stays c.walk.ensures.stays;
+      failures = c.in_ok-below.ensures.failures ∙ inv.failures;
+      shallow = λ some. omega (arith, deep, levels);
+      branches = λ steady.
+          let now = still_steady _ _ inv.stays steady in
+          let all = inner c.args.pager.now.state c.header-header.result c.header-header.ensures.value c.header-header.ensures.sound c.args.n c.in_ok-page.page
+          (c.in_ok-page.ensures.page steady) c.in_ok-page.ensures.long c.args.root c.args.depth c.args.low c.args.high (c.requires.met steady)
+          c.in-Some.view c.in-Some.ensures.found c.in-Some.ensures.header c.in_ok-level.ensures.head interior in
+          let tree = subst (λ (l : ℕ). IsTree (pages_seen c.args.pager.now.state) c.args.root l c.low_bound-low.result c.high_bound-high.result c.in-Some-child_within.child) (sym levels)
+          (subst (λ (p : Pages). IsTree p c.args.root c.in_ok-below.below.levels c.low_bound-low.result c.high_bound-high.result c.in-Some-child_within.child) (same_pages _ _ inv.stays) (c.in_ok-below.ensures.tree now)) in
+          let later = step_branch _ _ _ _ _ _ _ _ _ all c.loop-i.i in_count c.in-Some-child_within.child c.low_bound-low.result c.high_bound-high.result kid.0
+          (kid.1, subst (λ (h : Header). c.in-Some-child_within.child ≤ h.pages) header kid.2)
+          c.low_bound-low.ensures.first (λ k. c.low_bound-low.ensures.inner (c.header-header.result.pages * c.header-header.result.page_size) k all.cells) (c.high_bound-high.ensures.inner (c.header-header.result.pages * c.header-header.result.page_size) all.cells) c.high_bound-high.ensures.last
+          c.join-counts.result.levels tree in
+          more_branches _ _ _ _ _ _ all.met c.loop-i.i c.loop-i.counts.levels c.join-counts.result.levels same (inv.branches steady) later;
+      rows = λ steady.
+          let now = still_steady _ _ inv.stays steady in
+          let all = inner c.args.pager.now.state c.header-header.result c.header-header.ensures.value c.header-header.ensures.sound c.args.n c.in_ok-page.page
+          (c.in_ok-page.ensures.page steady) c.in_ok-page.ensures.long c.args.root c.args.depth c.args.low c.args.high (c.requires.met steady)
+          c.in-Some.view c.in-Some.ensures.found c.in-Some.ensures.header c.in_ok-level.ensures.head interior in
+          let under = subst (λ (p : Pages). AreCounts p c.in_ok-below.below.levels c.in-Some-child_within.child c.in_ok-below.below.rows c.in_ok-below.below.pages) (same_pages _ _ inv.stays) (c.in_ok-below.ensures.counts now) in
+          let at = subst (λ (l : ℕ). AreCounts (pages_seen c.args.pager.now.state) l (child_at (pages_seen c.args.pager.now.state) c.args.n c.loop-i.i) c.in_ok-below.below.rows c.in_ok-below.below.pages) (sym levels)
+          (step_under _ _ _ _ _ _ _ _ _ all c.loop-i.i in_count c.in-Some-child_within.child c.low_bound-low.result c.high_bound-high.result kid.0
+          (kid.1, subst (λ (h : Header). c.in-Some-child_within.child ≤ h.pages) header kid.2)
+          c.low_bound-low.ensures.first (λ k. c.low_bound-low.ensures.inner (c.header-header.result.pages * c.header-header.result.page_size) k all.cells) (c.high_bound-high.ensures.inner (c.header-header.result.pages * c.header-header.result.page_size) all.cells) c.high_bound-high.ensures.last
+          c.in_ok-below.below.levels c.in_ok-below.below.rows c.in_ok-below.below.pages under) in
+          rows_step (pages_seen c.args.pager.now.state) c.args.n c.loop-i.i c.loop-i.counts.levels c.join-counts.result.levels same _ _ _ (inv.rows steady) at.rows_is c.join-counts.ensures.rows;
+      size = λ steady.
+          let now = still_steady _ _ inv.stays steady in
+          let all = inner c.args.pager.now.state c.header-header.result c.header-header.ensures.value c.header-header.ensures.sound c.args.n c.in_ok-page.page
+          (c.in_ok-page.ensures.page steady) c.in_ok-page.ensures.long c.args.root c.args.depth c.args.low c.args.high (c.requires.met steady)
+          c.in-Some.view c.in-Some.ensures.found c.in-Some.ensures.header c.in_ok-level.ensures.head interior in
+          let under = subst (λ (p : Pages). AreCounts p c.in_ok-below.below.levels c.in-Some-child_within.child c.in_ok-below.below.rows c.in_ok-below.below.pages) (same_pages _ _ inv.stays) (c.in_ok-below.ensures.counts now) in
+          let at = subst (λ (l : ℕ). AreCounts (pages_seen c.args.pager.now.state) l (child_at (pages_seen c.args.pager.now.state) c.args.n c.loop-i.i) c.in_ok-below.below.rows c.in_ok-below.below.pages) (sym levels)
+          (step_under _ _ _ _ _ _ _ _ _ all c.loop-i.i in_count c.in-Some-child_within.child c.low_bound-low.result c.high_bound-high.result kid.0
+          (kid.1, subst (λ (h : Header). c.in-Some-child_within.child ≤ h.pages) header kid.2)
+          c.low_bound-low.ensures.first (λ k. c.low_bound-low.ensures.inner (c.header-header.result.pages * c.header-header.result.page_size) k all.cells) (c.high_bound-high.ensures.inner (c.header-header.result.pages * c.header-header.result.page_size) all.cells) c.high_bound-high.ensures.last
+          c.in_ok-below.below.levels c.in_ok-below.below.rows c.in_ok-below.below.pages under) in
+          size_step (pages_seen c.args.pager.now.state) c.args.n c.loop-i.i c.loop-i.counts.levels c.join-counts.result.levels same _ _ _ (inv.size steady) at.size_is c.join-counts.ensures.pages;
+    }
+
+pub returns-clause-tree : goal.returns-clause-tree
+returns-clause-tree g t c = λ steady.
+    let inv = c.loop-i.invariant in
+    let interior : c.in-Some.view.level ≡ Interior = search rules in
+    let end : c.loop-i.i ≡ cell_count c.in-Some.view.at c.in-Some.view.page + 1 = search rules in
+    let all = inner c.args.pager.now.state c.header-header.result c.header-header.ensures.value c.header-header.ensures.sound c.args.n c.in_ok-page.page
+    (c.in_ok-page.ensures.page steady) c.in_ok-page.ensures.long c.args.root c.args.depth c.args.low c.args.high (c.requires.met steady)
+    c.in-Some.view c.in-Some.ensures.found c.in-Some.ensures.header c.in_ok-level.ensures.head interior in
+    rw add-one (inner_tree _ _ _ _ _ _ _ _ _ all c.loop-i.i c.loop-i.counts.levels end (inv.branches steady))
+
+pub returns-clause-counts : goal.returns-clause-counts
+returns-clause-counts g t c = λ steady.
+    let inv = c.loop-i.invariant in
+    let interior : c.in-Some.view.level ≡ Interior = search rules in
+    let end : c.loop-i.i ≡ cell_count c.in-Some.view.at c.in-Some.view.page + 1 = search rules in
+    let all = inner c.args.pager.now.state c.header-header.result c.header-header.ensures.value c.header-header.ensures.sound c.args.n c.in_ok-page.page
+    (c.in_ok-page.ensures.page steady) c.in_ok-page.ensures.long c.args.root c.args.depth c.args.low c.args.high (c.requires.met steady)
+    c.in-Some.view c.in-Some.ensures.found c.in-Some.ensures.header c.in_ok-level.ensures.head interior in
+    let done = end_is _ _ _ _ _ _ _ _ _ all c.loop-i.i c.loop-i.counts.levels end in
+    rw add-one (record {
+      rows_is = inv.rows steady ∙ ap counted (rows_all (pages_seen c.args.pager.now.state) c.args.n c.loop-i.counts.levels c.loop-i.i done);
+      size_is = inv.size steady ∙ ap counted (size_all (pages_seen c.args.pager.now.state) c.args.n c.loop-i.counts.levels c.loop-i.i done);
+    })

@@ -1,0 +1,19 @@
+use Rattle.std.proofs.Common.{◌≡◌, ℕ, suc, ◌+◌, ◌-◌, ◌<◌, ◌≤◌, IsTrue}
+use Rattle.pager.specs.PagerState.{Stays}
+use Rattle.btree.specs.Rest.{pages_seen}
+use Rattle.integrity.specs.Walked.{IsBranch, counted, rows_before, size_before}
+use Rattle.integrity.proofs.walk.+walk.Given as goal
+
+abbrev pub decreases-walk : goal.decreases-walk
+decreases-walk g l = 21 - l.depth
+
+abbrev pub invariant-loop-i : goal.invariant-loop-i
+invariant-loop-i g l = record {
+  stays : Stays l.fn.pager.state l.pager.state;
+  failures : l.pager.state.source.failures ≡ l.fn.pager.state.source.failures;
+  shallow : 0 < l.i → suc l.counts.levels + l.depth ≤ 20;
+  branches : IsTrue l.fn.pager.state.source.steady → (k : ℕ) → k < l.i
+      → IsBranch (pages_seen l.fn.pager.state) l.root l.counts.levels l.low l.high l.n k;
+  rows : IsTrue l.fn.pager.state.source.steady → l.counts.rows ≡ counted (rows_before (pages_seen l.fn.pager.state) l.counts.levels l.n l.i);
+  size : IsTrue l.fn.pager.state.source.steady → l.counts.pages ≡ counted (size_before (pages_seen l.fn.pager.state) l.counts.levels l.n l.i);
+}

@@ -1,0 +1,81 @@
+-- What a walk from a page down knows of it, and what it is told.
+use Rattle.std.specs.Prelude.{◌≡◌, ◌≢◌, ℕ, ℤ, zero, suc, ◌+◌, ◌-◌, ◌^◌, ◌<◌, ◌≤◌, min, List, length, sum_by, Option, Some, None}
+use Rattle.std.specs.List.{range_with_len, flat_map}
+use Rattle.values.specs.declared.fault.Fault.{Fault}
+use Rattle.values.specs.declared.fault.Fault.TheVariants.{ReadFailed, NoMemory, BadPage, BadOrder, BadDepth}
+use Rattle.image.specs.declared.kind.TreeKind.TheVariants.{Table}
+use Rattle.image.specs.declared.kind.Level.TheVariants.{Leaf, Interior}
+use Rattle.image.specs.Layout.{header_at}
+use Rattle.image.specs.Pages.{Pages, IsNumber}
+use Rattle.image.specs.Tree.{count_at, child_at, IsPageOf, IsUnder, StandsAt, Reaches}
+use Rattle.image.specs.Broken.{HasRowid}
+use Rattle.image.specs.Shape.{places_under, size_under}
+use Rattle.integrity.specs.Keys.{KeysFit}
+
+-- the bounds of what is under child i of page n: the keys of the cells beside it, and at its ends those of the page
+abbrev pub IsLowAt : Pages → ℕ → Option ℤ → ℕ → Option ℤ → Type 0
+IsLowAt pages n low zero bound = bound ≡ low
+IsLowAt pages n low (suc i) bound = (key : ℤ) × (bound ≡ Some key) × HasRowid pages Interior n i key
+
+pub record IsHighAt (pages : Pages) (n : ℕ) (high : Option ℤ) (i : ℕ) (bound : Option ℤ) : Type 0 where
+  pub inner : i < count_at pages n → (key : ℤ) × (bound ≡ Some key) × HasRowid pages Interior n i key
+  pub last : count_at pages n ≤ i → bound ≡ high
+
+-- page n heads a tree of so many levels below it, whose keys are above `low` and at most `high`
+abbrev pub IsTree : Pages → ℕ → ℕ → Option ℤ → Option ℤ → ℕ → Type 0
+IsTree pages root zero low high n =
+    IsPageOf pages Table Leaf n × KeysFit (HasRowid pages Leaf n) (count_at pages n) low high
+    × (n ≢ root → 0 < count_at pages n)
+IsTree pages root (suc height) low high n =
+    IsPageOf pages Table Interior n × KeysFit (HasRowid pages Interior n) (count_at pages n) low high
+    × ((i : ℕ) → i ≤ count_at pages n → IsNumber pages (child_at pages n i)
+    × ((l h : Option ℤ) × IsLowAt pages n low i l × IsHighAt pages n high i h
+    × IsTree pages root height l h (child_at pages n i)))
+
+-- child i of page n heads such a tree
+abbrev pub IsBranch : Pages → ℕ → ℕ → Option ℤ → Option ℤ → ℕ → ℕ → Type 0
+IsBranch pages root height low high n i =
+    IsNumber pages (child_at pages n i)
+    × ((l h : Option ℤ) × IsLowAt pages n low i l × IsHighAt pages n high i h
+    × IsTree pages root height l h (child_at pages n i))
+
+-- page n stands in the tree at this depth, and each bound is a key of an interior page above it
+pub record IsMet (pages : Pages) (root depth : ℕ) (low high : Option ℤ) (n : ℕ) : Type 0 where
+  pub number : IsNumber pages n
+  pub stands : StandsAt pages Table root depth n
+  pub low_from : (key : ℤ) → low ≡ Some key
+      → (a i : ℕ) × Reaches pages Table root a × IsUnder pages Table a (i + 1) n × HasRowid pages Interior a i key
+  pub high_from : (key : ℤ) → high ≡ Some key
+      → (a i : ℕ) × Reaches pages Table root a × IsUnder pages Table a i n × (i < count_at pages a) × HasRowid pages Interior a i key
+
+-- a number of 64 bits that stays at the greatest
+abbrev pub counted : ℕ → ℕ
+counted n = min n (2 ^ 64 - 1)
+
+-- how many cells, and how many pages, there are from page n down without its children from child i on
+abbrev pub rows_before : Pages → ℕ → ℕ → ℕ → ℕ
+rows_before pages levels n i = length (flat_map (λ k. places_under pages Table levels (child_at pages n k)) (range_with_len 0 i))
+
+abbrev pub size_before : Pages → ℕ → ℕ → ℕ → ℕ
+size_before pages levels n i = 1 + sum_by (λ k. size_under pages levels (child_at pages n k)) (range_with_len 0 i)
+
+-- so many cells and pages are under a page that has so many levels of pages below it
+pub record AreCounts (pages : Pages) (levels n rows size : ℕ) : Type 0 where
+  pub rows_is : rows ≡ counted (length (places_under pages Table levels n))
+  pub size_is : size ≡ counted (size_under pages levels n)
+
+-- page n as its used bytes have it, of which the header begins at a place
+pub record IsSeen (pages : Pages) (n at most : ℕ) (page : List ℕ) : Type 0 where
+  pub at_is : at ≡ header_at n
+  pub page_is : page ≡ pages.page n
+  pub most_is : most ≡ pages.size
+  pub long : length page ≡ pages.usable
+
+-- the faults of a walk
+abbrev pub IsWalkFault : Fault → Type 0
+IsWalkFault ReadFailed = Unit {0}
+IsWalkFault NoMemory = Unit {0}
+IsWalkFault (BadPage _) = Unit {0}
+IsWalkFault (BadOrder _) = Unit {0}
+IsWalkFault (BadDepth _) = Unit {0}
+IsWalkFault _ = ⊥

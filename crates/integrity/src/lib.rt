@@ -1,0 +1,10 @@
+//! The check of an image. It promises of a table's tree that it is sound where the check answers Ok, with exact counts of
+//! its rows, levels and pages, and that a fault's condition is broken.
+//!
+//! The modules, in the order in which data passes them: `keys` (the keys of one page) and `walk` (from a root down).
+#![tactic(auto)]
+
+mod keys;
+mod walk;
+
+pub use walk::{TreeCounts, check_table};

@@ -1,0 +1,178 @@
+//! A walk over a table's tree, from its root down.
+ghost use Rattle.std.specs.Prelude.{◌≡◌, ◌≢◌, ◌⊎◌, ◌+◌, ◌<◌, ◌≤◌, ℤ, Option, IfErr, IfNone, IfOk, IfSome, OnOk, IsFalse, IsTrue, None, Some, suc, ℕ};
+ghost use Rattle.image.specs.declared.kind.TreeKind.TheVariants.{Table};
+ghost use Rattle.image.specs.declared.kind.Level.TheVariants.{Interior};
+ghost use Rattle.image.specs.Broken.{IsBroken};
+ghost use Rattle.image.specs.Layout.{cell_count, child};
+ghost use Rattle.image.specs.Shape.{HasShape};
+ghost use Rattle.image.specs.Sound.{IsSoundTable};
+ghost use Rattle.pager.specs.PagerState.{IsPageNumber, Stays};
+ghost use Rattle.values.specs.Fault.{Counts};
+ghost use Rattle.btree.specs.Bytes.{IsDividerOf};
+ghost use Rattle.btree.specs.Rest.{IsCursorFault, pages_seen};
+ghost use Rattle.integrity.specs.Keys.{HasCells, HasKeyAt};
+ghost use Rattle.integrity.specs.Walked.{AreCounts, IsMet, IsTree, IsWalkFault, counted};
+
+use crate::keys::read_head;
+use btree::{PageView, view_of};
+use image::Level;
+use pager::{Pager, Source};
+use values::Fault;
+
+/// The most levels that a tree may have.
+const MOST_LEVELS: u32 = 20;
+
+/// What a table's tree has. Counts stay at the greatest number.
+#[derive(Clone, Copy, Debug, PartialEq, Eq)]
+pub struct TreeCounts {
+    /// How many levels of pages are below its root.
+    pub levels: u32,
+    /// The cells of its leaves.
+    pub rows: u64,
+    /// Its pages.
+    pub pages: u64,
+}
+
+/// The key that what is under child i is above, if there is one.
+fn low_bound(view: &PageView<'_>, low: Option<i64>, i: u32) -> Option<i64>
+    requires kind { view.now.kind ≡ Table }
+    requires level { view.now.level ≡ Interior }
+    requires within { i ≤ cell_count view.now.at view.now.page }
+    ensures first { i ≡ 0 → result ≡ low }
+    ensures inner { (most n : ℕ) → HasCells view.now.at most view.now.page Interior → i ≡ suc n
+        → (key : ℤ) × (result ≡ Some key) × IsDividerOf view.now.at view.now.page n key }
+{
+    if i == 0 { low } else { view.divider(i - 1) }
+}
+
+/// The greatest key that may be under child i, if there is one.
+fn high_bound(view: &PageView<'_>, high: Option<i64>, i: u32) -> Option<i64>
+    requires kind { view.now.kind ≡ Table }
+    requires level { view.now.level ≡ Interior }
+    ensures inner { (most : ℕ) → HasCells view.now.at most view.now.page Interior → i < cell_count view.now.at view.now.page
+        → (key : ℤ) × (result ≡ Some key) × IsDividerOf view.now.at view.now.page i key }
+    ensures last { cell_count view.now.at view.now.page ≤ i → result ≡ high }
+{
+    if i < u32::from(view.count()) {
+        view.divider(i)
+    } else {
+        high
+    }
+}
+
+/// Child i, if it is the number of one of so many pages.
+fn child_within(view: &PageView<'_>, i: u32, pages: u32) -> Option<u32>
+    requires level { view.now.level ≡ Interior }
+    requires within { i ≤ cell_count view.now.at view.now.page }
+    ensures found { IfSome result (λ m. (m ≡ child view.now.at view.now.page i) × (1 ≤ m) × (m ≤ pages)) }
+    ensures none { (most : ℕ) → HasCells view.now.at most view.now.page Interior
+        → IfNone result (¬ ((1 ≤ child view.now.at view.now.page i) × (child view.now.at view.now.page i ≤ pages))) }
+{
+    let child = view.child(i)?;
+    if child < 1 || child > pages {
+        return None;
+    }
+    Some(child)
+}
+
+/// Whether child i has other levels below it than the children before it.
+fn is_uneven(i: u32, levels: u32, below: u32) -> bool
+    ensures uneven { IsTrue result → (0 < i) × (below ≢ levels) }
+    ensures even { IsFalse result → 0 < i → levels ≡ below }
+{
+    i > 0 && below != levels
+}
+
+/// The counts of a page with so many of its children, and of one child more.
+fn join(counts: TreeCounts, below: TreeCounts) -> TreeCounts
+    ensures levels { result.levels ≡ below.levels }
+    ensures rows { result.rows ≡ counted (counts.rows + below.rows) }
+    ensures pages { result.pages ≡ counted (counts.pages + below.pages) }
+{
+    TreeCounts {
+        levels: below.levels,
+        rows: counts.rows.saturating_add(below.rows),
+        pages: counts.pages.saturating_add(below.pages),
+    }
+}
+
+/// Walks from page `n` down, which stands at this depth, and whose keys have to be above `low` and at most `high`.
+fn walk<S: Source>(
+    pager: &mut Pager<S>,
+    root: u32,
+    n: u32,
+    depth: u32,
+    low: Option<i64>,
+    high: Option<i64>,
+) -> Result<TreeCounts, Fault>
+    requires number { IsPageNumber pager.old.state n }
+    requires met { IsTrue pager.old.state.source.steady → IsMet (pages_seen pager.old.state) root depth low high n }
+    ensures deep { IfOk result (λ counts. counts.levels + depth ≤ 20) }
+    ensures tree { IsTrue pager.old.state.source.steady → IfOk result (λ counts. IsTree (pages_seen pager.old.state) root counts.levels low high n) }
+    ensures counts { IsTrue pager.old.state.source.steady
+        → IfOk result (λ counts. AreCounts (pages_seen pager.old.state) counts.levels n counts.rows counts.pages) }
+    ensures fault { IsTrue pager.old.state.source.steady
+        → IfErr result (λ e. (e ≡ Fault.ReadFailed) ⊎ (e ≡ Fault.NoMemory) ⊎ IsBroken (pages_seen pager.old.state) root e) }
+    ensures only { IfErr result IsWalkFault }
+    ensures failures { Counts Fault.ReadFailed result pager.old.state.source.failures pager.new.state.source.failures }
+    ensures stays { Stays pager.old.state pager.new.state }
+{
+    if depth > MOST_LEVELS {
+        return Err(Fault::BadDepth(root));
+    }
+    let header = pager.header();
+    let page = pager.page(n)?;
+    let Some(view) = view_of(&page, n, header.usable as usize) else {
+        return Err(Fault::BadPage(n));
+    };
+    let most = header.pages as u64 * header.page_size as u64;
+    let level = read_head(&view, most, root, n, low, high)?;
+    if level == Level::Leaf {
+        return Ok(TreeCounts {
+            levels: 0,
+            rows: u64::from(view.count()),
+            pages: 1,
+        });
+    }
+    let mut counts = TreeCounts {
+        levels: 0,
+        rows: 0,
+        pages: 1,
+    };
+    for i in 0..u32::from(view.count()) + 1 {
+        let Some(child) = child_within(&view, i, header.pages) else {
+            return Err(Fault::BadPage(n));
+        };
+        let low = low_bound(&view, low, i);
+        let high = high_bound(&view, high, i);
+        let below = walk(pager, root, child, depth + 1, low, high)?;
+        if is_uneven(i, counts.levels, below.levels) {
+            return Err(Fault::BadDepth(root));
+        }
+        counts = join(counts, below);
+    }
+    Ok(TreeCounts {
+        levels: counts.levels + 1,
+        ..counts
+    })
+}
+
+/// Checks the tree of a table that has this root, and counts what it has. Its faults are `ReadFailed`, `NoMemory`, and the
+/// conditions of a tree that are broken: `BadPage` and `BadOrder` of a page, `BadDepth` of the root.
+/// (Database File Format, section 1.6 "B-tree Pages")
+pub fn check_table<S: Source>(pager: &mut Pager<S>, root: u32) -> Result<TreeCounts, Fault>
+    requires { IsPageNumber pager.old.state root }
+    ensures sound { IsTrue pager.old.state.source.steady → OnOk result (IsSoundTable (pages_seen pager.old.state) root) }
+    ensures few { IfOk result (λ counts. counts.levels < 20) }
+    ensures shape { IsTrue pager.old.state.source.steady → IfOk result (λ counts. HasShape (pages_seen pager.old.state) Table counts.levels root) }
+    ensures counts { IsTrue pager.old.state.source.steady
+        → IfOk result (λ counts. AreCounts (pages_seen pager.old.state) counts.levels root counts.rows counts.pages) }
+    ensures fault { IsTrue pager.old.state.source.steady
+        → IfErr result (λ e. (e ≡ Fault.ReadFailed) ⊎ (e ≡ Fault.NoMemory) ⊎ IsBroken (pages_seen pager.old.state) root e) }
+    ensures only { IfErr result IsWalkFault }
+    ensures failures { Counts Fault.ReadFailed result pager.old.state.source.failures pager.new.state.source.failures }
+    ensures stays { Stays pager.old.state pager.new.state }
+{
+    let counts = walk(pager, root, root, 1, None, None)?;
+    Ok(counts)
+}
