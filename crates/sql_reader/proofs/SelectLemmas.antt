@@ -52,7 +52,8 @@ ends_complete Ends.semicolon = refl
 
 pub select_complete : {tree : SelectTree} {ts : Rest} → Selects tree ts → select ts ≡ Some tree
 select_complete (Selects.select {q = q} {table = table} {after = after} r e) =
-    ap source_of (results_complete r (Lexeme.Name q table ∷ after) refl) ∙ cond-true (ends after) _ _ (ends_complete e)
+    ap source_of (results_complete r (Lexeme.Name q table ∷ after) refl)
+    ∙ cond-true (ends after) _ _ (ends_complete e)
 
 pub one_tree : {ts : Rest} {a b : SelectTree} → Selects a ts → Selects b ts → a ≡ b
 one_tree x y = let i = select_complete x in let j = select_complete y in cc
