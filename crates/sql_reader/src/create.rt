@@ -184,9 +184,9 @@ fn table(alloc: Global, tokens: &[Token<'_>], end: usize) -> Result<CreateTable,
     Ok(CreateTable { name, columns })
 }
 
-/// The CREATE TABLE that a text spells. (CREATE TABLE) The fault is `Syntax`, with the first place that no CREATE TABLE
-/// goes on with, where the text spells none; `Limit` where the text is longer than 65,536 bytes or spells more than 100
-/// columns; or `NoMemory`.
+/// The CREATE TABLE that a text spells. (CREATE TABLE) The fault is `Syntax` where the text spells none, with the place
+/// where it stops being tokens, or else of the first token that no CREATE TABLE goes on with; `Limit` where the text is
+/// longer than 65,536 bytes or spells more than 100 columns; or `NoMemory`.
 #[tactic(auto, using(crate::proofs::StatementLemmas::create_spelt, crate::proofs::StatementLemmas::create_refused, crate::proofs::StatementLemmas::create_tokens_refused))]
 pub fn read_create(alloc: Global, text: &str) -> Result<CreateTable, Fault>
     ensures spelt { IfOk result (λ table. SpellsCreate text.now (table_of table)) }

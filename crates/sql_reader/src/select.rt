@@ -69,9 +69,9 @@ fn statement(alloc: Global, tokens: &[Token<'_>], end: usize) -> Result<Select, 
     Ok(Select { columns, table })
 }
 
-/// The SELECT that a text spells. (SELECT) The fault is `Syntax`, with the first place that no SELECT goes on with,
-/// where the text spells none; `Limit` where the text is longer than 65,536 bytes or spells more than 100 columns; or
-/// `NoMemory`.
+/// The SELECT that a text spells. (SELECT) The fault is `Syntax` where the text spells none, with the place where it
+/// stops being tokens, or else of the first token that no SELECT goes on with; `Limit` where the text is longer than
+/// 65,536 bytes or spells more than 100 columns; or `NoMemory`.
 #[tactic(auto, using(crate::proofs::StatementLemmas::select_spelt, crate::proofs::StatementLemmas::select_refused, crate::proofs::StatementLemmas::select_tokens_refused))]
 pub fn read_select(alloc: Global, text: &str) -> Result<Select, Fault>
     ensures spelt { IfOk result (λ select. SpellsSelect text.now (select_of select)) }

@@ -25,7 +25,7 @@ pub enum ColumnType {
     Blob,
 }
 
-/// What the values of a column must keep. (CREATE TABLE)
+/// A constraint of a column. (CREATE TABLE)
 #[derive(Clone, Copy, Debug, PartialEq, Eq)]
 pub enum ColumnConstraint {
     PrimaryKey,
