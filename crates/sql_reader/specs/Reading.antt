@@ -80,8 +80,7 @@ abbrev pub turn : {A : Type 0} → (Rest → Option (A × Rest)) → (Rest → F
 turn item others ts None = Some ([], ts)
 turn item others ts (Some start) = first_and others (item start)
 
--- as many phrases as there are, in at most so many turns; `begins` says where a further one starts, if one
--- comes
+-- as many phrases as there are, in at most so many turns; `begins` says where a further one starts, if any does
 abbrev pub many_within : {A : Type 0} → (Rest → Option Rest) → (Rest → Option (A × Rest)) → ℕ → Rest → Found A
 many_within begins item zero ts = turn item (λ rest. None) ts (begins ts)
 many_within begins item (suc n) ts = turn item (many_within begins item n) ts (begins ts)
