@@ -1,3 +1,6 @@
+pub mod ListLemmas
+pub mod PhraseLemmas
 pub mod SelectLemmas
-pub mod NamesLemmas
+pub mod CreateLemmas
+pub mod ColumnLemmas
 pub mod StatementLemmas

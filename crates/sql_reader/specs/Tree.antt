@@ -1,5 +1,5 @@
 -- Trees, without where they lie in memory. A name is its bytes, without quotes.
-use Rattle.std.specs.Prelude.{ℕ, List}
+use Rattle.std.specs.Prelude.{ℕ, List, length}
 
 abbrev pub Name : Type 0
 Name = List ℕ
@@ -11,3 +11,34 @@ pub data Columns : Type 0 where
 pub record SelectTree : Type 0 where
   pub columns : Columns
   pub table : Name
+
+pub data TypeTree : Type 0 where
+  Int : TypeTree
+  Integer : TypeTree
+  Text : TypeTree
+  Blob : TypeTree
+
+pub data ConstraintTree : Type 0 where
+  PrimaryKey : ConstraintTree
+  NotNull : ConstraintTree
+
+-- a column, with its constraints as they are written
+pub record ColumnTree : Type 0 where
+  pub name : Name
+  pub ty : TypeTree
+  pub constraints : List ConstraintTree
+
+pub record TableTree : Type 0 where
+  pub name : Name
+  pub columns : List ColumnTree
+
+-- how many columns are written; `*` is one
+abbrev pub count_of : Columns → ℕ
+count_of Columns.All = 1
+count_of (Columns.Named ns) = length ns
+
+abbrev pub columns_of_select : SelectTree → ℕ
+columns_of_select tree = count_of tree.columns
+
+abbrev pub columns_of_table : TableTree → ℕ
+columns_of_table tree = length tree.columns

@@ -1,10 +1,13 @@
 //! SELECT texts.
 ghost use Rattle.std.specs.Prelude.{◌≡◌, IfErr, IfOk, map, string_bytes};
-ghost use Rattle.sql_reader.specs.Grammar.{IsRefused, IsWithin, SpellsSelect};
 ghost use Rattle.sql_reader.specs.Reading as spec;
 ghost use Rattle.sql_reader.specs.Reading.{Gives};
+ghost use Rattle.sql_reader.specs.SelectGrammar.{SpellsSelect};
+ghost use Rattle.sql_reader.specs.Texts.{IsRefused, IsWithin};
+ghost use Rattle.sql_reader.specs.Tree.{columns_of_select};
 ghost use Rattle.sql_reader.specs.View.{columns_of, lexemes_of, select_of};
 
+use crate::limits::{MAX_COLUMNS, MAX_TEXT};
 use crate::steps::{
     after_comma, after_from, after_select, after_semicolon, after_star, ends, name, syntax_at,
 };
@@ -19,7 +22,8 @@ fn names<'t>(
     tokens: &'t [Token<'t>],
     end: usize,
 ) -> Result<(Vec<String>, &'t [Token<'t>]), Fault>
-    ensures { Gives (λ r. (map (λ name. string_bytes name) r.0.items, lexemes_of r.1.now)) result (spec.names (lexemes_of tokens.now)) }
+    ensures { Gives (λ r. (map (λ name. string_bytes name) r.0.items, lexemes_of r.1.now)) result
+        (spec.listed spec.name (lexemes_of tokens.now)) }
 {
     let mut names = Vec::new(alloc);
     let (first, mut rest) = name(alloc, tokens, end)?;
@@ -65,19 +69,14 @@ fn statement(alloc: Global, tokens: &[Token<'_>], end: usize) -> Result<Select, 
     Ok(Select { columns, table })
 }
 
-/// The most bytes of a text.
-const MAX_TEXT: usize = 65536;
-
-/// The most columns of a SELECT.
-const MAX_COLUMNS: usize = 100;
-
-/// The SELECT that a text spells. The fault is `Syntax`, with the first place that no SELECT goes on with, where the text
-/// spells none; `Limit` where the text is longer than 65,536 bytes or spells more than 100 columns; or `NoMemory`.
-#[tactic(auto, using(crate::proofs::StatementLemmas::spelt_by, crate::proofs::StatementLemmas::select_refused, crate::proofs::StatementLemmas::tokens_refused))]
+/// The SELECT that a text spells. (SELECT) The fault is `Syntax` where the text spells none, with the place where it
+/// stops being tokens, or else of the first token that no SELECT goes on with; `Limit` where the text is longer than
+/// 65,536 bytes or spells more than 100 columns; or `NoMemory`.
+#[tactic(auto, using(crate::proofs::StatementLemmas::select_spelt, crate::proofs::StatementLemmas::select_refused, crate::proofs::StatementLemmas::select_tokens_refused))]
 pub fn read_select(alloc: Global, text: &str) -> Result<Select, Fault>
     ensures spelt { IfOk result (λ select. SpellsSelect text.now (select_of select)) }
-    ensures within { IfOk result (λ select. IsWithin text.now (select_of select)) }
-    ensures refused { IfErr result (λ fault. IsRefused text.now fault) }
+    ensures within { IfOk result (λ select. IsWithin columns_of_select text.now (select_of select)) }
+    ensures refused { IfErr result (λ fault. IsRefused SpellsSelect columns_of_select text.now fault) }
 {
     if text.len() > MAX_TEXT {
         return Err(Fault::Limit);

@@ -69,6 +69,125 @@ pub(crate) fn after_star<'t>(tokens: &'t [Token<'t>]) -> Option<&'t [Token<'t>]>
     }
 }
 
+pub(crate) fn after_create<'t>(tokens: &'t [Token<'t>]) -> Option<&'t [Token<'t>]>
+    ensures { option_map (λ r. lexemes_of r.now) result ≡ spec.after_create (lexemes_of tokens.now) }
+{
+    match tokens {
+        [
+            Token {
+                kind: TokenKind::Keyword(Keyword::Create),
+                ..
+            },
+            rest @ ..,
+        ] => Some(rest),
+        _ => None,
+    }
+}
+
+pub(crate) fn after_table<'t>(tokens: &'t [Token<'t>]) -> Option<&'t [Token<'t>]>
+    ensures { option_map (λ r. lexemes_of r.now) result ≡ spec.after_table (lexemes_of tokens.now) }
+{
+    match tokens {
+        [
+            Token {
+                kind: TokenKind::Keyword(Keyword::Table),
+                ..
+            },
+            rest @ ..,
+        ] => Some(rest),
+        _ => None,
+    }
+}
+
+pub(crate) fn after_open<'t>(tokens: &'t [Token<'t>]) -> Option<&'t [Token<'t>]>
+    ensures { option_map (λ r. lexemes_of r.now) result ≡ spec.after_open (lexemes_of tokens.now) }
+{
+    match tokens {
+        [
+            Token {
+                kind: TokenKind::Sign(Sign::Open),
+                ..
+            },
+            rest @ ..,
+        ] => Some(rest),
+        _ => None,
+    }
+}
+
+pub(crate) fn after_close<'t>(tokens: &'t [Token<'t>]) -> Option<&'t [Token<'t>]>
+    ensures { option_map (λ r. lexemes_of r.now) result ≡ spec.after_close (lexemes_of tokens.now) }
+{
+    match tokens {
+        [
+            Token {
+                kind: TokenKind::Sign(Sign::Close),
+                ..
+            },
+            rest @ ..,
+        ] => Some(rest),
+        _ => None,
+    }
+}
+
+pub(crate) fn after_primary<'t>(tokens: &'t [Token<'t>]) -> Option<&'t [Token<'t>]>
+    ensures found { option_map (λ r. lexemes_of r.now) result ≡ spec.after_primary (lexemes_of tokens.now) }
+    ensures shorter { IfSome result (λ r. length r.now < length tokens.now) }
+{
+    match tokens {
+        [
+            Token {
+                kind: TokenKind::Keyword(Keyword::Primary),
+                ..
+            },
+            rest @ ..,
+        ] => Some(rest),
+        _ => None,
+    }
+}
+
+pub(crate) fn after_not<'t>(tokens: &'t [Token<'t>]) -> Option<&'t [Token<'t>]>
+    ensures found { option_map (λ r. lexemes_of r.now) result ≡ spec.after_not (lexemes_of tokens.now) }
+    ensures shorter { IfSome result (λ r. length r.now < length tokens.now) }
+{
+    match tokens {
+        [
+            Token {
+                kind: TokenKind::Keyword(Keyword::Not),
+                ..
+            },
+            rest @ ..,
+        ] => Some(rest),
+        _ => None,
+    }
+}
+
+pub(crate) fn after_null<'t>(tokens: &'t [Token<'t>]) -> Option<&'t [Token<'t>]>
+    ensures found { option_map (λ r. lexemes_of r.now) result ≡ spec.after_null (lexemes_of tokens.now) }
+    ensures shorter { IfSome result (λ r. length r.now < length tokens.now) }
+{
+    match tokens {
+        [
+            Token {
+                kind: TokenKind::Keyword(Keyword::Null),
+                ..
+            },
+            rest @ ..,
+        ] => Some(rest),
+        _ => None,
+    }
+}
+
+/// What is behind this word, if it stands at the front, unquoted and in letters of either case.
+pub(crate) fn after_word<'t>(tokens: &'t [Token<'t>], word: &str) -> Option<&'t [Token<'t>]>
+    ensures found { option_map (λ r. lexemes_of r.now) result ≡ spec.after_word word.now (lexemes_of tokens.now) }
+    ensures shorter { IfSome result (λ r. length r.now < length tokens.now) }
+{
+    match tokens {
+        [first, rest @ ..] if first.kind.is_word(word) => Some(rest),
+        _ => None,
+    }
+}
+
 /// Whether a statement ends here.
 pub(crate) fn ends(tokens: &[Token<'_>]) -> bool
     ensures { result ≡ spec.ends (lexemes_of tokens.now) }
