@@ -1,44 +1,12 @@
 //! A cursor over the rows of a table.
+use crate::images::{numbers, open, size_and_root};
 use btree::Cursor;
-use forge::{Image, Layout, LayoutError, ReadScript, ScriptSource, Shape, Table};
+use forge::{ReadScript, ScriptSource, Shape};
 use pager::{MemSource, Pager, Source};
 use std::alloc::{AllocError, Global};
-use std::num::NonZeroUsize;
 use std::process::Abort;
 use std::test::Fail;
-use values::{Fault, ValueRef};
-
-/// An image of one table of the rows first, first + 1 and so on, each of two values and NULL before them.
-fn numbers(
-    alloc: Global,
-    page_size: u32,
-    first: i64,
-    count: i64,
-    shape: Shape,
-) -> Result<Layout, LayoutError> {
-    let mut table = Table::new(
-        alloc,
-        "t",
-        "CREATE TABLE t(id INTEGER PRIMARY KEY, a INT, b TEXT) STRICT",
-    )?;
-    table.shape = shape;
-    for rowid in first..first.saturating_add(count) {
-        let row = [ValueRef::Null, ValueRef::Int(rowid), ValueRef::Text("row")];
-        table.push(rowid, &row)?;
-    }
-    let mut image = Image::new(alloc, page_size);
-    image.push_table(table)?;
-    image.lay_out()
-}
-
-/// A pager that keeps so many pages.
-fn open<S: Source + Drop>(alloc: Global, source: S, capacity: usize) -> Result<Pager<S>, Fail> {
-    let capacity = NonZeroUsize::new(capacity).ok_or("zero")?;
-    match Pager::open(alloc, source, capacity) {
-        Ok(pager) => Ok(pager),
-        Err((fault, _)) => Err(fault.into()),
-    }
-}
+use values::Fault;
 
 /// What a cursor gave before it ended, and with which fault.
 #[derive(Drop)]
@@ -87,16 +55,6 @@ fn expect_run(rt: &impl Abort, rowids: &[i64], first: i64) {
     for (rowid, wanted) in rowids.iter().zip(first..) {
         assert_eq!(rt; *rowid, wanted);
     }
-}
-
-/// How many pages the tree of the table `t` has, and its root.
-fn size_and_root(layout: &Layout) -> Result<(u64, u32), Fail> {
-    let tree = layout.tree("t").ok_or("no tree")?;
-    let mut pages = 0usize;
-    for level in &tree.levels {
-        pages = level.len().saturating_add(pages);
-    }
-    Ok((pages as u64, tree.root))
 }
 
 #[test]

@@ -1,5 +1,5 @@
 -- The bounds of what is under a child, as an interior page's bytes tell them.
-use Rattle.std.proofs.Common.{◌≡◌, ℕ, ℤ, suc, ◌<◌, List, Option, Some, None, refl, subst}
+use Rattle.std.proofs.Common.{◌≡◌, ℕ, ℤ, ◌<◌, List, Option, Some, None, refl}
 use Rattle.std.specs.Prelude.{IfSome, IfNone}
 use Rattle.image.specs.declared.kind.Level.TheVariants.{Interior}
 use Rattle.image.specs.Layout.{cell_count, cell_place}

@@ -1,25 +1,22 @@
 -- What the bytes of a page say of it within its tree.
-use Rattle.std.proofs.Common.{◌≡◌, ◌≢◌, ◌⊎◌, ℕ, ℤ, ◌+◌, ◌<◌, ◌≤◌, ◌<ℤ◌, ◌≤ℤ◌, List, length, Option, Some, None, inl, inr, refl, sym, ◌∙◌, ap, subst, arith}
+use Rattle.std.proofs.Common.{◌≡◌, ℕ, ℤ, ◌+◌, ◌<◌, ◌≤◌, length, Option, Some, None, inl, inr, refl, sym, ◌∙◌, subst, arith}
 use Rattle.values.specs.declared.fault.Fault.{Fault}
 use Rattle.values.specs.declared.fault.Fault.TheVariants.{BadPage, BadOrder}
 use Rattle.image.specs.declared.kind.TreeKind.TheVariants.{Table}
 use Rattle.image.specs.declared.kind.Level.{Level}
 use Rattle.image.specs.declared.kind.Level.TheVariants.{Leaf, Interior}
-use Rattle.image.specs.Cell.{CellData, IsTableCell}
+use Rattle.image.specs.Cell.{IsTableCell}
 use Rattle.image.specs.Layout.{header_at, cell_count, cell_place, places_end}
-use Rattle.image.specs.Pages.{Pages, IsNumber}
-use Rattle.image.specs.Tree.{HasHeader, HasCell, IsPageOf, IsUnder, Reaches, StandsAt, cell_at, child_at, count_at}
+use Rattle.image.specs.Pages.{Pages}
+use Rattle.image.specs.Tree.{HasCell, IsPageOf, IsUnder, Reaches, cell_at, count_at}
 use Rattle.image.specs.Broken.{HasRowid, IsSound, IsRowOrder, IsBroken}
 use Rattle.image.proofs.RowidLemmas.{one_rowid}
 use Rattle.btree.proofs.PageLemmas.{flag_of-same}
-use Rattle.btree.specs.Bytes.{HasHeaderAt, IsRowOf, IsDividerOf}
-use Rattle.integrity.specs.Keys.{IsAbove, IsAtMost, HasKeyAt, HasCells, KeysFit, IsHead, IsHeadFault}
+use Rattle.btree.specs.Bytes.{HasHeaderAt}
+use Rattle.integrity.specs.Keys.{IsAbove, IsAtMost, HasKeyAt, HasCells, KeysFit, IsHeadFault}
 use Rattle.integrity.specs.Walked.{IsMet}
 
 module _ (pages : Pages) (n : ℕ) (long : length (pages.page n) ≡ pages.usable) where
-
-
-
   cell_here : (level : Level) (i : ℕ) (key : ℤ) → HasKeyAt (header_at n) pages.size (pages.page n) level i key
       → HasCell pages Table level (cell_at pages level n i)
   cell_here Leaf i key (cell, row, e) = record {
@@ -50,11 +47,17 @@ module _ (pages : Pages) (n : ℕ) (long : length (pages.page n) ≡ pages.usabl
   key_there : (level : Level) (i : ℕ) → IsPageOf pages Table level n → i < count_at pages n
       → (key : ℤ) × HasKeyAt (header_at n) pages.size (pages.page n) level i key
   key_there Leaf i page within =
-      let there = page.cells i within in
-      (there.is.rowid, (there.cell, record {
-        begins = page.begins i within;
-        is = record { is = subst (λ (u : ℕ). IsTableCell u (cell_at pages Leaf n i) there.cell) (sym long) there.is; fits = there.fits };
-      }, there.is.has_rowid))
+      let there = page.cells i within in (
+        there.is.rowid,
+        (
+          there.cell,
+          record {
+            begins = page.begins i within;
+            is = record { is = subst (λ (u : ℕ). IsTableCell u (cell_at pages Leaf n i) there.cell) (sym long) there.is; fits = there.fits };
+          },
+          there.is.has_rowid,
+        ),
+      )
   key_there Interior i page within = let there = page.cells i within in (there.0, record { begins = page.begins i within; is = there.1 })
 
   pub has_cells : (level : Level) → IsPageOf pages Table level n → HasCells (header_at n) pages.size (pages.page n) level
@@ -111,13 +114,17 @@ module _ (pages : Pages) (n : ℕ) (long : length (pages.page n) ≡ pages.usabl
     pub head_fault : (level : Level) (fault : Fault) → HasHeaderAt (header_at n) Table level (pages.page n)
         → IsHeadFault (header_at n) pages.size (pages.page n) level root n low high fault → IsBroken pages root fault
     head_fault level (BadPage m) header (e, inl none) =
-        subst (λ (k : ℕ). IsBroken pages root (BadPage k)) (sym e)
-        ((depth, met.stands), λ (sound : IsSound pages Table root n).
-        none (subst (λ (l : Level). HasCells (header_at n) pages.size (pages.page n) l) (one_level level sound.level header sound.page) (has_cells sound.level sound.page)))
+        subst (λ (k : ℕ). IsBroken pages root (BadPage k)) (sym e) (
+          (depth, met.stands),
+          λ (sound : IsSound pages Table root n).
+              none (subst (λ (l : Level). HasCells (header_at n) pages.size (pages.page n) l) (one_level level sound.level header sound.page) (has_cells sound.level sound.page)),
+        )
     head_fault level (BadPage m) header (e, inr (leaf, other, empty)) =
-        subst (λ (k : ℕ). IsBroken pages root (BadPage k)) (sym e)
-        ((depth, met.stands), λ (sound : IsSound pages Table root n).
-        let some : 0 < count_at pages n = sound.filled (one_level level sound.level header sound.page ∙ leaf) other in absurd (omega arith))
+        subst (λ (k : ℕ). IsBroken pages root (BadPage k)) (sym e) (
+          (depth, met.stands),
+          λ (sound : IsSound pages Table root n).
+              let some : 0 < count_at pages n = sound.filled (one_level level sound.level header sound.page ∙ leaf) other in absurd (omega arith),
+        )
     head_fault level (BadOrder m) header (e, cells, not) =
         subst (λ (k : ℕ). IsBroken pages root (BadOrder k)) (sym e)
         ((depth, met.stands), λ order. not (fits_from_order level (is_page level header cells) order))

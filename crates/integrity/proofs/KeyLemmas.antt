@@ -1,14 +1,14 @@
 -- The keys of one page: a cell has one, and one more key ascends within the bounds.
-use Rattle.std.proofs.Common.{◌≡◌, ◌≢◌, ℕ, ℤ, zero, suc, ◌+◌, ◌<◌, ◌≤◌, ◌<ℤ◌, ◌≤ℤ◌, List, drop, length, Bool, true, false, ◌&&◌, IsTrue, IsFalse, ◌↔◌, Option, Some, None, refl, sym, ◌∙◌, ap, subst, arith, add-one, below_more}
+use Rattle.std.proofs.Common.{◌≡◌, ℕ, ℤ, zero, suc, ◌+◌, ◌<◌, ◌<ℤ◌, ◌≤ℤ◌, List, drop, length, Bool, true, false, ◌&&◌, IsTrue, IsFalse, ◌↔◌, Option, Some, None, refl, sym, ◌∙◌, subst, arith, add-one, below_more}
 use Rattle.std.proofs.lemmas.Int.{ints}
 use Rattle.records.proofs.VarintLemmas.{one_front}
 use Rattle.image.specs.declared.kind.Level.{Level}
 use Rattle.image.specs.declared.kind.Level.TheVariants.{Leaf, Interior}
-use Rattle.image.specs.Layout.{cell_place, cell_count}
+use Rattle.image.specs.Layout.{cell_place}
 use Rattle.image.specs.Cell.{CellData}
 use Rattle.image.proofs.RowidLemmas.{one_cell_rowid}
 use Rattle.btree.specs.Bytes.{IsRowOf, IsDividerOf}
-use Rattle.integrity.specs.Keys.{IsAbove, IsAtMost, HasKeyAt, HasCells, KeysFit, IsLast, FitSoFar}
+use Rattle.integrity.specs.Keys.{IsAbove, IsAtMost, HasKeyAt, KeysFit, FitSoFar}
 
 module _ (at most : ℕ) (page : List ℕ) where
   pub no_leaf_key : (level : Level) (i : ℕ) → level ≡ Leaf → ((cell : CellData) → ¬ IsRowOf at most page i cell)

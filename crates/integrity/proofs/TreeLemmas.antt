@@ -1,18 +1,18 @@
 -- What a walked tree says of the pages that its root reaches.
-use Rattle.std.proofs.Common.{◌≡◌, ◌≢◌, ◌⊎◌, ℕ, ℤ, zero, suc, ◌+◌, ◌<◌, ◌≤◌, ◌<ℤ◌, ◌≤ℤ◌, Option, Some, None, refl, sym, ◌∙◌, ap, subst, ⊎_elim, arith, add-one}
+use Rattle.std.proofs.Common.{◌≡◌, ℕ, ℤ, zero, suc, ◌+◌, ◌<◌, ◌≤◌, ◌<ℤ◌, ◌≤ℤ◌, Option, Some, None, refl, sym, subst, ⊎_elim, arith, add-one}
 use Rattle.std.proofs.lemmas.Bool.{cases_lt}
 use Rattle.image.specs.declared.kind.TreeKind.TheVariants.{Table}
 use Rattle.image.specs.declared.kind.Level.{Level}
 use Rattle.image.specs.declared.kind.Level.TheVariants.{Leaf, Interior}
-use Rattle.image.specs.Pages.{Pages, IsNumber}
+use Rattle.image.specs.Pages.{Pages}
 use Rattle.image.specs.Tree.{IsPageOf, IsChild, IsUnder, StandsAt, top, below, Reaches, child_at, count_at}
 use Rattle.image.specs.Shape.{HasShape, IsFilled}
-use Rattle.image.specs.Broken.{HasRowid, IsSound, IsRowOrder, HasUnevenLeaves, IsTooDeep}
-use Rattle.image.specs.Sound.{IsSoundTree, IsSoundTable}
+use Rattle.image.specs.Broken.{HasRowid, IsSound, IsRowOrder}
+use Rattle.image.specs.Sound.{IsSoundTable}
 use Rattle.image.proofs.RowidLemmas.{one_rowid}
 use Rattle.image.proofs.ShapeLemmas.{not_both}
 use Rattle.integrity.specs.Keys.{IsAbove, IsAtMost, KeysFit}
-use Rattle.integrity.specs.Walked.{IsLowAt, IsHighAt, IsTree, IsBranch}
+use Rattle.integrity.specs.Walked.{IsLowAt, IsHighAt, IsTree}
 use Rattle.integrity.proofs.KeyLemmas.{above_more, most_more}
 
 module _ (pages : Pages) where

@@ -1,6 +1,5 @@
 -- The steps of a walk.
-use Rattle.std.proofs.Common.{◌≡◌, ◌≢◌, ◌⊎◌, ℕ, ℤ, zero, suc, ◌+◌, ◌<◌, ◌≤◌, min, List, [], ◌++◌, length, Option, Some, None, inl, inr, refl, sym, ◌∙◌, ap, subst, ⊎_elim, arith, add-one, below_more, sum_by}
-use Rattle.std.specs.List.{range_with_len, flat_map}
+use Rattle.std.proofs.Common.{◌≡◌, ◌≢◌, ℕ, ℤ, zero, suc, ◌+◌, ◌<◌, ◌≤◌, List, length, Option, Some, None, inl, inr, refl, sym, ◌∙◌, ap, subst, ⊎_elim, arith, add-one, below_more}
 use Rattle.std.proofs.lemmas.Bool.{cases_lt}
 use Rattle.values.specs.declared.fault.Fault.{Fault}
 use Rattle.values.specs.declared.fault.Fault.TheVariants.{BadPage, BadDepth}
@@ -9,13 +8,13 @@ use Rattle.image.specs.declared.kind.Level.{Level}
 use Rattle.image.specs.declared.kind.Level.TheVariants.{Leaf, Interior}
 use Rattle.image.specs.Layout.{header_at, cell_count, child}
 use Rattle.image.specs.Pages.{Pages, IsNumber}
-use Rattle.image.specs.Tree.{Place, IsPageOf, IsChild, IsUnder, StandsAt, top, below, Reaches, child_at, count_at}
-use Rattle.image.specs.Shape.{places_under, size_under}
+use Rattle.image.specs.Tree.{IsPageOf, IsChild, IsUnder, StandsAt, top, below, Reaches, child_at, count_at}
+use Rattle.image.specs.Shape.{places_under}
 use Rattle.image.specs.Broken.{HasRowid, IsSound, IsBroken}
 use Rattle.image.proofs.ShapeLemmas.{one_level}
 use Rattle.btree.specs.Bytes.{HasHeaderAt, IsDividerOf}
 use Rattle.integrity.specs.Keys.{IsHead, IsHeadFault, KeysFit, HasCells}
-use Rattle.integrity.specs.Walked.{IsLowAt, IsHighAt, IsTree, IsBranch, IsMet, IsSeen, counted}
+use Rattle.integrity.specs.Walked.{IsLowAt, IsHighAt, IsTree, IsBranch, IsMet, IsSeen}
 use Rattle.std.proofs.Common.{take, length-take, ◌*◌}
 use Rattle.std.proofs.lemmas.List.FromFn.{length-map-range_with_len}
 use Rattle.pager.specs.declared.header.Header.{Header}
@@ -65,9 +64,13 @@ module _ (pages : Pages) (root : ℕ) where
           → (a b : ℕ) × Reaches pages Table root a × IsUnder pages Table a (b + 1) (child_at pages n i) × HasRowid pages Interior a b key
       low_up zero l is here key e =
           let up = met.low_from key (sym is ∙ e) in (up.0, up.1, up.2, under_child up.0 (up.1 + 1) 0 (child_at pages n 0) up.3 here, up.4)
-      low_up (suc i) l (k, is, has) here key e =
-          (n, i, (depth, met.stands), rw add-one (under_self (suc i) (child_at pages n (suc i)) here),
-          subst (λ (x : ℤ). HasRowid pages Interior n i x) (some_key k key (sym is ∙ e)) has)
+      low_up (suc i) l (k, is, has) here key e = (
+        n,
+        i,
+        (depth, met.stands),
+        rw add-one (under_self (suc i) (child_at pages n (suc i)) here),
+        subst (λ (x : ℤ). HasRowid pages Interior n i x) (some_key k key (sym is ∙ e)) has,
+      )
 
       high_up : (key : ℤ) → h ≡ Some key
           → (a b : ℕ) × Reaches pages Table root a × IsUnder pages Table a b (child_at pages n i) × (b < count_at pages a) × HasRowid pages Interior a b key
@@ -98,11 +101,13 @@ module _ (pages : Pages) (root : ℕ) where
         → IsBranch pages root other low high n i → (other ≢ levels) → IsBroken pages root (BadDepth root)
     uneven i levels other page within first later differ =
         let a = leaf_at 0 levels page (omega arith) first in
-        let b = leaf_at i other page within later in
-        (refl, inl (⊎_elim
-        (λ (less : levels < other). record { one = a.0; other = b.0; depth = levels + suc depth; deeper = other + suc depth; one_at = a.1; other_at = b.1; one_leaf = a.2; other_leaf = b.2; differ = omega arith })
-        (λ (least : other ≤ levels). record { one = b.0; other = a.0; depth = other + suc depth; deeper = levels + suc depth; one_at = b.1; other_at = a.1; one_leaf = b.2; other_leaf = a.2; differ = omega arith })
-        (cases_lt levels other)))
+        let b = leaf_at i other page within later in (
+          refl,
+          inl (⊎_elim
+              (λ (less : levels < other). record { one = a.0; other = b.0; depth = levels + suc depth; deeper = other + suc depth; one_at = a.1; other_at = b.1; one_leaf = a.2; other_leaf = b.2; differ = omega arith })
+              (λ (least : other ≤ levels). record { one = b.0; other = a.0; depth = other + suc depth; deeper = levels + suc depth; one_at = b.1; other_at = a.1; one_leaf = b.2; other_leaf = a.2; differ = omega arith })
+              (cases_lt levels other)),
+        )
 
     -- one more branch, of as many levels as those before it
     pub more_branches : (i levels now : ℕ) → (0 < i → levels ≡ now) → ((k : ℕ) → k < i → IsBranch pages root levels low high n k)
@@ -216,9 +221,11 @@ module _ (state : PagerState) (header : Header) (header_is : header ≡ state.he
       pub leaf_tree : IsHead view.at (header.pages * header.page_size) view.page view.level root n low high → view.level ≡ Leaf
           → IsTree (pages_seen state) root 0 low high n
       leaf_tree head leaf =
-          let p = seen_page (pages_seen state) n view.at (header.pages * header.page_size) view.page see view.level root low high has_header head in
-          (subst (λ (l : Level). IsPageOf (pages_seen state) Table l n) leaf p.0,
-          subst (λ (l : Level). KeysFit (HasRowid (pages_seen state) l n) (count_at (pages_seen state) n) low high) leaf p.1, p.2 leaf)
+          let p = seen_page (pages_seen state) n view.at (header.pages * header.page_size) view.page see view.level root low high has_header head in (
+            subst (λ (l : Level). IsPageOf (pages_seen state) Table l n) leaf p.0,
+            subst (λ (l : Level). KeysFit (HasRowid (pages_seen state) l n) (count_at (pages_seen state) n) low high) leaf p.1,
+            p.2 leaf,
+          )
 
       pub leaf_counts : (count : ℕ) → count ≡ cell_count view.at view.page → count ≤ 65535 → AreCounts (pages_seen state) 0 n count 1
       leaf_counts count is few =

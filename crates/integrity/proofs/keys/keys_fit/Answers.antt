@@ -1,4 +1,4 @@
-use Rattle.std.proofs.Common.{◌≡◌, ◌<◌, ◌+◌, ℕ, ℤ, rules, arith, w64, SFits, below_more}
+use Rattle.std.proofs.Common.{◌<◌, ℤ, rules, w64, SFits, below_more}
 use Rattle.std.proofs.lemmas.Int.{to_z-of_z}
 use Rattle.image.specs.Layout.{cell_count}
 use Rattle.btree.proofs.CellLemmas.{IfNone-always}

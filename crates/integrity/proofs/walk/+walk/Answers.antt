@@ -1,5 +1,4 @@
-use Rattle.std.proofs.Common.{◌≡◌, ◌≢◌, ◌⊎◌, ◌+◌, ◌*◌, ◌<◌, ◌≤◌, ℕ, ℤ, zero, suc, List, length, Option, Some, rules, arith, refl, sym, ◌∙◌, ap, subst, inl, inr, IsTrue, ⊎_elim, add-one}
-use Rattle.std.proofs.lemmas.Bool.{cases_lt}
+use Rattle.std.proofs.Common.{◌≡◌, ◌+◌, ◌*◌, ◌<◌, ◌≤◌, ℕ, rules, arith, sym, ◌∙◌, ap, subst, inr, IsTrue, add-one}
 use Rattle.std.proofs.lemmas.Result.{err_from_is_err_and}
 use Rattle.pager.specs.declared.header.Header.{Header}
 use Rattle.pager.proofs.StaysLemmas.{Stays-trans}
@@ -9,8 +8,8 @@ use Rattle.image.specs.Tree.{child_at}
 use Rattle.image.specs.Pages.{Pages}
 use Rattle.btree.specs.Rest.{pages_seen}
 use Rattle.btree.proofs.SeenLemmas.{still_steady, same_pages}
-use Rattle.integrity.specs.Walked.{IsMet, IsTree, AreCounts, IsBranch, counted}
-use Rattle.integrity.proofs.WalkLemmas.{too_deep, broken_header, broken_head, leaf_tree, leaf_counts, inner, broken_child, step_met, step_branch, step_under, here_within, uneven, more_branches, end_is, inner_tree}
+use Rattle.integrity.specs.Walked.{IsMet, IsTree, AreCounts, counted}
+use Rattle.integrity.proofs.WalkLemmas.{broken_header, broken_head, leaf_tree, leaf_counts, inner, broken_child, step_met, step_branch, step_under, here_within, uneven, more_branches, end_is, inner_tree}
 use Rattle.integrity.proofs.CountLemmas.{rows_step, size_step, rows_all, size_all}
 use Rattle.integrity.proofs.walk.+walk.Goals as goal
 
@@ -54,18 +53,26 @@ pub walk-requires : goal.walk-requires
 walk-requires g t c κs within =
     let inv = c.loop-i.invariant in
     let header : c.header-header.result ≡ c.args.pager.now.state.header = c.header-header.ensures.value in
-    let kid = c.in-Some-child_within.ensures.found in
-    (omega arith, (within, ((kid.1, subst (λ (h : Header). c.in-Some-child_within.child ≤ h.pages) (header ∙ sym inv.stays.header) kid.2), λ now.
-    let steady : IsTrue c.args.pager.now.state.source.steady = sym inv.stays.steady ∙ now in
-    let interior : c.in-Some.view.level ≡ Interior = search rules in
-    let in_count : c.loop-i.i ≤ cell_count c.in-Some.view.at c.in-Some.view.page = search rules in
-    let all = inner c.args.pager.now.state c.header-header.result c.header-header.ensures.value c.header-header.ensures.sound c.args.n c.in_ok-page.page
-    (c.in_ok-page.ensures.page steady) c.in_ok-page.ensures.long c.args.root c.args.depth c.args.low c.args.high (c.requires.met steady)
-    c.in-Some.view c.in-Some.ensures.found c.in-Some.ensures.header c.in_ok-level.ensures.head interior in
-    subst (λ (p : Pages). IsMet p c.args.root (c.args.depth + 1) c.low_bound-low.result c.high_bound-high.result c.in-Some-child_within.child) (sym (same_pages _ _ inv.stays))
-    (step_met _ _ _ _ _ _ _ _ _ all c.loop-i.i in_count c.in-Some-child_within.child c.low_bound-low.result c.high_bound-high.result kid.0
-    (kid.1, subst (λ (h : Header). c.in-Some-child_within.child ≤ h.pages) header kid.2)
-    c.low_bound-low.ensures.first (λ k. c.low_bound-low.ensures.inner (c.header-header.result.pages * c.header-header.result.page_size) k all.cells) (c.high_bound-high.ensures.inner (c.header-header.result.pages * c.header-header.result.page_size) all.cells) c.high_bound-high.ensures.last))))
+    let kid = c.in-Some-child_within.ensures.found in (
+      omega arith,
+      (
+        within,
+        (
+          (kid.1, subst (λ (h : Header). c.in-Some-child_within.child ≤ h.pages) (header ∙ sym inv.stays.header) kid.2),
+          λ now.
+              let steady : IsTrue c.args.pager.now.state.source.steady = sym inv.stays.steady ∙ now in
+              let interior : c.in-Some.view.level ≡ Interior = search rules in
+              let in_count : c.loop-i.i ≤ cell_count c.in-Some.view.at c.in-Some.view.page = search rules in
+              let all = inner c.args.pager.now.state c.header-header.result c.header-header.ensures.value c.header-header.ensures.sound c.args.n c.in_ok-page.page
+              (c.in_ok-page.ensures.page steady) c.in_ok-page.ensures.long c.args.root c.args.depth c.args.low c.args.high (c.requires.met steady)
+              c.in-Some.view c.in-Some.ensures.found c.in-Some.ensures.header c.in_ok-level.ensures.head interior in
+              subst (λ (p : Pages). IsMet p c.args.root (c.args.depth + 1) c.low_bound-low.result c.high_bound-high.result c.in-Some-child_within.child) (sym (same_pages _ _ inv.stays))
+              (step_met _ _ _ _ _ _ _ _ _ all c.loop-i.i in_count c.in-Some-child_within.child c.low_bound-low.result c.high_bound-high.result kid.0
+              (kid.1, subst (λ (h : Header). c.in-Some-child_within.child ≤ h.pages) header kid.2)
+              c.low_bound-low.ensures.first (λ k. c.low_bound-low.ensures.inner (c.header-header.result.pages * c.header-header.result.page_size) k all.cells) (c.high_bound-high.ensures.inner (c.header-header.result.pages * c.header-header.result.page_size) all.cells) c.high_bound-high.ensures.last),
+        ),
+      ),
+    )
 
 pub returns-then-is_uneven-clause-fault : goal.returns-then-is_uneven-clause-fault
 returns-then-is_uneven-clause-fault g t c = λ steady.

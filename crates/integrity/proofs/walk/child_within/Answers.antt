@@ -1,4 +1,3 @@
-use Rattle.btree.proofs.CellLemmas.{IfNone-always}
 use Rattle.integrity.proofs.BoundLemmas.{has_child}
 use Rattle.integrity.proofs.walk.child_within.Goals as goal
 
