@@ -1,0 +1,4 @@
+pub mod StandLemmas
+pub mod ConjunctLemmas
+pub mod AnswerLemmas
+pub mod ReachLemmas

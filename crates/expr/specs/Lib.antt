@@ -1,0 +1,9 @@
+pub mod Operations
+pub mod Functions
+pub mod Term
+pub mod View
+pub mod Meaning
+pub mod Contract
+pub mod Conjuncts
+pub mod Laws
+pub mod Reaches
