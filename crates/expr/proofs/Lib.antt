@@ -2,3 +2,4 @@ pub mod StandLemmas
 pub mod ConjunctLemmas
 pub mod AnswerLemmas
 pub mod ReachLemmas
+pub mod LikeLemmas

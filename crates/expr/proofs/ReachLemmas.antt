@@ -6,7 +6,7 @@ use Rattle.expr.specs.declared.tree.Comparison.TheVariants.{Ge, Le}
 use Rattle.values.specs.Datum.{Datum, null}
 use Rattle.expr.specs.Operations.{arithmetic_of, truth, condition, comparison, is_null, and3, or3}
 use Rattle.expr.specs.Functions.{call_of}
-use Rattle.expr.specs.Term.{Term, Terms, Arms, literal, column, call, arithmetic, concat, compare, is, and, or, between, among, coalesce, choice, choice_of, null_if, none, more, no_arms, arm}
+use Rattle.expr.specs.Term.{Term, Terms, Arms, literal, column, call, arithmetic, concat, compare, is, and, or, between, among, coalesce, choice, choice_of, null_if, like, none, more, no_arms, arm}
 use Rattle.expr.specs.Meaning.{both, and_then, or_else, compared, first_value, chosen, or_otherwise, holds, run_all, run_first, run_arms, eval, exact}
 use Rattle.expr.specs.Conjuncts.{keeps}
 use Rattle.expr.specs.Laws.{is_none}
@@ -113,6 +113,7 @@ module _ (w : Datum) (row : List Datum) where
         rw (reached a, reached b) (of_compared op (exact a row) (exact b row) ∙ sym (none_map condition (compared op (exact a row) (exact b row))))
     reached (is a b) = rw (reached a, reached b) (of_sides _ (exact a row) (exact b row))
     reached (null_if a b) = rw (reached a, reached b) (of_sides _ (exact a row) (exact b row))
+    reached (like a b) = rw (reached a, reached b) (of_sides _ (exact a row) (exact b row))
     reached (and a b) = rw (reached a, reached b) (of_and (exact a row) (exact b row) (eval w a row) (agrees a))
     reached (or a b) = rw (reached a, reached b) (of_or (exact a row) (exact b row) (eval w a row) (agrees a))
     reached (between x a b) =

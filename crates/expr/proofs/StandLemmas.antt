@@ -10,7 +10,7 @@ use Rattle.expr.specs.declared.tree.Function.TheVariants.{Neg, BitNot, Not, Abs,
 use Rattle.expr.specs.Functions.{of_int, length_of, call_of}
 use Rattle.values.specs.Datum.{Datum, null, int, text, blob}
 use Rattle.expr.specs.Operations.{settle, fits_64, is_zero, of_integers, arithmetic_of, truth, condition, and3, or3, comparison, is_null}
-use Rattle.expr.specs.Term.{Term, Terms, Arms, literal, column, call, arithmetic, concat, compare, is, and, or, between, among, coalesce, choice, choice_of, null_if, none, more, no_arms, arm}
+use Rattle.expr.specs.Term.{Term, Terms, Arms, literal, column, call, arithmetic, concat, compare, is, and, or, between, among, coalesce, choice, choice_of, null_if, like, none, more, no_arms, arm}
 use Rattle.expr.specs.Meaning.{both, and_then, or_else, compared, first_value, chosen, or_otherwise, holds, run, run_all, run_first, run_arms}
 use Rattle.expr.specs.Laws.{StandsForAll, IsTotal}
 
@@ -140,6 +140,7 @@ module _ (w : Datum) where
       below (choice rest e) = below_otherwise _ _ _ _ (below_arms None rest) (below e)
       below (choice_of x rest e) = below_bind _ _ (λ v. below_otherwise _ _ _ _ (below_arms (Some v) rest) (below e)) _ _ (below x)
       below (null_if a b) = below_both _ _ (λ x y. refl) _ _ _ _ (below a) (below b)
+      below (like a b) = below_both _ _ (λ x y. refl) _ _ _ _ (below a) (below b)
 
       below_all : (ts : Terms) → Below (run_all None row ts) (run_all (Some w) row ts)
       below_all none = refl
@@ -282,6 +283,7 @@ module _ (w : Datum) where
       there (choice rest e) = there_otherwise _ _ (there_arms None rest) (there e)
       there (choice_of x rest e) = there_bind _ (λ v. there_otherwise _ _ (there_arms (Some v) rest) (there e)) _ (there x)
       there (null_if a b) = there_both _ (λ x y. tt) _ _ (there a) (there b)
+      there (like a b) = there_both _ (λ x y. tt) _ _ (there a) (there b)
 
       there_all : (ts : Terms) → IsThere (run_all (Some w) row ts)
       there_all none = tt

@@ -1,5 +1,6 @@
 pub mod Operations
 pub mod Functions
+pub mod Like
 pub mod Term
 pub mod View
 pub mod Meaning
@@ -7,3 +8,4 @@ pub mod Contract
 pub mod Conjuncts
 pub mod Laws
 pub mod Reaches
+pub mod Columns

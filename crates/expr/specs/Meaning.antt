@@ -6,7 +6,8 @@ use Rattle.expr.specs.declared.tree.Comparison.TheVariants.{Eq, Ge, Le}
 use Rattle.values.specs.Datum.{Datum, null}
 use Rattle.expr.specs.Operations.{arithmetic_of, truth, condition, and3, or3, comparison, any_equal, concat_of, is_null, same, null_if_equal}
 use Rattle.expr.specs.Functions.{call_of}
-use Rattle.expr.specs.Term.{Term, Terms, Arms, literal, column, call, arithmetic, concat, compare, is, and, or, between, among, coalesce, choice, choice_of, null_if, none, more, no_arms, arm}
+use Rattle.expr.specs.Like.{like_of}
+use Rattle.expr.specs.Term.{Term, Terms, Arms, literal, column, call, arithmetic, concat, compare, is, and, or, between, among, coalesce, choice, choice_of, null_if, like, none, more, no_arms, arm}
 
 -- both sides, computed whole
 abbrev pub both : {A B C : Type 0} → (A → B → Option C) → Option A → Option B → Option C
@@ -72,6 +73,7 @@ module _ (o : Option Datum) (row : List Datum) where
     run (choice rest e) = or_otherwise (run_arms None rest) (run e)
     run (choice_of x rest e) = option_and_then (λ v. or_otherwise (run_arms (Some v) rest) (run e)) (run x)
     run (null_if a b) = both (λ x y. Some (null_if_equal x y)) (run a) (run b)
+    run (like a b) = both (λ x y. Some (like_of x y)) (run a) (run b)
 
     pub run_all : Terms → Option (List Datum)
     run_all none = Some []

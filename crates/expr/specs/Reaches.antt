@@ -4,7 +4,7 @@ use Rattle.expr.specs.declared.tree.Comparison.TheVariants.{Ge}
 use Rattle.values.specs.Datum.{Datum}
 use Rattle.expr.specs.Operations.{arithmetic_of, truth, comparison, is_null}
 use Rattle.expr.specs.Functions.{call_of}
-use Rattle.expr.specs.Term.{Term, Terms, Arms, literal, column, call, arithmetic, concat, compare, is, and, or, between, among, coalesce, choice, choice_of, null_if, none, more, no_arms, arm}
+use Rattle.expr.specs.Term.{Term, Terms, Arms, literal, column, call, arithmetic, concat, compare, is, and, or, between, among, coalesce, choice, choice_of, null_if, like, none, more, no_arms, arm}
 use Rattle.expr.specs.Conjuncts.{keeps}
 use Rattle.expr.specs.Laws.{is_none}
 use Rattle.expr.specs.Meaning.{holds, eval, exact}
@@ -28,6 +28,7 @@ module _ (w : Datum) (row : List Datum) where
     reaches (compare op a b) = reaches a || reaches b
     reaches (is a b) = reaches a || reaches b
     reaches (null_if a b) = reaches a || reaches b
+    reaches (like a b) = reaches a || reaches b
     reaches (and a b) = reaches a || (not (fails (truth (value a))) && reaches b)
     reaches (or a b) = reaches a || (not (keeps (truth (value a))) && reaches b)
     reaches (between x a b) = (reaches x || reaches a) || (not (fails (comparison Ge (value x) (value a))) && reaches b)

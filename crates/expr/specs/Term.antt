@@ -22,6 +22,7 @@ mutual
     choice : Arms → Term → Term
     choice_of : Term → Arms → Term → Term
     null_if : Term → Term → Term
+    like : Term → Term → Term
 
   pub data Terms : Type 0 where
     none : Terms

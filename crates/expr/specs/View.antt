@@ -6,7 +6,7 @@ use Rattle.expr.specs.declared.tree.Expr.TheOpen.{Expr-F, Arm-F}
 use Rattle.expr.specs.declared.tree.Expr.TheFolds.{fold-Expr, fold-Arm}
 use Rattle.expr.specs.declared.tree.Arm.{Arm}
 use Rattle.values.specs.Datum.{datum_of}
-use Rattle.expr.specs.Term.{Term, Terms, Arms, literal, column, call, arithmetic, concat, compare, is, and, or, between, among, coalesce, choice, choice_of, null_if, none, more, no_arms, arm}
+use Rattle.expr.specs.Term.{Term, Terms, Arms, literal, column, call, arithmetic, concat, compare, is, and, or, between, among, coalesce, choice, choice_of, null_if, like, none, more, no_arms, arm}
 
 abbrev pub terms : List Term → Terms
 terms [] = none
@@ -36,6 +36,7 @@ node (Expr-F.In x items) = among x.value (terms items.items)
 node (Expr-F.Coalesce items) = coalesce (terms items.items)
 node (Expr-F.Case x rest e) = case_term x (arms rest.items) e.value
 node (Expr-F.NullIf a b) = null_if a.value b.value
+node (Expr-F.Like a b) = like a.value b.value
 
 abbrev pub arm_node : Arm-F Term (Term × Term) → Term × Term
 arm_node a = (a.when, a.then)

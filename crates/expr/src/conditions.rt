@@ -54,6 +54,7 @@ pub fn copy(alloc: Global, e: &Expr) -> Result<Expr, AllocError>
             }
         }
         Expr::NullIf(a, b) => Ok(Expr::NullIf(boxed(alloc, a)?, boxed(alloc, b)?)),
+        Expr::Like(a, b) => Ok(Expr::Like(boxed(alloc, a)?, boxed(alloc, b)?)),
     }
 }
 

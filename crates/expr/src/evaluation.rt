@@ -7,6 +7,7 @@ ghost use Rattle.expr.specs.View.{term};
 ghost use Rattle.expr.specs.Meaning.{eval, Overflows, and_then, or_else, run, run_all, run_first, run_arms};
 ghost use Rattle.expr.specs.Contract.{Answers, Gives, trees, arm_trees};
 
+use crate::like_operator::like;
 use crate::operations::{self, Stop};
 use crate::{Arm, Comparison, Expr, functions};
 use std::alloc::Global;
@@ -94,6 +95,11 @@ fn compute(alloc: Global, e: &Expr, row: &[Value]) -> Result<Value, Stop>
             let x = compute(alloc, a, row)?;
             let y = compute(alloc, b, row)?;
             Ok(operations::null_if_equal(x, &y))
+        }
+        Expr::Like(a, b) => {
+            let x = compute(alloc, a, row)?;
+            let pattern = compute(alloc, b, row)?;
+            Ok(like(alloc, &x, &pattern)?)
         }
     }
 }

@@ -1,5 +1,6 @@
 //! What holds of every expression and row.
 ghost use Rattle.expr.specs.Laws.{StandsForAll, IsTotal, KeepsConjuncts, AddsNoOverflow};
+ghost use Rattle.expr.specs.Like.{TestIsRelation};
 ghost use Rattle.expr.specs.Reaches.{ReachedIsNone};
 
 /// A value with nothing out of range is the value, whatever stands for results out of range.
@@ -25,4 +26,9 @@ pub fn adds_no_overflow()
 /// Whatever stands for results out of range, one is reached exactly where there is no value.
 pub fn reached_is_none()
     ensures { ReachedIsNone }
+{}
+
+/// The test by which LIKE is computed holds exactly where its relation does.
+pub fn like_is_relation()
+    ensures { TestIsRelation }
 {}

@@ -3,13 +3,15 @@
 //! reached; and that a condition is true exactly where each of its conjuncts is.
 //!
 //! The modules, in the order in which data passes them: `tree` (expressions), `operations` (on values), `functions`
-//! (the scalar functions), `evaluation` (the value on a row), `conditions` (a condition split at AND), and `laws`.
+//! (the scalar functions), `like_operator` (LIKE), `evaluation` (the value on a row), `conditions` (a condition split at AND), `names` (the columns that are named), and `laws`.
 #![tactic(auto)]
 
 mod conditions;
 mod evaluation;
 mod functions;
 pub mod laws;
+mod like_operator;
+mod names;
 mod operations;
 #[cfg(test)]
 mod tests;
@@ -17,4 +19,5 @@ mod tree;
 
 pub use conditions::{conjuncts, copy, is_true};
 pub use evaluation::eval;
+pub use names::columns;
 pub use tree::{Arithmetic, Arm, Comparison, Expr, Function};

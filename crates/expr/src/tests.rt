@@ -1,5 +1,5 @@
 //! Worked values.
-use crate::{Arithmetic, Arm, Comparison, Expr, Function, conjuncts, copy, eval, is_true};
+use crate::{Arithmetic, Arm, Comparison, Expr, Function, columns, conjuncts, copy, eval, is_true};
 use std::alloc::{AllocError, Global};
 use std::test::Fail;
 use values::{Fault, Value};
@@ -28,8 +28,8 @@ fn contained(alloc: Global, value: Expr, items: Vec<Expr>) -> Result<Expr, Alloc
     Ok(Expr::In(Box::new(alloc, value)?, items))
 }
 
-fn is_overflow(result: Result<Value, Fault>) -> bool {
-    match result {
+fn is_overflow(answer: Result<Value, Fault>) -> bool {
+    match answer {
         Err(Fault::Overflow) => true,
         _ => false,
     }
@@ -165,5 +165,55 @@ fn conditions(rt: HostRuntime) -> Result<(), Fail> {
     let mut list = Vec::new(alloc);
     conjuncts(alloc, both, &mut list)?;
     assert!(rt; list.len() == 3);
+    Ok(())
+}
+
+fn like(alloc: Global, subject: &str, pattern: &str) -> Result<Expr, AllocError> {
+    Ok(Expr::Like(
+        Box::new(alloc, text(alloc, subject)?)?,
+        Box::new(alloc, text(alloc, pattern)?)?,
+    ))
+}
+
+#[test]
+fn patterns(rt: HostRuntime) -> Result<(), Fail> {
+    let alloc = rt.alloc();
+    assert!(rt; gives(alloc, &like(alloc, "A", "a")?, Value::Int(1)));
+    assert!(rt; gives(alloc, &like(alloc, "abcbc", "a%b_")?, Value::Int(1)));
+    assert!(rt; gives(alloc, &like(alloc, "abcb", "a%b_")?, Value::Int(0)));
+    assert!(rt; gives(alloc, &like(alloc, "É", "é")?, Value::Int(0)));
+    assert!(rt; gives(alloc, &like(alloc, "", "%")?, Value::Int(1)));
+    Ok(())
+}
+
+#[test]
+fn pattern_of_many_runs(rt: HostRuntime) -> Result<(), Fail> {
+    let alloc = rt.alloc();
+    let mut subject = String::new(alloc);
+    for _ in 0..10000 {
+        subject.push('a')?;
+    }
+    let mut pattern = String::new(alloc);
+    for _ in 0..20 {
+        pattern.push_str("%a")?;
+    }
+    pattern.push('b')?;
+    assert!(rt;
+        gives(
+            alloc,
+            &like(alloc, subject.as_str(), pattern.as_str())?,
+            Value::Int(0)
+        )
+    );
+    Ok(())
+}
+
+#[test]
+fn named_columns(rt: HostRuntime) -> Result<(), Fail> {
+    let alloc = rt.alloc();
+    let expr = arithmetic(alloc, Arithmetic::Add, Expr::Column(3), Expr::Column(1))?;
+    let mut found = Vec::new(alloc);
+    columns(&expr, &mut found)?;
+    assert!(rt; found.as_slice() == [3, 1].as_slice());
     Ok(())
 }

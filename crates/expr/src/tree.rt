@@ -63,6 +63,8 @@ pub enum Expr {
     /// The first that is not NULL; `ifnull` is this of two.
     Coalesce(Vec<Expr>),
     NullIf(Box<Expr>, Box<Expr>),
+    /// The text, the pattern.
+    Like(Box<Expr>, Box<Expr>),
     /// The operand if there is one, the arms, and what stands behind ELSE, which is NULL where none is written.
     Case(Option<Box<Expr>>, Vec<Arm>, Box<Expr>),
 }
