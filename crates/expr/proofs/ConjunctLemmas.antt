@@ -1,5 +1,5 @@
 -- A condition and its conjuncts.
-use Rattle.std.proofs.Common.{◌≡◌, ◌&&◌, ◌||◌, Bool, true, false, List, Option, Some, None, option_map, refl, sym, ap, ◌∙◌}
+use Rattle.std.proofs.Common.{◌≡◌, ◌&&◌, ◌||◌, Bool, true, false, not, List, Option, Some, None, option_map, refl, sym, ap, ◌∙◌}
 use Rattle.std.specs.List.{list_all, list_any}
 use Rattle.std.proofs.lemmas.List.Folds.{list_all-append, list_any-append}
 use Rattle.std.proofs.Math.Bool.{and-true}
@@ -8,8 +8,8 @@ use Rattle.values.specs.Datum.{Datum}
 use Rattle.expr.specs.Operations.{truth, condition, and3}
 use Rattle.expr.specs.Term.{Term, compare, and, between}
 use Rattle.expr.specs.Meaning.{and_then, compared, run, exact}
-use Rattle.expr.specs.Conjuncts.{conjuncts, keeps, is_true}
-use Rattle.expr.specs.Laws.{KeepsConjuncts, AddsNoOverflow, is_none}
+use Rattle.expr.specs.Conjuncts.{conjuncts, keeps, is_conjunction, is_true}
+use Rattle.expr.specs.Laws.{KeepsConjuncts, AddsNoOverflow, ConjunctsAreLeaves, is_none}
 
 truth_condition : (b : Option Bool) → truth (condition b) ≡ b
 unfolding truth condition
@@ -69,6 +69,14 @@ module _ (o : Option Datum) (row : List Datum) where
 
 pub keeps_conjuncts : KeepsConjuncts
 keeps_conjuncts o row t = split o row t
+
+leaves : (t : Term) → list_all (λ c. not (is_conjunction c)) (conjuncts t) ≡ true
+leaves (and a b) = list_all-append (λ c. not (is_conjunction c)) (conjuncts a) (conjuncts b) ∙ rw (leaves a, leaves b) refl
+leaves (between x a b) = refl
+leaves t = refl
+
+pub conjuncts_are_leaves : ConjunctsAreLeaves
+conjuncts_are_leaves = leaves
 
 is_none_map : {A B : Type 0} (f : A → B) (m : Option A) → is_none (option_map f m) ≡ is_none m
 is_none_map f None = refl

@@ -3,3 +3,4 @@ pub mod ConjunctLemmas
 pub mod AnswerLemmas
 pub mod ReachLemmas
 pub mod LikeLemmas
+pub mod ColumnLemmas

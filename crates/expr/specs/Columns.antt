@@ -1,5 +1,5 @@
 -- The columns that an expression names.
-use Rattle.std.specs.Prelude.{◌≡◌, ℕ, List, [], ◌∷◌, ◌++◌, Option, All, slice_index_or}
+use Rattle.std.specs.Prelude.{◌≡◌, ℕ, List, [], ◌∷◌, ◌++◌, Option, slice_index_or}
 use Rattle.values.specs.Datum.{Datum, null}
 use Rattle.expr.specs.Term.{Term, Terms, Arms, literal, column, call, arithmetic, concat, compare, is, and, or, between, among, coalesce, choice, choice_of, null_if, like, none, more, no_arms, arm}
 use Rattle.expr.specs.Meaning.{run}
@@ -36,6 +36,11 @@ abbrev mutual
 abbrev pub AgreeAt : List Datum → List Datum → ℕ → Type 0
 AgreeAt row other i = slice_index_or row i null ≡ slice_index_or other i null
 
+-- two rows agree at each of some columns
+abbrev pub Agree : List Datum → List Datum → List ℕ → Type 0
+Agree row other [] = Unit {0}
+Agree row other (i ∷ rest) = AgreeAt row other i × Agree row other rest
+
 -- rows that agree at the columns that are named give one value, and overflow together
 abbrev pub DependsOnColumns : Type 0
-DependsOnColumns = (o : Option Datum) (row other : List Datum) (t : Term) → All (AgreeAt row other) (columns_of t) → run o row t ≡ run o other t
+DependsOnColumns = (o : Option Datum) (row other : List Datum) (t : Term) → Agree row other (columns_of t) → run o row t ≡ run o other t

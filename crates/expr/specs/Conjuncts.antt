@@ -10,6 +10,11 @@ conjuncts (and a b) = conjuncts a ++ conjuncts b
 conjuncts (between x a b) = compare Ge x a ∷ compare Le x b ∷ []
 conjuncts t = t ∷ []
 
+abbrev pub is_conjunction : Term → Bool
+is_conjunction (and a b) = true
+is_conjunction (between x a b) = true
+is_conjunction t = false
+
 -- a condition that is true keeps its row
 abbrev pub keeps : Option Bool → Bool
 keeps (Some true) = true

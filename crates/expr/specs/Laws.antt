@@ -1,10 +1,10 @@
 -- What holds of every expression and row.
-use Rattle.std.specs.Prelude.{◌≡◌, Bool, true, false, List, Option, Some, None}
+use Rattle.std.specs.Prelude.{◌≡◌, Bool, true, false, not, List, Option, Some, None}
 use Rattle.std.specs.List.{list_all, list_any}
 use Rattle.values.specs.Datum.{Datum}
 use Rattle.expr.specs.Term.{Term}
 use Rattle.expr.specs.Meaning.{run, eval, exact}
-use Rattle.expr.specs.Conjuncts.{conjuncts, is_true}
+use Rattle.expr.specs.Conjuncts.{conjuncts, is_conjunction, is_true}
 
 -- a value with nothing out of range is the value, whatever stands for results out of range
 abbrev pub StandsForAll : Type 0
@@ -17,6 +17,10 @@ IsTotal = (w : Datum) (t : Term) (row : List Datum) → run (Some w) row t ≡ S
 -- a condition is true exactly where each of its conjuncts is
 abbrev pub KeepsConjuncts : Type 0
 KeepsConjuncts = (o : Option Datum) (row : List Datum) (t : Term) → is_true (run o row t) ≡ list_all (λ c. is_true (run o row c)) (conjuncts t)
+
+-- no conjunct is an AND or a BETWEEN
+abbrev pub ConjunctsAreLeaves : Type 0
+ConjunctsAreLeaves = (t : Term) → list_all (λ c. not (is_conjunction c)) (conjuncts t) ≡ true
 
 abbrev pub is_none : {A : Type 0} → Option A → Bool
 is_none None = true

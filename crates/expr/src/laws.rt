@@ -1,5 +1,6 @@
 //! What holds of every expression and row.
-ghost use Rattle.expr.specs.Laws.{StandsForAll, IsTotal, KeepsConjuncts, AddsNoOverflow};
+ghost use Rattle.expr.specs.Columns.{DependsOnColumns};
+ghost use Rattle.expr.specs.Laws.{ConjunctsAreLeaves, StandsForAll, IsTotal, KeepsConjuncts, AddsNoOverflow};
 ghost use Rattle.expr.specs.Like.{TestIsRelation};
 ghost use Rattle.expr.specs.Reaches.{ReachedIsNone};
 
@@ -31,4 +32,14 @@ pub fn reached_is_none()
 /// The test by which LIKE is computed holds exactly where its relation does.
 pub fn like_is_relation()
     ensures { TestIsRelation }
+{}
+
+/// No conjunct is an AND or a BETWEEN.
+pub fn conjuncts_are_leaves()
+    ensures { ConjunctsAreLeaves }
+{}
+
+/// Rows that agree at the columns that an expression names give one value, and overflow together.
+pub fn depends_on_columns()
+    ensures { DependsOnColumns }
 {}
