@@ -1,0 +1,6 @@
+pub mod StandLemmas
+pub mod ConjunctLemmas
+pub mod AnswerLemmas
+pub mod ReachLemmas
+pub mod LikeLemmas
+pub mod ColumnLemmas

@@ -1,0 +1,25 @@
+-- What calls answer.
+use Rattle.std.specs.Prelude.{◌≡◌, List, map, Option, Some, None, Result, Ok, Err}
+use Rattle.values.specs.declared.value.Value.{Value}
+use Rattle.expr.specs.declared.operations.Stop.{Stop}
+use Rattle.expr.specs.declared.operations.Stop.TheVariants.{Overflow, NoMemory}
+use Rattle.expr.specs.declared.tree.Expr.{Expr}
+use Rattle.values.specs.Datum.{Datum, datum_of}
+use Rattle.expr.specs.declared.tree.Arm.{Arm}
+use Rattle.expr.specs.Term.{Terms, Arms}
+use Rattle.expr.specs.View.{term, terms, arms, arm_terms}
+
+-- the value exactly where there is one, and a stop for overflow exactly where there is none
+abbrev pub Answers : {A B : Type 0} → (A → B) → Result A Stop → Option B → Type 0
+Answers f (Ok a) m = m ≡ Some (f a)
+Answers f (Err Overflow) m = m ≡ None
+Answers f (Err NoMemory) m = Unit {0}
+
+abbrev pub Gives : Result Value Stop → Option Datum → Type 0
+Gives = Answers datum_of
+
+abbrev pub trees : List Expr → Terms
+trees es = terms (map term es)
+
+abbrev pub arm_trees : List Arm → Arms
+arm_trees rest = arms (map arm_terms rest)

@@ -1,0 +1,45 @@
+//! What holds of every expression and row.
+ghost use Rattle.expr.specs.Columns.{DependsOnColumns};
+ghost use Rattle.expr.specs.Laws.{ConjunctsAreLeaves, StandsForAll, IsTotal, KeepsConjuncts, AddsNoOverflow};
+ghost use Rattle.expr.specs.Like.{TestIsRelation};
+ghost use Rattle.expr.specs.Reaches.{ReachedIsNone};
+
+/// A value with nothing out of range is the value, whatever stands for results out of range.
+pub fn stands_for_all()
+    ensures { StandsForAll }
+{}
+
+/// Where something stands for results out of range there always is a value.
+pub fn is_total()
+    ensures { IsTotal }
+{}
+
+/// A condition is true exactly where each of its conjuncts is.
+pub fn keeps_conjuncts()
+    ensures { KeepsConjuncts }
+{}
+
+/// Where a condition reaches an operation out of range, some conjunct does.
+pub fn adds_no_overflow()
+    ensures { AddsNoOverflow }
+{}
+
+/// Whatever stands for results out of range, one is reached exactly where there is no value.
+pub fn reached_is_none()
+    ensures { ReachedIsNone }
+{}
+
+/// The test by which LIKE is computed holds exactly where its relation does.
+pub fn like_is_relation()
+    ensures { TestIsRelation }
+{}
+
+/// No conjunct is an AND or a BETWEEN.
+pub fn conjuncts_are_leaves()
+    ensures { ConjunctsAreLeaves }
+{}
+
+/// Rows that agree at the columns that an expression names give one value, and overflow together.
+pub fn depends_on_columns()
+    ensures { DependsOnColumns }
+{}
