@@ -1,3 +1,4 @@
+pub mod RowLemmas
 pub mod KeyLemmas
 pub mod BoundLemmas
 pub mod HeadLemmas

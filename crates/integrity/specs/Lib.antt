@@ -1,2 +1,4 @@
+pub mod Stored
+pub mod Denotes
 pub mod Keys
 pub mod Walked

@@ -5,6 +5,8 @@
 #![tactic(auto)]
 
 mod keys;
+mod rows;
 mod walk;
 
+pub use rows::RowView;
 pub use walk::{TreeCounts, check_table};

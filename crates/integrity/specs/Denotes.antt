@@ -1,0 +1,20 @@
+-- The tables that an image denotes. (Database File Format, section 2; The Schema Table)
+use Rattle.std.specs.Prelude.{ℕ, All, List}
+use Rattle.std.specs.List.{AllZip}
+use Rattle.image.specs.Pages.{pages_of, Pages}
+use Rattle.meaning.specs.Body.{Row, Database}
+use Rattle.schema.specs.Rows.{AreTables}
+use Rattle.schema.specs.TableData.{TableData, schema_table}
+use Rattle.integrity.specs.Stored.{Fits, HoldsRows}
+
+-- these are the tables of the pages, each said by a row of the schema, in its order
+pub record IsCatalog (pages : Pages) (tables : List TableData) : Type 0 where
+  pub rows : List Row
+  pub stored : HoldsRows pages schema_table rows
+  pub tables_are : AreTables pages.count rows tables
+
+-- the image has these tables, and each of them these rows, whose values are of their columns
+pub record Denotes (image : List ℕ) (tables : List TableData) (db : Database) : Type 0 where
+  pub catalog : IsCatalog (pages_of image) tables
+  pub rows : AllZip (HoldsRows (pages_of image)) tables db
+  pub fit : AllZip (λ table. All (Fits table)) tables db

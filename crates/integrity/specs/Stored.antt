@@ -1,0 +1,62 @@
+-- The rows of a table, as its tree stores them. (Database File Format, section 2.3 "Representation Of SQL Tables";
+-- ROWIDs and the INTEGER PRIMARY KEY; STRICT Tables)
+use Rattle.std.specs.Prelude.{◌≡◌, false, ℕ, ℤ, All, List, length, slice_set, Option, None, Some}
+use Rattle.std.specs.List.{AllZip}
+use Rattle.values.specs.Datum.{Datum, null, int, text, blob, type_of}
+use Rattle.records.specs.Record.{IsRecord}
+use Rattle.image.specs.declared.kind.TreeKind.TheVariants.{Table}
+use Rattle.image.specs.Cell.{CellData}
+use Rattle.image.specs.Pages.{Pages}
+use Rattle.image.specs.Tree.{Place, IsRowAt}
+use Rattle.image.specs.Shape.{HasShape, places_under}
+use Rattle.image.specs.Sound.{AreRowsOf}
+use Rattle.meaning.specs.Body.{Row}
+use Rattle.schema.specs.TableData.{ColumnData, TableData}
+
+-- The row that a record's values are: at the place of the column that is the rowid stands the rowid, whatever is stored
+-- there.
+abbrev pub row_from : Option ℕ → Option ℤ → List Datum → Row
+row_from (Some at) (Some rowid) values = slice_set values at (int rowid)
+row_from (Some at) None values = values
+row_from None rowid values = values
+
+-- a value of this column: it has the column's type, or is NULL where that is allowed
+abbrev pub FitsColumn : ColumnData → Datum → Type 0
+FitsColumn column null = column.not_null ≡ false
+FitsColumn column (int number) = column.ty ≡ type_of (int number)
+FitsColumn column (text bytes) = column.ty ≡ type_of (text bytes)
+FitsColumn column (blob bytes) = column.ty ≡ type_of (blob bytes)
+
+abbrev pub Fits : TableData → Row → Type 0
+Fits table row = AllZip FitsColumn table.columns row
+
+-- the row of a record with as many values as its table has columns
+pub record IsRowFrom (table : TableData) (rowid : Option ℤ) (values : List Datum) (row : Row) : Type 0 where
+  pub wide : length values ≡ length table.columns
+  pub row_is : row ≡ row_from table.rowid rowid values
+
+-- a cell, of which the payload stands in it whole, is a row of the table
+pub record IsRowOf (table : TableData) (cell : CellData) (row : Row) : Type 0 where
+  pub values : List Datum
+  pub whole : cell.payload.overflow ≡ None
+  pub record_is : IsRecord cell.payload.local values
+  pub makes : IsRowFrom table cell.rowid values row
+
+-- the cell at a place is this row of the table
+pub record StoresRow (pages : Pages) (table : TableData) (place : Place) (row : Row) : Type 0 where
+  pub cell : CellData
+  pub at : IsRowAt pages place cell
+  pub is : IsRowOf table cell row
+
+-- the table has these rows, by ascending rowid: one for each cell of its tree
+pub record HoldsRows (pages : Pages) (table : TableData) (rows : List Row) : Type 0 where
+  pub places : List Place
+  pub cells : AreRowsOf pages table.root places
+  pub rows_are : AllZip (StoresRow pages table) places rows
+
+-- the same of a tree whose levels are known: the cells under its root from left to right are the rows
+pub record IsStored (pages : Pages) (table : TableData) (levels : ℕ) (rows : List Row) : Type 0 where
+  pub shape : HasShape pages Table levels table.root
+  pub cells : AreRowsOf pages table.root (places_under pages Table levels table.root)
+  pub rows_are : AllZip (StoresRow pages table) (places_under pages Table levels table.root) rows
+  pub fit : All (Fits table) rows

@@ -1,0 +1,4 @@
+pub mod TableData
+pub mod Names
+pub mod Created
+pub mod Rows

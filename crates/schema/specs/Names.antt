@@ -1,0 +1,16 @@
+-- Names, which are the same where they differ in ASCII case alone. (SQL As Understood By SQLite)
+use Rattle.std.specs.Prelude.{◌≡◌, ◌<◌, ℕ, List, codes, length, map, slice_get, Some, take}
+use Rattle.std.specs.Char.{to_ascii_lowercase}
+use Rattle.sql_reader.specs.Tree.{Name}
+
+abbrev pub IsSameName : Name → Name → Type 0
+IsSameName a b = map to_ascii_lowercase a ≡ map to_ascii_lowercase b
+
+-- no two of the names are the same
+abbrev pub AreDistinct : List Name → Type 0
+AreDistinct names =
+    (i j : ℕ) (a b : Name) → i < j → slice_get names i ≡ Some a → slice_get names j ≡ Some b → ¬ IsSameName a b
+
+-- a name that only SQLite gives: it begins with `sqlite_`
+abbrev pub IsReserved : Name → Type 0
+IsReserved name = IsSameName (take (length (codes "sqlite_")) name) (codes "sqlite_")

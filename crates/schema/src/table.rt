@@ -1,0 +1,97 @@
+//! Tables and their columns.
+ghost use Rattle.std.specs.Prelude.{◌≡◌, length};
+ghost use Rattle.schema.specs.TableData.{IsPlaceIn};
+
+use std::marker::Model;
+use values::Ty;
+
+/// A column of a table. (STRICT Tables)
+#[derive(Debug, Drop)]
+pub struct Column {
+    pub(crate) name: String,
+    pub(crate) ty: Ty,
+    pub(crate) not_null: bool,
+}
+
+impl Model for Column {
+    ghost use Rattle.std.specs.Prelude.{string_bytes};
+    ghost use Rattle.schema.specs.TableData.{ColumnData};
+
+    ghost Value = { ColumnData };
+
+    ghost view = { λ c. record { name = string_bytes c.name; ty = c.ty; not_null = c.not_null } };
+}
+
+impl Column {
+    /// The name, as it was declared.
+    pub fn name(&self) -> &str
+        ensures { result.now ≡ self.now.name }
+    {
+        self.name.as_str()
+    }
+
+    /// The type of the column's values.
+    pub fn ty(&self) -> Ty
+        ensures { result ≡ self.now.ty }
+    {
+        self.ty
+    }
+
+    /// Whether no value of the column may be NULL.
+    pub fn is_not_null(&self) -> bool
+        ensures { result ≡ self.now.not_null }
+    {
+        self.not_null
+    }
+}
+
+/// A table of the image. (CREATE TABLE)
+#[derive(Debug, Drop)]
+pub struct Table {
+    pub(crate) name: String,
+    pub(crate) root: u32,
+    pub(crate) columns: Vec<Column>,
+    pub(crate) rowid: Option<usize>,
+}
+
+impl Model for Table {
+    ghost use Rattle.std.specs.Prelude.{length, map, string_bytes};
+    ghost use Rattle.schema.specs.TableData.{IsPlaceIn, TableData};
+
+    ghost Value = { TableData };
+
+    ghost view = { λ t. record { name = string_bytes t.name; root = t.root; columns = t.columns.items; rowid = t.rowid } };
+
+    ghost invariant = { λ t. IsPlaceIn t.rowid (length t.columns.items) };
+}
+
+impl Table {
+    /// The name, as it was declared.
+    pub fn name(&self) -> &str
+        ensures { result.now ≡ self.now.name }
+    {
+        self.name.as_str()
+    }
+
+    /// The page at the root of the table's tree.
+    pub fn root(&self) -> u32
+        ensures { result ≡ self.now.root }
+    {
+        self.root
+    }
+
+    /// The columns, in the order in which they were declared.
+    pub fn columns(&self) -> &[Column]
+        ensures { result.now ≡ self.now.columns }
+    {
+        self.columns.as_slice()
+    }
+
+    /// The place of the column that is the rowid, where there is one. (ROWIDs and the INTEGER PRIMARY KEY)
+    pub fn rowid(&self) -> Option<usize>
+        ensures same { result ≡ self.now.rowid }
+        ensures within { IsPlaceIn result (length self.now.columns) }
+    {
+        self.rowid
+    }
+}
