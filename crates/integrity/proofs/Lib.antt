@@ -1,7 +1,9 @@
 pub mod RowLemmas
+pub mod CellLemmas
 pub mod KeyLemmas
 pub mod BoundLemmas
 pub mod HeadLemmas
 pub mod TreeLemmas
 pub mod WalkLemmas
 pub mod CountLemmas
+pub mod HeldLemmas

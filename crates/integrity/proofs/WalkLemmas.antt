@@ -209,7 +209,7 @@ module _ (state : PagerState) (header : Header) (header_is : header ≡ state.he
       page_is : view.page ≡ take header.usable bytes
       page_is = ap (λ (v : ViewData). v.page) found
 
-      see : IsSeen (pages_seen state) n view.at (header.pages * header.page_size) view.page
+      pub see : IsSeen (pages_seen state) n view.at (header.pages * header.page_size) view.page
       see = record { at_is = at_is; page_is = page_is ∙ used_is; most_is = see_bytes.most_is; long = ap length page_is ∙ see_bytes.long }
 
       has_header : HasHeaderAt view.at Table view.level view.page

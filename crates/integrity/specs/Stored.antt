@@ -48,6 +48,12 @@ pub record StoresRow (pages : Pages) (table : TableData) (place : Place) (row : 
   pub at : IsRowAt pages place cell
   pub is : IsRowOf table cell row
 
+-- the cell at a place is a row of the table, whose values are of its columns
+pub record HoldsRow (pages : Pages) (table : TableData) (place : Place) : Type 0 where
+  pub row : Row
+  pub stores : StoresRow pages table place row
+  pub fits : Fits table row
+
 -- the table has these rows, by ascending rowid: one for each cell of its tree
 pub record HoldsRows (pages : Pages) (table : TableData) (rows : List Row) : Type 0 where
   pub places : List Place

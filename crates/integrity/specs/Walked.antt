@@ -11,6 +11,7 @@ use Rattle.image.specs.Tree.{count_at, child_at, IsPageOf, IsUnder, StandsAt, Re
 use Rattle.image.specs.Broken.{HasRowid}
 use Rattle.image.specs.Shape.{places_under, size_under}
 use Rattle.integrity.specs.Keys.{KeysFit}
+use Rattle.integrity.specs.RowFaults.{IsRowFault}
 
 -- the bounds of what is under child i of page n: the keys of the cells beside it, and at its ends those of the page
 abbrev pub IsLowAt : Pages → ℕ → Option ℤ → ℕ → Option ℤ → Type 0
@@ -78,4 +79,4 @@ IsWalkFault NoMemory = Unit {0}
 IsWalkFault (BadPage _) = Unit {0}
 IsWalkFault (BadOrder _) = Unit {0}
 IsWalkFault (BadDepth _) = Unit {0}
-IsWalkFault _ = ⊥
+IsWalkFault fault = IsRowFault fault

@@ -1,11 +1,12 @@
 //! The keys of one page of a table's tree.
 ghost use Rattle.std.specs.Prelude.{◌≡◌, ◌<◌, ◌↔◌, ℤ, IfErr, IfNone, IfOk, IfSome, IsTrue};
-ghost use Rattle.image.specs.declared.kind.TreeKind.TheVariants.{Table};
+ghost use Rattle.image.specs.declared.kind.TreeKind.TheVariants as kind;
 ghost use Rattle.image.specs.Layout.{cell_count};
 ghost use Rattle.integrity.specs.Keys.{HasCells, HasKeyAt, IsAbove, IsAtMost, IsHead, IsHeadFault, KeysFit};
 
 use btree::PageView;
 use image::Level;
+use schema::Table;
 use values::Fault;
 
 fn is_above(low: Option<i64>, key: i64) -> bool
@@ -35,7 +36,7 @@ fn is_within(low: Option<i64>, high: Option<i64>, key: i64) -> bool
 
 /// The key of cell i, with a payload of at most `most` bytes; `None` where no cell is there.
 fn key_of(view: &PageView<'_>, most: u64, i: u32) -> Option<i64>
-    requires kind { view.now.kind ≡ Table }
+    requires kind { view.now.kind ≡ kind.Table }
     requires within { i < cell_count view.now.at view.now.page }
     ensures found { IfSome result (λ key. HasKeyAt view.now.at most view.now.page view.now.level i key) }
     ensures none { IfNone result ((key : ℤ) → ¬ HasKeyAt view.now.at most view.now.page view.now.level i key) }
@@ -48,7 +49,7 @@ fn key_of(view: &PageView<'_>, most: u64, i: u32) -> Option<i64>
 
 /// Whether the keys of a page ascend within the bounds; `None` where one of its cells isn't there.
 fn keys_fit(view: &PageView<'_>, most: u64, low: Option<i64>, high: Option<i64>) -> Option<bool>
-    requires { view.now.kind ≡ Table }
+    requires { view.now.kind ≡ kind.Table }
     ensures cells { IfSome result (λ fit. HasCells view.now.at most view.now.page view.now.level) }
     ensures fit { IfSome result (λ fit. IsTrue fit
         ↔ KeysFit (HasKeyAt view.now.at most view.now.page view.now.level) (cell_count view.now.at view.now.page) low high) }
@@ -69,21 +70,21 @@ fn keys_fit(view: &PageView<'_>, most: u64, low: Option<i64>, high: Option<i64>)
 pub(crate) fn read_head(
     view: &PageView<'_>,
     most: u64,
-    root: u32,
+    table: &Table,
     n: u32,
     low: Option<i64>,
     high: Option<i64>,
 ) -> Result<Level, Fault>
-    requires { view.now.kind ≡ Table }
+    requires { view.now.kind ≡ kind.Table }
     ensures level { IfOk result (λ level. level ≡ view.now.level) }
-    ensures head { IfOk result (λ level. IsHead view.now.at most view.now.page view.now.level root n low high) }
-    ensures fault { IfErr result (IsHeadFault view.now.at most view.now.page view.now.level root n low high) }
+    ensures head { IfOk result (λ level. IsHead view.now.at most view.now.page view.now.level table.now.root n low high) }
+    ensures fault { IfErr result (IsHeadFault view.now.at most view.now.page view.now.level table.now.root n low high) }
 {
     let Some(fit) = keys_fit(view, most, low, high) else {
         return Err(Fault::BadPage(n));
     };
     let level = view.level();
-    if level == Level::Leaf && n != root && view.count() == 0 {
+    if level == Level::Leaf && n != table.root() && view.count() == 0 {
         return Err(Fault::BadPage(n));
     }
     if !fit {

@@ -1,13 +1,19 @@
 //! A record as a row of its table.
-ghost use Rattle.std.specs.Prelude.{◌≡◌, ◌⊎◌, ◌<◌, ◌↔◌, IfErr, IfNone, IfOk, IfSome, IsTrue, List, Some, length, slice_get};
+ghost use Rattle.std.specs.Prelude.{◌≡◌, ◌⊎◌, ◌<◌, ◌↔◌, IfErr, IfNone, IfOk, IfSome, IsTrue, List, OnOk, Some, length, slice_get};
 ghost use Rattle.values.specs.Datum.{Datum, datum_of_ref};
-ghost use Rattle.integrity.specs.Stored.{Fits, IsRowFrom, row_from};
+ghost use Rattle.image.specs.declared.kind.TreeKind.TheVariants as kind;
+ghost use Rattle.image.specs.declared.kind.Level.TheVariants.{Leaf};
+ghost use Rattle.btree.specs.Views.{cell_data};
+ghost use Rattle.integrity.specs.Keys.{HasCells};
+ghost use Rattle.integrity.specs.RowFaults.{AreRowsIn, IsCellFault, IsLeafFault, IsRowFault, fault_of};
+ghost use Rattle.integrity.specs.Stored.{Fits, FitsColumn, IsRowFrom, IsRowOf, row_from};
 
-use records::RecordView;
-use schema::Table;
+use btree::{Cell, PageView};
+use records::{RecordFault, RecordView};
+use schema::{Column, Table};
 use std::alloc::Global;
 use std::marker::Model;
-use values::{Fault, Row, ValueRef};
+use values::{Fault, Ty, ValueRef};
 
 /// A row of a table that is read in place: its record has as many values as the table has columns. A clause sees it as
 /// the list of its values.
@@ -66,4 +72,94 @@ impl<'p> RowView<'p> {
             _ => self.fields.field(column),
         }
     }
+}
+
+/// Whether a value is of a column.
+fn fits_column(column: &Column, value: ValueRef<'_>) -> bool
+    ensures { IsTrue result ↔ FitsColumn column.now (datum_of_ref value.entry) }
+{
+    match value {
+        ValueRef::Null => !column.is_not_null(),
+        ValueRef::Int(_) => column.ty() == Ty::Int,
+        ValueRef::Text(_) => column.ty() == Ty::Text,
+        ValueRef::Blob(_) => column.ty() == Ty::Blob,
+    }
+}
+
+/// Whether each value of a row is of its column.
+fn fits(table: &Table, row: &RowView<'_>) -> bool
+    requires { length row.now ≡ length table.now.columns }
+    ensures { IsTrue result ↔ Fits table.now row.now }
+{
+    let columns = table.columns();
+    for i in 0..columns.len() {
+        if !fits_column(&columns[i], row.value(i)) {
+            return false;
+        }
+    }
+    true
+}
+
+/// The fault of a record of page `n`.
+fn record_fault(fault: RecordFault, n: u32) -> Fault
+    ensures { result ≡ fault_of fault n }
+{
+    match fault {
+        RecordFault::Bad => Fault::BadRecord(n),
+        RecordFault::Float => Fault::FloatValue,
+        RecordFault::Text => Fault::BadText,
+        RecordFault::NoMemory => Fault::NoMemory,
+    }
+}
+
+/// The row of a table that a cell of page `n` is.
+pub(crate) fn read_row<'p>(alloc: Global, table: &Table, cell: Cell<'p>, n: u32) -> Result<RowView<'p>, Fault>
+    ensures row { IfOk result (λ row. IsRowOf table.now (cell_data cell.entry) row) }
+    ensures fault { IfErr result (λ e. (e ≡ Fault.NoMemory) ⊎ IsCellFault table.now n (cell_data cell.entry) e) }
+    ensures only { IfErr result IsRowFault }
+{
+    if cell.payload.overflow.is_some() {
+        return Err(Fault::NotYet);
+    }
+    let fields = match RecordView::read(alloc, cell.payload.local) {
+        Ok(fields) => fields,
+        Err(fault) => return Err(record_fault(fault, n)),
+    };
+    match RowView::new(table, cell.rowid, fields) {
+        Some(row) => Ok(row),
+        None => Err(Fault::BadRecord(n)),
+    }
+}
+
+/// Tests that a cell of page `n` is a row of a table, whose values are of its columns.
+fn check_row(alloc: Global, table: &Table, cell: Cell<'_>, n: u32) -> Result<(), Fault>
+    ensures row { OnOk result ((row : List Datum) × IsRowOf table.now (cell_data cell.entry) row × Fits table.now row) }
+    ensures fault { IfErr result (λ e. (e ≡ Fault.NoMemory) ⊎ IsCellFault table.now n (cell_data cell.entry) e) }
+    ensures only { IfErr result IsRowFault }
+{
+    let row = read_row(alloc, table, cell, n)?;
+    if !fits(table, &row) {
+        let name = String::from_str(alloc, table.name())?;
+        return Err(Fault::ValueBreaksColumn(name));
+    }
+    Ok(())
+}
+
+/// Tests that the cells of a leaf, which is page `n`, are rows of a table, whose values are of its columns.
+pub(crate) fn check_rows(alloc: Global, table: &Table, view: &PageView<'_>, most: u64, n: u32) -> Result<(), Fault>
+    requires kind { view.now.kind ≡ kind.Table }
+    requires level { view.now.level ≡ Leaf }
+    requires cells { HasCells view.now.at most view.now.page Leaf }
+    ensures rows { OnOk result (AreRowsIn table.now view.now.at most view.now.page) }
+    ensures fault { IfErr result (λ e. (e ≡ Fault.NoMemory) ⊎ IsLeafFault table.now n view.now.at most view.now.page e) }
+    ensures only { IfErr result IsRowFault }
+{
+    for i in 0..u32::from(view.count()) {
+        // The keys of the leaf were read, so that each of its cells is there.
+        let Some(cell) = view.row(most, i) else {
+            return Err(Fault::BadRecord(n));
+        };
+        check_row(alloc, table, cell, n)?;
+    }
+    Ok(())
 }

@@ -1,22 +1,26 @@
 //! A walk over a table's tree, from its root down.
-ghost use Rattle.std.specs.Prelude.{◌≡◌, ◌≢◌, ◌⊎◌, ◌+◌, ◌<◌, ◌≤◌, ℤ, Option, IfErr, IfNone, IfOk, IfSome, OnOk, IsFalse, IsTrue, None, Some, suc, ℕ};
-ghost use Rattle.image.specs.declared.kind.TreeKind.TheVariants.{Table};
+ghost use Rattle.std.specs.Prelude.{All, ◌≡◌, ◌≢◌, ◌⊎◌, ◌+◌, ◌<◌, ◌≤◌, ℤ, Option, IfErr, IfNone, IfOk, IfSome, OnOk, IsFalse, IsTrue, None, Some, suc, ℕ};
+ghost use Rattle.image.specs.declared.kind.TreeKind.TheVariants as kind;
 ghost use Rattle.image.specs.declared.kind.Level.TheVariants.{Interior};
-ghost use Rattle.image.specs.Broken.{IsBroken};
 ghost use Rattle.image.specs.Layout.{cell_count, child};
-ghost use Rattle.image.specs.Shape.{HasShape};
+ghost use Rattle.image.specs.Shape.{HasShape, places_under};
 ghost use Rattle.image.specs.Sound.{IsSoundTable};
 ghost use Rattle.pager.specs.PagerState.{IsPageNumber, Stays};
 ghost use Rattle.values.specs.Fault.{Counts};
 ghost use Rattle.btree.specs.Bytes.{IsDividerOf};
 ghost use Rattle.btree.specs.Rest.{IsCursorFault, pages_seen};
 ghost use Rattle.integrity.specs.Keys.{HasCells, HasKeyAt};
+ghost use Rattle.integrity.specs.RowFaults.{IsBrokenTable};
+ghost use Rattle.integrity.specs.Stored.{HoldsRow};
 ghost use Rattle.integrity.specs.Walked.{AreCounts, IsMet, IsTree, IsWalkFault, counted};
 
 use crate::keys::read_head;
+use crate::rows::check_rows;
 use btree::{PageView, view_of};
 use image::Level;
 use pager::{Pager, Source};
+use schema::Table;
+use std::alloc::Global;
 use values::Fault;
 
 /// The most levels that a tree may have.
@@ -35,7 +39,7 @@ pub struct TreeCounts {
 
 /// The key that what is under child i is above, if there is one.
 fn low_bound(view: &PageView<'_>, low: Option<i64>, i: u32) -> Option<i64>
-    requires kind { view.now.kind ≡ Table }
+    requires kind { view.now.kind ≡ kind.Table }
     requires level { view.now.level ≡ Interior }
     requires within { i ≤ cell_count view.now.at view.now.page }
     ensures first { i ≡ 0 → result ≡ low }
@@ -47,7 +51,7 @@ fn low_bound(view: &PageView<'_>, low: Option<i64>, i: u32) -> Option<i64>
 
 /// The greatest key that may be under child i, if there is one.
 fn high_bound(view: &PageView<'_>, high: Option<i64>, i: u32) -> Option<i64>
-    requires kind { view.now.kind ≡ Table }
+    requires kind { view.now.kind ≡ kind.Table }
     requires level { view.now.level ≡ Interior }
     ensures inner { (most : ℕ) → HasCells view.now.at most view.now.page Interior → i < cell_count view.now.at view.now.page
         → (key : ℤ) × (result ≡ Some key) × IsDividerOf view.now.at view.now.page i key }
@@ -98,27 +102,30 @@ fn join(counts: TreeCounts, below: TreeCounts) -> TreeCounts
 
 /// Walks from page `n` down, which stands at this depth, and whose keys have to be above `low` and at most `high`.
 fn walk<S: Source>(
+    alloc: Global,
     pager: &mut Pager<S>,
-    root: u32,
+    table: &Table,
     n: u32,
     depth: u32,
     low: Option<i64>,
     high: Option<i64>,
 ) -> Result<TreeCounts, Fault>
     requires number { IsPageNumber pager.old.state n }
-    requires met { IsTrue pager.old.state.source.steady → IsMet (pages_seen pager.old.state) root depth low high n }
+    requires met { IsTrue pager.old.state.source.steady → IsMet (pages_seen pager.old.state) table.now.root depth low high n }
     ensures deep { IfOk result (λ counts. counts.levels + depth ≤ 20) }
-    ensures tree { IsTrue pager.old.state.source.steady → IfOk result (λ counts. IsTree (pages_seen pager.old.state) root counts.levels low high n) }
+    ensures tree { IsTrue pager.old.state.source.steady → IfOk result (λ counts. IsTree (pages_seen pager.old.state) table.now.root counts.levels low high n) }
     ensures counts { IsTrue pager.old.state.source.steady
         → IfOk result (λ counts. AreCounts (pages_seen pager.old.state) counts.levels n counts.rows counts.pages) }
+    ensures rows { IsTrue pager.old.state.source.steady
+        → IfOk result (λ counts. All (HoldsRow (pages_seen pager.old.state) table.now) (places_under (pages_seen pager.old.state) kind.Table counts.levels n)) }
     ensures fault { IsTrue pager.old.state.source.steady
-        → IfErr result (λ e. (e ≡ Fault.ReadFailed) ⊎ (e ≡ Fault.NoMemory) ⊎ IsBroken (pages_seen pager.old.state) root e) }
+        → IfErr result (λ e. (e ≡ Fault.ReadFailed) ⊎ (e ≡ Fault.NoMemory) ⊎ IsBrokenTable (pages_seen pager.old.state) table.now e) }
     ensures only { IfErr result IsWalkFault }
     ensures failures { Counts Fault.ReadFailed result pager.old.state.source.failures pager.new.state.source.failures }
     ensures stays { Stays pager.old.state pager.new.state }
 {
     if depth > MOST_LEVELS {
-        return Err(Fault::BadDepth(root));
+        return Err(Fault::BadDepth(table.root()));
     }
     let header = pager.header();
     let page = pager.page(n)?;
@@ -126,8 +133,9 @@ fn walk<S: Source>(
         return Err(Fault::BadPage(n));
     };
     let most = header.pages as u64 * header.page_size as u64;
-    let level = read_head(&view, most, root, n, low, high)?;
+    let level = read_head(&view, most, table, n, low, high)?;
     if level == Level::Leaf {
+        check_rows(alloc, table, &view, most, n)?;
         return Ok(TreeCounts {
             levels: 0,
             rows: u64::from(view.count()),
@@ -145,9 +153,9 @@ fn walk<S: Source>(
         };
         let low = low_bound(&view, low, i);
         let high = high_bound(&view, high, i);
-        let below = walk(pager, root, child, depth + 1, low, high)?;
+        let below = walk(alloc, pager, table, child, depth + 1, low, high)?;
         if is_uneven(i, counts.levels, below.levels) {
-            return Err(Fault::BadDepth(root));
+            return Err(Fault::BadDepth(table.root()));
         }
         counts = join(counts, below);
     }
@@ -160,19 +168,21 @@ fn walk<S: Source>(
 /// Checks the tree of a table that has this root, and counts what it has. Its faults are `ReadFailed`, `NoMemory`, and the
 /// conditions of a tree that are broken: `BadPage` and `BadOrder` of a page, `BadDepth` of the root.
 /// (Database File Format, section 1.6 "B-tree Pages")
-pub fn check_table<S: Source>(pager: &mut Pager<S>, root: u32) -> Result<TreeCounts, Fault>
-    requires { IsPageNumber pager.old.state root }
-    ensures sound { IsTrue pager.old.state.source.steady → OnOk result (IsSoundTable (pages_seen pager.old.state) root) }
+pub fn check_table<S: Source>(alloc: Global, pager: &mut Pager<S>, table: &Table) -> Result<TreeCounts, Fault>
+    requires { IsPageNumber pager.old.state table.now.root }
+    ensures sound { IsTrue pager.old.state.source.steady → OnOk result (IsSoundTable (pages_seen pager.old.state) table.now.root) }
     ensures few { IfOk result (λ counts. counts.levels < 20) }
-    ensures shape { IsTrue pager.old.state.source.steady → IfOk result (λ counts. HasShape (pages_seen pager.old.state) Table counts.levels root) }
+    ensures shape { IsTrue pager.old.state.source.steady → IfOk result (λ counts. HasShape (pages_seen pager.old.state) kind.Table counts.levels table.now.root) }
     ensures counts { IsTrue pager.old.state.source.steady
-        → IfOk result (λ counts. AreCounts (pages_seen pager.old.state) counts.levels root counts.rows counts.pages) }
+        → IfOk result (λ counts. AreCounts (pages_seen pager.old.state) counts.levels table.now.root counts.rows counts.pages) }
+    ensures rows { IsTrue pager.old.state.source.steady
+        → IfOk result (λ counts. All (HoldsRow (pages_seen pager.old.state) table.now) (places_under (pages_seen pager.old.state) kind.Table counts.levels table.now.root)) }
     ensures fault { IsTrue pager.old.state.source.steady
-        → IfErr result (λ e. (e ≡ Fault.ReadFailed) ⊎ (e ≡ Fault.NoMemory) ⊎ IsBroken (pages_seen pager.old.state) root e) }
+        → IfErr result (λ e. (e ≡ Fault.ReadFailed) ⊎ (e ≡ Fault.NoMemory) ⊎ IsBrokenTable (pages_seen pager.old.state) table.now e) }
     ensures only { IfErr result IsWalkFault }
     ensures failures { Counts Fault.ReadFailed result pager.old.state.source.failures pager.new.state.source.failures }
     ensures stays { Stays pager.old.state pager.new.state }
 {
-    let counts = walk(pager, root, root, 1, None, None)?;
+    let counts = walk(alloc, pager, table, table.root(), 1, None, None)?;
     Ok(counts)
 }

@@ -1,4 +1,4 @@
-use Rattle.std.proofs.Common.{◌≡◌, ◌+◌, ◌*◌, ◌<◌, ◌≤◌, ℕ, rules, arith, sym, ◌∙◌, ap, subst, inr, IsTrue, add-one}
+use Rattle.std.proofs.Common.{All, ◌≡◌, ◌+◌, ◌*◌, ◌<◌, ◌≤◌, ℕ, rules, arith, sym, ◌∙◌, ap, subst, inl, inr, ⊎_elim, IsTrue, add-one}
 use Rattle.std.proofs.lemmas.Result.{err_from_is_err_and}
 use Rattle.pager.specs.declared.header.Header.{Header}
 use Rattle.pager.proofs.StaysLemmas.{Stays-trans}
@@ -6,6 +6,15 @@ use Rattle.image.specs.declared.kind.Level.TheVariants.{Leaf, Interior}
 use Rattle.image.specs.Layout.{cell_count, child}
 use Rattle.image.specs.Tree.{child_at}
 use Rattle.image.specs.Pages.{Pages}
+use Rattle.image.specs.declared.kind.Level.{Level}
+use Rattle.image.specs.declared.kind.TreeKind.TheVariants.{Table}
+use Rattle.image.specs.Broken.{IsBroken}
+use Rattle.image.specs.Shape.{places_under}
+use Rattle.values.specs.declared.fault.Fault.TheVariants.{BadDepth}
+use Rattle.integrity.specs.Keys.{HasCells}
+use Rattle.integrity.specs.Stored.{HoldsRow}
+use Rattle.integrity.proofs.HeldLemmas.{held_leaf, held_more, held_under, leaf_fault}
+use Rattle.integrity.proofs.WalkLemmas.{see, seen_child}
 use Rattle.btree.specs.Rest.{pages_seen}
 use Rattle.btree.proofs.SeenLemmas.{still_steady, same_pages}
 use Rattle.integrity.specs.Walked.{IsMet, IsTree, AreCounts, counted}
@@ -15,28 +24,28 @@ use Rattle.integrity.proofs.walk.+walk.Goals as goal
 
 pub returns-in_default-clause-fault : goal.returns-in_default-clause-fault
 returns-in_default-clause-fault g t c = λ steady.
-    inr (inr (broken_header c.args.pager.now.state c.header-header.result c.header-header.ensures.value c.header-header.ensures.sound c.args.n c.in_ok-page.page
-    (c.in_ok-page.ensures.page steady) c.in_ok-page.ensures.long c.args.root c.args.depth c.args.low c.args.high (c.requires.met steady) c.in_default.ensures.none))
+    inr (inr (inl (broken_header c.args.pager.now.state c.header-header.result c.header-header.ensures.value c.header-header.ensures.sound c.args.n c.in_ok-page.page
+    (c.in_ok-page.ensures.page steady) c.in_ok-page.ensures.long c.args.table.now.root c.args.depth c.args.low c.args.high (c.requires.met steady) c.in_default.ensures.none)))
 
 pub returns-in_err-level-clause-fault : goal.returns-in_err-level-clause-fault
 returns-in_err-level-clause-fault g t c = λ steady.
     let p = err_from_is_err_and c.from_residual-in_err-level.result c.from_residual-in_err-level.ensures.1 in
     rw (p.1, p.2)
-    (inr (inr (broken_head c.args.pager.now.state c.header-header.result c.header-header.ensures.value c.header-header.ensures.sound c.args.n c.in_ok-page.page
-    (c.in_ok-page.ensures.page steady) c.in_ok-page.ensures.long c.args.root c.args.depth c.args.low c.args.high (c.requires.met steady)
-    c.in-Some.view c.in-Some.ensures.found c.in-Some.ensures.header _ c.in_err-level.ensures.fault)))
+    (inr (inr (inl (broken_head c.args.pager.now.state c.header-header.result c.header-header.ensures.value c.header-header.ensures.sound c.args.n c.in_ok-page.page
+    (c.in_ok-page.ensures.page steady) c.in_ok-page.ensures.long c.args.table.now.root c.args.depth c.args.low c.args.high (c.requires.met steady)
+    c.in-Some.view c.in-Some.ensures.found c.in-Some.ensures.header _ c.in_err-level.ensures.fault))))
 
 pub returns-then-eq-clause-tree : goal.returns-then-eq-clause-tree
 returns-then-eq-clause-tree g t c = λ steady.
     let leaf : c.in-Some.view.level ≡ Leaf = sym c.in_ok-level.ensures.level ∙ search rules in
     leaf_tree c.args.pager.now.state c.header-header.result c.header-header.ensures.value c.header-header.ensures.sound c.args.n c.in_ok-page.page
-    (c.in_ok-page.ensures.page steady) c.in_ok-page.ensures.long c.args.root c.args.depth c.args.low c.args.high (c.requires.met steady)
+    (c.in_ok-page.ensures.page steady) c.in_ok-page.ensures.long c.args.table.now.root c.args.depth c.args.low c.args.high (c.requires.met steady)
     c.in-Some.view c.in-Some.ensures.found c.in-Some.ensures.header c.in_ok-level.ensures.head leaf
 
 pub returns-then-eq-clause-counts : goal.returns-then-eq-clause-counts
 returns-then-eq-clause-counts g t c = λ steady.
     leaf_counts c.args.pager.now.state c.header-header.result c.header-header.ensures.value c.header-header.ensures.sound c.args.n c.in_ok-page.page
-    (c.in_ok-page.ensures.page steady) c.in_ok-page.ensures.long c.args.root c.args.depth c.args.low c.args.high (c.requires.met steady)
+    (c.in_ok-page.ensures.page steady) c.in_ok-page.ensures.long c.args.table.now.root c.args.depth c.args.low c.args.high (c.requires.met steady)
     c.in-Some.view c.in-Some.ensures.found c.in-Some.ensures.header c.from.result (search rules) (search rules)
 
 pub returns-in_default-child_within-clause-fault : goal.returns-in_default-child_within-clause-fault
@@ -44,10 +53,10 @@ returns-in_default-child_within-clause-fault g t c = λ steady.
     let interior : c.in-Some.view.level ≡ Interior = search rules in
     let within : c.loop-i.i ≤ cell_count c.in-Some.view.at c.in-Some.view.page = search rules in
     let all = inner c.args.pager.now.state c.header-header.result c.header-header.ensures.value c.header-header.ensures.sound c.args.n c.in_ok-page.page
-    (c.in_ok-page.ensures.page steady) c.in_ok-page.ensures.long c.args.root c.args.depth c.args.low c.args.high (c.requires.met steady)
+    (c.in_ok-page.ensures.page steady) c.in_ok-page.ensures.long c.args.table.now.root c.args.depth c.args.low c.args.high (c.requires.met steady)
     c.in-Some.view c.in-Some.ensures.found c.in-Some.ensures.header c.in_ok-level.ensures.head interior in
     let header : c.header-header.result ≡ c.args.pager.now.state.header = c.header-header.ensures.value in
-    inr (inr (broken_child _ _ _ _ _ _ _ _ _ all c.loop-i.i within (subst (λ (h : Header). ¬ ((1 ≤ child c.in-Some.view.at c.in-Some.view.page c.loop-i.i) × (child c.in-Some.view.at c.in-Some.view.page c.loop-i.i ≤ h.pages))) header (c.in_default-child_within.ensures.none (c.header-header.result.pages * c.header-header.result.page_size) all.cells))))
+    inr (inr (inl (broken_child _ _ _ _ _ _ _ _ _ all c.loop-i.i within (subst (λ (h : Header). ¬ ((1 ≤ child c.in-Some.view.at c.in-Some.view.page c.loop-i.i) × (child c.in-Some.view.at c.in-Some.view.page c.loop-i.i ≤ h.pages))) header (c.in_default-child_within.ensures.none (c.header-header.result.pages * c.header-header.result.page_size) all.cells)))))
 
 pub walk-requires : goal.walk-requires
 walk-requires g t c κs within =
@@ -64,9 +73,9 @@ walk-requires g t c κs within =
               let interior : c.in-Some.view.level ≡ Interior = search rules in
               let in_count : c.loop-i.i ≤ cell_count c.in-Some.view.at c.in-Some.view.page = search rules in
               let all = inner c.args.pager.now.state c.header-header.result c.header-header.ensures.value c.header-header.ensures.sound c.args.n c.in_ok-page.page
-              (c.in_ok-page.ensures.page steady) c.in_ok-page.ensures.long c.args.root c.args.depth c.args.low c.args.high (c.requires.met steady)
+              (c.in_ok-page.ensures.page steady) c.in_ok-page.ensures.long c.args.table.now.root c.args.depth c.args.low c.args.high (c.requires.met steady)
               c.in-Some.view c.in-Some.ensures.found c.in-Some.ensures.header c.in_ok-level.ensures.head interior in
-              subst (λ (p : Pages). IsMet p c.args.root (c.args.depth + 1) c.low_bound-low.result c.high_bound-high.result c.in-Some-child_within.child) (sym (same_pages _ _ inv.stays))
+              subst (λ (p : Pages). IsMet p c.args.table.now.root (c.args.depth + 1) c.low_bound-low.result c.high_bound-high.result c.in-Some-child_within.child) (sym (same_pages _ _ inv.stays))
               (step_met _ _ _ _ _ _ _ _ _ all c.loop-i.i in_count c.in-Some-child_within.child c.low_bound-low.result c.high_bound-high.result kid.0
               (kid.1, subst (λ (h : Header). c.in-Some-child_within.child ≤ h.pages) header kid.2)
               c.low_bound-low.ensures.first (λ k. c.low_bound-low.ensures.inner (c.header-header.result.pages * c.header-header.result.page_size) k all.cells) (c.high_bound-high.ensures.inner (c.header-header.result.pages * c.header-header.result.page_size) all.cells) c.high_bound-high.ensures.last),
@@ -83,16 +92,17 @@ returns-then-is_uneven-clause-fault g t c = λ steady.
     let interior : c.in-Some.view.level ≡ Interior = search rules in
     let in_count : c.loop-i.i ≤ cell_count c.in-Some.view.at c.in-Some.view.page = search rules in
     let all = inner c.args.pager.now.state c.header-header.result c.header-header.ensures.value c.header-header.ensures.sound c.args.n c.in_ok-page.page
-    (c.in_ok-page.ensures.page steady) c.in_ok-page.ensures.long c.args.root c.args.depth c.args.low c.args.high (c.requires.met steady)
+    (c.in_ok-page.ensures.page steady) c.in_ok-page.ensures.long c.args.table.now.root c.args.depth c.args.low c.args.high (c.requires.met steady)
     c.in-Some.view c.in-Some.ensures.found c.in-Some.ensures.header c.in_ok-level.ensures.head interior in
-    let tree = subst (λ (p : Pages). IsTree p c.args.root c.in_ok-below.below.levels c.low_bound-low.result c.high_bound-high.result c.in-Some-child_within.child) (same_pages _ _ inv.stays) (c.in_ok-below.ensures.tree now) in
+    let tree = subst (λ (p : Pages). IsTree p c.args.table.now.root c.in_ok-below.below.levels c.low_bound-low.result c.high_bound-high.result c.in-Some-child_within.child) (same_pages _ _ inv.stays) (c.in_ok-below.ensures.tree now) in
     let later = step_branch _ _ _ _ _ _ _ _ _ all c.loop-i.i in_count c.in-Some-child_within.child c.low_bound-low.result c.high_bound-high.result kid.0
     (kid.1, subst (λ (h : Header). c.in-Some-child_within.child ≤ h.pages) header kid.2)
     c.low_bound-low.ensures.first (λ k. c.low_bound-low.ensures.inner (c.header-header.result.pages * c.header-header.result.page_size) k all.cells) (c.high_bound-high.ensures.inner (c.header-header.result.pages * c.header-header.result.page_size) all.cells) c.high_bound-high.ensures.last
     c.in_ok-below.below.levels tree in
     let odd = c.is_uneven.ensures.uneven c.if-is_uneven.true in
     let here : c.loop-i.i ≤ _ = here_within _ _ _ _ _ _ _ _ _ all c.loop-i.i in_count in
-    inr (inr (uneven _ _ _ _ _ _ all.met c.loop-i.i c.loop-i.counts.levels c.in_ok-below.below.levels all.page_is here (inv.branches steady 0 odd.0) later odd.1))
+    inr (inr (inl (subst (λ (r : ℕ). IsBroken (pages_seen c.args.pager.now.state) c.args.table.now.root (BadDepth r)) (sym c.root-then-is_uneven.ensures)
+    (uneven _ _ _ _ _ _ all.met c.loop-i.i c.loop-i.counts.levels c.in_ok-below.below.levels all.page_is here (inv.branches steady 0 odd.0) later odd.1))))
 
 pub loop-i-preserved : goal.loop-i-preserved
 loop-i-preserved g t c =
@@ -112,19 +122,30 @@ loop-i-preserved g t c =
       branches = λ steady.
           let now = still_steady _ _ inv.stays steady in
           let all = inner c.args.pager.now.state c.header-header.result c.header-header.ensures.value c.header-header.ensures.sound c.args.n c.in_ok-page.page
-          (c.in_ok-page.ensures.page steady) c.in_ok-page.ensures.long c.args.root c.args.depth c.args.low c.args.high (c.requires.met steady)
+          (c.in_ok-page.ensures.page steady) c.in_ok-page.ensures.long c.args.table.now.root c.args.depth c.args.low c.args.high (c.requires.met steady)
           c.in-Some.view c.in-Some.ensures.found c.in-Some.ensures.header c.in_ok-level.ensures.head interior in
-          let tree = subst (λ (l : ℕ). IsTree (pages_seen c.args.pager.now.state) c.args.root l c.low_bound-low.result c.high_bound-high.result c.in-Some-child_within.child) (sym levels)
-          (subst (λ (p : Pages). IsTree p c.args.root c.in_ok-below.below.levels c.low_bound-low.result c.high_bound-high.result c.in-Some-child_within.child) (same_pages _ _ inv.stays) (c.in_ok-below.ensures.tree now)) in
+          let tree = subst (λ (l : ℕ). IsTree (pages_seen c.args.pager.now.state) c.args.table.now.root l c.low_bound-low.result c.high_bound-high.result c.in-Some-child_within.child) (sym levels)
+          (subst (λ (p : Pages). IsTree p c.args.table.now.root c.in_ok-below.below.levels c.low_bound-low.result c.high_bound-high.result c.in-Some-child_within.child) (same_pages _ _ inv.stays) (c.in_ok-below.ensures.tree now)) in
           let later = step_branch _ _ _ _ _ _ _ _ _ all c.loop-i.i in_count c.in-Some-child_within.child c.low_bound-low.result c.high_bound-high.result kid.0
           (kid.1, subst (λ (h : Header). c.in-Some-child_within.child ≤ h.pages) header kid.2)
           c.low_bound-low.ensures.first (λ k. c.low_bound-low.ensures.inner (c.header-header.result.pages * c.header-header.result.page_size) k all.cells) (c.high_bound-high.ensures.inner (c.header-header.result.pages * c.header-header.result.page_size) all.cells) c.high_bound-high.ensures.last
           c.join-counts.result.levels tree in
           more_branches _ _ _ _ _ _ all.met c.loop-i.i c.loop-i.counts.levels c.join-counts.result.levels same (inv.branches steady) later;
+      held = λ steady.
+          let now = still_steady _ _ inv.stays steady in
+          let at : c.in-Some-child_within.child ≡ child_at (pages_seen c.args.pager.now.state) c.args.n c.loop-i.i =
+              let all = inner c.args.pager.now.state c.header-header.result c.header-header.ensures.value c.header-header.ensures.sound c.args.n c.in_ok-page.page
+              (c.in_ok-page.ensures.page steady) c.in_ok-page.ensures.long c.args.table.now.root c.args.depth c.args.low c.args.high (c.requires.met steady)
+              c.in-Some.view c.in-Some.ensures.found c.in-Some.ensures.header c.in_ok-level.ensures.head interior in
+              seen_child _ _ _ _ _ all.seen c.loop-i.i c.in-Some-child_within.child kid.0 in
+          let under = subst (λ (p : Pages). All (HoldsRow p c.args.table.now) (places_under p Table c.in_ok-below.below.levels c.in-Some-child_within.child)) (same_pages _ _ inv.stays) (c.in_ok-below.ensures.rows now) in
+          let here = subst (λ (l : ℕ). All (HoldsRow (pages_seen c.args.pager.now.state) c.args.table.now) (places_under (pages_seen c.args.pager.now.state) Table l (child_at (pages_seen c.args.pager.now.state) c.args.n c.loop-i.i))) (sym levels)
+          (subst (λ (m : ℕ). All (HoldsRow (pages_seen c.args.pager.now.state) c.args.table.now) (places_under (pages_seen c.args.pager.now.state) Table c.in_ok-below.below.levels m)) at under) in
+          held_more (pages_seen c.args.pager.now.state) c.args.table.now c.args.n c.loop-i.i c.loop-i.counts.levels c.join-counts.result.levels same (inv.held steady) here;
       rows = λ steady.
           let now = still_steady _ _ inv.stays steady in
           let all = inner c.args.pager.now.state c.header-header.result c.header-header.ensures.value c.header-header.ensures.sound c.args.n c.in_ok-page.page
-          (c.in_ok-page.ensures.page steady) c.in_ok-page.ensures.long c.args.root c.args.depth c.args.low c.args.high (c.requires.met steady)
+          (c.in_ok-page.ensures.page steady) c.in_ok-page.ensures.long c.args.table.now.root c.args.depth c.args.low c.args.high (c.requires.met steady)
           c.in-Some.view c.in-Some.ensures.found c.in-Some.ensures.header c.in_ok-level.ensures.head interior in
           let under = subst (λ (p : Pages). AreCounts p c.in_ok-below.below.levels c.in-Some-child_within.child c.in_ok-below.below.rows c.in_ok-below.below.pages) (same_pages _ _ inv.stays) (c.in_ok-below.ensures.counts now) in
           let at = subst (λ (l : ℕ). AreCounts (pages_seen c.args.pager.now.state) l (child_at (pages_seen c.args.pager.now.state) c.args.n c.loop-i.i) c.in_ok-below.below.rows c.in_ok-below.below.pages) (sym levels)
@@ -136,7 +157,7 @@ loop-i-preserved g t c =
       size = λ steady.
           let now = still_steady _ _ inv.stays steady in
           let all = inner c.args.pager.now.state c.header-header.result c.header-header.ensures.value c.header-header.ensures.sound c.args.n c.in_ok-page.page
-          (c.in_ok-page.ensures.page steady) c.in_ok-page.ensures.long c.args.root c.args.depth c.args.low c.args.high (c.requires.met steady)
+          (c.in_ok-page.ensures.page steady) c.in_ok-page.ensures.long c.args.table.now.root c.args.depth c.args.low c.args.high (c.requires.met steady)
           c.in-Some.view c.in-Some.ensures.found c.in-Some.ensures.header c.in_ok-level.ensures.head interior in
           let under = subst (λ (p : Pages). AreCounts p c.in_ok-below.below.levels c.in-Some-child_within.child c.in_ok-below.below.rows c.in_ok-below.below.pages) (same_pages _ _ inv.stays) (c.in_ok-below.ensures.counts now) in
           let at = subst (λ (l : ℕ). AreCounts (pages_seen c.args.pager.now.state) l (child_at (pages_seen c.args.pager.now.state) c.args.n c.loop-i.i) c.in_ok-below.below.rows c.in_ok-below.below.pages) (sym levels)
@@ -153,7 +174,7 @@ returns-clause-tree g t c = λ steady.
     let interior : c.in-Some.view.level ≡ Interior = search rules in
     let end : c.loop-i.i ≡ cell_count c.in-Some.view.at c.in-Some.view.page + 1 = search rules in
     let all = inner c.args.pager.now.state c.header-header.result c.header-header.ensures.value c.header-header.ensures.sound c.args.n c.in_ok-page.page
-    (c.in_ok-page.ensures.page steady) c.in_ok-page.ensures.long c.args.root c.args.depth c.args.low c.args.high (c.requires.met steady)
+    (c.in_ok-page.ensures.page steady) c.in_ok-page.ensures.long c.args.table.now.root c.args.depth c.args.low c.args.high (c.requires.met steady)
     c.in-Some.view c.in-Some.ensures.found c.in-Some.ensures.header c.in_ok-level.ensures.head interior in
     rw add-one (inner_tree _ _ _ _ _ _ _ _ _ all c.loop-i.i c.loop-i.counts.levels end (inv.branches steady))
 
@@ -163,10 +184,49 @@ returns-clause-counts g t c = λ steady.
     let interior : c.in-Some.view.level ≡ Interior = search rules in
     let end : c.loop-i.i ≡ cell_count c.in-Some.view.at c.in-Some.view.page + 1 = search rules in
     let all = inner c.args.pager.now.state c.header-header.result c.header-header.ensures.value c.header-header.ensures.sound c.args.n c.in_ok-page.page
-    (c.in_ok-page.ensures.page steady) c.in_ok-page.ensures.long c.args.root c.args.depth c.args.low c.args.high (c.requires.met steady)
+    (c.in_ok-page.ensures.page steady) c.in_ok-page.ensures.long c.args.table.now.root c.args.depth c.args.low c.args.high (c.requires.met steady)
     c.in-Some.view c.in-Some.ensures.found c.in-Some.ensures.header c.in_ok-level.ensures.head interior in
     let done = end_is _ _ _ _ _ _ _ _ _ all c.loop-i.i c.loop-i.counts.levels end in
     rw add-one (record {
       rows_is = inv.rows steady ∙ ap counted (rows_all (pages_seen c.args.pager.now.state) c.args.n c.loop-i.counts.levels c.loop-i.i done);
       size_is = inv.size steady ∙ ap counted (size_all (pages_seen c.args.pager.now.state) c.args.n c.loop-i.counts.levels c.loop-i.i done);
     })
+
+pub check_rows-requires-clause-cells : goal.check_rows-requires-clause-cells
+check_rows-requires-clause-cells g t c =
+    let leaf : c.in-Some.view.level ≡ Leaf = sym c.in_ok-level.ensures.level ∙ search rules in
+    subst (λ (l : Level). HasCells c.in-Some.view.at (c.header-header.result.pages * c.header-header.result.page_size) c.in-Some.view.page l) leaf c.in_ok-level.ensures.head.cells
+
+pub returns-in_err-check_rows-clause-fault : goal.returns-in_err-check_rows-clause-fault
+returns-in_err-check_rows-clause-fault g t c = λ steady.
+    let leaf : c.in-Some.view.level ≡ Leaf = sym c.in_ok-level.ensures.level ∙ search rules in
+    let met = c.requires.met steady in
+    let seen = see c.args.pager.now.state c.header-header.result c.header-header.ensures.value c.header-header.ensures.sound c.args.n c.in_ok-page.page
+    (c.in_ok-page.ensures.page steady) c.in_ok-page.ensures.long c.args.table.now.root c.args.depth c.args.low c.args.high met
+    c.in-Some.view c.in-Some.ensures.found c.in-Some.ensures.header in
+    let tree = leaf_tree c.args.pager.now.state c.header-header.result c.header-header.ensures.value c.header-header.ensures.sound c.args.n c.in_ok-page.page
+    (c.in_ok-page.ensures.page steady) c.in_ok-page.ensures.long c.args.table.now.root c.args.depth c.args.low c.args.high met
+    c.in-Some.view c.in-Some.ensures.found c.in-Some.ensures.header c.in_ok-level.ensures.head leaf in
+    let p = err_from_is_err_and c.from_residual-in_err-check_rows.result c.from_residual-in_err-check_rows.ensures.1 in
+    rw (p.1, p.2)
+    (inr (⊎_elim inl (λ broken. inr (inr (leaf_fault (pages_seen c.args.pager.now.state) c.args.table.now c.args.n _ _ _ seen c.args.depth tree.0 met.stands _ broken)))
+    c.in_err-check_rows.ensures.fault))
+
+pub returns-then-eq-clause-rows : goal.returns-then-eq-clause-rows
+returns-then-eq-clause-rows g t c = λ steady.
+    let seen = see c.args.pager.now.state c.header-header.result c.header-header.ensures.value c.header-header.ensures.sound c.args.n c.in_ok-page.page
+    (c.in_ok-page.ensures.page steady) c.in_ok-page.ensures.long c.args.table.now.root c.args.depth c.args.low c.args.high (c.requires.met steady)
+    c.in-Some.view c.in-Some.ensures.found c.in-Some.ensures.header in
+    held_leaf (pages_seen c.args.pager.now.state) c.args.table.now c.args.n _ _ _ seen c.in_ok-check_rows.ensures.rows
+
+pub returns-clause-rows : goal.returns-clause-rows
+returns-clause-rows g t c = λ steady.
+    let inv = c.loop-i.invariant in
+    let interior : c.in-Some.view.level ≡ Interior = search rules in
+    let end : c.loop-i.i ≡ cell_count c.in-Some.view.at c.in-Some.view.page + 1 = search rules in
+    let all = inner c.args.pager.now.state c.header-header.result c.header-header.ensures.value c.header-header.ensures.sound c.args.n c.in_ok-page.page
+    (c.in_ok-page.ensures.page steady) c.in_ok-page.ensures.long c.args.table.now.root c.args.depth c.args.low c.args.high (c.requires.met steady)
+    c.in-Some.view c.in-Some.ensures.found c.in-Some.ensures.header c.in_ok-level.ensures.head interior in
+    let done = end_is _ _ _ _ _ _ _ _ _ all c.loop-i.i c.loop-i.counts.levels end in
+    rw add-one (held_under (pages_seen c.args.pager.now.state) c.args.table.now c.loop-i.counts.levels c.args.n
+    (λ k within. inv.held steady k (omega (arith, within, done))))

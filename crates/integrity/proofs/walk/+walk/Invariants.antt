@@ -1,6 +1,10 @@
-use Rattle.std.proofs.Common.{◌≡◌, ℕ, suc, ◌+◌, ◌-◌, ◌<◌, ◌≤◌, IsTrue}
+use Rattle.std.proofs.Common.{All, ◌≡◌, ℕ, suc, ◌+◌, ◌-◌, ◌<◌, ◌≤◌, IsTrue}
 use Rattle.pager.specs.PagerState.{Stays}
 use Rattle.btree.specs.Rest.{pages_seen}
+use Rattle.image.specs.declared.kind.TreeKind.TheVariants.{Table}
+use Rattle.image.specs.Shape.{places_under}
+use Rattle.image.specs.Tree.{child_at}
+use Rattle.integrity.specs.Stored.{HoldsRow}
 use Rattle.integrity.specs.Walked.{IsBranch, counted, rows_before, size_before}
 use Rattle.integrity.proofs.walk.+walk.Given as goal
 
@@ -13,7 +17,9 @@ invariant-loop-i g l = record {
   failures : l.pager.state.source.failures ≡ l.fn.pager.state.source.failures;
   shallow : 0 < l.i → suc l.counts.levels + l.depth ≤ 20;
   branches : IsTrue l.fn.pager.state.source.steady → (k : ℕ) → k < l.i
-      → IsBranch (pages_seen l.fn.pager.state) l.root l.counts.levels l.low l.high l.n k;
+      → IsBranch (pages_seen l.fn.pager.state) l.table.root l.counts.levels l.low l.high l.n k;
+  held : IsTrue l.fn.pager.state.source.steady → (k : ℕ) → k < l.i
+      → All (HoldsRow (pages_seen l.fn.pager.state) l.table) (places_under (pages_seen l.fn.pager.state) Table l.counts.levels (child_at (pages_seen l.fn.pager.state) l.n k));
   rows : IsTrue l.fn.pager.state.source.steady → l.counts.rows ≡ counted (rows_before (pages_seen l.fn.pager.state) l.counts.levels l.n l.i);
   size : IsTrue l.fn.pager.state.source.steady → l.counts.pages ≡ counted (size_before (pages_seen l.fn.pager.state) l.counts.levels l.n l.i);
 }

@@ -1,0 +1,84 @@
+-- Why a cell is no row of its table, and what is broken of a table and its rows. (The faults of docs/FAULTS.md)
+use Rattle.std.specs.Prelude.{◌≡◌, ◌≢◌, ◌⊎◌, ◌<◌, ℕ, List, length, string_bytes, None}
+use Rattle.values.specs.Datum.{Datum}
+use Rattle.values.specs.declared.fault.Fault.{Fault}
+use Rattle.values.specs.declared.fault.Fault.TheVariants.{ReadFailed, NoMemory, BadPage, BadOrder, BadDepth, BadRecord, FloatValue, BadText, ValueBreaksColumn, NotYet}
+use Rattle.records.specs.declared.fault.RecordFault.{RecordFault}
+use Rattle.records.specs.declared.fault.RecordFault.TheVariants as r
+use Rattle.records.specs.Record.{Breaks, IsRecord}
+use Rattle.image.specs.declared.kind.TreeKind.TheVariants.{Table}
+use Rattle.image.specs.Broken.{IsBroken}
+use Rattle.image.specs.Cell.{CellData}
+use Rattle.image.specs.Layout.{cell_count}
+use Rattle.image.specs.Pages.{Pages}
+use Rattle.image.specs.Tree.{Place, IsPlaceOf, IsRowAt}
+use Rattle.btree.specs.Bytes as bytes
+use Rattle.meaning.specs.Body.{Row}
+use Rattle.schema.specs.TableData.{TableData}
+use Rattle.integrity.specs.Stored.{Fits, IsRowOf}
+
+-- the payload has a record, with another number of values than the table has columns
+abbrev pub HasOtherWidth : TableData → CellData → Type 0
+HasOtherWidth table cell = (values : List Datum) × IsRecord cell.payload.local values × (length values ≢ length table.columns)
+
+-- a row of the table has a value that isn't of its column
+abbrev pub HasMisfit : TableData → CellData → Type 0
+HasMisfit table cell = (row : Row) × IsRowOf table cell row × (¬ Fits table row)
+
+-- the fault of a record, once its page is known
+abbrev pub fault_of : RecordFault → ℕ → Fault
+fault_of r.Bad n = BadRecord n
+fault_of r.Float n = FloatValue
+fault_of r.Text n = BadText
+fault_of r.NoMemory n = NoMemory
+
+-- The condition of a cell on page n that a fault says is broken. Where a payload has overflow pages it isn't read yet.
+abbrev pub IsCellFault : TableData → ℕ → CellData → Fault → Type 0
+IsCellFault table n cell (BadRecord m) = (m ≡ n) × (cell.payload.overflow ≡ None) × (Breaks r.Bad cell.payload.local ⊎ HasOtherWidth table cell)
+IsCellFault table n cell FloatValue = (cell.payload.overflow ≡ None) × Breaks r.Float cell.payload.local
+IsCellFault table n cell BadText = (cell.payload.overflow ≡ None) × Breaks r.Text cell.payload.local
+IsCellFault table n cell (ValueBreaksColumn name) = (string_bytes name ≡ table.name) × HasMisfit table cell
+IsCellFault table n cell NotYet = cell.payload.overflow ≢ None
+IsCellFault table n cell _ = ⊥
+
+-- a cell of the table's tree has the condition
+pub record HasCellFault (pages : Pages) (table : TableData) (fault : Fault) : Type 0 where
+  pub place : Place
+  pub cell : CellData
+  pub is_place : IsPlaceOf pages Table table.root place
+  pub at : IsRowAt pages place cell
+  pub broken : IsCellFault table place.page cell fault
+
+-- a page, the order or a row of the table has the condition that a fault says is broken
+abbrev pub IsBrokenTable : Pages → TableData → Fault → Type 0
+IsBrokenTable pages table fault = IsBroken pages table.root fault ⊎ HasCellFault pages table fault
+
+-- Of a leaf of these used bytes, which is page n and whose header begins at a place: cell i is a row of the table, whose
+-- values are of its columns.
+pub record IsRowIn (table : TableData) (at most : ℕ) (page : List ℕ) (i : ℕ) : Type 0 where
+  pub cell : CellData
+  pub row : Row
+  pub here : bytes.IsRowOf at most page i cell
+  pub is : IsRowOf table cell row
+  pub fits : Fits table row
+
+abbrev pub AreRowsIn : TableData → ℕ → ℕ → List ℕ → Type 0
+AreRowsIn table at most page = (i : ℕ) → i < cell_count at page → IsRowIn table at most page i
+
+-- one of its cells has the condition
+pub record IsLeafFault (table : TableData) (n at most : ℕ) (page : List ℕ) (fault : Fault) : Type 0 where
+  pub i : ℕ
+  pub cell : CellData
+  pub within : i < cell_count at page
+  pub here : bytes.IsRowOf at most page i cell
+  pub broken : IsCellFault table n cell fault
+
+-- the faults of a table's rows
+abbrev pub IsRowFault : Fault → Type 0
+IsRowFault NoMemory = Unit {0}
+IsRowFault (BadRecord _) = Unit {0}
+IsRowFault FloatValue = Unit {0}
+IsRowFault BadText = Unit {0}
+IsRowFault (ValueBreaksColumn _) = Unit {0}
+IsRowFault NotYet = Unit {0}
+IsRowFault _ = ⊥
