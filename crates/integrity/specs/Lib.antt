@@ -3,3 +3,4 @@ pub mod Denotes
 pub mod RowFaults
 pub mod Keys
 pub mod Walked
+pub mod Checked

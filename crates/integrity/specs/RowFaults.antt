@@ -1,5 +1,5 @@
 -- Why a cell is no row of its table, and what is broken of a table and its rows. (The faults of docs/FAULTS.md)
-use Rattle.std.specs.Prelude.{◌≡◌, ◌≢◌, ◌⊎◌, ◌<◌, ℕ, List, length, string_bytes, None}
+use Rattle.std.specs.Prelude.{◌≡◌, ◌≢◌, ◌⊎◌, ◌<◌, ℕ, List, length, slice_get, string_bytes, None, Some}
 use Rattle.values.specs.Datum.{Datum}
 use Rattle.values.specs.declared.fault.Fault.{Fault}
 use Rattle.values.specs.declared.fault.Fault.TheVariants.{ReadFailed, NoMemory, BadPage, BadOrder, BadDepth, BadRecord, FloatValue, BadText, ValueBreaksColumn, NotYet}
@@ -82,3 +82,20 @@ IsRowFault BadText = Unit {0}
 IsRowFault (ValueBreaksColumn _) = Unit {0}
 IsRowFault NotYet = Unit {0}
 IsRowFault _ = ⊥
+
+-- these rows of the table are the cells of the leaf
+abbrev pub AreLeafRows : TableData → ℕ → ℕ → List ℕ → List Row → Type 0
+AreLeafRows table at most page rows =
+    (length rows ≡ cell_count at page) × ((i : ℕ) (row : Row) → slice_get rows i ≡ Some row
+    → (cell : CellData) × bytes.IsRowOf at most page i cell × IsRowOf table cell row)
+
+-- a cell of the leaf isn't there
+pub record LacksCell (at most : ℕ) (page : List ℕ) : Type 0 where
+  pub i : ℕ
+  pub within : i < cell_count at page
+  pub none : (cell : CellData) → ¬ bytes.IsRowOf at most page i cell
+
+-- why the cells of a leaf are no rows: memory ran out, a cell has a fault, or isn't there
+abbrev pub IsRowsFault : TableData → ℕ → ℕ → ℕ → List ℕ → Fault → Type 0
+IsRowsFault table n at most page fault =
+    (fault ≡ NoMemory) ⊎ IsLeafFault table n at most page fault ⊎ ((fault ≡ BadPage n) × LacksCell at most page)

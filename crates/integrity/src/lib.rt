@@ -6,6 +6,7 @@
 
 mod keys;
 mod rows;
+mod trees;
 mod walk;
 
 pub use rows::RowView;

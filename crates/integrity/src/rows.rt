@@ -11,9 +11,9 @@ ghost use Rattle.integrity.specs.Stored.{Fits, FitsColumn, IsRowFrom, IsRowOf, r
 use btree::{Cell, PageView};
 use records::{RecordFault, RecordView};
 use schema::{Column, Table};
-use std::alloc::Global;
+use std::alloc::{AllocError, Global};
 use std::marker::Model;
-use values::{Fault, Ty, ValueRef};
+use values::{Fault, Row, Ty, ValueRef};
 
 /// A row of a table that is read in place: its record has as many values as the table has columns. A clause sees it as
 /// the list of its values.
@@ -72,6 +72,18 @@ impl<'p> RowView<'p> {
             _ => self.fields.field(column),
         }
     }
+
+    /// The row with its values in memory of their own.
+    pub fn to_row(&self, alloc: Global) -> Result<Row, AllocError>
+        ensures { IfOk result (λ row. row ≡ self.now) }
+    {
+        let mut row = Row::with_capacity(alloc, self.count())?;
+        for i in 0..self.count() {
+            let value = self.value(i).to_value(alloc)?;
+            row.push(value)?;
+        }
+        Ok(row)
+    }
 }
 
 /// Whether a value is of a column.
@@ -98,6 +110,30 @@ fn fits(table: &Table, row: &RowView<'_>) -> bool
         }
     }
     true
+}
+
+/// The row of a table that a record is, with its rowid where it has one. (Database File Format, section 2.3
+/// "Representation Of SQL Tables") The fault is `Changed` where the record has another number of values than the table has
+/// columns, or a value that isn't of its column; or `NoMemory`.
+pub fn row_of(
+    alloc: Global,
+    table: &Table,
+    rowid: Option<i64>,
+    fields: RecordView<'_>,
+) -> Result<Row, Fault>
+    ensures row { IfOk result (λ row. IsRowFrom table.now rowid fields.entry row) }
+    ensures fits { IfOk result (λ row. Fits table.now row) }
+    ensures changed { IfErr result (λ e. (e ≡ Fault.NoMemory)
+        ⊎ ((e ≡ Fault.Changed) × ((row : List Datum) → IsRowFrom table.now rowid fields.entry row → ¬ Fits table.now row))) }
+{
+    let Some(row) = RowView::new(table, rowid, fields) else {
+        return Err(Fault::Changed);
+    };
+    if !fits(table, &row) {
+        return Err(Fault::Changed);
+    }
+    let row = row.to_row(alloc)?;
+    Ok(row)
 }
 
 /// The fault of a record of page `n`.

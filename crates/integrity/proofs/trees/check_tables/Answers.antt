@@ -1,0 +1,41 @@
+use Rattle.std.proofs.Common.{◌≡◌, ◌<◌, Contains, IsTrue, List, length, rules, arith, sym, ◌∙◌, subst, inl, inr, ⊎_elim, slice_get, Some}
+use Rattle.std.specs.List.{AllZip}
+use Rattle.std.proofs.lemmas.Result.{err_from_is_err_and}
+use Rattle.pager.proofs.StaysLemmas.{Stays-trans}
+use Rattle.image.specs.Pages.{Pages}
+use Rattle.btree.specs.Rest.{pages_seen}
+use Rattle.btree.proofs.SeenLemmas.{still_steady, same_pages}
+use Rattle.schema.specs.TableData.{TableData}
+use Rattle.integrity.specs.Checked.{IsCheckedTree}
+use Rattle.integrity.specs.RowFaults.{IsBrokenTable}
+use Rattle.integrity.specs.declared.walk.TreeCounts.{TreeCounts}
+use Rattle.integrity.proofs.RowLemmas.{all_next, get_at}
+use Rattle.integrity.proofs.trees.check_tables.Goals as goal
+
+pub returns-in_err-counts-clause-fault : goal.returns-in_err-counts-clause-fault
+returns-in_err-counts-clause-fault g c = λ steady.
+    let inv = c.loop-table.invariant in
+    let now = still_steady _ _ inv.stays steady in
+    let p = err_from_is_err_and c.from_residual-in_err-counts.result c.from_residual-in_err-counts.ensures.1 in
+    rw (p.1, p.2)
+    (⊎_elim inl (λ other. ⊎_elim (λ memory. inr (inl memory))
+    (λ broken. inr (inr (c.table-item.result, search rules, subst (λ (q : Pages). IsBrokenTable q c.table-item.result c.in_err-counts.field-0.0) (same_pages _ _ inv.stays) broken))) other)
+    (c.in_err-counts.ensures.fault now))
+
+pub loop-table-preserved : goal.loop-table-preserved
+loop-table-preserved g c =
+    let inv = c.loop-table.invariant in
+    let within : c.loop-table.table-index < length c.args.tables.now = search rules in
+    let here = get_at c.args.tables.now c.loop-table.table-index c.table-item.result within (search rules) in
+    record {
+      stays = Stays-trans _ _ _ inv.stays c.check_table.ensures.stays;
+      failures = c.in_ok-counts.ensures.failures ∙ inv.failures;
+      checked = λ steady.
+          let now = still_steady _ _ inv.stays steady in
+          let told = c.in_ok-counts.ensures in
+          let tree : IsCheckedTree (pages_seen c.loop-table.pager.state) c.table-item.result c.in_ok-counts.counts =
+              record { few = told.few; sound = told.sound now; shape = told.shape now; rows = told.rows now; counts_are = told.counts now } in
+          let one = subst (λ (q : Pages). IsCheckedTree q c.table-item.result c.in_ok-counts.counts) (same_pages _ _ inv.stays) tree in
+          all_next (IsCheckedTree (pages_seen c.args.pager.now.state)) c.args.tables.now c.loop-table.trees.items c.push.new.self.items c.loop-table.table-index
+          c.table-item.result c.in_ok-counts.counts here c.in_ok-push.ensures.items (inv.checked steady) one;
+    }

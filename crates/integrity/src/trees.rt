@@ -1,0 +1,82 @@
+//! The trees of an image's tables, and the rows of its schema.
+ghost use Rattle.std.specs.Prelude.{◌≡◌, ◌⊎◌, All, Contains, IfErr, IfOk, IsTrue};
+ghost use Rattle.std.specs.List.{AllZip};
+ghost use Rattle.pager.specs.PagerState.{IsPageNumber, Stays};
+ghost use Rattle.values.specs.Fault.{Counts};
+ghost use Rattle.image.specs.declared.kind.TreeKind.TheVariants as kind;
+ghost use Rattle.image.specs.declared.kind.Level.TheVariants.{Leaf};
+ghost use Rattle.btree.specs.Rest.{pages_seen};
+ghost use Rattle.btree.specs.Views.{cell_data};
+ghost use Rattle.schema.specs.TableData.{TableData};
+ghost use Rattle.integrity.specs.Checked.{IsCheckedTree};
+ghost use Rattle.integrity.specs.RowFaults.{AreLeafRows, IsBrokenTable, IsCellFault, IsRowFault, IsRowsFault};
+ghost use Rattle.integrity.specs.Stored.{IsRowOf};
+ghost use Rattle.integrity.specs.Walked.{IsWalkFault};
+
+use crate::rows::read_row;
+use crate::walk::{TreeCounts, check_table};
+use btree::{Cell, PageView};
+use pager::{Pager, Source};
+use schema::Table;
+use std::alloc::Global;
+use values::{Fault, Row};
+
+/// Checks the tree of each table.
+pub(crate) fn check_tables<S: Source>(
+    alloc: Global,
+    pager: &mut Pager<S>,
+    tables: &[Table],
+) -> Result<Vec<TreeCounts>, Fault>
+    requires { All (λ table. IsPageNumber pager.old.state table.root) tables.now }
+    ensures checked { IsTrue pager.old.state.source.steady
+        → IfOk result (λ trees. AllZip (IsCheckedTree (pages_seen pager.old.state)) tables.now trees.items) }
+    ensures fault { IsTrue pager.old.state.source.steady
+        → IfErr result (λ e. (e ≡ Fault.ReadFailed) ⊎ (e ≡ Fault.NoMemory)
+        ⊎ ((table : TableData) × Contains tables.now table × IsBrokenTable (pages_seen pager.old.state) table e)) }
+    ensures only { IfErr result IsWalkFault }
+    ensures failures { Counts Fault.ReadFailed result pager.old.state.source.failures pager.new.state.source.failures }
+    ensures stays { Stays pager.old.state pager.new.state }
+{
+    let mut trees = Vec::with_capacity(alloc, tables.len())?;
+    for table in tables {
+        let counts = check_table(alloc, pager, table)?;
+        trees.push(counts)?;
+    }
+    Ok(trees)
+}
+
+/// The row of a table that a cell of page `n` is, with its values in memory of their own.
+fn row_in(alloc: Global, table: &Table, cell: Cell<'_>, n: u32) -> Result<Row, Fault>
+    ensures row { IfOk result (λ row. IsRowOf table.now (cell_data cell.entry) row) }
+    ensures fault { IfErr result (λ e. (e ≡ Fault.NoMemory) ⊎ IsCellFault table.now n (cell_data cell.entry) e) }
+    ensures only { IfErr result IsRowFault }
+{
+    let view = read_row(alloc, table, cell, n)?;
+    let row = view.to_row(alloc)?;
+    Ok(row)
+}
+
+/// The rows of a table that are the cells of a leaf, which is page `n`.
+fn leaf_rows(
+    alloc: Global,
+    table: &Table,
+    view: &PageView<'_>,
+    most: u64,
+    n: u32,
+) -> Result<Vec<Row>, Fault>
+    requires kind { view.now.kind ≡ kind.Table }
+    requires level { view.now.level ≡ Leaf }
+    ensures rows { IfOk result (λ rows. AreLeafRows table.now view.now.at most view.now.page rows.items) }
+    ensures fault { IfErr result (IsRowsFault table.now n view.now.at most view.now.page) }
+    ensures only { IfErr result IsWalkFault }
+{
+    let mut rows = Vec::with_capacity(alloc, view.count() as usize)?;
+    for i in 0..u32::from(view.count()) {
+        let Some(cell) = view.row(most, i) else {
+            return Err(Fault::BadPage(n));
+        };
+        let row = row_in(alloc, table, cell, n)?;
+        rows.push(row)?;
+    }
+    Ok(rows)
+}
