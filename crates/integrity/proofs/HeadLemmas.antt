@@ -80,7 +80,7 @@ module _ (pages : Pages) (n : ℕ) (long : length (pages.page n) ≡ pages.usabl
     most = λ i x within h. fit.most i x within (rowid_there level i x page within h);
   }
 
-  one_level : (level other : Level) → HasHeaderAt (header_at n) Table level (pages.page n) → IsPageOf pages Table other n → other ≡ level
+  pub one_level : (level other : Level) → HasHeaderAt (header_at n) Table level (pages.page n) → IsPageOf pages Table other n → other ≡ level
   one_level level other header page = flag_of-same Table other level (sym page.header.flag_is ∙ header.flag_is)
 
   -- a page that is met, and isn't what it must be

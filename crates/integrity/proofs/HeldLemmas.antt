@@ -47,15 +47,15 @@ module _ (pages : Pages) (table : TableData) where
 
   -- of a leaf, as its bytes were seen
   module _ (n at most : ℕ) (page : List ℕ) (seen : IsSeen pages n at most page) where
-    seen_row : (i : ℕ) (cell : CellData) → bytes.IsRowOf at most page i cell → IsRowAt pages (place_at n i) cell
+    pub seen_row : (i : ℕ) (cell : CellData) → bytes.IsRowOf at most page i cell → IsRowAt pages (place_at n i) cell
     seen_row i cell row =
         let here : bytes.IsRowOf (header_at n) pages.size (pages.page n) i cell =
-            subst (λ (a : ℕ). bytes.IsRowOf a pages.size (pages.page n) i cell) seen.at_is
-            (subst (λ (m : ℕ). bytes.IsRowOf at m (pages.page n) i cell) seen.most_is (subst (λ (b : List ℕ). bytes.IsRowOf at most b i cell) seen.page_is row)) in
+        subst (λ (a : ℕ). bytes.IsRowOf a pages.size (pages.page n) i cell) seen.at_is
+        (subst (λ (m : ℕ). bytes.IsRowOf at m (pages.page n) i cell) seen.most_is (subst (λ (b : List ℕ). bytes.IsRowOf at most b i cell) seen.page_is row)) in
         let long : length (pages.page n) ≡ pages.usable = sym (ap length seen.page_is) ∙ seen.long in
         record { is = subst (λ (u : ℕ). IsTableCell u (cell_at pages Leaf n i) cell) long here.is.is; fits = here.is.fits }
 
-    seen_cells : cell_count at page ≡ count_at pages n
+    pub seen_cells : cell_count at page ≡ count_at pages n
     seen_cells = seen_count pages n at most page seen (cell_count at page) refl
 
     pub held_leaf : AreRowsIn table at most page → All (HoldsRow pages table) (places_in pages n)

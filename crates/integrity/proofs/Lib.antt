@@ -7,3 +7,4 @@ pub mod TreeLemmas
 pub mod WalkLemmas
 pub mod CountLemmas
 pub mod HeldLemmas
+pub mod SchemaLemmas

@@ -42,10 +42,10 @@ module _ {A B : Type 0} (R : A → B → Type 0) where
   each_more xs ys i u v is_u is_v now so_far k x y within here there =
       ⊎_elim (λ (less : k < i). so_far k x y less here there)
       (λ (least : i ≤ k).
-          let same : k ≡ i = omega arith in
-          let at_i : slice_get xs i ≡ Some x = subst (λ (j : ℕ). slice_get xs j ≡ Some x) same here in
-          let also : slice_get ys i ≡ Some y = subst (λ (j : ℕ). slice_get ys j ≡ Some y) same there in
-          subst (λ (a : A). R a y) (some_same u x (sym is_u ∙ at_i)) (subst (λ (b : B). R u b) (some_same v y (sym is_v ∙ also)) now))
+      let same : k ≡ i = omega arith in
+      let at_i : slice_get xs i ≡ Some x = subst (λ (j : ℕ). slice_get xs j ≡ Some x) same here in
+      let also : slice_get ys i ≡ Some y = subst (λ (j : ℕ). slice_get ys j ≡ Some y) same there in
+      subst (λ (a : A). R a y) (some_same u x (sym is_u ∙ at_i)) (subst (λ (b : B). R u b) (some_same v y (sym is_v ∙ also)) now))
       (cases_lt k i)
 
 -- one pair more

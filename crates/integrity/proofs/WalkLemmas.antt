@@ -212,7 +212,7 @@ module _ (state : PagerState) (header : Header) (header_is : header ≡ state.he
       pub see : IsSeen (pages_seen state) n view.at (header.pages * header.page_size) view.page
       see = record { at_is = at_is; page_is = page_is ∙ used_is; most_is = see_bytes.most_is; long = ap length page_is ∙ see_bytes.long }
 
-      has_header : HasHeaderAt view.at Table view.level view.page
+      pub has_header : HasHeaderAt view.at Table view.level view.page
       has_header = subst (λ (a : ℕ). HasHeaderAt a Table view.level view.page) (sym at_is) (subst (λ (b : List ℕ). HasHeaderAt (header_at n) Table view.level b) (sym page_is) has)
 
       pub broken_head : (fault : Fault) → IsHeadFault view.at (header.pages * header.page_size) view.page view.level root n low high fault → IsBroken (pages_seen state) root fault

@@ -149,7 +149,12 @@ fn record_fault(fault: RecordFault, n: u32) -> Fault
 }
 
 /// The row of a table that a cell of page `n` is.
-pub(crate) fn read_row<'p>(alloc: Global, table: &Table, cell: Cell<'p>, n: u32) -> Result<RowView<'p>, Fault>
+pub(crate) fn read_row<'p>(
+    alloc: Global,
+    table: &Table,
+    cell: Cell<'p>,
+    n: u32,
+) -> Result<RowView<'p>, Fault>
     ensures row { IfOk result (λ row. IsRowOf table.now (cell_data cell.entry) row) }
     ensures fault { IfErr result (λ e. (e ≡ Fault.NoMemory) ⊎ IsCellFault table.now n (cell_data cell.entry) e) }
     ensures only { IfErr result IsRowFault }
@@ -182,7 +187,13 @@ fn check_row(alloc: Global, table: &Table, cell: Cell<'_>, n: u32) -> Result<(),
 }
 
 /// Tests that the cells of a leaf, which is page `n`, are rows of a table, whose values are of its columns.
-pub(crate) fn check_rows(alloc: Global, table: &Table, view: &PageView<'_>, most: u64, n: u32) -> Result<(), Fault>
+pub(crate) fn check_rows(
+    alloc: Global,
+    table: &Table,
+    view: &PageView<'_>,
+    most: u64,
+    n: u32,
+) -> Result<(), Fault>
     requires kind { view.now.kind ≡ kind.Table }
     requires level { view.now.level ≡ Leaf }
     requires cells { HasCells view.now.at most view.now.page Leaf }

@@ -1,5 +1,5 @@
 //! The trees of an image's tables, and the rows of its schema.
-ghost use Rattle.std.specs.Prelude.{◌≡◌, ◌⊎◌, All, Contains, IfErr, IfOk, IsTrue};
+ghost use Rattle.std.specs.Prelude.{◌≡◌, ◌⊎◌, All, Contains, IfErr, IfOk, IsTrue, OnOk};
 ghost use Rattle.std.specs.List.{AllZip};
 ghost use Rattle.pager.specs.PagerState.{IsPageNumber, Stays};
 ghost use Rattle.values.specs.Fault.{Counts};
@@ -7,15 +7,16 @@ ghost use Rattle.image.specs.declared.kind.TreeKind.TheVariants as kind;
 ghost use Rattle.image.specs.declared.kind.Level.TheVariants.{Leaf};
 ghost use Rattle.btree.specs.Rest.{pages_seen};
 ghost use Rattle.btree.specs.Views.{cell_data};
-ghost use Rattle.schema.specs.TableData.{TableData};
-ghost use Rattle.integrity.specs.Checked.{IsCheckedTree};
+ghost use Rattle.schema.specs.TableData.{TableData, schema_table};
+ghost use Rattle.integrity.specs.Checked.{HasCause, IsCheckedTree};
 ghost use Rattle.integrity.specs.RowFaults.{AreLeafRows, IsBrokenTable, IsCellFault, IsRowFault, IsRowsFault};
-ghost use Rattle.integrity.specs.Stored.{IsRowOf};
+ghost use Rattle.integrity.specs.Stored.{HoldsRows, IsRowOf};
 ghost use Rattle.integrity.specs.Walked.{IsWalkFault};
 
 use crate::rows::read_row;
 use crate::walk::{TreeCounts, check_table};
-use btree::{Cell, PageView};
+use btree::{Cell, PageView, view_of};
+use image::Level;
 use pager::{Pager, Source};
 use schema::Table;
 use std::alloc::Global;
@@ -78,5 +79,38 @@ fn leaf_rows(
         let row = row_in(alloc, table, cell, n)?;
         rows.push(row)?;
     }
+    Ok(rows)
+}
+
+/// The page at the root of the schema's tree.
+const SCHEMA_ROOT: u32 = 1;
+
+/// Checks the schema's tree, which has to be one leaf, and reads its rows.
+pub(crate) fn read_schema<S: Source>(
+    alloc: Global,
+    pager: &mut Pager<S>,
+    schema: &Table,
+) -> Result<Vec<Row>, Fault>
+    requires { schema.now ≡ schema_table }
+    ensures rows { IsTrue pager.old.state.source.steady
+        → IfOk result (λ rows. HoldsRows (pages_seen pager.old.state) schema_table rows.items) }
+    ensures checked { IsTrue pager.old.state.source.steady
+        → OnOk result ((counts : TreeCounts) × IsCheckedTree (pages_seen pager.old.state) schema_table counts) }
+    ensures fault { IsTrue pager.old.state.source.steady → IfErr result (HasCause (pages_seen pager.old.state)) }
+    ensures only { IfErr result IsWalkFault }
+    ensures failures { Counts Fault.ReadFailed result pager.old.state.source.failures pager.new.state.source.failures }
+    ensures stays { Stays pager.old.state pager.new.state }
+{
+    let header = pager.header();
+    check_table(alloc, pager, schema)?;
+    let page = pager.page(SCHEMA_ROOT)?;
+    let Some(view) = view_of(&page, SCHEMA_ROOT, header.usable as usize) else {
+        return Err(Fault::BadPage(SCHEMA_ROOT));
+    };
+    if view.level() == Level::Interior {
+        return Err(Fault::NotYet);
+    }
+    let most = header.pages as u64 * header.page_size as u64;
+    let rows = leaf_rows(alloc, schema, &view, most, SCHEMA_ROOT)?;
     Ok(rows)
 }

@@ -168,7 +168,11 @@ fn walk<S: Source>(
 /// Checks the tree of a table that has this root, and counts what it has. Its faults are `ReadFailed`, `NoMemory`, and the
 /// conditions of a tree that are broken: `BadPage` and `BadOrder` of a page, `BadDepth` of the root.
 /// (Database File Format, section 1.6 "B-tree Pages")
-pub fn check_table<S: Source>(alloc: Global, pager: &mut Pager<S>, table: &Table) -> Result<TreeCounts, Fault>
+pub fn check_table<S: Source>(
+    alloc: Global,
+    pager: &mut Pager<S>,
+    table: &Table,
+) -> Result<TreeCounts, Fault>
     requires { IsPageNumber pager.old.state table.now.root }
     ensures sound { IsTrue pager.old.state.source.steady → OnOk result (IsSoundTable (pages_seen pager.old.state) table.now.root) }
     ensures few { IfOk result (λ counts. counts.levels < 20) }

@@ -34,7 +34,7 @@ loop-table-preserved g c =
           let now = still_steady _ _ inv.stays steady in
           let told = c.in_ok-counts.ensures in
           let tree : IsCheckedTree (pages_seen c.loop-table.pager.state) c.table-item.result c.in_ok-counts.counts =
-              record { few = told.few; sound = told.sound now; shape = told.shape now; rows = told.rows now; counts_are = told.counts now } in
+          record { few = told.few; sound = told.sound now; shape = told.shape now; rows = told.rows now; counts_are = told.counts now } in
           let one = subst (λ (q : Pages). IsCheckedTree q c.table-item.result c.in_ok-counts.counts) (same_pages _ _ inv.stays) tree in
           all_next (IsCheckedTree (pages_seen c.args.pager.now.state)) c.args.tables.now c.loop-table.trees.items c.push.new.self.items c.loop-table.table-index
           c.table-item.result c.in_ok-counts.counts here c.in_ok-push.ensures.items (inv.checked steady) one;

@@ -134,10 +134,10 @@ loop-i-preserved g t c =
       held = λ steady.
           let now = still_steady _ _ inv.stays steady in
           let at : c.in-Some-child_within.child ≡ child_at (pages_seen c.args.pager.now.state) c.args.n c.loop-i.i =
-              let all = inner c.args.pager.now.state c.header-header.result c.header-header.ensures.value c.header-header.ensures.sound c.args.n c.in_ok-page.page
-              (c.in_ok-page.ensures.page steady) c.in_ok-page.ensures.long c.args.table.now.root c.args.depth c.args.low c.args.high (c.requires.met steady)
-              c.in-Some.view c.in-Some.ensures.found c.in-Some.ensures.header c.in_ok-level.ensures.head interior in
-              seen_child _ _ _ _ _ all.seen c.loop-i.i c.in-Some-child_within.child kid.0 in
+          let all = inner c.args.pager.now.state c.header-header.result c.header-header.ensures.value c.header-header.ensures.sound c.args.n c.in_ok-page.page
+          (c.in_ok-page.ensures.page steady) c.in_ok-page.ensures.long c.args.table.now.root c.args.depth c.args.low c.args.high (c.requires.met steady)
+          c.in-Some.view c.in-Some.ensures.found c.in-Some.ensures.header c.in_ok-level.ensures.head interior in
+          seen_child _ _ _ _ _ all.seen c.loop-i.i c.in-Some-child_within.child kid.0 in
           let under = subst (λ (p : Pages). All (HoldsRow p c.args.table.now) (places_under p Table c.in_ok-below.below.levels c.in-Some-child_within.child)) (same_pages _ _ inv.stays) (c.in_ok-below.ensures.rows now) in
           let here = subst (λ (l : ℕ). All (HoldsRow (pages_seen c.args.pager.now.state) c.args.table.now) (places_under (pages_seen c.args.pager.now.state) Table l (child_at (pages_seen c.args.pager.now.state) c.args.n c.loop-i.i))) (sym levels)
           (subst (λ (m : ℕ). All (HoldsRow (pages_seen c.args.pager.now.state) c.args.table.now) (places_under (pages_seen c.args.pager.now.state) Table c.in_ok-below.below.levels m)) at under) in
