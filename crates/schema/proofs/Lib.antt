@@ -1,0 +1,7 @@
+pub mod ListLemmas
+pub mod NameLemmas
+pub mod KeyLemmas
+pub mod KeyStepLemmas
+pub mod ColumnLemmas
+pub mod CreatedLemmas
+pub mod CatalogLemmas

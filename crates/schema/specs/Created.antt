@@ -35,6 +35,12 @@ keys_of ConstraintTree.NotNull = 0
 abbrev pub key_count : List ColumnTree → ℕ
 key_count columns = sum_by (λ c. sum_by keys_of c.constraints) columns
 
+-- Of these columns PRIMARY KEY stands once at most, behind INTEGER, and this is its column's place.
+pub record AreKeys (columns : List ColumnTree) (place : Option ℕ) : Type 0 where
+  pub place_is : IsKeyPlace columns place
+  pub one_key : key_count columns ≤ 1
+  pub integer : All (λ c. IsKey c → c.ty ≡ TypeTree.Integer) columns
+
 -- A table of this text. Its columns have different names, and PRIMARY KEY stands once at most, behind INTEGER: such a
 -- column is the rowid.
 pub record IsTable (tree : TableTree) (table : TableData) : Type 0 where

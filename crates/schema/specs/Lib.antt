@@ -2,3 +2,4 @@ pub mod TableData
 pub mod Names
 pub mod Created
 pub mod Rows
+pub mod Refused

@@ -7,6 +7,9 @@
 //! `catalog` (the rows of the schema), and `laws`.
 #![tactic(auto)]
 
+mod catalog;
+mod created;
 mod table;
 
+pub use catalog::Catalog;
 pub use table::{Column, Table};

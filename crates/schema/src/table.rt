@@ -1,7 +1,8 @@
 //! Tables and their columns.
-ghost use Rattle.std.specs.Prelude.{◌≡◌, length};
-ghost use Rattle.schema.specs.TableData.{IsPlaceIn};
+ghost use Rattle.std.specs.Prelude.{◌≡◌, IfOk, length};
+ghost use Rattle.schema.specs.TableData.{IsPlaceIn, nullable, schema_table};
 
+use std::alloc::{AllocError, Global};
 use std::marker::Model;
 use values::Ty;
 
@@ -23,6 +24,18 @@ impl Model for Column {
 }
 
 impl Column {
+    /// A column whose values may be NULL.
+    fn nullable(alloc: Global, name: &str, ty: Ty) -> Result<Column, AllocError>
+        ensures { IfOk result (λ column. column ≡ nullable name.now ty) }
+    {
+        let name = String::from_str(alloc, name)?;
+        Ok(Column {
+            name,
+            ty,
+            not_null: false,
+        })
+    }
+
     /// The name, as it was declared.
     pub fn name(&self) -> &str
         ensures { result.now ≡ self.now.name }
@@ -66,6 +79,25 @@ impl Model for Table {
 }
 
 impl Table {
+    /// The table in which each object of the schema has a row. (The Schema Table)
+    pub fn schema(alloc: Global) -> Result<Table, AllocError>
+        ensures { IfOk result (λ table. table ≡ schema_table) }
+    {
+        let kind = Column::nullable(alloc, "type", Ty::Text)?;
+        let object = Column::nullable(alloc, "name", Ty::Text)?;
+        let owner = Column::nullable(alloc, "tbl_name", Ty::Text)?;
+        let root = Column::nullable(alloc, "rootpage", Ty::Int)?;
+        let sql = Column::nullable(alloc, "sql", Ty::Text)?;
+        let columns = Vec::from_array(alloc, [kind, object, owner, root, sql])?;
+        let name = String::from_str(alloc, "sqlite_schema")?;
+        Ok(Table {
+            name,
+            root: 1,
+            columns,
+            rowid: None,
+        })
+    }
+
     /// The name, as it was declared.
     pub fn name(&self) -> &str
         ensures { result.now ≡ self.now.name }

@@ -1,0 +1,44 @@
+-- The columns that definitions declare.
+use Rattle.std.proofs.Common.{◌≡◌, ◌<◌, Bool, true, false, Contains, IsTrue, ◌↔◌, List, [], ◌∷◌, ◌++◌, length, map, refl, sym, ap, ◌∙◌, subst, arith}
+use Rattle.std.proofs.lemmas.List.{get_or-map, length-map, map_push}
+use Rattle.std.specs.List.{AllZip, Any}
+use denote.Enum.Bare.{sameb}
+use Rattle.sql_reader.specs.Tree.{ConstraintTree}
+use Rattle.sql_reader.specs.View.{column_of, constraint_of}
+use Rattle.sql_reader.specs.contracts.tree.ColumnConstraint.{the_type}
+use Rattle.sql_reader.specs.declared.tree.Column.{Column}
+use Rattle.sql_reader.specs.declared.tree.ColumnConstraint.{ColumnConstraint}
+use Rattle.sql_reader.specs.declared.tree.ColumnConstraint.TheVariants as c
+use Rattle.schema.proofs.ListLemmas.{all_zip_push, any_at}
+use Rattle.schema.specs.Created.{IsColumn}
+use Rattle.schema.specs.TableData.{ColumnData}
+
+pub is_not_null : (x : ColumnConstraint) → sameb the_type x c.NotNull ≡ true → constraint_of x ≡ ConstraintTree.NotNull
+is_not_null c.PrimaryKey e = absurd cc
+is_not_null c.NotNull e = refl
+
+pub is_other : (x : ColumnConstraint) → sameb the_type x c.NotNull ≡ false → ¬ (constraint_of x ≡ ConstraintTree.NotNull)
+is_other c.PrimaryKey e h = absurd cc
+is_other c.NotNull e h = absurd cc
+
+-- a test of the constraints found one that is the constraint
+pub contains_constraint : (constraints : List ColumnConstraint) (tree : ConstraintTree) (found : Bool)
+    → IsTrue found ↔ Any (λ x. constraint_of x ≡ tree) constraints → IsTrue found ↔ Contains (map constraint_of constraints) tree
+contains_constraint constraints tree found h = (
+  (λ e. let a = h.0 e in (
+    a.0,
+    (let l = length-map constraints constraint_of in let w = a.2 in omega (arith, l, w)),
+    get_or-map constraint_of constraints a.0 a.1 tree a.2 ∙ ap constraint_of a.3 ∙ a.4,
+  )),
+  (λ k. let l = length-map constraints constraint_of in let w = k.1 in let within : k.0 < length constraints = omega (arith, l, w) in
+      h.1 (any_at (λ x. constraint_of x ≡ tree) constraints k.0 within
+      (λ d. sym (get_or-map constraint_of constraints k.0 d tree within) ∙ k.2))),
+)
+
+pub one_column_more : (definitions : List Column) (columns more : List ColumnData) (definition : Column) (column : ColumnData)
+    → more ≡ columns ++ column ∷ [] → AllZip IsColumn (map column_of definitions) columns → IsColumn (column_of definition) column
+    → AllZip IsColumn (map column_of (definitions ++ definition ∷ [])) more
+one_column_more definitions columns more definition column e all here =
+    subst (AllZip IsColumn (map column_of (definitions ++ definition ∷ []))) (sym e)
+    (subst (λ ds. AllZip IsColumn ds (columns ++ column ∷ [])) (sym (map_push column_of definitions definition))
+    (all_zip_push IsColumn (map column_of definitions) columns (column_of definition) column all here))

@@ -1,0 +1,72 @@
+-- The table that a CREATE TABLE makes.
+use Rattle.std.proofs.Common.{◌≡◌, ℕ, Bool, true, false, IsTrue, ◌↔◌, inl, inr, List, [], ◌∷◌, length, map, string_bytes, Option, None, Some, refl, sym, ap, subst, arith}
+use Rattle.std.proofs.lemmas.Option.{slice_get_within}
+use Rattle.std.specs.List.{AllZip}
+use Rattle.values.specs.declared.fault.Fault.{Fault}
+use Rattle.sql_reader.specs.Tree.{ColumnTree, Name}
+use Rattle.sql_reader.specs.View.{column_of, table_of}
+use Rattle.sql_reader.specs.declared.tree.Column.{Column}
+use Rattle.sql_reader.specs.declared.tree.CreateTable.{CreateTable}
+use Rattle.schema.specs.Created.{AreKeys, IsColumn, IsKeyPlace, IsTable}
+use Rattle.schema.specs.Names.{AreDistinct, IsReserved}
+use Rattle.schema.specs.Refused.{IsRefused}
+use Rattle.schema.specs.TableData.{ColumnData, IsPlaceIn, TableData}
+
+-- what is refused, as what it is a part of
+pub refused_part : {A B : Type 0} (IsPart : A → Type 0) (IsWhole : B → Type 0) (fault : Fault) → IsRefused IsPart fault
+    → ((whole : B) → IsWhole whole → (part : A) × IsPart part) → IsRefused IsWhole fault
+refused_part IsPart IsWhole fault (inl memory) part_of = inl memory
+refused_part IsPart IsWhole fault (inr (not_yet, none)) part_of =
+    inr (not_yet, (λ whole is. let part = part_of whole is in none part.0 part.1))
+
+pub names_of : (columns : List Column) → map (λ c. c.name) (map column_of columns) ≡ map (λ (c : Column). string_bytes c.name) columns
+names_of [] = refl
+names_of (column ∷ columns) = ap (λ names. string_bytes column.name ∷ names) (names_of columns)
+
+zip_length : (trees : List ColumnTree) (columns : List ColumnData) → AllZip IsColumn trees columns → length trees ≡ length columns
+zip_length [] [] all = refl
+zip_length [] (column ∷ columns) all = absurd all
+zip_length (tree ∷ trees) [] all = absurd all
+zip_length (tree ∷ trees) (column ∷ columns) all = let rest = zip_length trees columns all.1 in omega (arith, rest)
+
+pub place_within : (trees : List ColumnTree) (columns : List ColumnData) (place : Option ℕ) → IsKeyPlace trees place
+    → AllZip IsColumn trees columns → IsPlaceIn place (length columns)
+place_within trees columns None is all = tt
+place_within trees columns (Some at) is all =
+    let within = slice_get_within trees at is.0 is.1 in
+    let same = zip_length trees columns all in
+    omega (arith, within, same)
+
+-- the tests of a table's names
+module _ (created : CreateTable) where
+  pub reserved_refused : (found : Bool) (name : Name) → name ≡ string_bytes created.name → IsTrue found ↔ IsReserved name
+      → found ≡ true → (table : TableData) → ¬ IsTable (table_of created) table
+  reserved_refused found name e tested some table is = is.unreserved (subst IsReserved e (tested.0 some))
+
+  pub unreserved : (found : Bool) (name : Name) → name ≡ string_bytes created.name → IsTrue found ↔ IsReserved name
+      → found ≡ false → ¬ IsReserved (string_bytes created.name)
+  unreserved found name e tested none reserved = let h : found ≡ true = tested.1 (subst IsReserved (sym e) reserved) in absurd cc
+
+  module _ (distinct : Bool) (columns : List Column) (e : columns ≡ created.columns.items)
+      (tested : IsTrue distinct ↔ AreDistinct (map (λ (c : Column). string_bytes c.name) columns)) where
+    pub doubled_refused : distinct ≡ false → (table : TableData) → ¬ IsTable (table_of created) table
+    doubled_refused two table is =
+        let h : distinct ≡ true = tested.1 (subst AreDistinct (names_of columns)
+        (subst (λ cs. AreDistinct (map (λ c. c.name) (map column_of cs))) (sym e) is.distinct)) in absurd cc
+
+    pub distinct_names : distinct ≡ true → AreDistinct (map (λ c. c.name) (map column_of created.columns.items))
+    distinct_names one =
+        subst (λ cs. AreDistinct (map (λ c. c.name) (map column_of cs))) e (subst AreDistinct (sym (names_of columns)) (tested.0 one))
+
+  module _ (columns : List Column) (e : columns ≡ created.columns.items) where
+    pub keys_refused : (fault : Fault) → IsRefused (AreKeys (map column_of columns)) fault → IsRefused (IsTable (table_of created)) fault
+    keys_refused fault refused =
+        refused_part (AreKeys (map column_of columns)) (IsTable (table_of created)) fault refused
+        (λ table is. (
+          table.rowid,
+          subst (λ cs. AreKeys (map column_of cs) table.rowid) (sym e)
+              (record { place_is = is.rowid_is; one_key = is.one_key; integer = is.integer }),
+        ))
+
+    pub keys_found : (place : Option ℕ) → AreKeys (map column_of columns) place → AreKeys (map column_of created.columns.items) place
+    keys_found place = subst (λ cs. AreKeys (map column_of cs) place) e

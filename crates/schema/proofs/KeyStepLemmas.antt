@@ -1,0 +1,71 @@
+-- The search for the PRIMARY KEY, one column on.
+use Rattle.std.proofs.Common.{◌≡◌, ℕ, ◌+◌, ◌<◌, ◌≤◌, Bool, true, false, not, List, ◌∷◌, ◌++◌, length, get_or, map, take, drop, is_some, Option, None, Some, refl, sym, ◌∙◌, subst, arith}
+use Rattle.std.proofs.lemmas.List.{length-map, length-take-le}
+use denote.Enum.Bare.{sameb}
+use Rattle.sql_reader.specs.Tree.{TypeTree}
+use Rattle.sql_reader.specs.View.{column_of, type_of}
+use Rattle.sql_reader.specs.contracts.tree.ColumnType.{the_type}
+use Rattle.sql_reader.specs.declared.tree.Column.{Column}
+use Rattle.sql_reader.specs.declared.tree.ColumnType.{ColumnType}
+use Rattle.sql_reader.specs.declared.tree.ColumnType.TheVariants as t
+use Rattle.schema.specs.Created.{AreKeys}
+use Rattle.schema.proofs.KeyLemmas.{KeysSoFar, another_key, keys_found, keys_more, no_integer, twice_written, written}
+use Rattle.schema.proofs.ListLemmas.{map_next, map_split}
+
+-- the test of a column's type
+integer_type : (ty : ColumnType) (differs : Bool) → differs ≡ not (sameb the_type ty t.Integer) → differs ≡ false
+    → type_of ty ≡ TypeTree.Integer
+integer_type t.Int differs e f = absurd cc
+integer_type t.Integer differs e f = refl
+integer_type t.Text differs e f = absurd cc
+integer_type t.Blob differs e f = absurd cc
+
+other_type : (ty : ColumnType) (differs : Bool) → differs ≡ not (sameb the_type ty t.Integer) → differs ≡ true
+    → type_of ty ≡ TypeTree.Integer → ⊥
+other_type t.Int differs e f h = absurd cc
+other_type t.Integer differs e f h = absurd cc
+other_type t.Text differs e f h = absurd cc
+other_type t.Blob differs e f h = absurd cc
+
+none_yet : (key : Option ℕ) (found : Bool) → found ≡ is_some key → found ≡ false → key ≡ None
+none_yet None found e f = refl
+none_yet (Some at) found e f = absurd cc
+
+module _ (columns : List Column) (i : ℕ) (x : Column) (key : Option ℕ) (count : ℕ) (within : i < length columns)
+    (is : x ≡ get_or columns i x) (far : KeysSoFar (map column_of (take i columns)) key) (counted : count ≡ written (column_of x)) where
+  pub key_passes : (next : Option ℕ) → count ≤ 0 → next ≡ key → KeysSoFar (map column_of (take (i + 1) columns)) next
+  key_passes next none e =
+      subst (KeysSoFar (map column_of (take (i + 1) columns))) (sym e)
+      (subst (λ cs. KeysSoFar cs key) (sym (map_next column_of columns i x within is))
+      (keys_more (map column_of (take i columns)) (column_of x) key far (omega (arith, none, counted))))
+
+  pub key_here : (next : Option ℕ) (found differs : Bool) → 0 < count → count ≤ 1 → found ≡ is_some key → found ≡ false
+      → differs ≡ not (sameb the_type x.ty t.Integer) → differs ≡ false → next ≡ Some i
+      → KeysSoFar (map column_of (take (i + 1) columns)) next
+  key_here next found differs some most e first f integer g =
+      subst (KeysSoFar (map column_of (take (i + 1) columns))) (sym g)
+      (subst (λ cs. KeysSoFar cs (Some i)) (sym (map_next column_of columns i x within is))
+      (keys_found (map column_of (take i columns)) (column_of x) i
+      (length-map (take i columns) column_of ∙ length-take-le i columns (omega (arith, within)))
+      (subst (KeysSoFar (map column_of (take i columns))) (none_yet key found e first) far)
+      (omega (arith, some, most, counted)) (integer_type x.ty differs f integer)))
+
+  at_once : ((at : Option ℕ) → ¬ AreKeys (map column_of (take i columns) ++ column_of x ∷ map column_of (drop (i + 1) columns)) at)
+      → (at : Option ℕ) → ¬ AreKeys (map column_of columns) at
+  at_once not_keys at are = not_keys at (subst (λ cs. AreKeys cs at) (map_split column_of columns i x within is) are)
+
+  pub key_twice : 1 < count → (at : Option ℕ) → ¬ AreKeys (map column_of columns) at
+  key_twice more =
+      at_once (twice_written (map column_of (take i columns)) (map column_of (drop (i + 1) columns)) (column_of x) key far
+      (omega (arith, more, counted)) (omega (arith, more, counted)))
+
+  pub key_again : (found : Bool) → 0 < count → found ≡ is_some key → found ≡ true → (at : Option ℕ) → ¬ AreKeys (map column_of columns) at
+  key_again found some e second =
+      at_once (another_key (map column_of (take i columns)) (map column_of (drop (i + 1) columns)) (column_of x) key far
+      (omega (arith, some, counted)) (sym e ∙ second))
+
+  pub key_elsewhere : (differs : Bool) → 0 < count → differs ≡ not (sameb the_type x.ty t.Integer) → differs ≡ true
+      → (at : Option ℕ) → ¬ AreKeys (map column_of columns) at
+  key_elsewhere differs some e other =
+      at_once (no_integer (map column_of (take i columns)) (map column_of (drop (i + 1) columns)) (column_of x) key far
+      (omega (arith, some, counted)) (other_type x.ty differs e other))

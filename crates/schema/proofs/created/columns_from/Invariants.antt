@@ -1,0 +1,8 @@
+use Rattle.std.proofs.Common.{map}
+use Rattle.std.specs.List.{AllZip}
+use Rattle.sql_reader.specs.View.{column_of}
+use Rattle.schema.specs.Created.{IsColumn}
+use Rattle.schema.proofs.created.columns_from.Given as goal
+
+abbrev pub invariant-loop-definition : goal.invariant-loop-definition
+invariant-loop-definition l = AllZip IsColumn (map column_of l.yielded) l.columns.items

@@ -1,0 +1,146 @@
+//! The table that a CREATE TABLE makes.
+ghost use Rattle.std.specs.Prelude.{◌≡◌, ◌↔◌, IfErr, IfOk, IsTrue, map, sum_by};
+ghost use Rattle.std.specs.List.{AllZip, Any};
+ghost use Rattle.sql_reader.specs.View as view;
+ghost use Rattle.sql_reader.specs.View.{column_of, table_of};
+ghost use Rattle.schema.specs.Created as spec;
+ghost use Rattle.schema.specs.Created.{AreKeys, IsColumn, IsTable, keys_of};
+ghost use Rattle.schema.specs.Names.{AreDistinct, IsReserved, IsSameName};
+ghost use Rattle.schema.specs.Refused.{IsRefused};
+
+use crate::{Column, Table};
+use sql_reader::{Column as ColumnDefinition, ColumnConstraint, ColumnType, CreateTable};
+use std::alloc::{AllocError, Global};
+use values::{Fault, Ty};
+
+/// What the name of an object begins with that only SQLite makes.
+const RESERVED: &[u8] = b"sqlite_";
+
+/// Whether a name is one that only SQLite gives.
+fn is_reserved(name: &str) -> bool
+    ensures { IsTrue result ↔ IsReserved name.now }
+{
+    match name.as_bytes().get(..RESERVED.len()) {
+        Some(front) => front.eq_ignore_ascii_case(RESERVED),
+        None => false,
+    }
+}
+
+/// Whether two names differ in the case of ASCII letters alone.
+pub(crate) fn is_same_name(a: &str, b: &str) -> bool
+    ensures { IsTrue result ↔ IsSameName a.now b.now }
+{
+    a.eq_ignore_ascii_case(b)
+}
+
+/// Whether one of the columns has this name.
+fn is_named(columns: &[ColumnDefinition], name: &str) -> bool
+    ensures { IsTrue result ↔ Any (λ c. IsSameName (column_of c).name name.now) columns.now }
+{
+    columns
+        .iter()
+        .any(|column| is_same_name(column.name.as_str(), name))
+}
+
+/// Whether no two columns have one name.
+fn are_distinct(columns: &[ColumnDefinition]) -> bool
+    ensures { IsTrue result ↔ AreDistinct (map (λ c. (column_of c).name) columns.now) }
+{
+    for (place, column) in columns.iter().enumerate() {
+        if is_named(&columns[..place], column.name.as_str()) {
+            return false;
+        }
+    }
+    true
+}
+
+/// How often PRIMARY KEY is written at a column.
+fn count_keys(column: &ColumnDefinition) -> usize
+    ensures { result ≡ sum_by keys_of (column_of column.now).constraints }
+{
+    column
+        .constraints
+        .iter()
+        .filter(|constraint| **constraint == ColumnConstraint::PrimaryKey)
+        .count()
+}
+
+/// The place of the column that is the rowid, where there is one. (ROWIDs and the INTEGER PRIMARY KEY) The fault is
+/// `NotYet` where PRIMARY KEY is written twice, or at a column that isn't INTEGER.
+fn key_place(columns: &[ColumnDefinition]) -> Result<Option<usize>, Fault>
+    ensures place { IfOk result (λ place. AreKeys (map column_of columns.now) place) }
+    ensures refused { IfErr result (IsRefused (AreKeys (map column_of columns.now))) }
+{
+    let mut key = None;
+    for (place, column) in columns.iter().enumerate() {
+        let count = count_keys(column);
+        if count > 0 {
+            if count > 1 || key.is_some() || column.ty != ColumnType::Integer {
+                return Err(Fault::NotYet);
+            }
+            key = Some(place);
+        }
+    }
+    Ok(key)
+}
+
+/// The type of a column's values.
+fn type_of(ty: ColumnType) -> Ty
+    ensures { result ≡ spec.type_of (view.type_of ty) }
+{
+    match ty {
+        ColumnType::Int | ColumnType::Integer => Ty::Int,
+        ColumnType::Text => Ty::Text,
+        ColumnType::Blob => Ty::Blob,
+    }
+}
+
+/// The column that a definition declares.
+fn column_from(definition: ColumnDefinition) -> Column
+    ensures { IsColumn (column_of definition) result }
+{
+    let not_null = definition
+        .constraints
+        .iter()
+        .any(|constraint| *constraint == ColumnConstraint::NotNull);
+    Column {
+        name: definition.name,
+        ty: type_of(definition.ty),
+        not_null,
+    }
+}
+
+/// The columns that the definitions declare.
+fn columns_from(
+    alloc: Global,
+    definitions: Vec<ColumnDefinition>,
+) -> Result<Vec<Column>, AllocError>
+    ensures { IfOk result (λ columns. AllZip IsColumn (map column_of definitions.items) columns.items) }
+{
+    let mut columns = Vec::with_capacity(alloc, definitions.len())?;
+    for definition in definitions {
+        columns.push(column_from(definition))?;
+    }
+    Ok(columns)
+}
+
+/// The table that a CREATE TABLE makes, whose tree has this root. (CREATE TABLE) The fault is `NotYet` where it makes
+/// none: its name is reserved, two columns have one name, or a PRIMARY KEY isn't the rowid; or `NoMemory`.
+pub(crate) fn table_from(alloc: Global, created: CreateTable, root: u32) -> Result<Table, Fault>
+    ensures made { IfOk result (λ table. IsTable (table_of created) table) }
+    ensures root { IfOk result (λ table. table.root ≡ root) }
+    ensures refused { IfErr result (IsRefused (IsTable (table_of created))) }
+{
+    let CreateTable { name, columns } = created;
+    if is_reserved(name.as_str()) || !are_distinct(columns.as_slice()) {
+        return Err(Fault::NotYet);
+    }
+    let rowid = key_place(columns.as_slice())?;
+    let columns = columns_from(alloc, columns)?;
+    Ok(Table {
+        name,
+        root,
+        columns,
+        rowid,
+    })
+}
