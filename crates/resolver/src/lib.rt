@@ -14,3 +14,6 @@ mod resolved;
 mod tables;
 
 pub use resolved::{Query, resolve};
+
+#[cfg(test)]
+mod tests;
