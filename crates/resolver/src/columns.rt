@@ -17,7 +17,8 @@ use values::Fault;
 /// The most columns of a result. (Limits In SQLite)
 const MAX_COLUMNS: usize = 100;
 
-/// The place of the column that a name stands for.
+/// The place of the column that a name stands for. The fault is `UnknownColumn` where it stands for none, and
+/// `Ambiguous` where it stands for two.
 fn place_of_column(columns: &[Column], name: &str) -> Result<usize, Fault>
     ensures place { IfOk result (IsPlaceOf (column_names columns.now) name.now) }
     ensures refused { IfErr result (IsColumnRefused (column_names columns.now) name.now) }
@@ -57,7 +58,8 @@ fn width(columns: &[Column], given: &ResultColumns) -> usize
     }
 }
 
-/// The places of the columns that a SELECT gives, in its order: at most 100.
+/// The places of the columns that a SELECT gives, in its order. The fault is `Limit` where these are more than 100,
+/// `UnknownColumn` or `Ambiguous` where a name stands for no column or for two, or `NoMemory`.
 pub(crate) fn places_given(
     alloc: Global,
     columns: &[Column],
@@ -77,7 +79,7 @@ pub(crate) fn places_given(
     }
 }
 
-/// The names of the columns at these places, as they were declared.
+/// The names of the columns at these places, as they were declared. The one fault is `NoMemory`.
 pub(crate) fn names_at(
     alloc: Global,
     columns: &[Column],

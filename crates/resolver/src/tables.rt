@@ -15,8 +15,8 @@ fn is_schema_table(name: &str) -> bool
     name.eq_ignore_ascii_case("sqlite_schema") || name.eq_ignore_ascii_case("sqlite_master")
 }
 
-/// The place of the table that a name stands for. The table of the schema's rows isn't among them, and isn't served
-/// yet.
+/// The place of the table that a name stands for. The fault is `Ambiguous` where it stands for two; where it stands for
+/// none, `NotYet` for the table of the schema's rows, which isn't in the catalog, and else `UnknownTable`.
 pub(crate) fn place_of_table(tables: &[Table], name: &str) -> Result<usize, Fault>
     ensures place { IfOk result (IsPlaceOf (table_names tables.now) name.now) }
     ensures refused { IfErr result (IsTableRefused (table_names tables.now) name.now) }
