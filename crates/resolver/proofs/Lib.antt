@@ -1,0 +1,4 @@
+pub mod LookupLemmas
+pub mod ColumnLemmas
+pub mod ResolvedLemmas
+pub mod LawLemmas

@@ -1,0 +1,82 @@
+-- What the names of a SELECT stand for: places of tables and of their columns. (SELECT; Limits In SQLite)
+use Rattle.std.specs.Prelude.{◌≡◌, ◌<◌, ◌≤◌, ◌⊎◌, ℕ, List, [], Any, codes, length, map, slice_get, Some}
+use Rattle.std.specs.List.{AllZip, range_with_len}
+use Rattle.values.specs.declared.fault.Fault.{Fault}
+use Rattle.values.specs.declared.fault.Fault.TheVariants as f
+use Rattle.meaning.specs.Query.{Source, Term, column, QueryData}
+use Rattle.sql_reader.specs.Texts.{max_columns}
+use Rattle.sql_reader.specs.Tree.{Name, Columns, SelectTree}
+use Rattle.schema.specs.TableData.{ColumnData, TableData}
+use Rattle.schema.specs.Names.{IsSameName}
+use Rattle.resolver.specs.Named.{IsPlaceOf, IsNowhere, IsTwice}
+
+-- a query, and the names of its result columns
+pub record ResolvedData : Type 0 where
+  pub query : QueryData
+  pub names : List Name
+
+abbrev pub table_names : List TableData → List Name
+table_names tables = map (λ t. t.name) tables
+
+abbrev pub column_names : List ColumnData → List Name
+column_names columns = map (λ c. c.name) columns
+
+-- the SELECT names this table, which stands at this place
+pub record IsSource (tables : List TableData) (tree : SelectTree) (at : ℕ) (table : TableData) : Type 0 where
+  pub place : IsPlaceOf (table_names tables) tree.table at
+  pub found : slice_get tables at ≡ Some table
+
+abbrev pub IsColumnOf : List Name → Name → Term → Type 0
+IsColumnOf declared name (column at) = IsPlaceOf declared name at
+
+-- `*` gives every column, in the order in which they were declared; names give their columns, in the order written
+abbrev pub GivesColumns : List Name → Columns → List Term → Type 0
+GivesColumns declared Columns.All terms = terms ≡ map column (range_with_len 0 (length declared))
+GivesColumns declared (Columns.Named written) terms = AllZip (IsColumnOf declared) written terms
+
+-- a column's name, as it was declared
+abbrev pub IsNameOf : List Name → Term → Name → Type 0
+IsNameOf declared (column at) name = slice_get declared at ≡ Some name
+
+-- The SELECT is this query over tables of this catalog, and its result columns have these names.
+pub record Resolves (tables : List TableData) (tree : SelectTree) (query : QueryData) (names : List Name)
+    : Type 0 where
+  pub at : ℕ
+  pub table : TableData
+  pub source : IsSource tables tree at table
+  pub source_is : query.source ≡ Source.table at
+  pub columns_are : GivesColumns (column_names table.columns) tree.columns query.columns
+  pub within : length query.columns ≤ max_columns
+  pub unordered : query.order ≡ []
+  pub named : AllZip (IsNameOf (column_names table.columns)) query.columns names
+
+-- the names of the table that has a row for each object of the schema (The Schema Table)
+abbrev pub IsSchemaTable : Name → Type 0
+IsSchemaTable name = IsSameName name (codes "sqlite_schema") ⊎ IsSameName name (codes "sqlite_master")
+
+-- the names of columns that are written
+abbrev pub written_names : Columns → List Name
+written_names Columns.All = []
+written_names (Columns.Named written) = written
+
+-- how many columns are given of a table with these columns
+abbrev pub width_of : List Name → Columns → ℕ
+width_of declared Columns.All = length declared
+width_of declared (Columns.Named written) = length written
+
+-- the SELECT names a table of which this holds
+abbrev pub HasTable : List TableData → SelectTree → (TableData → Type 0) → Type 0
+HasTable tables tree Holds = (at : ℕ) × (table : TableData) × IsSource tables tree at table × Holds table
+
+-- Why a SELECT was refused. The table of the schema's rows isn't one of the catalog's, and isn't served yet.
+abbrev pub IsRefused : List TableData → SelectTree → Fault → Type 0
+IsRefused tables tree f.UnknownTable = IsNowhere (table_names tables) tree.table × ¬ IsSchemaTable tree.table
+IsRefused tables tree f.NotYet = IsNowhere (table_names tables) tree.table × IsSchemaTable tree.table
+IsRefused tables tree f.UnknownColumn =
+    HasTable tables tree (λ table. Any (IsNowhere (column_names table.columns)) (written_names tree.columns))
+IsRefused tables tree f.Ambiguous =
+    IsTwice (table_names tables) tree.table
+    ⊎ HasTable tables tree (λ table. Any (IsTwice (column_names table.columns)) (written_names tree.columns))
+IsRefused tables tree f.Limit = HasTable tables tree (λ table. max_columns < width_of (column_names table.columns) tree.columns)
+IsRefused tables tree f.NoMemory = Unit {0}
+IsRefused tables tree _ = ⊥

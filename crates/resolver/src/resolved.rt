@@ -1,0 +1,77 @@
+//! SELECTs whose names are resolved.
+ghost use Rattle.std.specs.Prelude.{◌≡◌, IfErr, IfOk, length, map, string_bytes};
+ghost use Rattle.meaning.specs.Query.{column, IsTyped, table};
+ghost use Rattle.sql_reader.specs.View.{select_of};
+ghost use Rattle.resolver.specs.Resolved.{IsRefused, Resolves};
+
+use crate::columns::{names_at, places_given};
+use crate::tables::place_of_table;
+use schema::Table;
+use sql_reader::Select;
+use std::alloc::Global;
+use std::marker::Model;
+use values::Fault;
+
+/// A SELECT whose names are resolved.
+#[derive(Debug, Drop)]
+pub struct Query {
+    source: usize,
+    columns: Vec<usize>,
+    names: Vec<String>,
+}
+
+impl Model for Query {
+    ghost use Rattle.std.specs.Prelude.{[], map, string_bytes};
+    ghost use Rattle.meaning.specs.Query.{column, table};
+    ghost use Rattle.resolver.specs.Resolved.{ResolvedData};
+
+    ghost Value = { ResolvedData };
+
+    ghost view = { λ q. record {
+      query = record { source = table q.source; columns = map column q.columns.items; order = [] };
+      names = map (λ name. string_bytes name) q.names.items;
+    } };
+}
+
+impl Query {
+    /// The place of the table whose rows are read, among the tables of the catalog.
+    pub fn source(&self) -> usize
+        ensures { self.now.query.source ≡ table result }
+    {
+        self.source
+    }
+
+    /// The places of the result columns, among the columns of that table.
+    pub fn columns(&self) -> &[usize]
+        ensures { self.now.query.columns ≡ map column result.now }
+    {
+        self.columns.as_slice()
+    }
+
+    /// The names of the result columns, as they were declared.
+    pub fn names(&self) -> &[String]
+        ensures { self.now.names ≡ map (λ name. string_bytes name) result.now }
+    {
+        self.names.as_slice()
+    }
+}
+
+/// The query that a SELECT is over the tables of a catalog. (SELECT) The fault is `UnknownTable` or `UnknownColumn`
+/// where a name stands for nothing, `Ambiguous` where it stands for two tables or columns, `Limit` where more than 100
+/// columns are given, `NotYet` where the table of the schema's rows is named, or `NoMemory`.
+pub fn resolve(alloc: Global, tables: &[Table], select: &Select) -> Result<Query, Fault>
+    ensures means { IfOk result (λ resolved.
+        Resolves tables.now (select_of select.now) resolved.query resolved.names) }
+    ensures typed { IfOk result (λ resolved. IsTyped (map (λ t. length t.columns) tables.now) resolved.query) }
+    ensures refused { IfErr result (IsRefused tables.now (select_of select.now)) }
+{
+    let source = place_of_table(tables, select.table.as_str())?;
+    let declared = tables[source].columns();
+    let columns = places_given(alloc, declared, &select.columns)?;
+    let names = names_at(alloc, declared, columns.as_slice())?;
+    Ok(Query {
+        source,
+        columns,
+        names,
+    })
+}
