@@ -8,3 +8,4 @@ pub mod WalkLemmas
 pub mod CountLemmas
 pub mod HeldLemmas
 pub mod SchemaLemmas
+pub mod CheckedLemmas

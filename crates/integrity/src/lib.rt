@@ -4,10 +4,12 @@
 //! The modules, in the order in which data passes them: `keys` (the keys of one page) and `walk` (from a root down).
 #![tactic(auto)]
 
+mod checked;
 mod keys;
 mod rows;
 mod trees;
 mod walk;
 
-pub use rows::RowView;
-pub use walk::{TreeCounts, check_table};
+pub use checked::{Checked, check};
+pub use rows::{RowView, row_of};
+pub use walk::TreeCounts;

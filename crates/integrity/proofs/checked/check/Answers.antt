@@ -1,0 +1,52 @@
+use Rattle.std.proofs.Common.{◌≡◌, ℕ, Contains, IsTrue, List, sym, ◌∙◌, ap, subst, inl, inr, ⊎_elim}
+use Rattle.std.specs.List.{AllZip}
+use Rattle.std.proofs.lemmas.Result.{err_from_is_err_and}
+use Rattle.pager.specs.declared.header.Header.{Header}
+use Rattle.image.specs.Pages.{Pages}
+use Rattle.btree.specs.Rest.{pages_seen}
+use Rattle.btree.proofs.SeenLemmas.{still_steady, same_pages}
+use Rattle.meaning.specs.Body.{Row}
+use Rattle.schema.specs.Rows.{AreTables}
+use Rattle.schema.specs.TableData.{TableData}
+use Rattle.integrity.specs.Checked.{IsCheckedTree}
+use Rattle.integrity.specs.RowFaults.{IsBrokenTable}
+use Rattle.integrity.proofs.CheckedLemmas.{broken_table, has_tables, said_here, unsaid_rows}
+use Rattle.integrity.proofs.checked.check.Goals as goal
+
+pub returns-in_err-catalog-clause-cause : goal.returns-in_err-catalog-clause-cause
+returns-in_err-catalog-clause-cause g c = λ steady.
+    let stays = c.read_schema.ensures.stays in
+    let count : c.header.result.pages ≡ (pages_seen c.args.pager.now.state).count = ap (λ (h : Header). h.pages) (c.header.ensures.value ∙ stays.header) in
+    let p = err_from_is_err_and c.from_residual-in_err-catalog.result c.from_residual-in_err-catalog.ensures.1 in
+    rw (p.1, p.2)
+    (unsaid_rows (pages_seen c.args.pager.now.state) c.in_ok-rows.rows.items _ (c.in_ok-rows.ensures.rows steady)
+    (⊎_elim inl (λ none. inr (
+      none.0,
+      λ tables said. none.1 tables
+          (said_here _ _ _ _ tables (sym count) (sym c.as_slice.ensures.value) said),
+    )) c.in_err-catalog.ensures.refused))
+
+pub returns-in_err-trees-clause-cause : goal.returns-in_err-trees-clause-cause
+returns-in_err-trees-clause-cause g c = λ steady.
+    let stays = c.read_schema.ensures.stays in
+    let now = still_steady _ _ stays steady in
+    let count : c.header.result.pages ≡ (pages_seen c.args.pager.now.state).count = ap (λ (h : Header). h.pages) (c.header.ensures.value ∙ stays.header) in
+    let said = said_here _ _ _ _ c.in_ok-catalog.catalog count c.as_slice.ensures.value c.in_ok-catalog.ensures.tables in
+    let p = err_from_is_err_and c.from_residual-in_err-trees.result c.from_residual-in_err-trees.ensures.1 in
+    rw (p.1, p.2)
+    (⊎_elim inl (λ other. ⊎_elim (λ memory. inr (inl memory))
+    (λ broken.
+    broken_table (pages_seen c.args.pager.now.state) c.in_ok-rows.rows.items c.in_ok-catalog.catalog broken.0 _ (c.in_ok-rows.ensures.rows steady) said
+    (subst (λ (ts : List TableData). Contains ts broken.0) c.tables.ensures broken.1)
+    (subst (λ (q : Pages). IsBrokenTable q broken.0 c.in_err-trees.field-0.0) (same_pages _ _ stays) broken.2)) other)
+    (c.in_err-trees.ensures.fault now))
+
+pub returns-clause-tables : goal.returns-clause-tables
+returns-clause-tables g c = λ steady.
+    let stays = c.read_schema.ensures.stays in
+    let now = still_steady _ _ stays steady in
+    let count : c.header.result.pages ≡ (pages_seen c.args.pager.now.state).count = ap (λ (h : Header). h.pages) (c.header.ensures.value ∙ stays.header) in
+    let said = said_here _ _ _ _ c.in_ok-catalog.catalog count c.as_slice.ensures.value c.in_ok-catalog.ensures.tables in
+    let trees = subst (λ (q : Pages). AllZip (IsCheckedTree q) c.tables.result.now c.in_ok-trees.trees.items) (same_pages _ _ stays) (c.in_ok-trees.ensures.checked now) in
+    has_tables (pages_seen c.args.pager.now.state) c.in_ok-rows.rows.items c.in_ok-catalog.catalog c.in_ok-trees.trees.items (c.in_ok-rows.ensures.rows steady) said
+    (subst (λ (ts : List TableData). AllZip (IsCheckedTree (pages_seen c.args.pager.now.state)) ts c.in_ok-trees.trees.items) c.tables.ensures trees)
