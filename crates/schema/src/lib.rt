@@ -13,3 +13,6 @@ mod table;
 
 pub use catalog::Catalog;
 pub use table::{Column, Table};
+
+#[cfg(test)]
+mod tests;
