@@ -9,6 +9,7 @@
 
 mod catalog;
 mod created;
+pub mod laws;
 mod table;
 
 pub use catalog::Catalog;
