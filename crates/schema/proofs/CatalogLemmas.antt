@@ -51,7 +51,7 @@ parts kind name owner root sql pages row table is says =
 -- of a row whose text spells a table
 module _ (kind name owner : List ℕ) (root : ℤ) (sql : List ℕ) (pages : ℕ) (row : Row) (tree : TableTree)
     (is : row ≡ object_row kind name owner root sql) (spelt : SpellsCreate sql tree) where
-  one_tree : (table : TableData) (says : SaysTable pages row table) → says.tree ≡ tree
+  pub one_tree : (table : TableData) (says : SaysTable pages row table) → says.tree ≡ tree
   one_tree table says =
       let sql_is = (parts kind name owner root sql pages row table is says).sql_is in
       one_create sql says.tree tree (subst (λ text. SpellsCreate text says.tree) (sym sql_is) says.spelt) spelt

@@ -23,11 +23,14 @@ written column = sum_by keys_of column.constraints
 abbrev IsFit : ColumnTree → Type 0
 IsFit column = IsKey column → column.ty ≡ TypeTree.Integer
 
--- where PRIMARY KEY is written, the column is the key
+-- where the column is the key, PRIMARY KEY is written
+pub key_written : (column : ColumnTree) → IsKey column → 1 ≤ written column
+key_written column (k, within, is) =
+    subst (λ c. keys_of c ≤ written column) is
+    (get_or-le-sum_by keys_of column.constraints k ConstraintTree.PrimaryKey within)
+
 no_key : (column : ColumnTree) → written column ≡ 0 → ¬ IsKey column
-no_key column none (k, within, is) =
-    let one : 1 ≤ written column = subst (λ c. keys_of c ≤ written column) is (get_or-le-sum_by keys_of column.constraints k ConstraintTree.PrimaryKey within) in
-    absurd (omega (arith, none, one))
+no_key column none key = let one = key_written column key in absurd (omega (arith, none, one))
 
 has_key : (constraints : List ConstraintTree) → 0 < sum_by keys_of constraints → Contains constraints ConstraintTree.PrimaryKey
 has_key [] some = absurd (omega (arith, some))

@@ -1,31 +1,12 @@
 -- The search for the PRIMARY KEY, one column on.
-use Rattle.std.proofs.Common.{◌≡◌, ℕ, ◌+◌, ◌<◌, ◌≤◌, Bool, true, false, not, List, ◌∷◌, ◌++◌, length, get_or, map, take, drop, is_some, Option, None, Some, refl, sym, ◌∙◌, subst, arith}
+use Rattle.std.proofs.Common.{◌≡◌, ℕ, ◌+◌, ◌<◌, ◌≤◌, Bool, true, false, IsTrue, ◌↔◌, List, ◌∷◌, ◌++◌, length, get_or, map, take, drop, is_some, Option, None, Some, refl, sym, ◌∙◌, subst, arith}
 use Rattle.std.proofs.lemmas.List.{length-map, length-take-le}
-use denote.Enum.Bare.{sameb}
 use Rattle.sql_reader.specs.Tree.{TypeTree}
-use Rattle.sql_reader.specs.View.{column_of, type_of}
-use Rattle.sql_reader.specs.contracts.tree.ColumnType.{the_type}
+use Rattle.sql_reader.specs.View.{column_of}
 use Rattle.sql_reader.specs.declared.tree.Column.{Column}
-use Rattle.sql_reader.specs.declared.tree.ColumnType.{ColumnType}
-use Rattle.sql_reader.specs.declared.tree.ColumnType.TheVariants as t
 use Rattle.schema.specs.Created.{AreKeys}
 use Rattle.schema.proofs.KeyLemmas.{KeysSoFar, another_key, keys_found, keys_more, no_integer, twice_written, written}
 use Rattle.schema.proofs.ListLemmas.{map_next, map_split}
-
--- the test of a column's type
-integer_type : (ty : ColumnType) (differs : Bool) → differs ≡ not (sameb the_type ty t.Integer) → differs ≡ false
-    → type_of ty ≡ TypeTree.Integer
-integer_type t.Int differs e f = absurd cc
-integer_type t.Integer differs e f = refl
-integer_type t.Text differs e f = absurd cc
-integer_type t.Blob differs e f = absurd cc
-
-other_type : (ty : ColumnType) (differs : Bool) → differs ≡ not (sameb the_type ty t.Integer) → differs ≡ true
-    → type_of ty ≡ TypeTree.Integer → ⊥
-other_type t.Int differs e f h = absurd cc
-other_type t.Integer differs e f h = absurd cc
-other_type t.Text differs e f h = absurd cc
-other_type t.Blob differs e f h = absurd cc
 
 none_yet : (key : Option ℕ) (found : Bool) → found ≡ is_some key → found ≡ false → key ≡ None
 none_yet None found e f = refl
@@ -39,16 +20,16 @@ module _ (columns : List Column) (i : ℕ) (x : Column) (key : Option ℕ) (coun
       (subst (λ cs. KeysSoFar cs key) (sym (map_next column_of columns i x within is))
       (keys_more (map column_of (take i columns)) (column_of x) key far (omega (arith, none, counted))))
 
-  pub key_here : (next : Option ℕ) (found differs : Bool) → 0 < count → count ≤ 1 → found ≡ is_some key → found ≡ false
-      → differs ≡ not (sameb the_type x.ty t.Integer) → differs ≡ false → next ≡ Some i
+  pub key_here : (next : Option ℕ) (found integer : Bool) → 0 < count → count ≤ 1 → found ≡ is_some key → found ≡ false
+      → IsTrue integer ↔ ((column_of x).ty ≡ TypeTree.Integer) → integer ≡ true → next ≡ Some i
       → KeysSoFar (map column_of (take (i + 1) columns)) next
-  key_here next found differs some most e first f integer g =
+  key_here next found integer some most e first tested h g =
       subst (KeysSoFar (map column_of (take (i + 1) columns))) (sym g)
       (subst (λ cs. KeysSoFar cs (Some i)) (sym (map_next column_of columns i x within is))
       (keys_found (map column_of (take i columns)) (column_of x) i
       (length-map (take i columns) column_of ∙ length-take-le i columns (omega (arith, within)))
       (subst (KeysSoFar (map column_of (take i columns))) (none_yet key found e first) far)
-      (omega (arith, some, most, counted)) (integer_type x.ty differs f integer)))
+      (omega (arith, some, most, counted)) (tested.0 h)))
 
   at_once : ((at : Option ℕ) → ¬ AreKeys (map column_of (take i columns) ++ column_of x ∷ map column_of (drop (i + 1) columns)) at)
       → (at : Option ℕ) → ¬ AreKeys (map column_of columns) at
@@ -64,8 +45,8 @@ module _ (columns : List Column) (i : ℕ) (x : Column) (key : Option ℕ) (coun
       at_once (another_key (map column_of (take i columns)) (map column_of (drop (i + 1) columns)) (column_of x) key far
       (omega (arith, some, counted)) (sym e ∙ second))
 
-  pub key_elsewhere : (differs : Bool) → 0 < count → differs ≡ not (sameb the_type x.ty t.Integer) → differs ≡ true
+  pub key_elsewhere : (integer : Bool) → 0 < count → IsTrue integer ↔ ((column_of x).ty ≡ TypeTree.Integer) → integer ≡ false
       → (at : Option ℕ) → ¬ AreKeys (map column_of columns) at
-  key_elsewhere differs some e other =
+  key_elsewhere integer some tested other =
       at_once (no_integer (map column_of (take i columns)) (map column_of (drop (i + 1) columns)) (column_of x) key far
-      (omega (arith, some, counted)) (other_type x.ty differs e other))
+      (omega (arith, some, counted)) (λ is. let h : integer ≡ true = tested.1 is in absurd cc))

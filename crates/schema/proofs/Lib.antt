@@ -5,3 +5,4 @@ pub mod KeyStepLemmas
 pub mod ColumnLemmas
 pub mod CreatedLemmas
 pub mod CatalogLemmas
+pub mod OneLemmas

@@ -30,7 +30,8 @@ struct Object<'r> {
 /// The object whose row this is; `None` where it is that of none, or of one without a text.
 fn object_of(row: &Row) -> Option<Object<'_>>
     ensures found { IfSome result (λ o. row.now ≡ object_row o.kind.now o.name.now o.owner.now o.root o.sql.now) }
-    ensures none { IfNone result ((kind name owner sql : List ℕ) (root : ℤ) → ¬ (row.now ≡ object_row kind name owner root sql)) }
+    ensures none { IfNone result ((kind name owner sql : List ℕ) (root : ℤ)
+        → ¬ (row.now ≡ object_row kind name owner root sql)) }
 {
     let [kind, name, owner, root, sql] = row.as_slice() else {
         return None;
@@ -53,11 +54,13 @@ fn object_of(row: &Row) -> Option<Object<'_>>
     }
 }
 
-/// The CREATE TABLE that a text spells within the limits.
+/// The CREATE TABLE that a text spells. The fault is `NotYet` where it spells none, or one beyond the limits of
+/// `sql_reader`; or `NoMemory`.
 fn created_by(alloc: Global, sql: &str) -> Result<CreateTable, Fault>
     ensures spelt { IfOk result (λ created. SpellsCreate sql.now (table_of created)) }
     ensures within { IfOk result (λ created. IsWithin columns_of_table sql.now (table_of created)) }
-    ensures refused { IfErr result (IsRefused (λ tree. SpellsCreate sql.now tree × IsWithin columns_of_table sql.now tree)) }
+    ensures refused { IfErr result
+        (IsRefused (λ tree. SpellsCreate sql.now tree × IsWithin columns_of_table sql.now tree)) }
 {
     match read_create(alloc, sql) {
         Ok(created) => Ok(created),
@@ -73,7 +76,7 @@ fn root_within(root: i64, pages: u32) -> Option<u32>
     ensures none { IfNone result ((page : ℕ) → 2 ≤ page → page ≤ pages → ¬ (root ≡ pos page)) }
 {
     match u32::try_from(root) {
-        Ok(page) if 2 <= page && page <= pages => Some(page),
+        Ok(page) if (2..=pages).contains(&page) => Some(page),
         _ => None,
     }
 }

@@ -1,6 +1,7 @@
 //! The table that a CREATE TABLE makes.
-ghost use Rattle.std.specs.Prelude.{◌≡◌, ◌↔◌, IfErr, IfOk, IsTrue, map, sum_by};
+ghost use Rattle.std.specs.Prelude.{◌≡◌, ◌↔◌, Contains, IfErr, IfOk, IsTrue, map, sum_by};
 ghost use Rattle.std.specs.List.{AllZip, Any};
+ghost use Rattle.sql_reader.specs.Tree.{ConstraintTree, TypeTree};
 ghost use Rattle.sql_reader.specs.View as view;
 ghost use Rattle.sql_reader.specs.View.{column_of, table_of};
 ghost use Rattle.schema.specs.Created as spec;
@@ -65,6 +66,13 @@ fn count_keys(column: &ColumnDefinition) -> usize
         .count()
 }
 
+/// Whether a column is INTEGER, as the column that is the rowid has to be. (ROWIDs and the INTEGER PRIMARY KEY)
+fn is_integer(column: &ColumnDefinition) -> bool
+    ensures { IsTrue result ↔ ((column_of column.now).ty ≡ TypeTree.Integer) }
+{
+    column.ty == ColumnType::Integer
+}
+
 /// The place of the column that is the rowid, where there is one. (ROWIDs and the INTEGER PRIMARY KEY) The fault is
 /// `NotYet` where PRIMARY KEY is written twice, or at a column that isn't INTEGER.
 fn key_place(columns: &[ColumnDefinition]) -> Result<Option<usize>, Fault>
@@ -75,7 +83,7 @@ fn key_place(columns: &[ColumnDefinition]) -> Result<Option<usize>, Fault>
     for (place, column) in columns.iter().enumerate() {
         let count = count_keys(column);
         if count > 0 {
-            if count > 1 || key.is_some() || column.ty != ColumnType::Integer {
+            if count > 1 || key.is_some() || !is_integer(column) {
                 return Err(Fault::NotYet);
             }
             key = Some(place);
@@ -95,14 +103,21 @@ fn type_of(ty: ColumnType) -> Ty
     }
 }
 
+/// Whether no value of a column may be NULL.
+fn is_not_null(column: &ColumnDefinition) -> bool
+    ensures { IsTrue result ↔ Contains (column_of column.now).constraints ConstraintTree.NotNull }
+{
+    column
+        .constraints
+        .iter()
+        .any(|constraint| *constraint == ColumnConstraint::NotNull)
+}
+
 /// The column that a definition declares.
 fn column_from(definition: ColumnDefinition) -> Column
     ensures { IsColumn (column_of definition) result }
 {
-    let not_null = definition
-        .constraints
-        .iter()
-        .any(|constraint| *constraint == ColumnConstraint::NotNull);
+    let not_null = is_not_null(&definition);
     Column {
         name: definition.name,
         ty: type_of(definition.ty),

@@ -9,7 +9,11 @@
 
 mod catalog;
 mod created;
+pub mod laws;
 mod table;
 
 pub use catalog::Catalog;
 pub use table::{Column, Table};
+
+#[cfg(test)]
+mod tests;

@@ -3,8 +3,8 @@ use Rattle.schema.proofs.KeyStepLemmas.{key_again, key_elsewhere, key_here, key_
 use Rattle.schema.proofs.created.key_place.Goals as goal
 use Rattle.schema.proofs.created.key_place.Goals.{
   else-count-gt0,
-  then-count-gt0+else-count-gt1+else-is_some+else-ne,
-  then-count-gt1-via-else-count-gt1+else-is_some+then-ne,
+  then-count-gt0+else-count-gt1+else-is_some+else-not-is_integer,
+  then-count-gt1-via-else-count-gt1+else-is_some+then-not-is_integer,
   then-count-gt1-via-else-count-gt1+then-is_some,
   then-count-gt1-via-then-count-gt1,
 }
@@ -30,11 +30,11 @@ returns-then-count-gt1-clause-refused c =
             key_again columns i x key count c.loop-place-test.true is c.loop-place.invariant c.count_keys-count.ensures
                 w.is_some.result c.if-count-gt0.true w.is_some.ensures w.if-is_some.true,
           )
-      | then-count-gt1-via-else-count-gt1+else-is_some+then-ne w ↦
+      | then-count-gt1-via-else-count-gt1+else-is_some+then-not-is_integer w ↦
           inr (
             refl,
             key_elsewhere columns i x key count c.loop-place-test.true is c.loop-place.invariant c.count_keys-count.ensures
-                w.ne.result c.if-count-gt0.true w.ne.ensures w.if-ne.true,
+                w.is_integer.result c.if-count-gt0.true w.is_integer.ensures w.if-not-is_integer.true,
           )
     ]
 
@@ -47,10 +47,10 @@ loop-place-preserved c =
     let count = c.count_keys-count.result in
     let is = c.index-columns-place.is in
     elim c.if-count-gt0.branch [
-      | then-count-gt0+else-count-gt1+else-is_some+else-ne w ↦
+      | then-count-gt0+else-count-gt1+else-is_some+else-not-is_integer w ↦
           key_here columns i x key count c.loop-place-test.true is c.loop-place.invariant c.count_keys-count.ensures c.if-count-gt0.key
-          w.is_some.result w.ne.result w.if-count-gt0.true w.if-count-gt1.false w.is_some.ensures w.if-is_some.false w.ne.ensures
-          w.if-ne.false w.key-is
+          w.is_some.result w.is_integer.result w.if-count-gt0.true w.if-count-gt1.false w.is_some.ensures w.if-is_some.false w.is_integer.ensures
+          w.if-not-is_integer.false w.key-is
       | else-count-gt0 w ↦
           key_passes columns i x key count c.loop-place-test.true is c.loop-place.invariant c.count_keys-count.ensures c.if-count-gt0.key
           w.if-count-gt0.false w.key-is
