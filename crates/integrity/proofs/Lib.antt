@@ -5,3 +5,4 @@ pub mod HeadLemmas
 pub mod TreeLemmas
 pub mod WalkLemmas
 pub mod CountLemmas
+pub mod DenotesLemmas

@@ -1,11 +1,11 @@
 -- The tables that an image denotes. (Database File Format, section 2; The Schema Table)
-use Rattle.std.specs.Prelude.{ℕ, All, List}
+use Rattle.std.specs.Prelude.{ℕ, ◌<◌, All, List}
 use Rattle.std.specs.List.{AllZip}
 use Rattle.image.specs.Pages.{pages_of, Pages}
 use Rattle.meaning.specs.Body.{Row, Database}
 use Rattle.schema.specs.Rows.{AreTables}
 use Rattle.schema.specs.TableData.{TableData, schema_table}
-use Rattle.integrity.specs.Stored.{Fits, HoldsRows}
+use Rattle.integrity.specs.Stored.{Fits, HoldsRows, IsStored}
 
 -- these are the tables of the pages, each said by a row of the schema, in its order
 pub record IsCatalog (pages : Pages) (tables : List TableData) : Type 0 where
@@ -18,3 +18,15 @@ pub record Denotes (image : List ℕ) (tables : List TableData) (db : Database) 
   pub catalog : IsCatalog (pages_of image) tables
   pub rows : AllZip (HoldsRows (pages_of image)) tables db
   pub fit : AllZip (λ table. All (Fits table)) tables db
+
+-- the table is stored in a tree of fewer than 20 levels below its root
+pub record IsStoredTable (pages : Pages) (table : TableData) : Type 0 where
+  pub levels : ℕ
+  pub rows : List Row
+  pub few : levels < 20
+  pub stored : IsStored pages table levels rows
+
+-- the tables of the pages, each with its rows
+pub record HasTables (pages : Pages) (tables : List TableData) : Type 0 where
+  pub catalog : IsCatalog pages tables
+  pub stored : All (IsStoredTable pages) tables
