@@ -9,3 +9,4 @@ pub mod CountLemmas
 pub mod HeldLemmas
 pub mod SchemaLemmas
 pub mod CheckedLemmas
+pub mod DenotesLemmas

@@ -1,0 +1,4 @@
+pub mod CellLemmas
+pub mod RowLemmas
+pub mod StreamLemmas
+pub mod RunLemmas

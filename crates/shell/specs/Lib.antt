@@ -1,0 +1,4 @@
+pub mod Printed
+pub mod Stream
+pub mod State
+pub mod Answer

@@ -1,0 +1,58 @@
+-- The database that an image denotes whose tables are stored.
+use Rattle.std.proofs.Common.{◌<◌, ℕ, All, List, [], ◌∷◌}
+use Rattle.std.specs.List.{AllZip}
+use Rattle.std.proofs.lemmas.List.Elements.{All-head, All-tail}
+use Rattle.image.specs.declared.kind.TreeKind.TheVariants.{Table}
+use Rattle.image.specs.Pages.{pages_of, Pages}
+use Rattle.image.specs.Shape.{places_under}
+use Rattle.meaning.specs.Body.{Row, Database}
+use Rattle.schema.specs.TableData.{TableData}
+use Rattle.integrity.specs.Stored.{Fits, HoldsRows, IsStored}
+use Rattle.integrity.specs.Denotes.{Denotes, HasTables, IsStoredTable}
+
+-- a table is stored with these rows
+pub record IsStoredAs (pages : Pages) (table : TableData) (rows : List Row) : Type 0 where
+  pub levels : ℕ
+  pub few : levels < 20
+  pub stored : IsStored pages table levels rows
+
+-- the rows of each table
+pub record HasDatabase (image : List ℕ) (tables : List TableData) : Type 0 where
+  pub db : Database
+  pub denotes : Denotes image tables db
+  pub stored : AllZip (IsStoredAs (pages_of image)) tables db
+
+module _ (pages : Pages) where
+  rows_of : (tables : List TableData) → All (IsStoredTable pages) tables → Database
+  rows_of [] all = []
+  rows_of (table ∷ tables) all =
+      (All-head (IsStoredTable pages) table tables all).rows ∷ rows_of tables (All-tail (IsStoredTable pages) table tables all)
+
+  -- what holds of a stored table and its rows holds of each
+  each : (R : TableData → List Row → Type 0) → ((table : TableData) (is : IsStoredTable pages table) → R table is.rows)
+      → (tables : List TableData) (all : All (IsStoredTable pages) tables) → AllZip R tables (rows_of tables all)
+  unfolding rows_of
+  each R holds [] all = tt
+  each R holds (table ∷ tables) all =
+      (holds table (All-head (IsStoredTable pages) table tables all), each R holds tables (All-tail (IsStoredTable pages) table tables all))
+
+-- the rows that the tables are stored with are those that the image denotes
+pub database_of : (image : List ℕ) (tables : List TableData) → HasTables (pages_of image) tables → HasDatabase image tables
+database_of image tables has =
+    let pages = pages_of image in
+    record {
+      db = rows_of pages tables has.stored;
+      denotes = record {
+        catalog = has.catalog;
+        rows = each pages (HoldsRows pages)
+            (λ table is. record {
+              places = places_under pages Table is.levels table.root;
+              cells = is.stored.cells;
+              rows_are = is.stored.rows_are;
+            })
+            tables has.stored;
+        fit = each pages (λ table rows. All (Fits table) rows) (λ table is. is.stored.fit) tables has.stored;
+      };
+      stored = each pages (IsStoredAs pages)
+          (λ table is. record { levels = is.levels; few = is.few; stored = is.stored }) tables has.stored;
+    }

@@ -1,0 +1,293 @@
+-- Rows that are written one after another.
+use Rattle.std.proofs.Common.{◌≡◌, ◌≢◌, ◌∙◌, ◌⊎◌, inl, inr, ◌+◌, ◌-◌, ◌^◌, ◌<◌, ◌≤◌, min, arith, ℕ, suc, IsTrue, List, [], ◌∷◌, ◌++◌, drop, length, map, Option, None, Some, Result, Ok, Err, MatchResult, IfErr, refl, sym, ap, append-nil, append_assoc, subst}
+use Rattle.std.proofs.lemmas.Grind.{common_steps}
+use Rattle.std.specs.List.{AllZip}
+use Rattle.std.specs.Io.KnownBytes.{Appends}
+use Rattle.values.specs.Sink.{SinkFacts, Writes}
+use Rattle.values.specs.declared.fault.Fault.{Fault}
+use Rattle.values.specs.declared.fault.Fault.TheVariants.{Changed, NoMemory, ReadFailed, WriteFailed}
+use Rattle.values.proofs.SinkLemmas.{Appends-none, Appends-then}
+use Rattle.pager.specs.PagerState.{PagerState, Stays}
+use Rattle.pager.proofs.StaysLemmas.{Stays-trans}
+use Rattle.image.specs.Cell.{CellData}
+use Rattle.image.specs.Pages.{Pages, pages_in}
+use Rattle.image.specs.Tree.{Place}
+use Rattle.btree.specs.declared.cursor.Cursor.{Cursor}
+use Rattle.btree.specs.Listing.{IsAt, IsEntry}
+use Rattle.btree.specs.Rest.{pages_seen}
+use Rattle.meaning.specs.Body.{Row}
+use Rattle.schema.specs.TableData.{TableData}
+use Rattle.integrity.specs.Stored.{IsRowOf, IsStored, StoresRow}
+use Rattle.explain.specs.Text.{row_text, rows_text}
+use Rattle.shell.specs.Stream.{Streams, StreamsUntil, cells_of, shown, size_of}
+use Rattle.shell.proofs.CellLemmas.{one_cell}
+
+-- at another fault than that of a write nothing is written of the rows
+pub nothing_given : (e : Fault) (columns : List ℕ) (rows : List Row) (old : SinkFacts) → e ≢ Changed → e ≢ WriteFailed
+    → StreamsUntil e columns rows old old
+nothing_given e columns rows old same other = record {
+  given = [];
+  rest = rows;
+  whole = refl;
+  prints = record { cut = λ is. absurd (other is); whole = λ _. Appends-none old.written };
+  same_image = same;
+}
+
+pub no_memory : (e : Fault) (columns : List ℕ) (rows : List Row) (old : SinkFacts) → e ≡ NoMemory → StreamsUntil e columns rows old old
+no_memory e columns rows old is = nothing_given e columns rows old (λ changed. cc) (λ failed. cc)
+
+pub not_write : (e : Fault) → (e ≡ ReadFailed) ⊎ (e ≡ NoMemory) ⊎ (e ≡ Changed) → e ≢ WriteFailed
+not_write e (inl is) same = cc
+not_write e (inr (inl is)) same = cc
+not_write e (inr (inr is)) same = cc
+
+-- one row is written
+pub row_written : (columns : List ℕ) (row : Row) (result : Result (Unit {0}) Fault) (old new : SinkFacts)
+    → Writes (row_text (shown columns row)) result old new → IfErr result (λ e. e ≡ WriteFailed)
+    → MatchResult result (λ _. Appends old.written new.written (row_text (shown columns row)))
+    (λ e. StreamsUntil e columns (row ∷ []) old new)
+row_written columns row (Ok done) old new writes only = writes.written
+row_written columns row (Err e) old new writes only = record {
+  given = row ∷ [];
+  rest = [];
+  whole = refl;
+  prints = record {
+    cut = λ _. record {
+      done = writes.written.done;
+      rest = writes.written.rest;
+      whole = writes.written.whole ∙ sym (append-nil (row_text (shown columns row)));
+      written = writes.written.written;
+    };
+    whole = λ other. absurd (other only);
+  };
+  same_image = λ changed. cc;
+}
+
+-- the text of the columns of rows
+abbrev shown_text : List ℕ → List Row → List ℕ
+shown_text columns rows = rows_text (map (shown columns) rows)
+
+shown_text-append : (columns : List ℕ) (xs ys : List Row)
+    → shown_text columns (xs ++ ys) ≡ shown_text columns xs ++ shown_text columns ys
+shown_text-append columns [] ys = refl
+shown_text-append columns (x ∷ xs) ys =
+    ap (λ t. row_text (shown columns x) ++ t) (shown_text-append columns xs ys)
+    ∙ sym (append_assoc (row_text (shown columns x)) (shown_text columns xs) (shown_text columns ys))
+
+shown_text-push : (columns : List ℕ) (given : List Row) (row : Row)
+    → shown_text columns (given ++ (row ∷ [])) ≡ shown_text columns given ++ row_text (shown columns row)
+shown_text-push columns given row =
+    shown_text-append columns given (row ∷ [])
+    ∙ ap (λ t. shown_text columns given ++ t) (append-nil (row_text (shown columns row)))
+
+length-shown : (columns : List ℕ) (rows : List Row) → length (map (shown columns) rows) ≡ length rows
+length-shown columns [] = refl
+length-shown columns (row ∷ rows) = ap suc (length-shown columns rows)
+
+-- a fault among the later rows, after the first were written whole
+until_behind : (e : Fault) (columns : List ℕ) (given some more : List Row) (old mid new : SinkFacts)
+    → Appends old.written mid.written (shown_text columns given) → StreamsUntil e columns some mid new
+    → StreamsUntil e columns (given ++ (some ++ more)) old new
+until_behind e columns given some more old mid new before until = record {
+  given = given ++ until.given;
+  rest = until.rest ++ more;
+  whole = append_assoc given until.given (until.rest ++ more)
+      ∙ ap (λ t. given ++ t) (sym (append_assoc until.given until.rest more) ∙ ap (λ t. t ++ more) until.whole);
+  prints = record {
+    cut = λ is.
+        let front = until.prints.cut is in
+        record {
+          done = shown_text columns given ++ front.done;
+          rest = front.rest;
+          whole = append_assoc (shown_text columns given) front.done front.rest
+              ∙ ap (λ t. shown_text columns given ++ t) front.whole
+              ∙ sym (shown_text-append columns given until.given);
+          written = Appends-then _ _ _ (shown_text columns given) front.done before front.written;
+        };
+    whole = λ other.
+        rw (shown_text-append columns given until.given)
+        (Appends-then _ _ _ (shown_text columns given) (shown_text columns until.given) before (until.prints.whole other));
+  };
+  same_image = until.same_image;
+}
+
+-- Some of the rows are written and counted, and a cursor stands before the cells of the others.
+pub record Given (pages : Pages) (table : TableData) (columns : List ℕ) (rows : List Row) (cursor : Cursor) (asked budget n : ℕ) (old new : SinkFacts) : Type 0 where
+  pub given : List Row
+  pub rest : List Row
+  pub places : List Place
+  pub whole : given ++ rest ≡ rows
+  pub at : IsAt pages cursor places asked budget
+  pub stored : AllZip (StoresRow pages table) places rest
+  pub written : Appends old.written new.written (shown_text columns given)
+  pub counted : n ≡ min (length given) (2 ^ 64 - 1)
+
+-- a cell is the first of these rows, and the others stand at these places
+record IsFirst (pages : Pages) (table : TableData) (cell : CellData) (rest : List Row) (others : List Place) : Type 0 where
+  row : Row
+  more : List Row
+  is : IsRowOf table cell row
+  rest_is : rest ≡ row ∷ more
+  stored : AllZip (StoresRow pages table) others more
+
+first_cell : (pages : Pages) (table : TableData) (cell : CellData) (places : List Place) (rest : List Row)
+    → AllZip (StoresRow pages table) places rest → IsEntry pages places (Some cell) → IsFirst pages table cell rest (drop 1 places)
+first_cell pages table cell [] rest stored entry = absurd cc
+first_cell pages table cell (place ∷ places) [] stored entry = absurd stored
+first_cell pages table cell (place ∷ places) (row ∷ more) stored entry = record {
+  row = row;
+  more = more;
+  is = subst (λ (c : CellData). IsRowOf table c row) (one_cell pages place stored.0.cell cell stored.0.at entry) stored.0.is;
+  rest_is = refl;
+  stored = stored.1;
+}
+
+no_cell : (pages : Pages) (table : TableData) (places : List Place) (rest : List Row)
+    → AllZip (StoresRow pages table) places rest → IsEntry pages places None → rest ≡ []
+no_cell pages table [] [] stored entry = refl
+no_cell pages table [] (row ∷ rest) stored entry = absurd stored
+no_cell pages table (place ∷ places) rest stored entry = absurd entry
+
+module _ (pages : Pages) (table : TableData) (columns : List ℕ) (rows : List Row) (cursor : Cursor) (asked budget n : ℕ) (old mid : SinkFacts)
+    (g : Given pages table columns rows cursor asked budget n old mid) where
+  -- a fault after the rows that are given
+  until_given : (e : Fault) (rest : List Row) (new : SinkFacts) (first : List Row) → g.rest ≡ first ++ rest
+      → StreamsUntil e columns first mid new → StreamsUntil e columns rows old new
+  until_given e rest new first is until =
+      subst (λ (all : List Row). StreamsUntil e columns all old new) (ap (λ t. g.given ++ t) (sym is) ∙ g.whole)
+      (until_behind e columns g.given first rest old mid new g.written until)
+
+  Given-all : g.rest ≡ [] → Streams columns rows n old mid
+  Given-all none =
+      let all : g.given ≡ rows = sym (append-nil g.given) ∙ ap (λ t. g.given ++ t) (sym none) ∙ g.whole in
+      record {
+        written = rw (← all) g.written;
+        counted_is = g.counted ∙ ap (λ k. min k (2 ^ 64 - 1)) (ap length all ∙ sym (length-shown columns rows));
+      }
+
+  module _ (cell : CellData) (first : IsFirst pages table cell g.rest (drop 1 g.places)) where
+    Given-next : (next : Cursor) (asked' n' : ℕ) (new : SinkFacts) → IsAt pages next (drop 1 g.places) asked' budget
+        → Appends mid.written new.written (row_text (shown columns first.row)) → n' ≡ min (n + 1) (2 ^ 64 - 1)
+        → Given pages table columns rows next asked' budget n' old new
+    Given-next next asked' n' new at written is = record {
+      given = g.given ++ (first.row ∷ []);
+      rest = first.more;
+      places = drop 1 g.places;
+      whole = append_assoc g.given (first.row ∷ []) first.more ∙ ap (λ t. g.given ++ t) (sym first.rest_is) ∙ g.whole;
+      at = at;
+      stored = first.stored;
+      written = rw (shown_text-push columns g.given first.row) (Appends-then _ _ _ _ _ g.written written);
+      counted = let long = g.counted in grind (arith, common_steps);
+    }
+
+    -- a fault behind this row
+    until_next : (e : Fault) (new : SinkFacts) → Appends mid.written new.written (row_text (shown columns first.row))
+        → e ≢ Changed → e ≢ WriteFailed → StreamsUntil e columns rows old new
+    until_next e new written same other =
+        until_given e first.more new (first.row ∷ []) first.rest_is (record {
+          given = first.row ∷ [];
+          rest = [];
+          whole = refl;
+          prints = record {
+            cut = λ is. absurd (other is);
+            whole = λ _. rw (append-nil (row_text (shown columns first.row))) written;
+          };
+          same_image = same;
+        })
+
+-- what the loop keeps
+pub record Streaming (start now : PagerState) (table : TableData) (columns : List ℕ) (cursor : Cursor) (n : ℕ) (old new : SinkFacts) : Type 0 where
+  pub stays : Stays start now
+  pub reads : now.source.failures ≡ start.source.failures
+  pub writes : new.failures ≡ old.failures
+  pub rows : IsTrue start.source.steady → (levels : ℕ) (rows : List Row) → IsStored (pages_seen start) table levels rows → levels < 20
+      → Given (pages_seen start) table columns rows cursor now.asked (start.asked + size_of (pages_seen start) table levels) n old new
+
+seen_same : (start now : PagerState) → Stays start now → pages_seen now ≡ pages_seen start
+seen_same start now stays = λ k. pages_in (stays.header k) (stays.bytes k)
+
+pub Streaming-start : (start now : PagerState) (table : TableData) (columns : List ℕ) (cursor : Cursor) (n : ℕ) (old : SinkFacts)
+    → Stays start now → now.source.failures ≡ start.source.failures
+    → (IsTrue start.source.steady → (levels : ℕ) (rows : List Row) → IsStored (pages_seen start) table levels rows → levels < 20
+    → IsAt (pages_seen start) cursor (cells_of (pages_seen start) table levels) now.asked (start.asked + size_of (pages_seen start) table levels))
+    → n ≡ 0 → Streaming start now table columns cursor n old old
+Streaming-start start now table columns cursor n old stays reads lists is = record {
+  stays = stays;
+  reads = reads;
+  writes = refl;
+  rows = λ steady levels rows stored few. record {
+    given = [];
+    rest = rows;
+    places = cells_of (pages_seen start) table levels;
+    whole = refl;
+    at = lists steady levels rows stored few;
+    stored = stored.rows_are;
+    written = Appends-none old.written;
+    counted = omega arith;
+  };
+}
+
+-- what the cursor says of the cell that it stands at
+abbrev pub IsEntryOf : Cursor → Option CellData → Type 0
+IsEntryOf cursor cell = (pages : Pages) (places : List Place) (asked budget : ℕ) → IsAt pages cursor places asked budget → IsEntry pages places cell
+
+-- what a step says
+abbrev pub Steps : PagerState → Cursor → (List Place → ℕ → Type 0) → Type 0
+Steps now cursor Then = IsTrue now.source.steady → (places : List Place) (budget : ℕ)
+    → IsAt (pages_seen now) cursor places now.asked budget → Then places budget
+
+module _ (start now : PagerState) (table : TableData) (columns : List ℕ) (cursor : Cursor) (n : ℕ) (old mid : SinkFacts)
+    (s : Streaming start now table columns cursor n old mid) where
+  is_steady : IsTrue start.source.steady → IsTrue now.source.steady
+  is_steady steady = rw s.stays.steady steady
+
+  module _ (steady : IsTrue start.source.steady) (levels : ℕ) (rows : List Row) (stored : IsStored (pages_seen start) table levels rows)
+      (few : levels < 20) where
+    now_given : Given (pages_seen start) table columns rows cursor now.asked (start.asked + size_of (pages_seen start) table levels) n old mid
+    now_given = s.rows steady levels rows stored few
+
+    now_at : IsAt (pages_seen now) cursor now_given.places now.asked (start.asked + size_of (pages_seen start) table levels)
+    now_at = rw (seen_same start now s.stays) now_given.at
+
+    pub Streaming-done : IsEntryOf cursor None → Streams columns rows n old mid
+    Streaming-done entry =
+        Given-all _ _ _ _ _ _ _ _ _ _ now_given
+        (no_cell (pages_seen start) table now_given.places now_given.rest now_given.stored (entry _ _ _ _ now_given.at))
+
+    pub asked_most : now.asked ≤ start.asked + size_of (pages_seen start) table levels
+    asked_most = let asks = now_given.at.stands.left.asks in omega arith
+
+    now_first : (cell : CellData) → IsEntryOf cursor (Some cell)
+        → IsFirst (pages_seen start) table cell now_given.rest (drop 1 now_given.places)
+    now_first cell entry = first_cell (pages_seen start) table cell now_given.places now_given.rest now_given.stored (entry _ _ _ _ now_given.at)
+
+    pub Streaming-cut : (cell : CellData) (e : Fault) (new : SinkFacts) → IsEntryOf cursor (Some cell)
+        → ((row : Row) → IsRowOf table cell row → StreamsUntil e columns (row ∷ []) mid new)
+        → StreamsUntil e columns rows old new
+    Streaming-cut cell e new entry written =
+        let first = now_first cell entry in
+        until_given _ _ _ _ _ _ _ _ _ _ now_given e first.more new (first.row ∷ []) first.rest_is (written first.row first.is)
+
+    pub Streaming-stopped : (cell : CellData) (e : Fault) (new : SinkFacts) → IsEntryOf cursor (Some cell)
+        → ((row : Row) → IsRowOf table cell row → Appends mid.written new.written (row_text (shown columns row)))
+        → Steps now cursor (λ _ _. e ≢ Changed) → e ≢ WriteFailed → StreamsUntil e columns rows old new
+    Streaming-stopped cell e new entry written sound other =
+        let first = now_first cell entry in
+        until_next _ _ _ _ _ _ _ _ _ _ now_given cell first e new (written first.row first.is)
+        (sound (is_steady steady) now_given.places _ now_at) other
+
+  pub Streaming-next : (then : PagerState) (cell : CellData) (next : Cursor) (n' : ℕ) (new : SinkFacts) → IsEntryOf cursor (Some cell)
+      → ((row : Row) → IsRowOf table cell row → Appends mid.written new.written (row_text (shown columns row)))
+      → Steps now cursor (λ places budget. IsAt (pages_seen now) next (drop 1 places) then.asked budget)
+      → Stays now then → then.source.failures ≡ now.source.failures → new.failures ≡ mid.failures → n' ≡ min (n + 1) (2 ^ 64 - 1)
+      → Streaming start then table columns next n' old new
+  Streaming-next then cell next n' new entry written lists stays reads writes is = record {
+    stays = Stays-trans start now then s.stays stays;
+    reads = reads ∙ s.reads;
+    writes = writes ∙ s.writes;
+    rows = λ steady levels rows stored few.
+        let first = now_first steady levels rows stored few cell entry in
+        let stands = rw (seen_same start now s.stays) at (lists (is_steady steady) _ _ (now_at steady levels rows stored few)) in
+        Given-next _ _ _ _ _ _ _ _ _ _ (now_given steady levels rows stored few) cell first next then.asked n' new stands
+        (written first.row first.is) is;
+  }

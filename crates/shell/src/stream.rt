@@ -1,0 +1,174 @@
+//! The rows of a table, written one by one as they are read.
+ghost use Rattle.std.specs.Prelude.{◌≡◌, ◌≢◌, ◌⊎◌, ◌+◌, ◌<◌, ◌≤◌, ◌∷◌, [], drop, ℕ, All, IfErr, IfOk, IsTrue, List, MatchResult, length, map};
+ghost use Rattle.std.specs.Io.KnownBytes.{Appends};
+ghost use Rattle.values.specs.Datum.{datum_of_ref};
+ghost use Rattle.values.specs.Fault.{Counts};
+ghost use Rattle.pager.specs.PagerState.{IsPageNumber, Stays};
+ghost use Rattle.image.specs.Tree.{Place};
+ghost use Rattle.btree.specs.Left.{steps_left};
+ghost use Rattle.btree.specs.Listing.{IsAt};
+ghost use Rattle.btree.specs.Rest.{pages_seen};
+ghost use Rattle.btree.specs.Views.{cell_data};
+ghost use Rattle.meaning.specs.Body.{Row};
+ghost use Rattle.explain.specs.Text.{row_text};
+ghost use Rattle.integrity.specs.Stored.{IsRowOf, IsStored};
+ghost use Rattle.shell.specs.Stream.{Streams, StreamsUntil, cells_of, shown, size_of};
+
+use btree::{Cell, Cursor};
+use explain::row_text;
+use integrity::RowView;
+use pager::{Pager, Source};
+use records::{RecordFault, RecordView};
+use schema::Table;
+use smallvec::SmallVec;
+use std::alloc::Global;
+use values::{Fault, Sink, ValueRef};
+
+/// A record's fault, as a run answers it: a record that was sound and is not has changed.
+fn record_fault(fault: RecordFault) -> Fault
+    ensures only { (result ≡ Fault.NoMemory) ⊎ (result ≡ Fault.Changed) }
+    ensures memory { fault ≡ RecordFault.NoMemory → result ≡ Fault.NoMemory }
+{
+    match fault {
+        RecordFault::NoMemory => Fault::NoMemory,
+        RecordFault::Bad | RecordFault::Float | RecordFault::Text => Fault::Changed,
+    }
+}
+
+/// The row of a table that a cell is. Its faults are `NoMemory`, and `Changed` where the cell is none.
+fn row_of<'p>(alloc: Global, table: &Table, cell: &Cell<'p>) -> Result<RowView<'p>, Fault>
+    ensures found { (row : Row) → IsRowOf table.now (cell_data cell.now) row
+        → MatchResult result (λ found. found ≡ row) (λ e. e ≡ Fault.NoMemory) }
+    ensures wide { IfOk result (λ row. length row ≡ length table.now.columns) }
+    ensures only { IfErr result (λ e. (e ≡ Fault.NoMemory) ⊎ (e ≡ Fault.Changed)) }
+{
+    if cell.payload.overflow.is_some() {
+        return Err(Fault::Changed);
+    }
+    let fields = match RecordView::read(alloc, cell.payload.local) {
+        Ok(fields) => fields,
+        Err(fault) => return Err(record_fault(fault)),
+    };
+    RowView::new(table, cell.rowid, fields).ok_or(Fault::Changed)
+}
+
+/// The values of these columns.
+fn shown_values<'p>(
+    alloc: Global,
+    row: &RowView<'p>,
+    columns: &[usize],
+) -> Result<SmallVec<ValueRef<'p>, 8>, Fault>
+    requires { All (λ at. at < length row.now) columns.now }
+    ensures shown { IfOk result (λ values. map datum_of_ref values.items ≡ shown columns.now row.now) }
+    ensures only { IfErr result (λ e. e ≡ Fault.NoMemory) }
+{
+    let mut values = SmallVec::new(alloc);
+    for column in columns {
+        values.push(row.value(*column))?;
+    }
+    Ok(values)
+}
+
+/// Writes these columns of the row that a cell is.
+fn write_cell<W: Sink>(
+    alloc: Global,
+    table: &Table,
+    cell: &Cell<'_>,
+    columns: &[usize],
+    out: &mut W,
+) -> Result<(), Fault>
+    requires { All (λ at. at < length table.now.columns) columns.now }
+    ensures rows { (row : Row) → IsRowOf table.now (cell_data cell.now) row
+        → MatchResult result
+        (λ _. Appends (W.facts out.old).written (W.facts out.new).written (row_text (shown columns.now row)))
+        (λ e. StreamsUntil e columns.now (row ∷ []) (W.facts out.old) (W.facts out.new)) }
+    ensures only { IfErr result (λ e. (e ≡ Fault.NoMemory) ⊎ (e ≡ Fault.Changed) ⊎ (e ≡ Fault.WriteFailed)) }
+    ensures writes { Counts Fault.WriteFailed result (W.facts out.old).failures (W.facts out.new).failures }
+{
+    let row = row_of(alloc, table, cell)?;
+    let values = shown_values(alloc, &row, columns)?;
+    row_text(values.as_slice(), out)
+}
+
+/// A cursor's fault, as a run answers it: a tree that was sound and is not has changed.
+fn cursor_fault(fault: Fault) -> Fault
+    ensures only { (result ≡ Fault.ReadFailed) ⊎ (result ≡ Fault.NoMemory) ⊎ (result ≡ Fault.Changed) }
+    ensures sound { (fault ≡ Fault.ReadFailed) ⊎ (fault ≡ Fault.NoMemory) → result ≢ Fault.Changed }
+    ensures read { result ≡ Fault.ReadFailed → fault ≡ Fault.ReadFailed }
+{
+    match fault {
+        Fault::ReadFailed => Fault::ReadFailed,
+        Fault::NoMemory => Fault::NoMemory,
+        _ => Fault::Changed,
+    }
+}
+
+/// A cursor at the first row of a table.
+fn first_row<S: Source>(alloc: Global, pager: &mut Pager<S>, table: &Table) -> Result<Cursor, Fault>
+    requires { IsPageNumber pager.old.state table.now.root }
+    ensures lists { IsTrue pager.old.state.source.steady → (levels : ℕ) (rows : List Row)
+        → IsStored (pages_seen pager.old.state) table.now levels rows → levels < 20
+        → MatchResult result
+        (λ cursor. IsAt (pages_seen pager.old.state) cursor (cells_of (pages_seen pager.old.state) table.now levels)
+        pager.new.state.asked (pager.old.state.asked + size_of (pages_seen pager.old.state) table.now levels))
+        (λ e. e ≢ Fault.Changed) }
+    ensures only { IfErr result (λ e. (e ≡ Fault.ReadFailed) ⊎ (e ≡ Fault.NoMemory) ⊎ (e ≡ Fault.Changed)) }
+    ensures reads { Counts Fault.ReadFailed result pager.old.state.source.failures pager.new.state.source.failures }
+    ensures stays { Stays pager.old.state pager.new.state }
+{
+    match Cursor::first(alloc, pager, table.root()) {
+        Ok(cursor) => Ok(cursor),
+        Err(fault) => Err(cursor_fault(fault)),
+    }
+}
+
+/// Goes on to the next row; past the last the cursor stays.
+fn next_row<S: Source>(cursor: &mut Cursor, pager: &mut Pager<S>) -> Result<(), Fault>
+    ensures lists { IsTrue pager.old.state.source.steady → (places : List Place) (budget : ℕ)
+        → IsAt (pages_seen pager.old.state) cursor.old places pager.old.state.asked budget
+        → MatchResult result
+        (λ _. IsAt (pages_seen pager.old.state) cursor.new (drop 1 places) pager.new.state.asked budget)
+        (λ e. e ≢ Fault.Changed) }
+    ensures left { IfOk result (λ _. 0 < steps_left cursor.old → steps_left cursor.new < steps_left cursor.old) }
+    ensures only { IfErr result (λ e. (e ≡ Fault.ReadFailed) ⊎ (e ≡ Fault.NoMemory) ⊎ (e ≡ Fault.Changed)) }
+    ensures reads { Counts Fault.ReadFailed result pager.old.state.source.failures pager.new.state.source.failures }
+    ensures stays { Stays pager.old.state pager.new.state }
+{
+    if let Err(fault) = cursor.next(pager) {
+        return Err(cursor_fault(fault));
+    }
+    Ok(())
+}
+
+/// Writes the rows of a table as lines, each showing these columns, and counts them. Its faults are `ReadFailed`,
+/// `NoMemory`, `WriteFailed`, and `Changed`, which no table gives that is stored as it was checked.
+pub(crate) fn write_rows<S: Source, W: Sink>(
+    alloc: Global,
+    pager: &mut Pager<S>,
+    table: &Table,
+    columns: &[usize],
+    out: &mut W,
+) -> Result<u64, Fault>
+    requires root { IsPageNumber pager.old.state table.now.root }
+    requires columns { All (λ at. at < length table.now.columns) columns.now }
+    ensures rows { IsTrue pager.old.state.source.steady → (levels : ℕ) (rows : List Row)
+        → IsStored (pages_seen pager.old.state) table.now levels rows → levels < 20
+        → MatchResult result (λ counted. Streams columns.now rows counted (W.facts out.old) (W.facts out.new))
+        (λ e. StreamsUntil e columns.now rows (W.facts out.old) (W.facts out.new)) }
+    ensures pages { IsTrue pager.old.state.source.steady → (levels : ℕ) (rows : List Row)
+        → IsStored (pages_seen pager.old.state) table.now levels rows → levels < 20
+        → IfOk result (λ _. pager.new.state.asked ≤ pager.old.state.asked + size_of (pages_seen pager.old.state) table.now levels) }
+    ensures only { IfErr result (λ e. (e ≡ Fault.ReadFailed) ⊎ (e ≡ Fault.NoMemory) ⊎ (e ≡ Fault.Changed) ⊎ (e ≡ Fault.WriteFailed)) }
+    ensures reads { Counts Fault.ReadFailed result pager.old.state.source.failures pager.new.state.source.failures }
+    ensures writes { Counts Fault.WriteFailed result (W.facts out.old).failures (W.facts out.new).failures }
+    ensures stays { Stays pager.old.state pager.new.state }
+{
+    let mut cursor = first_row(alloc, pager, table)?;
+    let mut count = 0u64;
+    while let Some(cell) = cursor.entry() {
+        write_cell(alloc, table, &cell, columns, out)?;
+        next_row(&mut cursor, pager)?;
+        count = count.saturating_add(1);
+    }
+    Ok(count)
+}
