@@ -1,5 +1,5 @@
 //! SELECTs whose names are resolved.
-ghost use Rattle.std.specs.Prelude.{◌≡◌, IfErr, IfOk, length, map, string_bytes};
+ghost use Rattle.std.specs.Prelude.{◌≡◌, [], IfErr, IfOk, length, map, string_bytes};
 ghost use Rattle.meaning.specs.Query.{column, IsTyped, table};
 ghost use Rattle.sql_reader.specs.View.{select_of};
 ghost use Rattle.resolver.specs.Resolved.{IsRefused, Resolves};
@@ -43,7 +43,8 @@ impl Query {
 
     /// The places of the result columns, among the columns of that table.
     pub fn columns(&self) -> &[usize]
-        ensures { self.now.query.columns ≡ map column result.now }
+        ensures same { self.now.query.columns ≡ map column result.now }
+        ensures unordered { self.now.query.order ≡ [] }
     {
         self.columns.as_slice()
     }

@@ -2,3 +2,4 @@ pub mod Printed
 pub mod Stream
 pub mod State
 pub mod Answer
+pub mod Prepared

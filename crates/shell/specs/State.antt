@@ -3,18 +3,14 @@ use Rattle.std.specs.Prelude.{◌≡◌, ℕ, All, IsTrue, List, length, map}
 use Rattle.pager.specs.Header.{header_of}
 use Rattle.pager.specs.PagerState.{IsPageNumber, PagerState, Stays}
 use Rattle.image.specs.Pages.{pages_of}
-use Rattle.meaning.specs.Query.{IsTyped, QueryData}
+use Rattle.meaning.specs.Query.{IsTyped}
 use Rattle.schema.specs.TableData.{TableData}
 use Rattle.integrity.specs.Denotes.{HasTables}
+use Rattle.resolver.specs.Resolved.{ResolvedData}
 
 pub record EngineState : Type 0 where
   pub pager : PagerState
   pub tables : List TableData
-
--- a query, and the names of its columns
-pub record PreparedState : Type 0 where
-  pub query : QueryData
-  pub names : List (List ℕ)
 
 -- The roots of the tables are pages; over a steady source the tables are the image's, and each is stored.
 pub record IsReady (pager : PagerState) (tables : List TableData) : Type 0 where
@@ -32,5 +28,5 @@ abbrev pub widths : List TableData → List ℕ
 widths tables = map (λ table. length table.columns) tables
 
 -- each place that the query names is one of these tables
-abbrev pub IsPreparedFor : List TableData → PreparedState → Type 0
+abbrev pub IsPreparedFor : List TableData → ResolvedData → Type 0
 IsPreparedFor tables prepared = IsTyped (widths tables) prepared.query

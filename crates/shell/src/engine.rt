@@ -1,5 +1,15 @@
 //! An engine, which answers queries over one image.
-ghost use Rattle.std.specs.Prelude.{◌≡◌, ◌⊎◌, ◌-◌, ◌<◌, ◌≤◌, ℕ, IfErr, IfOk, IsTrue, List, Some, slice_get};
+ghost use Rattle.std.specs.Prelude.{◌≡◌, ◌≢◌, ◌⊎◌, ◌-◌, ◌<◌, ◌≤◌, ℕ, IfErr, IfOk, IsTrue, List, OnOk, Some, slice_get};
+ghost use Rattle.std.specs.NonZero.{non_zero_usize_get};
+ghost use Rattle.pager.specs.Header.{IsLeastBroken, KeepsAll};
+ghost use Rattle.pager.specs.Source.{ChangesCount};
+ghost use Rattle.sql_reader.specs.SelectGrammar.{SpellsSelect};
+ghost use Rattle.sql_reader.specs.Texts.{IsWithin};
+ghost use Rattle.sql_reader.specs.Tree.{columns_of_select};
+ghost use Rattle.sql_reader.specs.View.{select_of};
+ghost use Rattle.integrity.specs.Checked.{HasCause};
+ghost use Rattle.integrity.specs.Denotes.{HasTables};
+ghost use Rattle.shell.specs.Prepared.{IsUnserved, Means, Refuses};
 ghost use Rattle.values.specs.Fault.{Counts};
 ghost use Rattle.image.specs.Pages.{pages_of};
 ghost use Rattle.meaning.specs.Body.{Row};
@@ -12,17 +22,20 @@ ghost use Rattle.shell.specs.Stream.{size_of};
 
 use crate::query::run_query;
 use crate::{Prepared, Report};
+use integrity::{Checked, check};
 use pager::{Pager, Source};
-use schema::Table;
+use resolver::resolve;
+use sql_reader::{Select, read_select};
 use std::alloc::Global;
 use std::marker::Model;
+use std::num::NonZeroUsize;
 use values::{Fault, Sink};
 
 /// An image that was checked whole, and its tables.
 #[derive(Drop)]
 pub struct Engine<S: Source> {
     pager: Pager<S>,
-    tables: Vec<Table>,
+    checked: Checked,
     alloc: Global,
 }
 
@@ -31,23 +44,66 @@ impl<S: Source> Model for Engine<S> {
 
     ghost Value = { EngineState };
 
-    ghost view = { λ e. record { pager = e.pager.state; tables = e.tables.items } };
+    ghost view = { λ e. record { pager = e.pager.state; tables = e.checked.tables } };
 
-    ghost invariant = { λ e. IsReady e.pager.state e.tables.items };
+    ghost invariant = { λ e. IsReady e.pager.state e.checked.tables };
+}
+
+/// The SELECT that a text spells. A text that spells none may be one that isn't served yet.
+fn served_select(alloc: Global, text: &str) -> Result<Select, Fault>
+    ensures spelt { IfOk result (λ select. SpellsSelect text.now (select_of select)) }
+    ensures within { IfOk result (λ select. IsWithin columns_of_select text.now (select_of select)) }
+    ensures refused { IfErr result (IsUnserved text.now) }
+{
+    match read_select(alloc, text) {
+        Err(Fault::Syntax(_)) => Err(Fault::NotYet),
+        read => read,
+    }
 }
 
 impl<S: Source> Engine<S> {
-    /// An engine over an image that was checked, and the tables that it has.
-    pub(crate) fn new(alloc: Global, pager: Pager<S>, tables: Vec<Table>) -> Engine<S>
-        requires { IsReady pager.state tables.items }
-        ensures pager { result.pager ≡ pager.state }
-        ensures tables { result.tables ≡ tables.items }
+    /// Opens an image and checks it whole; the cache keeps so many of its pages.
+    ///
+    /// # Errors
+    ///
+    /// The least condition of the header that is broken; then those of the image's tables and rows, and `NotYet` where the
+    /// image has what isn't served; `ReadFailed` where the source failed, and `NoMemory`. The source is handed back.
+    pub fn open(alloc: Global, source: S, cache: NonZeroUsize) -> Result<Engine<S>, (Fault, S)>
+        ensures source { IfOk result (λ engine. engine.pager.source ≡ S.facts source) }
+        ensures capacity { IfOk result (λ engine. engine.pager.capacity ≡ non_zero_usize_get cache) }
+        ensures header { IsTrue (S.facts source).steady → OnOk result (KeepsAll (S.facts source).bytes) }
+        ensures tables { IsTrue (S.facts source).steady → IfOk result (λ engine. HasTables (pages_of (S.facts source).bytes) engine.tables) }
+        ensures back { IfErr result (λ e. ChangesCount (S.facts source) (S.facts e.1)) }
+        ensures read { IfErr result (λ e. e.0 ≡ Fault.ReadFailed → (S.facts e.1).failures ≢ (S.facts source).failures) }
+        ensures cause { IsTrue (S.facts source).steady
+            → IfErr result (λ e. IsLeastBroken (S.facts source).bytes e.0 ⊎ HasCause (pages_of (S.facts source).bytes) e.0) }
     {
-        Engine {
-            pager,
-            tables,
-            alloc,
+        let mut pager = Pager::open(alloc, source, cache)?;
+        match check(alloc, &mut pager) {
+            Ok(checked) => Ok(Engine {
+                pager,
+                checked,
+                alloc,
+            }),
+            Err(fault) => Err((fault, pager.into_source())),
         }
+    }
+
+    /// Reads a SELECT and resolves its names; no page is read.
+    ///
+    /// # Errors
+    ///
+    /// `Limit`; `NotYet` for a text that spells no SELECT that is served; `UnknownTable`, `UnknownColumn`, `Ambiguous`, and
+    /// `NoMemory`.
+    pub fn prepare(&self, text: &str) -> Result<Prepared, Fault>
+        ensures of { IfOk result (IsPreparedFor self.now.tables) }
+        ensures means { IfOk result (Means self.now.tables text.now) }
+        ensures refuses { IfErr result (Refuses self.now.tables text.now) }
+    {
+        let select = served_select(self.alloc, text)?;
+        let query = resolve(self.alloc, self.checked.tables(), &select)?;
+        let prepared = Prepared::new(self.alloc, query)?;
+        Ok(prepared)
     }
 
     /// Writes the answer of a query over this engine's tables, a line for each row, as it is read. At an error what was
@@ -79,9 +135,9 @@ impl<S: Source> Engine<S> {
         run_query(
             self.alloc,
             &mut self.pager,
-            self.tables.as_slice(),
-            prepared.source,
-            prepared.columns.as_slice(),
+            self.checked.tables(),
+            prepared.query.source(),
+            prepared.query.columns(),
             out,
         )
     }
