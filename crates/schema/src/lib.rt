@@ -1,5 +1,6 @@
 //! The tables of an image, as the rows of its schema say them. It promises that a catalog has exactly the tables that
-//! the rows say, and that rows are refused only where they say none.
+//! the rows say, that rows say at most one list of tables, and that, want of memory aside, rows are refused only where
+//! they say none.
 //! Today each row has to be that of a table whose text `sql_reader` reads, without a column of PRIMARY KEY that isn't
 //! the rowid; every other schema is not served yet.
 //!
