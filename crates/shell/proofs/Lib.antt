@@ -2,3 +2,4 @@ pub mod CellLemmas
 pub mod RowLemmas
 pub mod StreamLemmas
 pub mod RunLemmas
+pub mod NameLemmas

@@ -10,7 +10,9 @@ use Rattle.values.specs.Sink.{SinkFacts}
 use Rattle.values.specs.declared.fault.Fault.{Fault}
 use Rattle.values.specs.declared.fault.Fault.TheVariants.{Changed, NoMemory, Overflow, ReadFailed, WriteFailed}
 use Rattle.pager.specs.declared.header.Header.{Header}
-use Rattle.pager.specs.PagerState.{PagerState}
+use Rattle.pager.specs.Header.{header_of}
+use Rattle.pager.specs.PagerState.{PagerState, opened}
+use Rattle.pager.specs.Source.{SourceFacts}
 use Rattle.image.specs.Pages.{pages_in, pages_of}
 use Rattle.btree.specs.Rest.{pages_seen}
 use Rattle.meaning.specs.Query.{IsTermOf, IsTyped, column}
@@ -114,3 +116,9 @@ module _ (pager : PagerState) (tables : List TableData) (source : ℕ) (columns 
         same_image = until.same_image;
         hits = λ over w is. absurd (not_overflow e only over);
       }
+
+-- the pages of a pager that was opened are those of its source's image
+pub pages_opened : (state : PagerState) (source : SourceFacts) (header : Header) (capacity : ℕ) → state ≡ opened source header capacity
+    → state.header ≡ header_of state.source.bytes → pages_seen state ≡ pages_of source.bytes
+pages_opened state source header capacity is header_is =
+    ap (λ (h : Header). pages_in h state.source.bytes) header_is ∙ ap (λ (s : PagerState). pages_of s.source.bytes) is

@@ -46,7 +46,7 @@ fn header_row(alloc: Global, names: &[String]) -> Result<Row, Fault>
 impl Prepared {
     /// A query with the texts of its columns' names.
     pub(crate) fn new(alloc: Global, query: Query) -> Result<Prepared, Fault>
-        ensures query { IfOk result (λ prepared. prepared ≡ query.entry) }
+        ensures query { IfOk result (λ prepared. prepared ≡ query) }
         ensures only { IfErr result (λ e. e ≡ Fault.NoMemory) }
     {
         let header = header_row(alloc, query.names())?;

@@ -1,0 +1,18 @@
+use Rattle.std.proofs.Common.{◌∙◌, List, ap, subst, inr}
+use Rattle.std.proofs.lemmas.Result.{err_from_is_err_and}
+use Rattle.schema.specs.TableData.{TableData}
+use Rattle.sql_reader.specs.View.{select_of}
+use Rattle.resolver.specs.Resolved.{IsRefused}
+use Rattle.shell.specs.State.{EngineState}
+use Rattle.shell.proofs.engine.Engine.prepare.Goals as goal
+
+pub returns-in_err-query-clause-refuses : goal.returns-in_err-query-clause-refuses
+returns-in_err-query-clause-refuses g c =
+    let tables = c.tables.ensures ∙ ap (λ (e : EngineState). e.tables) c.self.view_is in
+    let p = err_from_is_err_and c.from_residual-in_err-query.result c.from_residual-in_err-query.ensures.1 in
+    rw (p.1, p.2)
+    (inr (
+      select_of c.in_ok-select.select,
+      c.in_ok-select.ensures.spelt,
+      subst (λ (ts : List TableData). IsRefused ts (select_of c.in_ok-select.select) c.in_err-query.field-0.0) tables c.in_err-query.ensures.refused,
+    ))
