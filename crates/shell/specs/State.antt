@@ -1,5 +1,5 @@
 -- What contracts see of an engine.
-use Rattle.std.specs.Prelude.{◌≡◌, ℕ, All, IsTrue, List, length, map}
+use Rattle.std.specs.Prelude.{◌≡◌, ℕ, All, IsTrue, List, [], length, map}
 use Rattle.pager.specs.Header.{header_of}
 use Rattle.pager.specs.PagerState.{IsPageNumber, PagerState, Stays}
 use Rattle.image.specs.Pages.{pages_of}
@@ -31,6 +31,7 @@ pub record Keeps (old new : EngineState) : Type 0 where
 abbrev pub widths : List TableData → List ℕ
 widths tables = map (λ table. length table.columns) tables
 
--- each place that the query names is one of these tables
-abbrev pub IsPreparedFor : List TableData → PreparedState → Type 0
-IsPreparedFor tables prepared = IsTyped (widths tables) prepared.query
+-- each place that the query names is one of these tables, and it asks for no order
+pub record IsPreparedFor (tables : List TableData) (prepared : PreparedState) : Type 0 where
+  pub typed : IsTyped (widths tables) prepared.query
+  pub unordered : prepared.query.order ≡ []

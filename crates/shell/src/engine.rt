@@ -80,8 +80,8 @@ impl<S: Source> Engine<S> {
             self.alloc,
             &mut self.pager,
             self.tables.as_slice(),
-            prepared.source,
-            prepared.columns.as_slice(),
+            prepared.source(),
+            prepared.columns(),
             out,
         )
     }

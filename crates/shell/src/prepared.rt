@@ -1,5 +1,6 @@
 //! Queries whose names are resolved.
 ghost use Rattle.std.specs.Prelude.{◌≡◌, map, string_bytes};
+ghost use Rattle.meaning.specs.Query.{column, table};
 
 use std::marker::Model;
 
@@ -7,9 +8,9 @@ use std::marker::Model;
 /// without an order.
 #[derive(Debug, Drop)]
 pub struct Prepared {
-    pub(crate) source: usize,
-    pub(crate) columns: Vec<usize>,
-    pub(crate) names: Vec<String>,
+    source: usize,
+    columns: Vec<usize>,
+    names: Vec<String>,
 }
 
 impl Model for Prepared {
@@ -23,9 +24,23 @@ impl Model for Prepared {
 }
 
 impl Prepared {
+    /// The place of the table that the query reads.
+    pub fn source(&self) -> usize
+        ensures { self.now.query.source ≡ table result }
+    {
+        self.source
+    }
+
+    /// The places of the columns that it shows.
+    pub fn columns(&self) -> &[usize]
+        ensures { self.now.query.columns ≡ map column result.now }
+    {
+        self.columns.as_slice()
+    }
+
     /// The names of the columns, in order.
     pub fn names(&self) -> &[String]
-        ensures { map string_bytes result.now ≡ self.now.names }
+        ensures { self.now.names ≡ map string_bytes result.now }
     {
         self.names.as_slice()
     }

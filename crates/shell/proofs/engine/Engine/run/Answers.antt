@@ -1,6 +1,6 @@
-use Rattle.std.proofs.Common.{◌≡◌, ◌∙◌, ap, ℕ, IsTrue}
+use Rattle.std.proofs.Common.{◌≡◌, ◌∙◌, ap, sym, ℕ, IsTrue}
 use Rattle.meaning.specs.Query.{table}
-use Rattle.shell.specs.State.{EngineState, PreparedState}
+use Rattle.shell.specs.State.{EngineState}
 use Rattle.shell.proofs.engine.Engine.run.Goals as goal
 
 one_place : (source place : ℕ) → table source ≡ table place → source ≡ place
@@ -12,5 +12,5 @@ returns-clause-pages g c = λ steady place stored levels rows is found held few.
     let bytes = ap (λ (e : EngineState). e.pager.source.bytes) self in
     let seen : IsTrue c.self.inside.pager.state.source.steady = rw (ap (λ (e : EngineState). e.pager.source.steady) self) steady in
     let tables = c.as_slice.ensures.value ∙ ap (λ (e : EngineState). e.tables) self in
-    let source = one_place _ place (ap (λ (p : PreparedState). p.query.source) c.prepared.view_is ∙ is) in
+    let source = one_place _ place (sym c.source.ensures ∙ is) in
     rw (← bytes) (c.run_query.ensures.pages seen stored levels rows (rw (tables, source) found) (rw bytes held) few)
