@@ -8,3 +8,4 @@ pub mod NamedLemmas
 pub mod EntryLemmas
 pub mod RowidLemmas
 pub mod WorkedTable
+pub mod CellLemmas

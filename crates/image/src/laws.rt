@@ -6,7 +6,7 @@ ghost use Rattle.image.specs.declared.kind.TreeKind.TheVariants.{Table, Index};
 ghost use Rattle.image.specs.declared.kind.Level.{Level};
 ghost use Rattle.image.specs.declared.kind.Level.TheVariants.{Leaf};
 ghost use Rattle.image.specs.Layout.{header_at, flag, cell_count, cell_place};
-ghost use Rattle.image.specs.Cell.{local_size};
+ghost use Rattle.image.specs.Cell.{CellData, local_size};
 ghost use Rattle.image.specs.Tree.{Place, IsPageOf, IsRowAt, Reaches, ArePlacesOf};
 ghost use Rattle.image.specs.Pages.{Pages};
 ghost use Rattle.image.specs.Shape.{HasShape, place_at, places_under};
@@ -92,4 +92,10 @@ pub fn places_of_index()
         → HasShape pages Index levels root
         → ((n : ℕ) → Reaches pages Index root n → IsEntryOrder pages before root n)
         → AreEntriesOf pages before root (places_under pages Index levels root) }
+{}
+
+/// A place of a table's tree has one cell at most. (Database File Format, section 1.6 "B-tree Cell Format")
+pub fn one_cell()
+    ensures same { (pages : Pages) (place : Place) (a b : CellData) → IsRowAt pages place a → IsRowAt pages place b
+        → a ≡ b }
 {}

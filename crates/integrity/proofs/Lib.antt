@@ -9,4 +9,5 @@ pub mod CountLemmas
 pub mod HeldLemmas
 pub mod SchemaLemmas
 pub mod CheckedLemmas
+pub mod UnbrokenLemmas
 pub mod DenotesLemmas

@@ -1,10 +1,10 @@
 //! The check of a whole image.
-ghost use Rattle.std.specs.Prelude.{◌≡◌, All, IfErr, IfOk, IsTrue};
+ghost use Rattle.std.specs.Prelude.{◌≡◌, All, IfErr, IfOk, IsTrue, OnOk};
 ghost use Rattle.std.specs.List.{AllZip};
 ghost use Rattle.pager.specs.PagerState.{IsPageNumber, Stays};
 ghost use Rattle.values.specs.Fault.{Counts};
 ghost use Rattle.btree.specs.Rest.{pages_seen};
-ghost use Rattle.integrity.specs.Checked.{HasCause, IsCheckedTree};
+ghost use Rattle.integrity.specs.Checked.{HasCause, IsBrokenImage, IsCheckedTree};
 ghost use Rattle.integrity.specs.Denotes.{HasTables};
 ghost use Rattle.integrity.specs.Walked.{IsWalkFault};
 
@@ -59,6 +59,7 @@ pub fn check<S: Source>(alloc: Global, pager: &mut Pager<S>) -> Result<Checked, 
     ensures tables { IsTrue pager.old.state.source.steady → IfOk result (λ checked. HasTables (pages_seen pager.old.state) checked.tables) }
     ensures trees { IsTrue pager.old.state.source.steady
         → IfOk result (λ checked. AllZip (IsCheckedTree (pages_seen pager.old.state)) checked.tables checked.trees) }
+    ensures unbroken { IsTrue pager.old.state.source.steady → OnOk result ((fault : Fault) → ¬ IsBrokenImage (pages_seen pager.old.state) fault) }
     ensures roots { IfOk result (λ checked. All (λ table. IsPageNumber pager.old.state table.root) checked.tables) }
     ensures cause { IsTrue pager.old.state.source.steady → IfErr result (HasCause (pages_seen pager.old.state)) }
     ensures only { IfErr result IsWalkFault }

@@ -20,7 +20,7 @@ use Rattle.schema.specs.TableData.{TableData}
 use Rattle.integrity.specs.Stored.{IsRowOf, IsStored, StoresRow}
 use Rattle.explain.specs.Text.{row_text, rows_text}
 use Rattle.shell.specs.Stream.{Streams, StreamsUntil, cells_of, shown, size_of}
-use Rattle.shell.proofs.CellLemmas.{one_cell}
+use Rattle.image.proofs.CellLemmas.{one_cell}
 
 -- at another fault than that of a write nothing is written of the rows
 pub nothing_given : (e : Fault) (columns : List ℕ) (rows : List Row) (old : SinkFacts) → e ≢ Changed → e ≢ WriteFailed

@@ -7,7 +7,7 @@ ghost use Rattle.sql_reader.specs.SelectGrammar.{SpellsSelect};
 ghost use Rattle.sql_reader.specs.Texts.{IsWithin};
 ghost use Rattle.sql_reader.specs.Tree.{columns_of_select};
 ghost use Rattle.sql_reader.specs.View.{select_of};
-ghost use Rattle.integrity.specs.Checked.{HasCause};
+ghost use Rattle.integrity.specs.Checked.{HasCause, IsBrokenImage};
 ghost use Rattle.integrity.specs.Denotes.{HasTables};
 ghost use Rattle.shell.specs.Prepared.{IsUnserved, Means, Refuses};
 ghost use Rattle.values.specs.Fault.{Counts};
@@ -73,6 +73,8 @@ impl<S: Source> Engine<S> {
         ensures capacity { IfOk result (λ engine. engine.pager.capacity ≡ non_zero_usize_get cache) }
         ensures header { IsTrue (S.facts source).steady → OnOk result (KeepsAll (S.facts source).bytes) }
         ensures tables { IsTrue (S.facts source).steady → IfOk result (λ engine. HasTables (pages_of (S.facts source).bytes) engine.tables) }
+        ensures unbroken { IsTrue (S.facts source).steady
+            → OnOk result ((fault : Fault) → ¬ IsBrokenImage (pages_of (S.facts source).bytes) fault) }
         ensures back { IfErr result (λ e. ChangesCount (S.facts source) (S.facts e.1)) }
         ensures read { IfErr result (λ e. e.0 ≡ Fault.ReadFailed → (S.facts e.1).failures ≢ (S.facts source).failures) }
         ensures cause { IsTrue (S.facts source).steady

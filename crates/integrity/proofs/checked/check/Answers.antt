@@ -11,6 +11,7 @@ use Rattle.schema.specs.TableData.{TableData}
 use Rattle.integrity.specs.Checked.{IsCheckedTree}
 use Rattle.integrity.specs.RowFaults.{IsBrokenTable}
 use Rattle.integrity.proofs.CheckedLemmas.{broken_table, has_tables, said_here, unsaid_rows}
+use Rattle.integrity.proofs.UnbrokenLemmas.{unbroken_image}
 use Rattle.integrity.proofs.checked.check.Goals as goal
 
 pub returns-in_err-catalog-clause-cause : goal.returns-in_err-catalog-clause-cause
@@ -49,4 +50,15 @@ returns-clause-tables g c = λ steady.
     let said = said_here _ _ _ _ c.in_ok-catalog.catalog count c.as_slice.ensures.value c.in_ok-catalog.ensures.tables in
     let trees = subst (λ (q : Pages). AllZip (IsCheckedTree q) c.tables.result.now c.in_ok-trees.trees.items) (same_pages _ _ stays) (c.in_ok-trees.ensures.checked now) in
     has_tables (pages_seen c.args.pager.now.state) c.in_ok-rows.rows.items c.in_ok-catalog.catalog c.in_ok-trees.trees.items (c.in_ok-rows.ensures.rows steady) said
+    (subst (λ (ts : List TableData). AllZip (IsCheckedTree (pages_seen c.args.pager.now.state)) ts c.in_ok-trees.trees.items) c.tables.ensures trees)
+
+pub returns-clause-unbroken : goal.returns-clause-unbroken
+returns-clause-unbroken g c = λ steady.
+    let stays = c.read_schema.ensures.stays in
+    let now = still_steady _ _ stays steady in
+    let count : c.header.result.pages ≡ (pages_seen c.args.pager.now.state).count = ap (λ (h : Header). h.pages) (c.header.ensures.value ∙ stays.header) in
+    let said = said_here _ _ _ _ c.in_ok-catalog.catalog count c.as_slice.ensures.value c.in_ok-catalog.ensures.tables in
+    let trees = subst (λ (q : Pages). AllZip (IsCheckedTree q) c.tables.result.now c.in_ok-trees.trees.items) (same_pages _ _ stays) (c.in_ok-trees.ensures.checked now) in
+    let first = c.in_ok-rows.ensures.checked steady in
+    unbroken_image (pages_seen c.args.pager.now.state) c.in_ok-rows.rows.items c.in_ok-catalog.catalog c.in_ok-trees.trees.items first.0 first.1 (c.in_ok-rows.ensures.rows steady) said
     (subst (λ (ts : List TableData). AllZip (IsCheckedTree (pages_seen c.args.pager.now.state)) ts c.in_ok-trees.trees.items) c.tables.ensures trees)

@@ -1,0 +1,102 @@
+-- Nothing is broken of tables that were checked.
+use Rattle.std.proofs.Common.{◌≡◌, ◌⊎◌, ℕ, zero, suc, ◌<◌, ◌∙◌, All, Contains, List, [], ◌∷◌, length, Option, None, slice_index_or, refl, sym, ap, arith, subst, inl, inr, ⊎_elim}
+use Rattle.std.specs.List.{AllZip}
+use Rattle.values.specs.Datum.{Datum}
+use Rattle.values.specs.declared.fault.Fault.{Fault}
+use Rattle.values.specs.declared.fault.Fault.TheVariants.{BadRecord, FloatValue, BadText, ValueBreaksColumn, NotYet}
+use Rattle.records.specs.declared.fault.RecordFault.{RecordFault}
+use Rattle.records.specs.declared.fault.RecordFault.TheVariants as r
+use Rattle.records.specs.Record.{Breaks, IsRecord}
+use Rattle.records.proofs.RecordLemmas.{not_broken, one_record}
+use Rattle.image.specs.declared.kind.TreeKind.TheVariants.{Table}
+use Rattle.image.specs.Cell.{CellData}
+use Rattle.image.specs.Pages.{Pages}
+use Rattle.image.specs.Shape.{places_under}
+use Rattle.image.specs.Sound.{AreRowsOf}
+use Rattle.image.specs.Tree.{Place}
+use Rattle.image.proofs.CellLemmas.{one_cell}
+use Rattle.image.proofs.TableLemmas as table_laws
+use Rattle.meaning.specs.Body.{Row}
+use Rattle.schema.proofs.OneLemmas.{one_table}
+use Rattle.schema.specs.Rows.{AreTables, SaysTable}
+use Rattle.schema.specs.TableData.{TableData, schema_table}
+use Rattle.integrity.specs.declared.walk.TreeCounts.{TreeCounts}
+use Rattle.integrity.specs.Checked.{IsBrokenImage, IsCheckedTree, IsTableOf, said, schema}
+use Rattle.integrity.specs.RowFaults.{HasCellFault, IsBrokenTable, IsCellFault}
+use Rattle.integrity.specs.Stored.{Fits, HoldsRow, HoldsRows, IsRowOf, StoresRow, row_from}
+
+bad_memory : r.Bad ≡ r.NoMemory → ⊥
+bad_memory e = cc
+
+float_memory : r.Float ≡ r.NoMemory → ⊥
+float_memory e = cc
+
+text_memory : r.Text ≡ r.NoMemory → ⊥
+text_memory e = cc
+
+no_break : (fault : RecordFault) (bytes : List ℕ) (values : List Datum) → Breaks fault bytes → IsRecord bytes values → fault ≡ r.NoMemory
+no_break = not_broken
+
+-- a cell is one row of its table at most
+pub one_row : (table : TableData) (cell : CellData) (a b : Row) → IsRowOf table cell a → IsRowOf table cell b → a ≡ b
+one_row table cell a b one other =
+    let values = one_record cell.payload.local one.values other.values one.record_is other.record_is in
+    one.makes.row_is ∙ (λ k. row_from table.rowid cell.rowid (values k)) ∙ sym other.makes.row_is
+
+-- a cell that is a row, whose values are of its columns, has no fault
+unbroken_cell : (table : TableData) (n : ℕ) (cell : CellData) (row : Row) (fault : Fault) → IsRowOf table cell row → Fits table row
+    → IsCellFault table n cell fault → ⊥
+unbroken_cell table n cell row (BadRecord m) is fits (e, whole, inl breaks) = absurd (bad_memory (no_break r.Bad cell.payload.local is.values breaks is.record_is))
+unbroken_cell table n cell row (BadRecord m) is fits (e, whole, inr (values, record_is, wide)) =
+    wide (ap length (one_record cell.payload.local values is.values record_is is.record_is) ∙ is.makes.wide)
+unbroken_cell table n cell row FloatValue is fits (whole, breaks) = absurd (float_memory (no_break r.Float cell.payload.local is.values breaks is.record_is))
+unbroken_cell table n cell row BadText is fits (whole, breaks) = absurd (text_memory (no_break r.Text cell.payload.local is.values breaks is.record_is))
+unbroken_cell table n cell row (ValueBreaksColumn name) is fits (named, (other, is_other, misfit)) =
+    misfit (subst (λ (x : Row). Fits table x) (one_row table cell row other is is_other) fits)
+unbroken_cell table n cell row NotYet is fits overflow = overflow is.whole
+unbroken_cell table n cell row fault is fits broken = absurd broken
+
+module _ (pages : Pages) where
+  -- at a place at which a row is, whose values are of its columns, no cell has a fault
+  unbroken_place : (table : TableData) (fault : Fault) → (broken : HasCellFault pages table fault) → HoldsRow pages table broken.place → ⊥
+  unbroken_place table fault broken held =
+      let same = one_cell pages broken.place held.stores.cell broken.cell held.stores.at broken.at in
+      unbroken_cell table broken.place.page broken.cell held.row fault (subst (λ (c : CellData). IsRowOf table c held.row) same held.stores.is) held.fits broken.broken
+
+  pub unbroken_table : (table : TableData) (counts : TreeCounts) → IsCheckedTree pages table counts → (fault : Fault) → IsBrokenTable pages table fault → ⊥
+  unbroken_table table counts tree fault (inl broken) = table_laws.unbroken pages table.root tree.sound fault broken
+  unbroken_table table counts tree fault (inr broken) =
+      let cells = table_laws.rows_of pages table.root counts.levels tree.shape tree.sound.order in
+      let at = cells.cells.complete broken.place broken.is_place in
+      unbroken_place table fault broken (subst (λ (p : Place). HoldsRow pages table p) at.2 (tree.rows at.0 broken.place at.1))
+
+  -- rows of one place are one
+  one_stored : (table : TableData) (place : Place) (a b : Row) → StoresRow pages table place a → StoresRow pages table place b → a ≡ b
+  one_stored table place a b one other =
+      let same = one_cell pages place one.cell other.cell one.at other.at in
+      one_row table other.cell a b (subst (λ (c : CellData). IsRowOf table c a) same one.is) other.is
+
+  -- what is said of a row at a place of the schema's tree is a table that was checked
+  checked_said : (places : List Place) (rows : List Row) (tables : List TableData) (trees : List TreeCounts) (table : TableData) (place : Place) (row : Row)
+      → AllZip (StoresRow pages schema_table) places rows → AllZip (SaysTable pages.count) rows tables → AllZip (IsCheckedTree pages) tables trees
+      → StoresRow pages schema_table place row → SaysTable pages.count row table
+      → (k : ℕ) → k < length places → slice_index_or places k place ≡ place → (counts : TreeCounts) × IsCheckedTree pages table counts
+  checked_said [] rows tables trees table place row stored says checked is is_said k within at = absurd (omega arith)
+  checked_said (p ∷ places) [] tables trees table place row stored says checked is is_said k within at = absurd stored
+  checked_said (p ∷ places) (r0 ∷ rows) [] trees table place row stored says checked is is_said k within at = absurd says
+  checked_said (p ∷ places) (r0 ∷ rows) (t ∷ tables) [] table place row stored says checked is is_said k within at = absurd checked
+  checked_said (p ∷ places) (r0 ∷ rows) (t ∷ tables) (c ∷ trees) table place row stored says checked is is_said zero within at =
+      let same_row : r0 ≡ row = one_stored schema_table place r0 row (subst (λ (x : Place). StoresRow pages schema_table x r0) at stored.0) is in
+      let same : t ≡ table = one_table pages.count row t table (subst (λ (x : Row). SaysTable pages.count x t) same_row says.0) is_said in
+      (c, subst (λ (x : TableData). IsCheckedTree pages x c) same checked.0)
+  checked_said (p ∷ places) (r0 ∷ rows) (t ∷ tables) (c ∷ trees) table place row stored says checked is is_said (suc k) within at =
+      checked_said places rows tables trees table place row stored.1 says.1 checked.1 is is_said k (omega arith) at
+
+  pub unbroken_image : (rows : List Row) (tables : List TableData) (trees : List TreeCounts) (counts : TreeCounts) → IsCheckedTree pages schema_table counts
+      → HoldsRows pages schema_table rows → AreTables pages.count rows tables → AllZip (IsCheckedTree pages) tables trees
+      → (fault : Fault) → IsBrokenImage pages fault → ⊥
+  unbroken_image rows tables trees counts tree stored are checked fault (table, schema, broken) = unbroken_table schema_table counts tree fault broken
+  unbroken_image rows tables trees counts tree stored are checked fault (table, said place row is_place is says, broken) =
+      let at = stored.cells.cells.complete place is_place in
+      let found = checked_said stored.places rows tables trees table place row stored.rows_are are.said checked is says at.0 at.1 at.2 in
+      unbroken_table table found.0 found.1 fault broken
