@@ -1,8 +1,8 @@
 #!/bin/sh
 # Has the sqlite3 program make files of STRICT tables at several page sizes, and compares what the check finds in them
 # with what sqlite3 says: the tables in their order, the rows of each, and the pages of all. Where sqlite3 has the table
-# dbstat, the pages and the levels of each tree are compared too. No payload is longer than a leaf keeps, so page 1 and the
-# pages of the trees are all that isn't free.
+# dbstat, the pages and the levels of each tree are compared too. No payload is longer than a leaf keeps, so page 1 and
+# the pages of the trees are all that aren't free.
 # Run from the top of the repository. The last line is 'N passed, M failed'.
 
 if ! command -v sqlite3 >/dev/null; then
@@ -87,8 +87,8 @@ said() {
         tree=
         # The path of a page in its tree, as /000/01c/, has a slash more than there are levels above it.
         if test "$words" -eq 4; then
-            tree=$(sqlite3 -separator ' ' "$1" "SELECT '', count(*), max(length(path) - length(replace(path, '/', ''))) - 1
-                FROM dbstat WHERE name = '$name'")
+            tree=$(sqlite3 -separator ' ' "$1" "SELECT '', count(*),
+                max(length(path) - length(replace(path, '/', ''))) - 1 FROM dbstat WHERE name = '$name'")
         fi
         echo "$name $rows$tree"
     done

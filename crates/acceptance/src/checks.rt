@@ -77,23 +77,43 @@ fn bad_pages(rt: HostRuntime) -> Result<(), Fail> {
         // The root's right child, and its first, are no pages of the image.
         (root, 8, [255, 255]),
         (root, cell, [255, 255]),
-        // The same of the schema's page, whose tree begins behind the header of 100 bytes.
-        (1, 100, [0, 0]),
-        (1, 100, [10, 0]),
-        (1, 103, [1, 0]),
-        (1, 108, [0, 109]),
-        (1, 108, [1, 255]),
     ];
     for (page, offset, piece) in none {
         let fault = broken(alloc, &layout, page, offset, piece.as_slice())?;
-        assert_eq!(rt;
-            fault,
-            Some(Fault::BadPage(page)),
-            "page {page}, from {offset} on"
-        );
+        assert_eq!(rt; fault, Some(Fault::BadPage(page)));
     }
     let zero = broken(alloc, &layout, root, 8, &[0, 0, 0, 0])?;
     assert_eq!(rt; zero, Some(Fault::BadPage(root)));
+    Ok(())
+}
+
+// The tree of the schema begins behind the header of 100 bytes.
+#[test]
+fn bad_page_of_the_schema(rt: HostRuntime) -> Result<(), Fail> {
+    let alloc = rt.alloc();
+    let layout = two_tables(alloc)?;
+    let none: [(usize, &[u8]); 8] = [
+        // No flag of a table; one of an index; more cell places than the page has room for.
+        (100, &[0]),
+        (100, &[10]),
+        (103, &[1, 0]),
+        // A cell among the places; one behind the page.
+        (108, &[0, 109]),
+        (110, &[1, 255]),
+        // An interior page whose only child is no page of the image.
+        (100, &[5, 0, 0, 0, 0, 0, 0, 0, 0, 0, 0, 0]),
+        (100, &[5, 0, 0, 0, 0, 0, 0, 0, 0, 0, 0, 4]),
+        (100, &[5, 0, 0, 0, 0, 0, 0, 0, 255, 255, 255, 255]),
+    ];
+    assert_eq!(rt; layout.page_count(), 3);
+    for (offset, piece) in none {
+        let fault = broken(alloc, &layout, 1, offset, piece)?;
+        assert_eq!(rt;
+            fault,
+            Some(Fault::BadPage(1)),
+            "{piece:?} from {offset} on"
+        );
+    }
     Ok(())
 }
 

@@ -94,16 +94,23 @@ fn values_of_their_columns(rt: HostRuntime) -> Result<(), Fail> {
         let name = String::from_str(alloc, "item")?;
         assert_eq!(rt; fault, Some(Fault::ValueBreaksColumn(name)), "{row:?}");
     }
-    // NULL in INT; integers in wider types; and a column that is the rowid, whatever is stored in its place.
+    Ok(())
+}
+
+#[test]
+fn sound_rows(rt: HostRuntime) -> Result<(), Fail> {
+    let alloc = rt.alloc();
+    let blob = Field::Shortest(ValueRef::Blob(b"nut"));
     let wide = Field::Integer(7, IntegerWidth::Eight);
-    let sound = [
+    // NULL in INT; an integer in more bytes than needed; and whatever is stored in the place of the rowid.
+    let rows = [
         [NULL, NUT, NULL],
         [NULL, NUT, wide],
         [SEVEN, NUT, SEVEN],
         [NUT, NUT, SEVEN],
         [blob, NUT, SEVEN],
     ];
-    for row in sound {
+    for row in rows {
         assert_eq!(rt; fault_of_fields(alloc, &row)?, None, "{row:?}");
     }
     Ok(())

@@ -95,26 +95,22 @@ fn several_tables(rt: HostRuntime) -> Result<(), Fail> {
     image.push_table(bare(alloc, "note", "CREATE TABLE note(body TEXT) STRICT")?)?;
     image.push_table(items(alloc)?)?;
     let layout = image.lay_out()?;
-    let mut wanted = Vec::new(alloc);
-    for (name, levels, rows) in [("picture", 2, 300), ("note", 0, 0), ("item", 0, 4)] {
-        let (pages, root) = size_and_root(&layout, name)?;
-        wanted.push((
-            name,
-            root,
-            TreeCounts {
-                levels,
-                rows,
-                pages,
-            },
-        ))?;
-    }
-    let checked = check_bytes(alloc, layout.as_slice().to_vec(alloc)?)??;
-    let mut found = Vec::new(alloc);
-    for (table, counts) in checked.tables().iter().zip(checked.trees()) {
-        found.push((table.name(), table.root(), *counts))?;
-    }
-    assert_eq!(rt; found.as_slice(), wanted.as_slice());
+    let checked = check_bytes(alloc, Vec::from_slice(alloc, layout.as_slice())?)??;
     assert_eq!(rt; (checked.tables().len(), checked.trees().len()), (3, 3));
+    let wanted = [("picture", 2, 300), ("note", 0, 0), ("item", 0, 4)];
+    let found = checked.tables().iter().zip(checked.trees());
+    for ((table, counts), (name, levels, rows)) in found.zip(wanted) {
+        let (pages, root) = size_and_root(&layout, name)?;
+        let in_tree = TreeCounts {
+            levels,
+            rows,
+            pages,
+        };
+        assert_eq!(rt;
+            (table.name(), table.root(), *counts),
+            (name, root, in_tree)
+        );
+    }
     Ok(())
 }
 
