@@ -1,10 +1,11 @@
-//! Images that several tests are made over, and pagers of them.
+//! Images that several tests are made over, pagers of them, and what the check says of them.
 use forge::{Image, Layout, LayoutError, Shape, Table};
-use pager::{Pager, Source};
+use integrity::{Checked, check};
+use pager::{MemSource, Pager, Source};
 use std::alloc::Global;
 use std::num::NonZeroUsize;
 use std::test::Fail;
-use values::ValueRef;
+use values::{Fault, ValueRef};
 
 /// An image of one table `t` of the rows first, first + 1 and so on.
 pub(crate) fn numbers(
@@ -29,6 +30,12 @@ pub(crate) fn numbers(
     image.lay_out()
 }
 
+/// A table `item` of no rows yet.
+pub(crate) fn item(alloc: Global) -> Result<Table, LayoutError> {
+    let sql = "CREATE TABLE item(id INTEGER PRIMARY KEY, name TEXT NOT NULL, qty INT) STRICT";
+    Table::new(alloc, "item", sql)
+}
+
 /// A pager that keeps so many pages.
 pub(crate) fn open<S: Source + Drop>(
     alloc: Global,
@@ -42,9 +49,21 @@ pub(crate) fn open<S: Source + Drop>(
     }
 }
 
-/// How many pages the tree of the table `t` has, and its root.
-pub(crate) fn size_and_root(layout: &Layout) -> Result<(u64, u32), Fail> {
-    let tree = layout.tree("t").ok_or("no tree")?;
+/// What the check says of the image with these bytes. The other error is that of the test.
+pub(crate) fn check_bytes(alloc: Global, bytes: Vec<u8>) -> Result<Result<Checked, Fault>, Fail> {
+    let mut pager = open(alloc, MemSource::new(bytes), 1000)?;
+    Ok(check(alloc, &mut pager))
+}
+
+/// The fault that the check finds in an image, if there is one.
+pub(crate) fn fault_of(alloc: Global, image: &Image) -> Result<Option<Fault>, Fail> {
+    let layout = image.lay_out()?;
+    Ok(check_bytes(alloc, layout.into_bytes())?.err())
+}
+
+/// How many pages the tree of a table has, and its root.
+pub(crate) fn size_and_root(layout: &Layout, name: &str) -> Result<(u64, u32), Fail> {
+    let tree = layout.tree(name).ok_or("no tree")?;
     let mut pages = 0usize;
     for level in &tree.levels {
         pages = level.len().saturating_add(pages);

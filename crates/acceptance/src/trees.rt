@@ -61,7 +61,7 @@ fn expect_run(rt: &impl Abort, rowids: &[i64], first: i64) {
 fn three_levels_on_small_pages(rt: HostRuntime) -> Result<(), Fail> {
     let alloc = rt.alloc();
     let layout = numbers(alloc, 512, -700, 2400, Shape::FULL)?;
-    let (pages, root) = size_and_root(&layout)?;
+    let (pages, root) = size_and_root(&layout, "t")?;
     assert_eq!(rt; layout.tree("t").map(|tree| tree.levels.len()), Some(3));
     let bytes = layout.into_bytes();
     for capacity in [1, 1000] {
@@ -80,7 +80,7 @@ fn three_levels_on_small_pages(rt: HostRuntime) -> Result<(), Fail> {
 fn an_empty_table(rt: HostRuntime) -> Result<(), Fail> {
     let alloc = rt.alloc();
     let layout = numbers(alloc, 512, 0, 0, Shape::FULL)?;
-    let (_, root) = size_and_root(&layout)?;
+    let (_, root) = size_and_root(&layout, "t")?;
     let mut pager = open(alloc, MemSource::new(layout.into_bytes()), 1)?;
     let walked = list_rows(alloc, &mut pager, root)?;
     assert!(rt; walked.rowids.is_empty() && walked.fault.is_none() && walked.further.is_none());
@@ -92,7 +92,7 @@ fn an_empty_table(rt: HostRuntime) -> Result<(), Fail> {
 fn each_read_fails_in_turn(rt: HostRuntime) -> Result<(), Fail> {
     let alloc = rt.alloc();
     let layout = numbers(alloc, 512, 1, 60, Shape::of(4, 3))?;
-    let (pages, root) = size_and_root(&layout)?;
+    let (pages, root) = size_and_root(&layout, "t")?;
     assert!(rt; pages > 20);
     let bytes = layout.into_bytes();
     // The first read is that of the header, and each further one is of a page.
@@ -113,7 +113,7 @@ fn each_read_fails_in_turn(rt: HostRuntime) -> Result<(), Fail> {
 fn a_child_that_is_its_own_page(rt: HostRuntime) -> Result<(), Fail> {
     let alloc = rt.alloc();
     let layout = numbers(alloc, 512, 1, 60, Shape::of(4, 3))?;
-    let (_, root) = size_and_root(&layout)?;
+    let (_, root) = size_and_root(&layout, "t")?;
     // The right child of an interior page stands behind its flag, its counts and its places.
     let right = layout.copy_with(root, 8, &root.to_be_bytes())?;
     let mut pager = open(alloc, MemSource::new(right), 1000)?;
@@ -128,7 +128,7 @@ fn a_child_that_is_its_own_page(rt: HostRuntime) -> Result<(), Fail> {
 fn a_first_child_that_is_its_own_page(rt: HostRuntime) -> Result<(), Fail> {
     let alloc = rt.alloc();
     let layout = numbers(alloc, 512, 1, 60, Shape::of(4, 3))?;
-    let (_, root) = size_and_root(&layout)?;
+    let (_, root) = size_and_root(&layout, "t")?;
     let place = layout.piece(root, 12, 2).ok_or("no place")?;
     let (high, low) = match place {
         [high, low] => (*high, *low),
@@ -148,7 +148,7 @@ fn a_first_child_that_is_its_own_page(rt: HostRuntime) -> Result<(), Fail> {
 fn a_source_that_changes(rt: HostRuntime) -> Result<(), Fail> {
     let alloc = rt.alloc();
     let layout = numbers(alloc, 512, 1, 60, Shape::of(4, 3))?;
-    let (pages, root) = size_and_root(&layout)?;
+    let (pages, root) = size_and_root(&layout, "t")?;
     let other = numbers(alloc, 512, 1000, 60, Shape::of(3, 2))?.into_bytes();
     let bytes = layout.into_bytes();
     for read in 2..pages.saturating_add(2) {

@@ -1,7 +1,10 @@
-//! The check of an image. It promises of a table's tree that it is sound where the check answers Ok, with exact counts of
-//! its rows, levels and pages, and that a fault's condition is broken.
+//! The check of an image. It promises that the image has the tables that it answers, that the tree of each is sound, with
+//! exact counts of its rows, levels and pages, that each row's values are of its columns, and that a fault's condition is
+//! broken.
 //!
-//! The modules, in the order in which data passes them: `keys` (the keys of one page) and `walk` (from a root down).
+//! The modules, in the order in which data passes them: `keys` (the keys of one page), `rows` (a record as a row of its
+//! table), `walk` (a tree, from its root down), `trees` (the tables' trees, and the rows of the schema) and `checked`
+//! (the image).
 #![tactic(auto)]
 
 mod checked;

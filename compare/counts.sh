@@ -1,0 +1,126 @@
+#!/bin/sh
+# Has the sqlite3 program make files of STRICT tables at several page sizes, and compares what the check finds in them
+# with what sqlite3 says: the tables in their order, the rows of each, and the pages of all. Where sqlite3 has the table
+# dbstat, the pages and the levels of each tree are compared too. No payload is longer than a leaf keeps, so page 1 and
+# the pages of the trees are all that aren't free.
+# Run from the top of the repository. The last line is 'N passed, M failed'.
+
+if ! command -v sqlite3 >/dev/null; then
+    echo "the program sqlite3 is not on the PATH"
+    echo "0 passed, 1 failed"
+    exit 1
+fi
+
+folder=$(mktemp -d) || exit 1
+trap 'rm -rf "$folder"' EXIT
+
+program=crates/table_counts
+# The first run proves and builds the program.
+if ! (cd "$program" && rt run --jobs 1 -- data/shop.db) >"$folder/run.log" 2>&1; then
+    cat "$folder/run.log"
+    echo "0 passed, 1 failed"
+    exit 1
+fi
+
+# How many words of a line are compared.
+words=2
+if sqlite3 "$program/data/shop.db" "SELECT count(*) FROM dbstat" >/dev/null 2>&1; then
+    words=4
+fi
+
+# numbers COUNT: the head of a statement over the numbers i from 1 on.
+numbers() {
+    echo "WITH RECURSIVE n(i) AS (SELECT 1 UNION ALL SELECT i + 1 FROM n WHERE i < $1)"
+}
+
+# The statements that make each kind of file.
+
+many_rows() {
+    echo "CREATE TABLE item(id INTEGER PRIMARY KEY, name TEXT NOT NULL, qty INT) STRICT;"
+    numbers 10000
+    echo "INSERT INTO item SELECT i, 'item ' || i, nullif(i % 7 * (i - 5000) * i, 0) FROM n;"
+}
+
+several_tables() {
+    echo "CREATE TABLE z(a INT, b BLOB NOT NULL) STRICT;"
+    echo "CREATE TABLE \"table\"(a INTEGER, b TEXT, c BLOB) STRICT;"
+    echo "CREATE TABLE A(key INTEGER PRIMARY KEY NOT NULL, word TEXT) STRICT;"
+    numbers 1500
+    echo "INSERT INTO z SELECT nullif(-i * i * i, -1), zeroblob(i % 60) FROM n;"
+    numbers 37
+    echo "INSERT INTO A SELECT i * i, substr('a word of a few letters', 1, i % 24) FROM n;"
+}
+
+# Negative and large rowids, in no order.
+far_rowids() {
+    echo "CREATE TABLE far(a TEXT, id INTEGER PRIMARY KEY, b INT NOT NULL) STRICT;"
+    echo "INSERT INTO far VALUES('last', 9223372036854775807, 1), ('first', -9223372036854775808, 2);"
+    numbers 5000
+    echo "INSERT INTO far SELECT 'row ' || i, (i * 7919 % 5003 - 2500) * 1000000007 * (1 + i % 2 * 999999), i FROM n;"
+}
+
+deleted_rows() {
+    echo "CREATE TABLE kept(a INT, b TEXT) STRICT;"
+    echo "CREATE TABLE gone(a INTEGER PRIMARY KEY, b TEXT) STRICT;"
+    numbers 4000
+    echo "INSERT INTO kept SELECT i, 'a text of row ' || i FROM n;"
+    echo "INSERT INTO gone SELECT a, b FROM kept;"
+    echo "DELETE FROM kept WHERE a % 3 <> 0 OR a BETWEEN 1000 AND 2000;"
+    echo "DELETE FROM gone;"
+    echo "VACUUM;"
+}
+
+no_rows() {
+    echo "CREATE TABLE a(a INT) STRICT;"
+    echo "CREATE TABLE b(a INTEGER PRIMARY KEY, b TEXT NOT NULL, c BLOB) STRICT;"
+}
+
+no_tables() {
+    echo "CREATE TABLE a(a INT) STRICT;"
+    echo "DROP TABLE a;"
+}
+
+# said FILE: what sqlite3 says: a line for each table, and how many pages aren't free.
+said() {
+    sqlite3 "$1" "SELECT name FROM sqlite_schema ORDER BY rowid" | while read -r name; do
+        rows=$(sqlite3 "$1" "SELECT count(*) FROM \"$name\"")
+        tree=
+        # The path of a page in its tree, as /000/01c/, has a slash more than there are levels above it.
+        if test "$words" -eq 4; then
+            tree=$(sqlite3 -separator ' ' "$1" "SELECT '', count(*),
+                max(length(path) - length(replace(path, '/', ''))) - 1 FROM dbstat WHERE name = '$name'")
+        fi
+        echo "$name $rows$tree"
+    done
+    echo "$(($(sqlite3 "$1" "PRAGMA page_count") - $(sqlite3 "$1" "PRAGMA freelist_count"))) pages"
+}
+
+# found FILE: the same as the check finds it.
+found() {
+    "$program/out/table_counts" "$1" >"$folder/lines" 2>&1
+    cut -d ' ' -f "1-$words" "$folder/lines"
+    awk '{ pages += $3 } END { print pages + 1 " pages" }' "$folder/lines"
+}
+
+passed=0
+failed=0
+
+for kind in many_rows several_tables far_rowids deleted_rows no_rows no_tables; do
+    for size in 512 1024 4096 8192 65536; do
+        file="$folder/$kind.$size.db"
+        { echo "PRAGMA page_size=$size;" && "$kind"; } | sqlite3 -bail "$file" >"$folder/made" 2>&1
+        said "$file" >"$folder/wanted"
+        found "$file" >"$folder/answer"
+        if ! test -s "$folder/made" && cmp -s "$folder/wanted" "$folder/answer"; then
+            passed=$((passed + 1))
+        else
+            failed=$((failed + 1))
+            echo "$kind, page size $size"
+            cat "$folder/made"
+            diff "$folder/wanted" "$folder/answer" | head -n 10
+        fi
+    done
+done
+
+echo "$passed passed, $failed failed"
+test "$failed" -eq 0
