@@ -1,10 +1,12 @@
-//! The check of an image. It promises that the image has the tables that it answers, that the tree of each is sound, with
-//! exact counts of its rows, levels and pages, that each row's values are of its columns, and that a fault's condition is
-//! broken.
+//! The check of an image, and a record as a row of its table. It promises that an image that passes has none of the
+//! conditions broken that are examined (of its trees' pages, order and depth, of each record, and of each value), gives the
+//! tables that the image denotes with their rows, and counts exactly what their trees have; and that a fault's condition is
+//! broken. `NotYet` comes only where a payload has overflow pages, the schema has more than one page, or says what isn't
+//! served.
 //!
-//! The modules, in the order in which data passes them: `keys` (the keys of one page), `rows` (a record as a row of its
-//! table), `walk` (a tree, from its root down), `trees` (the tables' trees, and the rows of the schema) and `checked`
-//! (the image).
+//! The modules, in the order in which data passes them: `keys` (the keys of one page), `rows` (a record as a row, and the rows
+//! of a leaf), `walk` (a table's tree, from its root down), `trees` (those of all tables, and the schema's rows) and `checked`
+//! (the whole image).
 #![tactic(auto)]
 
 mod checked;
