@@ -1,7 +1,7 @@
 //! The program without its runtime: what a command line asks for, and what is written for it. It promises that a run of an
 //! engine whose image was checked writes exactly the text of an answer that the query permits, or a beginning of one
-//! before a fault whose cause is there. At present the program itself opens an image's header and answers its fault, and
-//! else that queries are not served yet: no engine is opened, since the check of a whole image isn't there.
+//! before a fault whose cause is there. The program opens such an engine, and
+//! answers one statement.
 //!
 //! The modules, in the order in which data passes them: `args` (the command line), `prepared` (a query whose names are
 //! resolved), `engine` (an image that was checked, and its runs), `query` (one run), `stream` (the rows of a table,

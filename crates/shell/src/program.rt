@@ -1,7 +1,10 @@
 //! What the program does once its source is there.
-use crate::Args;
-use pager::{Pager, Source};
+ghost use Rattle.shell.specs.State.{IsPreparedFor};
+
+use crate::{Args, Engine, Prepared};
+use pager::Source;
 use std::alloc::Global;
+use std::num::NonZeroUsize;
 use values::{Fault, Gathered, Sink};
 
 /// Writes a fault's line, and answers the status 1. It takes no memory; a failure to write changes nothing.
@@ -24,29 +27,47 @@ pub fn serve<S: Source + Drop, O: Sink, E: Sink>(
     }
 }
 
-/// Writes the answer through one sink that gathers it. What that still holds is written before any answer is given.
+/// Writes the answer through one sink that gathers it. Nothing is written before the image is checked and the statement's
+/// names are resolved; what the sink still holds is written before a fault of the run is answered.
 fn answer<S: Source + Drop, O: Sink>(
     alloc: Global,
     args: &Args<'_>,
     source: S,
     out: &mut O,
 ) -> Result<(), Fault> {
-    let mut pager = match Pager::open(alloc, source, args.cache) {
-        Ok(pager) => pager,
-        Err((fault, _)) => return Err(fault),
-    };
+    let mut engine = open(alloc, source, args.cache)?;
+    let prepared = engine.prepare(args.sql)?;
     let mut gathered = Gathered::new(alloc, out)?;
-    let written = write_rows(&mut pager, args.sql, &mut gathered);
+    let written = write_lines(&mut engine, &prepared, args.header, &mut gathered);
     let (_, handed_on) = gathered.finish();
     written?;
     handed_on
 }
 
-/// Writes the rows of a statement, once statements are served.
-fn write_rows<S: Source, O: Sink>(
-    _pager: &mut Pager<S>,
-    _sql: &str,
-    _out: &mut O,
-) -> Result<(), Fault> {
-    Err(Fault::NotYet)
+/// Opens an engine over a source, which is dropped at a fault.
+fn open<S: Source + Drop>(
+    alloc: Global,
+    source: S,
+    cache: NonZeroUsize,
+) -> Result<Engine<S>, Fault> {
+    match Engine::open(alloc, source, cache) {
+        Ok(engine) => Ok(engine),
+        Err((fault, _)) => Err(fault),
+    }
+}
+
+/// Writes the line of the column names, where it is wanted, and then those of the rows.
+fn write_lines<S: Source, W: Sink>(
+    engine: &mut Engine<S>,
+    prepared: &Prepared,
+    header: bool,
+    out: &mut W,
+) -> Result<(), Fault>
+    requires { IsPreparedFor engine.old.tables prepared.now }
+{
+    if header {
+        prepared.header(out)?;
+    }
+    engine.run(prepared, out)?;
+    Ok(())
 }

@@ -111,17 +111,22 @@ fn served(alloc: Global, image: &[u8]) -> Result<(MemSink, MemSink, u8), AllocEr
 #[test]
 fn serves_faults_as_lines(rt: HostRuntime) -> Result<(), Fail> {
     let alloc = rt.alloc();
-    let mut sound = [0u8; 512];
-    sound[..32].copy_from_slice(
+    let mut header = [0u8; 512];
+    header[..32].copy_from_slice(
         b"SQLite format 3\0\x02\x00\x01\x01\x00\x40\x20\x20\0\0\0\x07\0\0\0\x01",
     );
-    sound[47] = 4;
-    sound[59] = 1;
-    sound[95] = 7;
-    let rows: [(&[u8], &str); 4] = [
+    header[47] = 4;
+    header[59] = 1;
+    header[95] = 7;
+    // A schema of no rows: the flag of a leaf, and that its cells begin at the page's end.
+    let mut sound = header;
+    sound[100] = 13;
+    sound[105] = 2;
+    let rows: [(&[u8], &str); 5] = [
         (b"", "fault 1: ShortFile\n"),
         (&[b'x'; 100], "fault 2: BadMagic\n"),
         (&sound[..511], "fault 9: SizeMismatch\n"),
+        (&header, "fault 11: BadPage 1\n"),
         (&sound, "fault 29: NotYet\n"),
     ];
     for (image, line) in rows {
