@@ -34,7 +34,7 @@ expect() {
 }
 
 echo "'ok'" >"$wanted"
-for file in leaf two_levels three_levels reserved chains spellings gaps schema; do
+for file in leaf two_levels three_levels reserved chains spellings gaps schema shop; do
     expect "$file.db" "PRAGMA integrity_check"
 done
 
@@ -129,6 +129,28 @@ done
 
 awk 'BEGIN { for (n = 0; n < 30; n++) printf "\047t%d\047\n", n; print "\047v\047"; print "\047r\047"; print "\047w\047" }' >"$wanted"
 expect schema.db "SELECT name FROM sqlite_schema"
+
+cat >"$wanted" <<'ROWS'
+1,'bolt',40
+2,'nut',NULL
+3,'cap',7
+4,'nut',7
+ROWS
+expect shop.db "SELECT * FROM item"
+cat >"$wanted" <<'ROWS'
+1,1,5
+2,3,2
+3,3,9
+4,9,1
+ROWS
+expect shop.db "SELECT rowid, * FROM sale"
+
+# The file that the program is run on is the image that was laid out.
+if cmp "$folder/shop.db" crates/seleq/data/shop.db; then
+    passed=$((passed + 1))
+else
+    failed=$((failed + 1))
+fi
 
 echo "$passed passed, $failed failed"
 test "$failed" -eq 0

@@ -211,3 +211,27 @@ pub fn schema(alloc: Global) -> Result<Image, LayoutError> {
     image.push_schema_payload(encode_record(alloc, &entry, 3)?)?;
     Ok(image)
 }
+
+/// The items of a shop, and its sales. It is also the image that the program `seleq` is run on.
+pub fn shop(alloc: Global) -> Result<Image, LayoutError> {
+    let sql = "CREATE TABLE item(id INTEGER PRIMARY KEY, name TEXT NOT NULL, qty INT) STRICT";
+    let mut items = Table::new(alloc, "item", sql)?;
+    let rows = [
+        ("bolt", ValueRef::Int(40)),
+        ("nut", ValueRef::Null),
+        ("cap", ValueRef::Int(7)),
+        ("nut", ValueRef::Int(7)),
+    ];
+    for (id, (name, quantity)) in (1i64..).zip(&rows) {
+        items.push(id, &[ValueRef::Null, ValueRef::Text(name), *quantity])?;
+    }
+    let sql = "CREATE TABLE sale(item INT, n INT) STRICT";
+    let mut sales = Table::new(alloc, "sale", sql)?;
+    for (rowid, (item, count)) in (1i64..).zip(&[(1, 5), (3, 2), (3, 9), (9, 1)]) {
+        sales.push(rowid, &[ValueRef::Int(*item), ValueRef::Int(*count)])?;
+    }
+    let mut image = Image::new(alloc, 4096);
+    image.push_table(items)?;
+    image.push_table(sales)?;
+    Ok(image)
+}

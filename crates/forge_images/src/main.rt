@@ -41,12 +41,13 @@ fn run(rt: &(impl AllocGlobal + Files + Env + Print)) -> Result<()> {
     write_image(rt, folder, "spellings.db", images::spellings(alloc))?;
     write_image(rt, folder, "schema.db", images::schema(alloc))?;
     write_image(rt, folder, "gaps.db", images::gaps(alloc))?;
+    write_image(rt, folder, "shop.db", images::shop(alloc))?;
     for (page_size, reserved) in images::SIZES {
         let file = format!(in alloc; "size_{page_size}.db")?;
         let image = images::sized(alloc, page_size, reserved);
         write_image(rt, folder, file.as_str(), image)?;
     }
-    println!(rt; "16 images")?;
+    println!(rt; "17 images")?;
     Ok(())
 }
 
