@@ -59,7 +59,7 @@ fn run_twice<S: Source, W: Sink>(
 fn one_text_at_any_capacity(rt: HostRuntime) -> Result<(), Fail> {
     let alloc = rt.alloc();
     let layout = numbers(alloc, 512, 1, 2400, Shape::FULL)?;
-    let (pages, _) = size_and_root(&layout)?;
+    let (pages, _) = size_and_root(&layout, "t")?;
     let text = lines(alloc, 2400)?;
     let bytes = layout.into_bytes();
     for cache in [1, 1000] {
@@ -110,7 +110,7 @@ fn each_read_of_opening_fails_in_turn(rt: HostRuntime) -> Result<(), Fail> {
 fn each_read_of_a_run_fails_in_turn(rt: HostRuntime) -> Result<(), Fail> {
     let alloc = rt.alloc();
     let layout = numbers(alloc, 512, 1, 60, Shape::of(4, 3))?;
-    let (pages, _) = size_and_root(&layout)?;
+    let (pages, _) = size_and_root(&layout, "t")?;
     let text = lines(alloc, 60)?;
     let bytes = layout.into_bytes();
     let opening = reads_of_opening(alloc, &bytes)?;
@@ -200,7 +200,7 @@ fn run_changed(
 fn an_image_that_changes(rt: HostRuntime) -> Result<(), Fail> {
     let alloc = rt.alloc();
     let layout = numbers(alloc, 512, 1, 60, Shape::of(4, 3))?;
-    let (pages, root) = size_and_root(&layout)?;
+    let (pages, root) = size_and_root(&layout, "t")?;
     let tree = layout.tree("t").ok_or("no tree")?;
     let (leaf, cell) = (tree.leaf(7), tree.cell(7, 2));
     let (leaf, cell) = (leaf.ok_or("no leaf")?, cell.ok_or("no cell")?);
