@@ -37,11 +37,11 @@ expect() {
     fi
 }
 
-for size in 512 1024 4096 65536; do
+for size in 512 1024 2048 4096 8192 16384 32768 65536; do
     file="$folder/$size.db"
     # The longest blob of a row without an overflow page, whose record has 35 bytes less than the page; the others are the
-    # record's header and a text of 21. At the greatest page size the blob's type takes a byte more.
-    longest=$((size - 62 - size / 65536))
+    # record's header and a text of 21. From 16384 bytes a page on the blob's type takes a byte more.
+    longest=$((size - 62 - (size > 8192)))
     # Rowids from -49,999 on in steps of 1 and more, integers of each length, texts of up to 40 letters, and blobs.
     sqlite3 "$file" "PRAGMA page_size=$size;
         CREATE TABLE t(id INTEGER PRIMARY KEY, a INT, b TEXT NOT NULL, c BLOB) STRICT;
