@@ -1,5 +1,5 @@
 -- The faults of cells, and the rows of a leaf.
-use Rattle.std.proofs.Common.{◌≡◌, ◌≢◌, ◌⊎◌, false, ℕ, Option, Some, None, is_some, inl, inr, refl}
+use Rattle.std.proofs.Common.{◌≡◌, ◌⊎◌, false, ℕ, Option, Some, None, is_some, inl, inr, refl}
 use Rattle.values.specs.declared.fault.Fault.TheVariants.{NoMemory}
 use Rattle.records.specs.declared.fault.RecordFault.{RecordFault}
 use Rattle.records.specs.declared.fault.RecordFault.TheVariants as r

@@ -1,5 +1,5 @@
 -- From what was checked to the tables that the pages have.
-use Rattle.std.proofs.Common.{◌≡◌, ◌⊎◌, ℕ, zero, suc, refl, ◌<◌, All, Contains, List, [], ◌∷◌, length, slice_index_or, arith, sym, subst, inl, inr, ⊎_elim}
+use Rattle.std.proofs.Common.{◌≡◌, ◌⊎◌, ℕ, zero, suc, refl, ◌<◌, All, Contains, List, [], ◌∷◌, length, slice_index_or, arith, subst, inl, inr}
 use Rattle.std.specs.List.{AllZip}
 use Rattle.std.proofs.lemmas.List.Elements.{All-cons, All-head, All-nil, All-tail}
 use Rattle.values.specs.declared.fault.Fault.{Fault}

@@ -1,5 +1,5 @@
 -- The cells under a page as rows of their table.
-use Rattle.std.proofs.Common.{◌≡◌, ◌≢◌, ℕ, zero, suc, ◌+◌, ◌*◌, ◌<◌, ◌≤◌, All, List, length, map, take, refl, sym, ◌∙◌, ap, subst, inr, arith, below_more}
+use Rattle.std.proofs.Common.{◌≡◌, ℕ, zero, suc, ◌+◌, ◌<◌, ◌≤◌, All, List, length, map, refl, sym, ◌∙◌, ap, subst, arith, below_more}
 use Rattle.std.specs.List.{range_with_len, flat_map}
 use Rattle.std.proofs.lemmas.List.Elements.{All-append, All-nil, All-map}
 use Rattle.std.proofs.lemmas.List.FromFn.{get_or-range_with_len, length-range_with_len}
@@ -10,12 +10,12 @@ use Rattle.image.specs.Cell.{CellData, IsTableCell}
 use Rattle.image.specs.Layout.{header_at, cell_count}
 use Rattle.image.specs.Pages.{Pages}
 use Rattle.image.specs.Shape.{place_at, places_in, places_under}
-use Rattle.image.specs.Tree.{IsPageOf, IsRowAt, Reaches, StandsAt, cell_at, child_at, count_at}
+use Rattle.image.specs.Tree.{IsPageOf, IsRowAt, StandsAt, cell_at, child_at, count_at}
 use Rattle.btree.specs.Bytes as bytes
 use Rattle.schema.specs.TableData.{TableData}
-use Rattle.integrity.specs.RowFaults.{AreRowsIn, HasCellFault, IsLeafFault, IsRowIn}
+use Rattle.integrity.specs.RowFaults.{AreRowsIn, HasCellFault, IsLeafFault}
 use Rattle.integrity.specs.Stored.{HoldsRow}
-use Rattle.integrity.specs.Walked.{IsMet, IsSeen}
+use Rattle.integrity.specs.Walked.{IsSeen}
 use Rattle.integrity.proofs.WalkLemmas.{seen_count}
 
 -- what holds of the elements of each list that is made over a run of numbers

@@ -1,26 +1,24 @@
 -- The first page of an image, as its used bytes were seen, where the schema's tree was checked.
-use Rattle.std.proofs.Common.{◌≡◌, ◌⊎◌, ℕ, zero, suc, ◌+◌, ◌<◌, All, List, [], ◌∷◌, length, map, slice_get, Some, None, ◌*◌, take, refl, sym, ◌∙◌, ap, subst, inl, inr, ⊎_elim, arith}
-use Rattle.std.specs.List.{AllZip, range_with_len}
-use Rattle.std.proofs.lemmas.List.FromFn.{get_or-range_with_len, length-range_with_len, length-map-range_with_len}
+use Rattle.std.proofs.Common.{◌≡◌, ℕ, zero, suc, ◌+◌, ◌<◌, List, length, map, slice_get, Some, None, refl, sym, ◌∙◌, ap, subst, inl, inr, arith}
+use Rattle.std.specs.List.{range_with_len}
+use Rattle.std.proofs.lemmas.List.FromFn.{length-map-range_with_len}
 use Rattle.values.specs.declared.fault.Fault.{Fault}
-use Rattle.values.specs.declared.fault.Fault.TheVariants.{BadPage}
 use Rattle.image.specs.declared.kind.TreeKind.TheVariants.{Table}
 use Rattle.image.specs.declared.kind.Level.{Level}
 use Rattle.image.specs.declared.kind.Level.TheVariants.{Leaf, Interior}
-use Rattle.image.specs.Cell.{CellData}
-use Rattle.image.specs.Layout.{header_at, cell_count}
+use Rattle.image.specs.Layout.{header_at}
 use Rattle.image.specs.Pages.{Pages, IsNumber}
 use Rattle.pager.specs.declared.header.Header.{Header}
 use Rattle.pager.specs.PagerState.{PagerState, IsSound as IsSoundHeader}
 use Rattle.btree.specs.Rest.{pages_seen}
 use Rattle.image.specs.Shape.{HasShape, place_at, places_in, places_under}
 use Rattle.image.specs.Sound.{AreRowsOf}
-use Rattle.image.specs.Tree.{IsPageOf, Place, Reaches, top, count_at}
+use Rattle.image.specs.Tree.{IsPageOf, Place, top, count_at}
 use Rattle.image.proofs.ShapeLemmas.{not_both}
 use Rattle.image.proofs.TableLemmas.{rows_of}
 use Rattle.btree.specs.Bytes as bytes
 use Rattle.meaning.specs.Body.{Row}
-use Rattle.schema.specs.TableData.{TableData, schema_table}
+use Rattle.schema.specs.TableData.{schema_table}
 use Rattle.integrity.specs.Checked.{HasCause, IsBeyond, IsCheckedTree, levels, schema}
 use Rattle.integrity.specs.RowFaults.{AreLeafRows, IsRowsFault, LacksCell}
 use Rattle.integrity.specs.Stored.{HoldsRows, StoresRow}

@@ -1,5 +1,5 @@
 -- Nothing is broken of tables that were checked.
-use Rattle.std.proofs.Common.{◌≡◌, ◌⊎◌, ℕ, zero, suc, ◌<◌, ◌∙◌, All, Contains, List, [], ◌∷◌, length, Option, None, slice_index_or, refl, sym, ap, arith, subst, inl, inr, ⊎_elim}
+use Rattle.std.proofs.Common.{◌≡◌, ℕ, zero, suc, ◌<◌, ◌∙◌, List, [], ◌∷◌, length, slice_index_or, sym, ap, arith, subst, inl, inr}
 use Rattle.std.specs.List.{AllZip}
 use Rattle.values.specs.Datum.{Datum}
 use Rattle.values.specs.declared.fault.Fault.{Fault}
@@ -8,11 +8,8 @@ use Rattle.records.specs.declared.fault.RecordFault.{RecordFault}
 use Rattle.records.specs.declared.fault.RecordFault.TheVariants as r
 use Rattle.records.specs.Record.{Breaks, IsRecord}
 use Rattle.records.proofs.RecordLemmas.{not_broken, one_record}
-use Rattle.image.specs.declared.kind.TreeKind.TheVariants.{Table}
 use Rattle.image.specs.Cell.{CellData}
 use Rattle.image.specs.Pages.{Pages}
-use Rattle.image.specs.Shape.{places_under}
-use Rattle.image.specs.Sound.{AreRowsOf}
 use Rattle.image.specs.Tree.{Place}
 use Rattle.image.proofs.CellLemmas.{one_cell}
 use Rattle.image.proofs.TableLemmas as table_laws
@@ -21,7 +18,7 @@ use Rattle.schema.proofs.OneLemmas.{one_table}
 use Rattle.schema.specs.Rows.{AreTables, SaysTable}
 use Rattle.schema.specs.TableData.{TableData, schema_table}
 use Rattle.integrity.specs.declared.walk.TreeCounts.{TreeCounts}
-use Rattle.integrity.specs.Checked.{IsBrokenImage, IsCheckedTree, IsTableOf, said, schema}
+use Rattle.integrity.specs.Checked.{IsBrokenImage, IsCheckedTree, said, schema}
 use Rattle.integrity.specs.RowFaults.{HasCellFault, IsBrokenTable, IsCellFault}
 use Rattle.integrity.specs.Stored.{Fits, HoldsRow, HoldsRows, IsRowOf, StoresRow, row_from}
 

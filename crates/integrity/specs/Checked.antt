@@ -1,7 +1,6 @@
 -- What the check of an image finds, and what is broken of an image. (Database File Format, section 1.6; The Schema
 -- Table; the faults of docs/FAULTS.md)
-use Rattle.std.specs.Prelude.{◌≡◌, ◌≢◌, ◌⊎◌, ◌<◌, ℕ, All, List}
-use Rattle.std.specs.List.{AllZip}
+use Rattle.std.specs.Prelude.{◌≡◌, ◌⊎◌, ◌<◌, All, List}
 use Rattle.values.specs.declared.fault.Fault.{Fault}
 use Rattle.values.specs.declared.fault.Fault.TheVariants.{ReadFailed, NoMemory, NotYet}
 use Rattle.image.specs.declared.kind.TreeKind.TheVariants.{Table}
@@ -16,7 +15,7 @@ use Rattle.schema.specs.TableData.{TableData, schema_table}
 use Rattle.integrity.specs.declared.walk.TreeCounts.{TreeCounts}
 use Rattle.integrity.specs.RowFaults.{IsBrokenTable}
 use Rattle.integrity.specs.Stored.{HoldsRow, HoldsRows, StoresRow}
-use Rattle.integrity.specs.Walked.{AreCounts, IsWalkFault}
+use Rattle.integrity.specs.Walked.{AreCounts}
 
 -- A table's tree is sound and its cells are rows of the table, whose values are of its columns; and these are its
 -- levels, rows and pages.

@@ -2,7 +2,7 @@
 use Rattle.std.specs.Prelude.{◌≡◌, ◌≢◌, ◌⊎◌, ◌<◌, ℕ, List, length, slice_get, string_bytes, None, Some}
 use Rattle.values.specs.Datum.{Datum}
 use Rattle.values.specs.declared.fault.Fault.{Fault}
-use Rattle.values.specs.declared.fault.Fault.TheVariants.{ReadFailed, NoMemory, BadPage, BadOrder, BadDepth, BadRecord, FloatValue, BadText, ValueBreaksColumn, NotYet}
+use Rattle.values.specs.declared.fault.Fault.TheVariants.{NoMemory, BadPage, BadRecord, FloatValue, BadText, ValueBreaksColumn, NotYet}
 use Rattle.records.specs.declared.fault.RecordFault.{RecordFault}
 use Rattle.records.specs.declared.fault.RecordFault.TheVariants as r
 use Rattle.records.specs.Record.{Breaks, IsRecord}

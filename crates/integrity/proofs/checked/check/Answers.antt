@@ -1,12 +1,10 @@
-use Rattle.std.proofs.Common.{◌≡◌, ℕ, Contains, IsTrue, List, sym, ◌∙◌, ap, subst, inl, inr, ⊎_elim}
+use Rattle.std.proofs.Common.{◌≡◌, Contains, List, sym, ◌∙◌, ap, subst, inl, inr, ⊎_elim}
 use Rattle.std.specs.List.{AllZip}
 use Rattle.std.proofs.lemmas.Result.{err_from_is_err_and}
 use Rattle.pager.specs.declared.header.Header.{Header}
 use Rattle.image.specs.Pages.{Pages}
 use Rattle.btree.specs.Rest.{pages_seen}
 use Rattle.btree.proofs.SeenLemmas.{still_steady, same_pages}
-use Rattle.meaning.specs.Body.{Row}
-use Rattle.schema.specs.Rows.{AreTables}
 use Rattle.schema.specs.TableData.{TableData}
 use Rattle.integrity.specs.Checked.{IsCheckedTree}
 use Rattle.integrity.specs.RowFaults.{IsBrokenTable}

@@ -1,6 +1,4 @@
-use Rattle.std.proofs.Common.{◌≡◌, ◌<◌, IsTrue, length, slice_get, Some, rules, arith, subst, sym, ◌∙◌, refl}
-use Rattle.values.specs.Datum.{datum_of_ref}
-use Rattle.schema.specs.TableData.{ColumnData}
+use Rattle.std.proofs.Common.{◌<◌, IsTrue, length, rules, subst, refl}
 use Rattle.integrity.specs.Stored.{Fits, FitsColumn}
 use Rattle.integrity.proofs.RowLemmas.{all_from_each, each_more, each_of_all, get_at}
 use Rattle.integrity.proofs.rows.fits.Goals as goal

@@ -1,4 +1,4 @@
-use Rattle.std.proofs.Common.{◌≡◌, None, rules}
+use Rattle.std.proofs.Common.{◌≡◌, None}
 use Rattle.btree.specs.Views.{cell_data}
 use Rattle.integrity.proofs.CellLemmas.{fault_of_row, none_there, record_breaks}
 use Rattle.integrity.proofs.rows.read_row.Goals as goal

@@ -1,14 +1,11 @@
-use Rattle.std.proofs.Common.{◌≡◌, ◌<◌, Contains, IsTrue, List, length, rules, arith, sym, ◌∙◌, subst, inl, inr, ⊎_elim, slice_get, Some}
-use Rattle.std.specs.List.{AllZip}
+use Rattle.std.proofs.Common.{◌<◌, length, rules, ◌∙◌, subst, inl, inr, ⊎_elim}
 use Rattle.std.proofs.lemmas.Result.{err_from_is_err_and}
 use Rattle.pager.proofs.StaysLemmas.{Stays-trans}
 use Rattle.image.specs.Pages.{Pages}
 use Rattle.btree.specs.Rest.{pages_seen}
 use Rattle.btree.proofs.SeenLemmas.{still_steady, same_pages}
-use Rattle.schema.specs.TableData.{TableData}
 use Rattle.integrity.specs.Checked.{IsCheckedTree}
 use Rattle.integrity.specs.RowFaults.{IsBrokenTable}
-use Rattle.integrity.specs.declared.walk.TreeCounts.{TreeCounts}
 use Rattle.integrity.proofs.RowLemmas.{all_next, get_at}
 use Rattle.integrity.proofs.trees.check_tables.Goals as goal
 

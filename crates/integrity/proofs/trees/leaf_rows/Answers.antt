@@ -1,4 +1,4 @@
-use Rattle.std.proofs.Common.{◌≡◌, ◌<◌, ℕ, rules, inl, inr, ⊎_elim}
+use Rattle.std.proofs.Common.{◌<◌, ℕ, rules, inl, inr, ⊎_elim}
 use Rattle.std.proofs.lemmas.Result.{err_from_is_err_and}
 use Rattle.image.specs.Cell.{CellData}
 use Rattle.image.specs.Layout.{cell_count}

@@ -1,4 +1,3 @@
-use Rattle.std.proofs.Common.{◌≡◌, ◌∙◌}
 use Rattle.integrity.proofs.RowLemmas.{taken_more}
 use Rattle.integrity.proofs.rows.RowView.to_row.Goals as goal
 
