@@ -16,7 +16,7 @@ trap 'rm -rf "$folder"' EXIT
 
 program=crates/table_counts
 # The first run proves and builds the program.
-if ! (cd "$program" && rt run --jobs 1 -- data/shop.db) >"$folder/run.log" 2>&1; then
+if ! (cd "$program" && rt run -- data/shop.db) >"$folder/run.log" 2>&1; then
     cat "$folder/run.log"
     echo "0 passed, 1 failed"
     exit 1

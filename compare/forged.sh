@@ -11,7 +11,7 @@ fi
 folder=$(mktemp -d) || exit 1
 trap 'rm -rf "$folder"' EXIT
 
-if ! (cd crates/forge_images && rt run --jobs 1 -- "$folder") >"$folder/run.log" 2>&1; then
+if ! (cd crates/forge_images && rt run -- "$folder") >"$folder/run.log" 2>&1; then
     cat "$folder/run.log"
     echo "0 passed, 1 failed"
     exit 1

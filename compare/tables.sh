@@ -13,7 +13,7 @@ trap 'rm -rf "$folder"' EXIT
 
 program=crates/table_rows
 # The first run proves and builds the program.
-if ! (cd "$program" && rt run --jobs 1 -- data/item.db 2) >"$folder/run.log" 2>&1; then
+if ! (cd "$program" && rt run -- data/item.db 2) >"$folder/run.log" 2>&1; then
     cat "$folder/run.log"
     echo "0 passed, 1 failed"
     exit 1
