@@ -5,3 +5,4 @@ pub mod ListingLemmas
 pub mod RestLemmas
 pub mod SeenLemmas
 pub mod LeftLemmas
+pub mod ChainLemmas

@@ -118,6 +118,7 @@ fn descend<S: Source>(
     ensures left { IfOk result (λ leaf. frames_left 20 frames.new.items + frame_left leaf < frames_left 20 frames.old.items + worth (21 - length frames.old.items)) }
     ensures only { IfErr result IsCursorFault }
     ensures failures { Counts Fault.ReadFailed result pager.old.state.source.failures pager.new.state.source.failures }
+    ensures unchained { pager.new.state.chained ≡ pager.old.state.chained }
     ensures stays { Stays pager.old.state pager.new.state }
 {
     let mut number = n;
@@ -158,6 +159,7 @@ fn next_leaf<S: Source>(
     ensures left { IfOk result (IsLess frames.old.items frames.new.items) }
     ensures only { IfErr result IsCursorFault }
     ensures failures { Counts Fault.ReadFailed result pager.old.state.source.failures pager.new.state.source.failures }
+    ensures unchained { pager.new.state.chained ≡ pager.old.state.chained }
     ensures stays { Stays pager.old.state pager.new.state }
 {
     while let Some(frame) = frames.pop() {
@@ -193,6 +195,7 @@ fn step<S: Source>(
         → frames_left 20 frames.new.items + frame_left next < frames_left 20 frames.old.items + frame_left leaf) }
     ensures only { IfErr result IsCursorFault }
     ensures failures { Counts Fault.ReadFailed result pager.old.state.source.failures pager.new.state.source.failures }
+    ensures unchained { pager.new.state.chained ≡ pager.old.state.chained }
     ensures stays { Stays pager.old.state pager.new.state }
 {
     if leaf.at >= leaf.count {
@@ -242,6 +245,7 @@ impl Cursor {
             → IfErr result (λ e. (e ≡ Fault.ReadFailed) ⊎ (e ≡ Fault.NoMemory)) }
         ensures only { IfErr result IsCursorFault }
         ensures failures { Counts Fault.ReadFailed result pager.old.state.source.failures pager.new.state.source.failures }
+        ensures unchained { pager.new.state.chained ≡ pager.old.state.chained }
         ensures stays { Stays pager.old.state pager.new.state }
     {
         let header = pager.header();
@@ -277,6 +281,7 @@ impl Cursor {
         ensures ends { IfErr result (λ e. IsEnded self.new) }
         ensures only { IfErr result IsStepFault }
         ensures failures { Counts Fault.ReadFailed result pager.old.state.source.failures pager.new.state.source.failures }
+        ensures unchained { pager.new.state.chained ≡ pager.old.state.chained }
         ensures stays { Stays pager.old.state pager.new.state }
     {
         let Some(leaf) = self.leaf.take() else {

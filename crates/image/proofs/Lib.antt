@@ -9,3 +9,5 @@ pub mod EntryLemmas
 pub mod RowidLemmas
 pub mod WorkedTable
 pub mod CellLemmas
+pub mod ChainLemmas
+pub mod WorkedChain

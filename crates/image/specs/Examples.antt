@@ -64,3 +64,13 @@ left_cell = record { rowid = Some (negsuc 2); payload = record { size = 304; loc
 
 abbrev pub right_cell : CellData
 right_cell = record { rowid = Some (pos 300); payload = record { size = 304; local = blob_payload; overflow = None } }
+
+-- Two overflow pages of 512 bytes, pages 2 and 3: the first is full of ones, and of the second two bytes are used.
+abbrev pub chain_front : List ℕ
+chain_front = (0 ∷ 0 ∷ 0 ∷ 3 ∷ []) ++ replicate 508 1
+
+abbrev pub chain_back : List ℕ
+chain_back = (0 ∷ 0 ∷ 0 ∷ 0 ∷ 2 ∷ 3 ∷ []) ++ replicate 506 0
+
+abbrev pub chain_pages : Pages
+chain_pages = record { count = 3; usable = 512; size = 1536; page = λ n. if n == 2 then chain_front else chain_back }

@@ -1,6 +1,7 @@
 pub mod Pages
 pub mod Layout
 pub mod Cell
+pub mod Chain
 pub mod Tree
 pub mod Shape
 pub mod Broken

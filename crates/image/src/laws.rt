@@ -1,19 +1,20 @@
 //! Examples of the definitions, computed, and what follows from them: laws of trees.
-ghost use Rattle.std.specs.Prelude.{◌≡◌, ℕ, ℤ, Bool, [], ◌∷◌};
+ghost use Rattle.std.specs.Prelude.{◌≡◌, ℕ, ℤ, Bool, List, [], ◌∷◌, ◌++◌, replicate};
 ghost use Rattle.values.specs.declared.fault.Fault.{Fault};
 ghost use Rattle.image.specs.declared.kind.TreeKind.{TreeKind};
 ghost use Rattle.image.specs.declared.kind.TreeKind.TheVariants.{Table, Index};
 ghost use Rattle.image.specs.declared.kind.Level.{Level};
 ghost use Rattle.image.specs.declared.kind.Level.TheVariants.{Leaf};
 ghost use Rattle.image.specs.Layout.{header_at, flag, cell_count, cell_place};
-ghost use Rattle.image.specs.Cell.{CellData, local_size};
+ghost use Rattle.image.specs.Cell.{CellData, PayloadData, local_size};
+ghost use Rattle.image.specs.Chain.{HasBytes, IsChain};
 ghost use Rattle.image.specs.Tree.{Place, IsPageOf, IsRowAt, Reaches, ArePlacesOf};
 ghost use Rattle.image.specs.Pages.{Pages};
 ghost use Rattle.image.specs.Shape.{HasShape, place_at, places_under};
 ghost use Rattle.image.specs.Broken.{HasRowid, IsRowOrder, IsBroken};
 ghost use Rattle.image.specs.Sound.{IsSoundTree, IsSoundTable, HasSomeShape, IsNamedOnce, AreRowsOf, HasRows};
 ghost use Rattle.image.specs.Entries.{IsStrictOrder, IsEntryOrder, AreEntriesOf};
-ghost use Rattle.image.specs.Examples.{example_pages, example_leaf, first_cell, second_cell, table_pages};
+ghost use Rattle.image.specs.Examples.{example_pages, example_leaf, first_cell, second_cell, table_pages, chain_pages};
 
 /// How much of a payload stands in its cell, where 512 bytes of each page are used.
 pub fn local_sizes()
@@ -98,4 +99,16 @@ pub fn places_of_index()
 pub fn one_cell()
     ensures same { (pages : Pages) (place : Place) (a b : CellData) → IsRowAt pages place a → IsRowAt pages place b
         → a ≡ b }
+{}
+
+/// A payload has one list of bytes at most. (Database File Format, section 1.7 "Cell Payload Overflow Pages")
+pub fn one_payload()
+    ensures same { (pages : Pages) (payload : PayloadData) (a b : List ℕ) → HasBytes pages payload a
+        → HasBytes pages payload b → a ≡ b }
+{}
+
+/// A chain of two overflow pages. It holds no fewer bytes that would end on its first page.
+pub fn example_chain()
+    ensures bytes { IsChain chain_pages 2 510 (replicate 508 1 ++ (2 ∷ 3 ∷ [])) }
+    ensures no_shorter { (bytes : List ℕ) → ¬ IsChain chain_pages 2 508 bytes }
 {}

@@ -65,6 +65,7 @@ loop-pager-preserved g c =
     record {
       stays = Stays-trans _ _ _ inv.stays c.read_frame.ensures.used.stays;
       failures = c.in_ok-frame.ensures.failures ∙ inv.failures;
+      chained = omega (arith, inv.chained, c.read_frame.ensures.used.chained_most, c.read_frame.ensures.used.stays.chained);
       number = (c.in-Some.ensures.number.0, subst (λ (x : Header). c.in-Some.child ≤ x.pages) c.header-header.ensures.value c.in-Some.ensures.number.1);
       heads = λ steady places budget h.
           let now = still_steady _ _ inv.stays steady in

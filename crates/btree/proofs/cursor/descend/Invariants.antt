@@ -9,6 +9,7 @@ abbrev pub invariant-loop-pager : goal.invariant-loop-pager
 invariant-loop-pager g l = record {
   stays : Stays l.fn.pager.state l.pager.state;
   failures : l.pager.state.source.failures ≡ l.fn.pager.state.source.failures;
+  chained : l.pager.state.chained ≡ l.fn.pager.state.chained;
   number : IsPageNumber l.pager.state l.number;
   heads : IsTrue l.fn.pager.state.source.steady → (places : List Place) (budget : ℕ)
       → IsHeading (pages_seen l.fn.pager.state) l.fn.frames.items l.n places l.fn.pager.state.asked budget
