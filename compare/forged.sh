@@ -1,40 +1,34 @@
 #!/bin/sh
-# Asks the sqlite3 program about forged images, and compares what it answers with what is stated here.
+# Asks the sqlite3 program about forged images, and the program about one of them, and compares what they answer with what
+# is stated here.
 # Run from the top of the repository. The last line is 'N passed, M failed'.
+. "$(dirname "$0")/common.sh"
 
-if ! command -v sqlite3 >/dev/null; then
-    echo "the program sqlite3 is not on the PATH"
-    echo "0 passed, 1 failed"
-    exit 1
-fi
-
-folder=$(mktemp -d) || exit 1
-trap 'rm -rf "$folder"' EXIT
-
-if ! (cd crates/forge_images && rt run -- "$folder") >"$folder/run.log" 2>&1; then
-    cat "$folder/run.log"
-    echo "0 passed, 1 failed"
-    exit 1
-fi
-
-passed=0
-failed=0
+build forge_images "$folder"
+build seleq data/shop.db "SELECT name FROM item"
 
 # expect FILE STATEMENT: what sqlite3 answers is to be what lies in the file $wanted.
-wanted="$folder/wanted"
 expect() {
-    sqlite3 -batch -quote "$folder/$1" "$2" >"$folder/answer" 2>&1
-    if cmp -s "$wanted" "$folder/answer"; then
-        passed=$((passed + 1))
+    sqlite3 -batch -quote "$folder/$1" "$2" >"$answer" 2>&1
+    if cmp -s "$wanted" "$answer"; then
+        pass
     else
-        failed=$((failed + 1))
-        echo "$1: $2"
-        diff "$wanted" "$folder/answer" | head -n 10
+        fail "$1: $2"
+    fi
+}
+
+# expect_both FILE STATEMENT: what sqlite3 answers, and what the program does.
+expect_both() {
+    expect "$1" "$2"
+    if crates/seleq/out/seleq "$folder/$1" "$2" >"$answer" 2>&1 && cmp -s "$wanted" "$answer"; then
+        pass
+    else
+        fail "$1: $2, by the program"
     fi
 }
 
 echo "'ok'" >"$wanted"
-for file in leaf two_levels three_levels reserved chains spellings gaps schema shop; do
+for file in leaf two_levels three_levels reserved chains long spellings gaps schema shop; do
     expect "$file.db" "PRAGMA integrity_check"
 done
 
@@ -88,6 +82,9 @@ digits 1199 >"$wanted"
 expect chains.db "SELECT * FROM t"
 digits 1199 >"$wanted"
 expect chains.db "SELECT id, b FROM t INDEXED BY i WHERE b > '' ORDER BY b"
+
+digits 1199 | awk -F , '{ print $0 "," $1 }' >"$wanted"
+expect_both long.db "SELECT * FROM t"
 
 cat >"$wanted" <<'ROWS'
 1,0,1,-2,'nut'
@@ -147,10 +144,9 @@ expect shop.db "SELECT rowid, * FROM sale"
 
 # The file that the program is run on is the image that was laid out.
 if cmp "$folder/shop.db" crates/seleq/data/shop.db; then
-    passed=$((passed + 1))
+    pass
 else
     failed=$((failed + 1))
 fi
 
-echo "$passed passed, $failed failed"
-test "$failed" -eq 0
+finish

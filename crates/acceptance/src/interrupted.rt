@@ -9,7 +9,11 @@ use std::test::Fail;
 use values::{Fault, MemSink, Sink};
 
 /// An engine that keeps so many pages.
-fn open<S: Source + Drop>(alloc: Global, source: S, cache: usize) -> Result<Engine<S>, Fail> {
+pub(crate) fn open<S: Source + Drop>(
+    alloc: Global,
+    source: S,
+    cache: usize,
+) -> Result<Engine<S>, Fail> {
     let cache = NonZeroUsize::new(cache).ok_or("zero")?;
     match Engine::open(alloc, source, cache) {
         Ok(engine) => Ok(engine),
@@ -18,7 +22,7 @@ fn open<S: Source + Drop>(alloc: Global, source: S, cache: usize) -> Result<Engi
 }
 
 /// How many reads opening an engine takes that keeps one page: where all behind them fail, it still opens.
-fn reads_of_opening(alloc: Global, bytes: &Vec<u8>) -> Result<u64, Fail> {
+pub(crate) fn reads_of_opening(alloc: Global, bytes: &Vec<u8>) -> Result<u64, Fail> {
     for reads in 0..1000u64 {
         let script = ReadScript::From(reads.saturating_add(1));
         let source = ScriptSource::new(bytes.clone()?, script);
@@ -43,7 +47,7 @@ fn lines(alloc: Global, last: i64) -> Result<String, Fail> {
 }
 
 /// Runs one statement twice: once into a sink that may fail, and then into memory.
-fn run_twice<S: Source, W: Sink>(
+pub(crate) fn run_twice<S: Source, W: Sink>(
     engine: &mut Engine<S>,
     sql: &str,
     out: &mut W,
@@ -182,16 +186,17 @@ fn no_page_is_read_behind_a_failed_write(rt: HostRuntime) -> Result<(), Fail> {
     Ok(())
 }
 
-/// How a run ends over an image that is another from a read on, counted from 1 since it was opened.
-fn run_changed(
+/// How a run of a statement ends over an image that is another from a read on, counted from 1 since before it was opened.
+pub(crate) fn run_changed(
     alloc: Global,
+    sql: &str,
     bytes: &Vec<u8>,
     later: &Vec<u8>,
     change: u64,
 ) -> Result<Result<Report, Fault>, Fail> {
     let source = ScriptSource::changing(bytes.clone()?, later.clone()?, change, ReadScript::Never);
     let mut engine = open(alloc, source, 1)?;
-    let prepared = engine.prepare("SELECT b, a FROM t")?;
+    let prepared = engine.prepare(sql)?;
     let mut out = MemSink::new(alloc);
     Ok(engine.run(&prepared, &mut out))
 }
@@ -215,16 +220,17 @@ fn an_image_that_changes(rt: HostRuntime) -> Result<(), Fail> {
         layout.copy_with(leaf, cell.saturating_add(2), &[9])?,
     ]?;
     let bytes = layout.into_bytes();
+    let sql = "SELECT b, a FROM t";
     let opening = reads_of_opening(alloc, &bytes)?;
     for read in 1..pages.saturating_add(1) {
         let change = opening.saturating_add(read);
         for later in &images {
-            let ended = run_changed(alloc, &bytes, later, change)?;
+            let ended = run_changed(alloc, sql, &bytes, later, change)?;
             assert!(rt; matches!(ended, Ok(_) | Err(Fault::ReadFailed | Fault::Changed)));
         }
-        let ended = run_changed(alloc, &bytes, &zeros, change)?;
+        let ended = run_changed(alloc, sql, &bytes, &zeros, change)?;
         assert_eq!(rt; ended, Err(Fault::Changed));
-        let ended = run_changed(alloc, &bytes, &Vec::new(alloc), change)?;
+        let ended = run_changed(alloc, sql, &bytes, &Vec::new(alloc), change)?;
         assert_eq!(rt; ended, Err(Fault::ReadFailed));
     }
     Ok(())

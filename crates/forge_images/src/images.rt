@@ -112,6 +112,21 @@ pub fn chains(alloc: Global) -> Result<Image, LayoutError> {
     Ok(image)
 }
 
+/// The same texts in a table that the program serves, each with its length behind it.
+pub fn long(alloc: Global) -> Result<Image, LayoutError> {
+    let sql = "CREATE TABLE t(id INTEGER PRIMARY KEY, b TEXT, n INT) STRICT";
+    let mut table = Table::new(alloc, "t", sql)?;
+    for id in 1..1200usize {
+        let text = digits(alloc, id)?;
+        let number = id as i64;
+        let (text, length) = (ValueRef::Text(text.as_str()), ValueRef::Int(number));
+        table.push(number, &[ValueRef::Null, text, length])?;
+    }
+    let mut image = Image::with_reserved(alloc, 512, 7);
+    image.push_table(table)?;
+    Ok(image)
+}
+
 /// A page size and the bytes reserved at each page's end.
 pub const SIZES: [(u32, u8); 8] = [
     (512, 32),

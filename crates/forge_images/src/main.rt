@@ -38,6 +38,7 @@ fn run(rt: &(impl AllocGlobal + Files + Env + Print)) -> Result<()> {
     write_image(rt, folder, "three_levels.db", images::three_levels(alloc))?;
     write_image(rt, folder, "reserved.db", images::reserved(alloc))?;
     write_image(rt, folder, "chains.db", images::chains(alloc))?;
+    write_image(rt, folder, "long.db", images::long(alloc))?;
     write_image(rt, folder, "spellings.db", images::spellings(alloc))?;
     write_image(rt, folder, "schema.db", images::schema(alloc))?;
     write_image(rt, folder, "gaps.db", images::gaps(alloc))?;
@@ -47,7 +48,7 @@ fn run(rt: &(impl AllocGlobal + Files + Env + Print)) -> Result<()> {
         let image = images::sized(alloc, page_size, reserved);
         write_image(rt, folder, file.as_str(), image)?;
     }
-    println!(rt; "17 images")?;
+    println!(rt; "18 images")?;
     Ok(())
 }
 

@@ -58,13 +58,13 @@ module _ (pages : Pages) (table : TableData) where
     pub seen_cells : cell_count at page ≡ count_at pages n
     seen_cells = seen_count pages n at most page seen (cell_count at page) refl
 
-    pub held_leaf : AreRowsIn table at most page → All (HoldsRow pages table) (places_in pages n)
+    pub held_leaf : AreRowsIn pages table at most page → All (HoldsRow pages table) (places_in pages n)
     held_leaf rows = all_run (HoldsRow pages table) (place_at n) (count_at pages n) (λ k within.
         let here = rows k (omega (arith, within, seen_cells)) in
         record { row = here.row; stores = record { cell = here.cell; at = seen_row k here.cell here.here; is = here.is }; fits = here.fits })
 
     pub leaf_fault : (depth : ℕ) → IsPageOf pages Table Leaf n → StandsAt pages Table table.root depth n
-        → (fault : Fault) → IsLeafFault table n at most page fault → HasCellFault pages table fault
+        → (fault : Fault) → IsLeafFault pages table n at most page fault → HasCellFault pages table fault
     leaf_fault depth leaf stands fault broken = record {
       place = place_at n broken.i;
       cell = broken.cell;

@@ -70,7 +70,7 @@ module _ (pages : Pages) (at most : ℕ) (page : List ℕ) (seen : IsSeen pages 
     cells = subst (λ (l : ℕ). AreRowsOf pages 1 (places_under pages Table l 1)) (no_levels counts.levels tree.shape)
         (rows_of pages 1 counts.levels tree.shape tree.sound.order)
 
-    pub schema_rows : (rows : List Row) → AreLeafRows schema_table at most page rows → HoldsRows pages schema_table rows
+    pub schema_rows : (rows : List Row) → AreLeafRows pages schema_table at most page rows → HoldsRows pages schema_table rows
     schema_rows rows are = record {
       places = places_in pages 1;
       cells = cells;
@@ -93,11 +93,12 @@ module _ (pages : Pages) (at most : ℕ) (page : List ℕ) (seen : IsSeen pages 
         (subst (λ (a : ℕ). bytes.IsRowOf a pages.size (pages.page 1) lacks.i there.1.0) (sym seen.at_is) there.1.1)) in
         lacks.none there.1.0 back
 
-    pub rows_cause : (fault : Fault) → IsRowsFault schema_table 1 at most page fault → HasCause pages fault
-    rows_cause fault (inl memory) = inr (inl memory)
-    rows_cause fault (inr (inl broken)) =
+    pub rows_cause : (fault : Fault) → IsRowsFault pages schema_table 1 at most page fault → HasCause pages fault
+    rows_cause fault (inl failed) = inl failed
+    rows_cause fault (inr (inl memory)) = inr (inl memory)
+    rows_cause fault (inr (inr (inl broken))) =
         inr (inr (inl (schema_table, schema, inr (leaf_fault pages schema_table 1 at most page seen 1 leaf top fault broken))))
-    rows_cause fault (inr (inr (is, lacks))) = absurd (none_lacks lacks)
+    rows_cause fault (inr (inr (inr (is, lacks)))) = absurd (none_lacks lacks)
 
 -- the first page, as a pager shows it
 module _ (state : PagerState) (header : Header) (header_is : header ≡ state.header) (sound : IsSoundHeader header) where

@@ -1,9 +1,9 @@
 -- Nothing is broken of tables that were checked.
-use Rattle.std.proofs.Common.{◌≡◌, ℕ, zero, suc, ◌<◌, ◌∙◌, List, [], ◌∷◌, length, slice_index_or, sym, ap, arith, subst, inl, inr}
+use Rattle.std.proofs.Common.{◌≡◌, ℕ, ℤ, zero, suc, Option, refl, ◌<◌, ◌∙◌, List, [], ◌∷◌, length, slice_index_or, sym, ap, arith, subst, inl, inr}
 use Rattle.std.specs.List.{AllZip}
 use Rattle.values.specs.Datum.{Datum}
 use Rattle.values.specs.declared.fault.Fault.{Fault}
-use Rattle.values.specs.declared.fault.Fault.TheVariants.{BadRecord, FloatValue, BadText, ValueBreaksColumn, NotYet}
+use Rattle.values.specs.declared.fault.Fault.TheVariants.{BadChain, BadRecord, FloatValue, BadText, ValueBreaksColumn}
 use Rattle.records.specs.declared.fault.RecordFault.{RecordFault}
 use Rattle.records.specs.declared.fault.RecordFault.TheVariants as r
 use Rattle.records.specs.Record.{Breaks, IsRecord}
@@ -12,6 +12,7 @@ use Rattle.image.specs.Cell.{CellData}
 use Rattle.image.specs.Pages.{Pages}
 use Rattle.image.specs.Tree.{Place}
 use Rattle.image.proofs.CellLemmas.{one_cell}
+use Rattle.image.proofs.ChainLemmas.{one_payload}
 use Rattle.image.proofs.TableLemmas as table_laws
 use Rattle.meaning.specs.Body.{Row}
 use Rattle.schema.proofs.OneLemmas.{one_table}
@@ -19,8 +20,8 @@ use Rattle.schema.specs.Rows.{AreTables, SaysTable}
 use Rattle.schema.specs.TableData.{TableData, schema_table}
 use Rattle.integrity.specs.declared.walk.TreeCounts.{TreeCounts}
 use Rattle.integrity.specs.Checked.{IsBrokenImage, IsCheckedTree, said, schema}
-use Rattle.integrity.specs.RowFaults.{HasCellFault, IsBrokenTable, IsCellFault}
-use Rattle.integrity.specs.Stored.{Fits, HoldsRow, HoldsRows, IsRowOf, StoresRow, row_from}
+use Rattle.integrity.specs.RowFaults.{HasCellFault, HasRecordFault, IsBrokenTable, IsCellFault, IsRecordFault}
+use Rattle.integrity.specs.Stored.{Fits, HoldsRow, HoldsRows, IsRowOf, IsRowRecord, StoresRow, row_from}
 
 bad_memory : r.Bad ≡ r.NoMemory → ⊥
 bad_memory e = cc
@@ -34,31 +35,51 @@ text_memory e = cc
 no_break : (fault : RecordFault) (bytes : List ℕ) (values : List Datum) → Breaks fault bytes → IsRecord bytes values → fault ≡ r.NoMemory
 no_break = not_broken
 
--- a cell is one row of its table at most
-pub one_row : (table : TableData) (cell : CellData) (a b : Row) → IsRowOf table cell a → IsRowOf table cell b → a ≡ b
-one_row table cell a b one other =
-    let values = one_record cell.payload.local one.values other.values one.record_is other.record_is in
-    one.makes.row_is ∙ (λ k. row_from table.rowid cell.rowid (values k)) ∙ sym other.makes.row_is
+-- bytes are the record of one row at most
+pub one_record_row : (table : TableData) (rowid : Option ℤ) (bytes : List ℕ) (a b : Row) → IsRowRecord table rowid bytes a
+    → IsRowRecord table rowid bytes b → a ≡ b
+one_record_row table rowid bytes a b one other =
+    let values = one_record bytes one.values other.values one.record_is other.record_is in
+    one.makes.row_is ∙ (λ k. row_from table.rowid rowid (values k)) ∙ sym other.makes.row_is
 
--- a cell that is a row, whose values are of its columns, has no fault
-unbroken_cell : (table : TableData) (n : ℕ) (cell : CellData) (row : Row) (fault : Fault) → IsRowOf table cell row → Fits table row
-    → IsCellFault table n cell fault → ⊥
-unbroken_cell table n cell row (BadRecord m) is fits (e, whole, inl breaks) = absurd (bad_memory (no_break r.Bad cell.payload.local is.values breaks is.record_is))
-unbroken_cell table n cell row (BadRecord m) is fits (e, whole, inr (values, record_is, wide)) =
-    wide (ap length (one_record cell.payload.local values is.values record_is is.record_is) ∙ is.makes.wide)
-unbroken_cell table n cell row FloatValue is fits (whole, breaks) = absurd (float_memory (no_break r.Float cell.payload.local is.values breaks is.record_is))
-unbroken_cell table n cell row BadText is fits (whole, breaks) = absurd (text_memory (no_break r.Text cell.payload.local is.values breaks is.record_is))
-unbroken_cell table n cell row (ValueBreaksColumn name) is fits (named, (other, is_other, misfit)) =
-    misfit (subst (λ (x : Row). Fits table x) (one_row table cell row other is is_other) fits)
-unbroken_cell table n cell row NotYet is fits overflow = overflow is.whole
-unbroken_cell table n cell row fault is fits broken = absurd broken
+-- bytes that are the record of a row have no fault
+pub no_record_fault : (table : TableData) (rowid : Option ℤ) (bytes : List ℕ) (row : Row) (fault : RecordFault) → IsRowRecord table rowid bytes row
+    → IsRecordFault table bytes fault → fault ≡ r.NoMemory
+no_record_fault table rowid bytes row r.Bad is (inl breaks) = no_break r.Bad bytes is.values breaks is.record_is
+no_record_fault table rowid bytes row r.Bad is (inr (values, record_is, wide)) =
+    absurd (wide (ap length (one_record bytes values is.values record_is is.record_is) ∙ is.makes.wide))
+no_record_fault table rowid bytes row r.Float is breaks = no_break r.Float bytes is.values breaks is.record_is
+no_record_fault table rowid bytes row r.Text is breaks = no_break r.Text bytes is.values breaks is.record_is
+no_record_fault table rowid bytes row r.NoMemory is breaks = refl
+
+module _ (pages : Pages) (table : TableData) (cell : CellData) where
+  -- a cell is one row of its table at most
+  pub one_row : (a b : Row) → IsRowOf pages table cell a → IsRowOf pages table cell b → a ≡ b
+  one_row a b one other =
+      let same = one_payload pages cell.payload one.bytes other.bytes one.whole other.whole in
+      one_record_row table cell.rowid other.bytes a b (subst (λ (x : List ℕ). IsRowRecord table cell.rowid x a) same one.is) other.is
+
+  no_fault : (row : Row) (fault : RecordFault) → IsRowOf pages table cell row → HasRecordFault pages table cell fault → fault ≡ r.NoMemory
+  no_fault row fault is broken =
+      let same = one_payload pages cell.payload broken.bytes is.bytes broken.whole is.whole in
+      no_record_fault table cell.rowid is.bytes row fault is.is (subst (λ (x : List ℕ). IsRecordFault table x fault) same broken.broken)
+
+  -- a cell that is a row, whose values are of its columns, has no fault
+  unbroken_cell : (n : ℕ) (row : Row) (fault : Fault) → IsRowOf pages table cell row → Fits table row → IsCellFault pages table n cell fault → ⊥
+  unbroken_cell n row (BadChain m) is fits (e, none) = none is.bytes is.whole
+  unbroken_cell n row (BadRecord m) is fits (e, broken) = bad_memory (no_fault row r.Bad is broken)
+  unbroken_cell n row FloatValue is fits broken = float_memory (no_fault row r.Float is broken)
+  unbroken_cell n row BadText is fits broken = text_memory (no_fault row r.Text is broken)
+  unbroken_cell n row (ValueBreaksColumn name) is fits (named, (other, is_other, misfit)) =
+      misfit (subst (λ (x : Row). Fits table x) (one_row row other is is_other) fits)
+  unbroken_cell n row fault is fits broken = absurd broken
 
 module _ (pages : Pages) where
   -- at a place at which a row is, whose values are of its columns, no cell has a fault
   unbroken_place : (table : TableData) (fault : Fault) → (broken : HasCellFault pages table fault) → HoldsRow pages table broken.place → ⊥
   unbroken_place table fault broken held =
       let same = one_cell pages broken.place held.stores.cell broken.cell held.stores.at broken.at in
-      unbroken_cell table broken.place.page broken.cell held.row fault (subst (λ (c : CellData). IsRowOf table c held.row) same held.stores.is) held.fits broken.broken
+      unbroken_cell pages table broken.cell broken.place.page held.row fault (subst (λ (c : CellData). IsRowOf pages table c held.row) same held.stores.is) held.fits broken.broken
 
   pub unbroken_table : (table : TableData) (counts : TreeCounts) → IsCheckedTree pages table counts → (fault : Fault) → IsBrokenTable pages table fault → ⊥
   unbroken_table table counts tree fault (inl broken) = table_laws.unbroken pages table.root tree.sound fault broken
@@ -71,7 +92,7 @@ module _ (pages : Pages) where
   one_stored : (table : TableData) (place : Place) (a b : Row) → StoresRow pages table place a → StoresRow pages table place b → a ≡ b
   one_stored table place a b one other =
       let same = one_cell pages place one.cell other.cell one.at other.at in
-      one_row table other.cell a b (subst (λ (c : CellData). IsRowOf table c a) same one.is) other.is
+      one_row pages table other.cell a b (subst (λ (c : CellData). IsRowOf pages table c a) same one.is) other.is
 
   -- what is said of a row at a place of the schema's tree is a table that was checked
   checked_said : (places : List Place) (rows : List Row) (tables : List TableData) (trees : List TreeCounts) (table : TableData) (place : Place) (row : Row)

@@ -1,14 +1,15 @@
 -- Why a cell is no row of its table, and what is broken of a table and its rows. (The faults of docs/FAULTS.md)
-use Rattle.std.specs.Prelude.{◌≡◌, ◌≢◌, ◌⊎◌, ◌<◌, ℕ, List, length, slice_get, string_bytes, None, Some}
+use Rattle.std.specs.Prelude.{◌≡◌, ◌≢◌, ◌⊎◌, ◌<◌, ℕ, List, length, slice_get, string_bytes, Some}
 use Rattle.values.specs.Datum.{Datum}
 use Rattle.values.specs.declared.fault.Fault.{Fault}
-use Rattle.values.specs.declared.fault.Fault.TheVariants.{NoMemory, BadPage, BadRecord, FloatValue, BadText, ValueBreaksColumn, NotYet}
+use Rattle.values.specs.declared.fault.Fault.TheVariants.{ReadFailed, NoMemory, BadPage, BadChain, BadRecord, FloatValue, BadText, ValueBreaksColumn}
 use Rattle.records.specs.declared.fault.RecordFault.{RecordFault}
 use Rattle.records.specs.declared.fault.RecordFault.TheVariants as r
 use Rattle.records.specs.Record.{Breaks, IsRecord}
 use Rattle.image.specs.declared.kind.TreeKind.TheVariants.{Table}
 use Rattle.image.specs.Broken.{IsBroken}
 use Rattle.image.specs.Cell.{CellData}
+use Rattle.image.specs.Chain.{HasBytes}
 use Rattle.image.specs.Layout.{cell_count}
 use Rattle.image.specs.Pages.{Pages}
 use Rattle.image.specs.Tree.{Place, IsPlaceOf, IsRowAt}
@@ -17,13 +18,16 @@ use Rattle.meaning.specs.Body.{Row}
 use Rattle.schema.specs.TableData.{TableData}
 use Rattle.integrity.specs.Stored.{Fits, IsRowOf}
 
--- the payload has a record, with another number of values than the table has columns
-abbrev pub HasOtherWidth : TableData → CellData → Type 0
-HasOtherWidth table cell = (values : List Datum) × IsRecord cell.payload.local values × (length values ≢ length table.columns)
+-- the bytes are a record, with another number of values than the table has columns
+abbrev pub HasOtherWidth : TableData → List ℕ → Type 0
+HasOtherWidth table bytes = (values : List Datum) × IsRecord bytes values × (length values ≢ length table.columns)
 
--- a row of the table has a value that isn't of its column
-abbrev pub HasMisfit : TableData → CellData → Type 0
-HasMisfit table cell = (row : Row) × IsRowOf table cell row × (¬ Fits table row)
+-- why bytes are the record of no row of the table
+abbrev pub IsRecordFault : TableData → List ℕ → RecordFault → Type 0
+IsRecordFault table bytes r.Bad = Breaks r.Bad bytes ⊎ HasOtherWidth table bytes
+IsRecordFault table bytes r.Float = Breaks r.Float bytes
+IsRecordFault table bytes r.Text = Breaks r.Text bytes
+IsRecordFault table bytes r.NoMemory = Unit {0}
 
 -- the fault of a record, once its page is known
 abbrev pub fault_of : RecordFault → ℕ → Fault
@@ -32,14 +36,24 @@ fault_of r.Float n = FloatValue
 fault_of r.Text n = BadText
 fault_of r.NoMemory n = NoMemory
 
--- The condition of a cell on page n that a fault says is broken. Where a payload has overflow pages it isn't read yet.
-abbrev pub IsCellFault : TableData → ℕ → CellData → Fault → Type 0
-IsCellFault table n cell (BadRecord m) = (m ≡ n) × (cell.payload.overflow ≡ None) × (Breaks r.Bad cell.payload.local ⊎ HasOtherWidth table cell)
-IsCellFault table n cell FloatValue = (cell.payload.overflow ≡ None) × Breaks r.Float cell.payload.local
-IsCellFault table n cell BadText = (cell.payload.overflow ≡ None) × Breaks r.Text cell.payload.local
-IsCellFault table n cell (ValueBreaksColumn name) = (string_bytes name ≡ table.name) × HasMisfit table cell
-IsCellFault table n cell NotYet = cell.payload.overflow ≢ None
-IsCellFault table n cell _ = ⊥
+-- a row of the table has a value that isn't of its column
+abbrev pub HasMisfit : Pages → TableData → CellData → Type 0
+HasMisfit pages table cell = (row : Row) × IsRowOf pages table cell row × (¬ Fits table row)
+
+-- the bytes of a cell's payload are the record of no row, for this reason
+pub record HasRecordFault (pages : Pages) (table : TableData) (cell : CellData) (fault : RecordFault) : Type 0 where
+  pub bytes : List ℕ
+  pub whole : HasBytes pages cell.payload bytes
+  pub broken : IsRecordFault table bytes fault
+
+-- the condition of a cell on page n that a fault says is broken
+abbrev pub IsCellFault : Pages → TableData → ℕ → CellData → Fault → Type 0
+IsCellFault pages table n cell (BadChain m) = (m ≡ n) × ((bytes : List ℕ) → ¬ HasBytes pages cell.payload bytes)
+IsCellFault pages table n cell (BadRecord m) = (m ≡ n) × HasRecordFault pages table cell r.Bad
+IsCellFault pages table n cell FloatValue = HasRecordFault pages table cell r.Float
+IsCellFault pages table n cell BadText = HasRecordFault pages table cell r.Text
+IsCellFault pages table n cell (ValueBreaksColumn name) = (string_bytes name ≡ table.name) × HasMisfit pages table cell
+IsCellFault pages table n cell _ = ⊥
 
 -- a cell of the table's tree has the condition
 pub record HasCellFault (pages : Pages) (table : TableData) (fault : Fault) : Type 0 where
@@ -47,7 +61,7 @@ pub record HasCellFault (pages : Pages) (table : TableData) (fault : Fault) : Ty
   pub cell : CellData
   pub is_place : IsPlaceOf pages Table table.root place
   pub at : IsRowAt pages place cell
-  pub broken : IsCellFault table place.page cell fault
+  pub broken : IsCellFault pages table place.page cell fault
 
 -- a page, the order or a row of the table has the condition that a fault says is broken
 abbrev pub IsBrokenTable : Pages → TableData → Fault → Type 0
@@ -55,39 +69,40 @@ IsBrokenTable pages table fault = IsBroken pages table.root fault ⊎ HasCellFau
 
 -- Of a leaf of these used bytes, which is page n and whose header begins at a place: cell i is a row of the table, whose
 -- values are of its columns.
-pub record IsRowIn (table : TableData) (at most : ℕ) (page : List ℕ) (i : ℕ) : Type 0 where
+pub record IsRowIn (pages : Pages) (table : TableData) (at most : ℕ) (page : List ℕ) (i : ℕ) : Type 0 where
   pub cell : CellData
   pub row : Row
   pub here : bytes.IsRowOf at most page i cell
-  pub is : IsRowOf table cell row
+  pub is : IsRowOf pages table cell row
   pub fits : Fits table row
 
-abbrev pub AreRowsIn : TableData → ℕ → ℕ → List ℕ → Type 0
-AreRowsIn table at most page = (i : ℕ) → i < cell_count at page → IsRowIn table at most page i
+abbrev pub AreRowsIn : Pages → TableData → ℕ → ℕ → List ℕ → Type 0
+AreRowsIn pages table at most page = (i : ℕ) → i < cell_count at page → IsRowIn pages table at most page i
 
 -- one of its cells has the condition
-pub record IsLeafFault (table : TableData) (n at most : ℕ) (page : List ℕ) (fault : Fault) : Type 0 where
+pub record IsLeafFault (pages : Pages) (table : TableData) (n at most : ℕ) (page : List ℕ) (fault : Fault) : Type 0 where
   pub i : ℕ
   pub cell : CellData
   pub within : i < cell_count at page
   pub here : bytes.IsRowOf at most page i cell
-  pub broken : IsCellFault table n cell fault
+  pub broken : IsCellFault pages table n cell fault
 
 -- the faults of a table's rows
 abbrev pub IsRowFault : Fault → Type 0
+IsRowFault ReadFailed = Unit {0}
 IsRowFault NoMemory = Unit {0}
+IsRowFault (BadChain _) = Unit {0}
 IsRowFault (BadRecord _) = Unit {0}
 IsRowFault FloatValue = Unit {0}
 IsRowFault BadText = Unit {0}
 IsRowFault (ValueBreaksColumn _) = Unit {0}
-IsRowFault NotYet = Unit {0}
 IsRowFault _ = ⊥
 
 -- these rows of the table are the cells of the leaf
-abbrev pub AreLeafRows : TableData → ℕ → ℕ → List ℕ → List Row → Type 0
-AreLeafRows table at most page rows =
+abbrev pub AreLeafRows : Pages → TableData → ℕ → ℕ → List ℕ → List Row → Type 0
+AreLeafRows pages table at most page rows =
     (length rows ≡ cell_count at page) × ((i : ℕ) (row : Row) → slice_get rows i ≡ Some row
-    → (cell : CellData) × bytes.IsRowOf at most page i cell × IsRowOf table cell row)
+    → (cell : CellData) × bytes.IsRowOf at most page i cell × IsRowOf pages table cell row)
 
 -- a cell of the leaf isn't there
 pub record LacksCell (at most : ℕ) (page : List ℕ) : Type 0 where
@@ -95,7 +110,8 @@ pub record LacksCell (at most : ℕ) (page : List ℕ) : Type 0 where
   pub within : i < cell_count at page
   pub none : (cell : CellData) → ¬ bytes.IsRowOf at most page i cell
 
--- why the cells of a leaf are no rows: memory ran out, a cell has a fault, or isn't there
-abbrev pub IsRowsFault : TableData → ℕ → ℕ → ℕ → List ℕ → Fault → Type 0
-IsRowsFault table n at most page fault =
-    (fault ≡ NoMemory) ⊎ IsLeafFault table n at most page fault ⊎ ((fault ≡ BadPage n) × LacksCell at most page)
+-- why the cells of a leaf are no rows: a read failed or memory ran out, a cell has a fault, or isn't there
+abbrev pub IsRowsFault : Pages → TableData → ℕ → ℕ → ℕ → List ℕ → Fault → Type 0
+IsRowsFault pages table n at most page fault =
+    (fault ≡ ReadFailed) ⊎ (fault ≡ NoMemory) ⊎ IsLeafFault pages table n at most page fault
+    ⊎ ((fault ≡ BadPage n) × LacksCell at most page)

@@ -6,6 +6,7 @@ use Rattle.values.specs.Datum.{Datum, null, int, text, blob, type_of}
 use Rattle.records.specs.Record.{IsRecord}
 use Rattle.image.specs.declared.kind.TreeKind.TheVariants.{Table}
 use Rattle.image.specs.Cell.{CellData}
+use Rattle.image.specs.Chain.{HasBytes}
 use Rattle.image.specs.Pages.{Pages}
 use Rattle.image.specs.Tree.{Place, IsRowAt}
 use Rattle.image.specs.Shape.{HasShape, places_under}
@@ -35,18 +36,23 @@ pub record IsRowFrom (table : TableData) (rowid : Option ℤ) (values : List Dat
   pub wide : length values ≡ length table.columns
   pub row_is : row ≡ row_from table.rowid rowid values
 
--- a cell, of which the payload stands in it whole, is a row of the table
-pub record IsRowOf (table : TableData) (cell : CellData) (row : Row) : Type 0 where
+-- the bytes are the record of this row
+pub record IsRowRecord (table : TableData) (rowid : Option ℤ) (bytes : List ℕ) (row : Row) : Type 0 where
   pub values : List Datum
-  pub whole : cell.payload.overflow ≡ None
-  pub record_is : IsRecord cell.payload.local values
-  pub makes : IsRowFrom table cell.rowid values row
+  pub record_is : IsRecord bytes values
+  pub makes : IsRowFrom table rowid values row
+
+-- a cell is a row of the table: its payload is the row's record
+pub record IsRowOf (pages : Pages) (table : TableData) (cell : CellData) (row : Row) : Type 0 where
+  pub bytes : List ℕ
+  pub whole : HasBytes pages cell.payload bytes
+  pub is : IsRowRecord table cell.rowid bytes row
 
 -- the cell at a place is this row of the table
 pub record StoresRow (pages : Pages) (table : TableData) (place : Place) (row : Row) : Type 0 where
   pub cell : CellData
   pub at : IsRowAt pages place cell
-  pub is : IsRowOf table cell row
+  pub is : IsRowOf pages table cell row
 
 -- the cell at a place is a row of the table, whose values are of its columns
 pub record HoldsRow (pages : Pages) (table : TableData) (place : Place) : Type 0 where

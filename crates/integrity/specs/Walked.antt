@@ -2,7 +2,7 @@
 use Rattle.std.specs.Prelude.{◌≡◌, ◌≢◌, ℕ, ℤ, zero, suc, ◌+◌, ◌-◌, ◌^◌, ◌<◌, ◌≤◌, min, List, length, sum_by, Option, Some}
 use Rattle.std.specs.List.{range_with_len, flat_map}
 use Rattle.values.specs.declared.fault.Fault.{Fault}
-use Rattle.values.specs.declared.fault.Fault.TheVariants.{ReadFailed, NoMemory, BadPage, BadOrder, BadDepth}
+use Rattle.values.specs.declared.fault.Fault.TheVariants.{BadPage, BadOrder, BadDepth, NotYet}
 use Rattle.image.specs.declared.kind.TreeKind.TheVariants.{Table}
 use Rattle.image.specs.declared.kind.Level.TheVariants.{Leaf, Interior}
 use Rattle.image.specs.Layout.{header_at}
@@ -74,9 +74,12 @@ pub record IsSeen (pages : Pages) (n at most : ℕ) (page : List ℕ) : Type 0 w
 
 -- the faults of a walk
 abbrev pub IsWalkFault : Fault → Type 0
-IsWalkFault ReadFailed = Unit {0}
-IsWalkFault NoMemory = Unit {0}
 IsWalkFault (BadPage _) = Unit {0}
 IsWalkFault (BadOrder _) = Unit {0}
 IsWalkFault (BadDepth _) = Unit {0}
 IsWalkFault fault = IsRowFault fault
+
+-- and those of the check of an image
+abbrev pub IsCheckFault : Fault → Type 0
+IsCheckFault NotYet = Unit {0}
+IsCheckFault fault = IsWalkFault fault

@@ -6,7 +6,7 @@ ghost use Rattle.values.specs.Fault.{Counts};
 ghost use Rattle.btree.specs.Rest.{pages_seen};
 ghost use Rattle.integrity.specs.Checked.{HasCause, IsBrokenImage, IsCheckedTree};
 ghost use Rattle.integrity.specs.Denotes.{HasTables};
-ghost use Rattle.integrity.specs.Walked.{IsWalkFault};
+ghost use Rattle.integrity.specs.Walked.{IsCheckFault};
 
 use crate::trees::{check_tables, read_schema};
 use crate::walk::TreeCounts;
@@ -52,9 +52,9 @@ impl Checked {
 ///
 /// # Errors
 ///
-/// `BadPage`, `BadOrder`, `BadDepth`, `BadRecord`, `FloatValue`, `BadText` and `ValueBreaksColumn` where a table has that
-/// condition; `NotYet` where a payload has overflow pages, the schema has more than one page, or one of its rows isn't that
-/// of a table that is served; `ReadFailed` and `NoMemory`.
+/// `BadPage`, `BadChain`, `BadOrder`, `BadDepth`, `BadRecord`, `FloatValue`, `BadText` and `ValueBreaksColumn` where a table
+/// has that condition; `NotYet` where the schema has more than one page, or one of its rows isn't that of a table that is
+/// served; `ReadFailed` and `NoMemory`.
 pub fn check<S: Source>(alloc: Global, pager: &mut Pager<S>) -> Result<Checked, Fault>
     ensures tables { IsTrue pager.old.state.source.steady → IfOk result (λ checked. HasTables (pages_seen pager.old.state) checked.tables) }
     ensures trees { IsTrue pager.old.state.source.steady
@@ -62,7 +62,7 @@ pub fn check<S: Source>(alloc: Global, pager: &mut Pager<S>) -> Result<Checked, 
     ensures unbroken { IsTrue pager.old.state.source.steady → OnOk result ((fault : Fault) → ¬ IsBrokenImage (pages_seen pager.old.state) fault) }
     ensures roots { IfOk result (λ checked. All (λ table. IsPageNumber pager.old.state table.root) checked.tables) }
     ensures cause { IsTrue pager.old.state.source.steady → IfErr result (HasCause (pages_seen pager.old.state)) }
-    ensures only { IfErr result IsWalkFault }
+    ensures only { IfErr result IsCheckFault }
     ensures failures { Counts Fault.ReadFailed result pager.old.state.source.failures pager.new.state.source.failures }
     ensures stays { Stays pager.old.state pager.new.state }
 {

@@ -1,8 +1,8 @@
 //! The check of an image, and a record as a row of its table. It promises that an image that passes has none of the
-//! conditions broken that are examined (of its trees' pages, order and depth, of each record, and of each value), gives the
-//! tables that the image denotes with their rows, and counts exactly what their trees have; and that a fault's condition is
-//! broken. `NotYet` comes only where a payload has overflow pages, the schema has more than one page, or says what isn't
-//! served.
+//! conditions broken that are examined (of its trees' pages, order and depth, of each chain of overflow pages, of each
+//! record, and of each value), gives the tables that the image denotes with their rows, and counts exactly what their trees
+//! have; and that a fault's condition is broken. `NotYet` comes only where the schema has more than one page, or says what
+//! isn't served.
 //!
 //! The modules, in the order in which data passes them: `keys` (the keys of one page), `rows` (a record as a row, and the rows
 //! of a leaf), `walk` (a table's tree, from its root down), `trees` (those of all tables, and the schema's rows) and `checked`

@@ -1,17 +1,24 @@
 //! A record as a row of its table.
-ghost use Rattle.std.specs.Prelude.{◌≡◌, ◌⊎◌, ◌<◌, ◌↔◌, IfErr, IfNone, IfOk, IfSome, IsTrue, List, OnOk, Some, length, slice_get};
+ghost use Rattle.std.specs.Prelude.{◌≡◌, ◌⊎◌, ◌<◌, ◌↔◌, ℕ, IfErr, IfNone, IfOk, IfSome, IsTrue, List, OnOk, Some, length, slice_get};
+ghost use Rattle.std.specs.Cow.{cow_slice_items};
 ghost use Rattle.values.specs.Datum.{Datum, datum_of_ref};
 ghost use Rattle.image.specs.declared.kind.TreeKind.TheVariants as kind;
 ghost use Rattle.image.specs.declared.kind.Level.TheVariants.{Leaf};
-ghost use Rattle.btree.specs.Views.{cell_data};
+ghost use Rattle.image.specs.Chain.{HasBytes};
+ghost use Rattle.pager.specs.PagerState.{Stays};
+ghost use Rattle.values.specs.Fault.{Counts};
+ghost use Rattle.btree.specs.Rest.{pages_seen};
+ghost use Rattle.btree.specs.Views.{cell_data, payload_data};
 ghost use Rattle.integrity.specs.Keys.{HasCells};
-ghost use Rattle.integrity.specs.RowFaults.{AreRowsIn, IsCellFault, IsLeafFault, IsRowFault, fault_of};
-ghost use Rattle.integrity.specs.Stored.{Fits, FitsColumn, IsRowFrom, IsRowOf, row_from};
+ghost use Rattle.integrity.specs.RowFaults.{AreRowsIn, IsCellFault, IsLeafFault, IsRecordFault, IsRowFault, fault_of};
+ghost use Rattle.integrity.specs.Stored.{Fits, FitsColumn, IsRowFrom, IsRowOf, IsRowRecord, row_from};
 
-use btree::{Cell, PageView};
+use btree::{Cell, PageView, payload};
+use pager::{Pager, Source};
 use records::{RecordFault, RecordView};
 use schema::{Column, Table};
 use std::alloc::{AllocError, Global};
+use std::borrow::CowSlice;
 use std::marker::Model;
 use values::{Fault, Row, Ty, ValueRef};
 
@@ -39,7 +46,7 @@ impl<'p> Model for RowView<'p> {
 
 impl<'p> RowView<'p> {
     /// The row of a table that a record is, with this rowid; `None` where it has another number of values.
-    pub fn new(table: &Table, rowid: Option<i64>, fields: RecordView<'p>) -> Option<RowView<'p>>
+    fn new(table: &Table, rowid: Option<i64>, fields: RecordView<'p>) -> Option<RowView<'p>>
         ensures found { IfSome result (λ row. IsRowFrom table.now rowid fields.entry row) }
         ensures none { IfNone result ((row : List Datum) → ¬ IsRowFrom table.now rowid fields.entry row) }
     {
@@ -51,6 +58,22 @@ impl<'p> RowView<'p> {
             rowid,
             fields,
         })
+    }
+
+    /// The row of a table that these bytes of a payload are, with this rowid. (Database File Format, section 2.3
+    /// "Representation Of SQL Tables") The fault is `Bad` where they are no record, or one with another number of values
+    /// than the table has columns; `Float` or `Text` where the record has such a value; or `NoMemory`.
+    pub fn read(
+        alloc: Global,
+        table: &Table,
+        rowid: Option<i64>,
+        payload: &'p [u8],
+    ) -> Result<RowView<'p>, RecordFault>
+        ensures row { IfOk result (IsRowRecord table.now rowid payload.now) }
+        ensures fault { IfErr result (IsRecordFault table.now payload.now) }
+    {
+        let fields = RecordView::read(alloc, payload)?;
+        RowView::new(table, rowid, fields).ok_or(RecordFault::Bad)
     }
 
     /// How many values the row has.
@@ -148,37 +171,61 @@ fn record_fault(fault: RecordFault, n: u32) -> Fault
     }
 }
 
-/// The row of a table that a cell of page `n` is.
+/// The payload of a cell of page `n`.
+pub(crate) fn payload_of<'p, S: Source>(
+    alloc: Global,
+    pager: &mut Pager<S>,
+    cell: &Cell<'p>,
+    n: u32,
+) -> Result<CowSlice<'p, u8>, Fault>
+    ensures bytes { IsTrue pager.old.state.source.steady
+        → IfOk result (λ bytes. HasBytes (pages_seen pager.old.state) (payload_data cell.now.payload) (cow_slice_items bytes)) }
+    ensures fault { IsTrue pager.old.state.source.steady
+        → IfErr result (λ e. (e ≡ Fault.ReadFailed) ⊎ (e ≡ Fault.NoMemory)
+        ⊎ ((e ≡ Fault.BadChain n) × ((bytes : List ℕ) → ¬ HasBytes (pages_seen pager.old.state) (payload_data cell.now.payload) bytes))) }
+    ensures only { IfErr result IsRowFault }
+    ensures failures { Counts Fault.ReadFailed result pager.old.state.source.failures pager.new.state.source.failures }
+    ensures stays { Stays pager.old.state pager.new.state }
+{
+    payload(alloc, pager, cell)?.ok_or(Fault::BadChain(n))
+}
+
+/// The row of a table that the bytes of a payload are, which a cell of page `n` has.
 pub(crate) fn read_row<'p>(
     alloc: Global,
     table: &Table,
-    cell: Cell<'p>,
+    rowid: Option<i64>,
+    payload: &'p [u8],
     n: u32,
 ) -> Result<RowView<'p>, Fault>
-    ensures row { IfOk result (λ row. IsRowOf table.now (cell_data cell.entry) row) }
-    ensures fault { IfErr result (λ e. (e ≡ Fault.NoMemory) ⊎ IsCellFault table.now n (cell_data cell.entry) e) }
-    ensures only { IfErr result IsRowFault }
+    ensures row { IfOk result (IsRowRecord table.now rowid payload.now) }
+    ensures fault { IfErr result (λ e. (fault : RecordFault) × (e ≡ fault_of fault n) × IsRecordFault table.now payload.now fault) }
 {
-    if cell.payload.overflow.is_some() {
-        return Err(Fault::NotYet);
-    }
-    let fields = match RecordView::read(alloc, cell.payload.local) {
-        Ok(fields) => fields,
-        Err(fault) => return Err(record_fault(fault, n)),
-    };
-    match RowView::new(table, cell.rowid, fields) {
-        Some(row) => Ok(row),
-        None => Err(Fault::BadRecord(n)),
+    match RowView::read(alloc, table, rowid, payload) {
+        Ok(row) => Ok(row),
+        Err(fault) => Err(record_fault(fault, n)),
     }
 }
 
 /// Tests that a cell of page `n` is a row of a table, whose values are of its columns.
-fn check_row(alloc: Global, table: &Table, cell: Cell<'_>, n: u32) -> Result<(), Fault>
-    ensures row { OnOk result ((row : List Datum) × IsRowOf table.now (cell_data cell.entry) row × Fits table.now row) }
-    ensures fault { IfErr result (λ e. (e ≡ Fault.NoMemory) ⊎ IsCellFault table.now n (cell_data cell.entry) e) }
+fn check_row<S: Source>(
+    alloc: Global,
+    pager: &mut Pager<S>,
+    table: &Table,
+    cell: &Cell<'_>,
+    n: u32,
+) -> Result<(), Fault>
+    ensures row { IsTrue pager.old.state.source.steady
+        → OnOk result ((row : List Datum) × IsRowOf (pages_seen pager.old.state) table.now (cell_data cell.now) row × Fits table.now row) }
+    ensures fault { IsTrue pager.old.state.source.steady
+        → IfErr result (λ e. (e ≡ Fault.ReadFailed) ⊎ (e ≡ Fault.NoMemory)
+        ⊎ IsCellFault (pages_seen pager.old.state) table.now n (cell_data cell.now) e) }
     ensures only { IfErr result IsRowFault }
+    ensures failures { Counts Fault.ReadFailed result pager.old.state.source.failures pager.new.state.source.failures }
+    ensures stays { Stays pager.old.state pager.new.state }
 {
-    let row = read_row(alloc, table, cell, n)?;
+    let bytes = payload_of(alloc, pager, cell, n)?;
+    let row = read_row(alloc, table, cell.rowid, bytes.as_slice(), n)?;
     if !fits(table, &row) {
         let name = String::from_str(alloc, table.name())?;
         return Err(Fault::ValueBreaksColumn(name));
@@ -187,8 +234,9 @@ fn check_row(alloc: Global, table: &Table, cell: Cell<'_>, n: u32) -> Result<(),
 }
 
 /// Tests that the cells of a leaf, which is page `n`, are rows of a table, whose values are of its columns.
-pub(crate) fn check_rows(
+pub(crate) fn check_rows<S: Source>(
     alloc: Global,
+    pager: &mut Pager<S>,
     table: &Table,
     view: &PageView<'_>,
     most: u64,
@@ -197,16 +245,21 @@ pub(crate) fn check_rows(
     requires kind { view.now.kind ≡ kind.Table }
     requires level { view.now.level ≡ Leaf }
     requires cells { HasCells view.now.at most view.now.page Leaf }
-    ensures rows { OnOk result (AreRowsIn table.now view.now.at most view.now.page) }
-    ensures fault { IfErr result (λ e. (e ≡ Fault.NoMemory) ⊎ IsLeafFault table.now n view.now.at most view.now.page e) }
+    ensures rows { IsTrue pager.old.state.source.steady
+        → OnOk result (AreRowsIn (pages_seen pager.old.state) table.now view.now.at most view.now.page) }
+    ensures fault { IsTrue pager.old.state.source.steady
+        → IfErr result (λ e. (e ≡ Fault.ReadFailed) ⊎ (e ≡ Fault.NoMemory)
+        ⊎ IsLeafFault (pages_seen pager.old.state) table.now n view.now.at most view.now.page e) }
     ensures only { IfErr result IsRowFault }
+    ensures failures { Counts Fault.ReadFailed result pager.old.state.source.failures pager.new.state.source.failures }
+    ensures stays { Stays pager.old.state pager.new.state }
 {
     for i in 0..u32::from(view.count()) {
         // The keys of the leaf were read, so that each of its cells is there.
         let Some(cell) = view.row(most, i) else {
             return Err(Fault::BadRecord(n));
         };
-        check_row(alloc, table, cell, n)?;
+        check_row(alloc, pager, table, &cell, n)?;
     }
     Ok(())
 }

@@ -11,9 +11,9 @@ ghost use Rattle.schema.specs.TableData.{TableData, schema_table};
 ghost use Rattle.integrity.specs.Checked.{HasCause, IsCheckedTree};
 ghost use Rattle.integrity.specs.RowFaults.{AreLeafRows, IsBrokenTable, IsCellFault, IsRowFault, IsRowsFault};
 ghost use Rattle.integrity.specs.Stored.{HoldsRows, IsRowOf};
-ghost use Rattle.integrity.specs.Walked.{IsWalkFault};
+ghost use Rattle.integrity.specs.Walked.{IsCheckFault, IsWalkFault};
 
-use crate::rows::read_row;
+use crate::rows::{payload_of, read_row};
 use crate::walk::{TreeCounts, check_table};
 use btree::{Cell, PageView, view_of};
 use image::Level;
@@ -47,19 +47,32 @@ pub(crate) fn check_tables<S: Source>(
 }
 
 /// The row of a table that a cell of page `n` is, with its values in memory of their own.
-fn row_in(alloc: Global, table: &Table, cell: Cell<'_>, n: u32) -> Result<Row, Fault>
-    ensures row { IfOk result (λ row. IsRowOf table.now (cell_data cell.entry) row) }
-    ensures fault { IfErr result (λ e. (e ≡ Fault.NoMemory) ⊎ IsCellFault table.now n (cell_data cell.entry) e) }
+fn row_in<S: Source>(
+    alloc: Global,
+    pager: &mut Pager<S>,
+    table: &Table,
+    cell: &Cell<'_>,
+    n: u32,
+) -> Result<Row, Fault>
+    ensures row { IsTrue pager.old.state.source.steady
+        → IfOk result (λ row. IsRowOf (pages_seen pager.old.state) table.now (cell_data cell.now) row) }
+    ensures fault { IsTrue pager.old.state.source.steady
+        → IfErr result (λ e. (e ≡ Fault.ReadFailed) ⊎ (e ≡ Fault.NoMemory)
+        ⊎ IsCellFault (pages_seen pager.old.state) table.now n (cell_data cell.now) e) }
     ensures only { IfErr result IsRowFault }
+    ensures failures { Counts Fault.ReadFailed result pager.old.state.source.failures pager.new.state.source.failures }
+    ensures stays { Stays pager.old.state pager.new.state }
 {
-    let view = read_row(alloc, table, cell, n)?;
+    let bytes = payload_of(alloc, pager, cell, n)?;
+    let view = read_row(alloc, table, cell.rowid, bytes.as_slice(), n)?;
     let row = view.to_row(alloc)?;
     Ok(row)
 }
 
 /// The rows of a table that are the cells of a leaf, which is page `n`.
-fn leaf_rows(
+fn leaf_rows<S: Source>(
     alloc: Global,
+    pager: &mut Pager<S>,
     table: &Table,
     view: &PageView<'_>,
     most: u64,
@@ -67,16 +80,20 @@ fn leaf_rows(
 ) -> Result<Vec<Row>, Fault>
     requires kind { view.now.kind ≡ kind.Table }
     requires level { view.now.level ≡ Leaf }
-    ensures rows { IfOk result (λ rows. AreLeafRows table.now view.now.at most view.now.page rows.items) }
-    ensures fault { IfErr result (IsRowsFault table.now n view.now.at most view.now.page) }
+    ensures rows { IsTrue pager.old.state.source.steady
+        → IfOk result (λ rows. AreLeafRows (pages_seen pager.old.state) table.now view.now.at most view.now.page rows.items) }
+    ensures fault { IsTrue pager.old.state.source.steady
+        → IfErr result (IsRowsFault (pages_seen pager.old.state) table.now n view.now.at most view.now.page) }
     ensures only { IfErr result IsWalkFault }
+    ensures failures { Counts Fault.ReadFailed result pager.old.state.source.failures pager.new.state.source.failures }
+    ensures stays { Stays pager.old.state pager.new.state }
 {
     let mut rows = Vec::with_capacity(alloc, view.count() as usize)?;
     for i in 0..u32::from(view.count()) {
         let Some(cell) = view.row(most, i) else {
             return Err(Fault::BadPage(n));
         };
-        let row = row_in(alloc, table, cell, n)?;
+        let row = row_in(alloc, pager, table, &cell, n)?;
         rows.push(row)?;
     }
     Ok(rows)
@@ -97,7 +114,7 @@ pub(crate) fn read_schema<S: Source>(
     ensures checked { IsTrue pager.old.state.source.steady
         → OnOk result ((counts : TreeCounts) × IsCheckedTree (pages_seen pager.old.state) schema_table counts) }
     ensures fault { IsTrue pager.old.state.source.steady → IfErr result (HasCause (pages_seen pager.old.state)) }
-    ensures only { IfErr result IsWalkFault }
+    ensures only { IfErr result IsCheckFault }
     ensures failures { Counts Fault.ReadFailed result pager.old.state.source.failures pager.new.state.source.failures }
     ensures stays { Stays pager.old.state pager.new.state }
 {
@@ -111,6 +128,6 @@ pub(crate) fn read_schema<S: Source>(
         return Err(Fault::NotYet);
     }
     let most = header.pages as u64 * header.page_size as u64;
-    let rows = leaf_rows(alloc, schema, &view, most, SCHEMA_ROOT)?;
+    let rows = leaf_rows(alloc, pager, schema, &view, most, SCHEMA_ROOT)?;
     Ok(rows)
 }

@@ -87,6 +87,17 @@ fn is_uneven(i: u32, levels: u32, below: u32) -> bool
     i > 0 && below != levels
 }
 
+/// The counts of a page alone, with so many rows.
+fn counts_of_page(rows: u64) -> TreeCounts
+    ensures { result ≡ record { levels = 0; rows = rows; pages = 1 } }
+{
+    TreeCounts {
+        levels: 0,
+        rows,
+        pages: 1,
+    }
+}
+
 /// The counts of a page with so many of its children, and of one child more.
 fn join(counts: TreeCounts, below: TreeCounts) -> TreeCounts
     ensures levels { result.levels ≡ below.levels }
@@ -135,18 +146,10 @@ fn walk<S: Source>(
     let most = header.pages as u64 * header.page_size as u64;
     let level = read_head(&view, most, table, n, low, high)?;
     if level == Level::Leaf {
-        check_rows(alloc, table, &view, most, n)?;
-        return Ok(TreeCounts {
-            levels: 0,
-            rows: u64::from(view.count()),
-            pages: 1,
-        });
+        check_rows(alloc, pager, table, &view, most, n)?;
+        return Ok(counts_of_page(u64::from(view.count())));
     }
-    let mut counts = TreeCounts {
-        levels: 0,
-        rows: 0,
-        pages: 1,
-    };
+    let mut counts = counts_of_page(0);
     for i in 0..u32::from(view.count()) + 1 {
         let Some(child) = child_within(&view, i, header.pages) else {
             return Err(Fault::BadPage(n));
@@ -165,9 +168,9 @@ fn walk<S: Source>(
     })
 }
 
-/// Checks the tree of a table that has this root, and counts what it has. Its faults are `ReadFailed`, `NoMemory`, and the
-/// conditions of a tree that are broken: `BadPage` and `BadOrder` of a page, `BadDepth` of the root.
-/// (Database File Format, section 1.6 "B-tree Pages")
+/// Checks the tree of a table that has this root, with its rows, and counts what it has. Its faults are `ReadFailed`,
+/// `NoMemory`, and the conditions of a tree and of its cells that are broken. (Database File Format, section 1.6 "B-tree
+/// Pages")
 pub fn check_table<S: Source>(
     alloc: Global,
     pager: &mut Pager<S>,

@@ -1,22 +1,19 @@
--- The row of a cell, and the columns of it that are shown.
-use Rattle.std.proofs.Common.{◌≡◌, ◌∙◌, ◌+◌, ◌<◌, ℕ, List, [], ◌∷◌, ◌++◌, map, length, take, get_or, slice_get, Option, None, Some, MatchResult, IfSome, IfNone, sym, ap}
+-- The payload of a cell, and the columns of a row that are shown.
+use Rattle.std.proofs.Common.{◌≡◌, ◌∙◌, ◌⊎◌, ◌+◌, ◌<◌, ℕ, List, [], ◌∷◌, ◌++◌, map, length, take, get_or, slice_get, Option, None, Some, MatchResult, IfSome, IfNone, Global, sym, ap}
 use Rattle.std.proofs.lemmas.List.{map_push, take_more}
 use Rattle.std.proofs.lemmas.Option.{get_or_from_slice_get}
+use Rattle.std.specs.Cow.{cow_slice_items}
 use Rattle.std.specs.Option.{ok_or}
-use Rattle.values.specs.Datum.{Datum, null, datum_of_ref}
+use Rattle.std.specs.declared.borrow.CowSlice.{CowSlice}
+use Rattle.values.specs.Datum.{null, datum_of_ref}
 use Rattle.values.specs.declared.value.ValueRef.{ValueRef}
-use Rattle.values.specs.declared.fault.Fault.TheVariants.{Changed, NoMemory}
-use Rattle.image.specs.Cell.{CellData}
+use Rattle.values.specs.declared.fault.Fault.TheVariants.{Changed, NoMemory, ReadFailed}
+use Rattle.image.specs.Cell.{PayloadData}
+use Rattle.image.specs.Chain.{HasBytes}
+use Rattle.image.specs.Pages.{Pages}
+use Rattle.image.proofs.ChainLemmas.{one_payload}
 use Rattle.meaning.specs.Body.{Row, value_at}
-use Rattle.schema.specs.TableData.{TableData}
-use Rattle.integrity.specs.Stored.{IsRowFrom, IsRowOf, row_from}
 use Rattle.shell.specs.Stream.{shown}
-
--- a cell is one row at most
-pub one_row : (table : TableData) (cell : CellData) (row found : Row) (values : List Datum) (is : IsRowOf table cell row)
-    → values ≡ is.values → IsRowFrom table cell.rowid values found → found ≡ row
-one_row table cell row found values is same from =
-    from.row_is ∙ ap (row_from table.rowid cell.rowid) same ∙ sym is.makes.row_is
 
 -- one column more
 pub shown-more : (row : Row) (columns : List ℕ) (i : ℕ) (values : List ValueRef) (value : ValueRef) → i < length columns
@@ -29,10 +26,9 @@ shown-more row columns i values value within at before =
     ∙ sym (map_push (value_at row) (take i columns) (get_or columns i 0))
     ∙ sym (ap (map (value_at row)) (take_more columns i 0 within))
 
--- where a cell is a row, that is the row of its record
-pub row_found : (table : TableData) (cell : CellData) (row : Row) (values : List Datum) (is : IsRowOf table cell row) → values ≡ is.values
-    → (made : Option Row) → IfSome made (λ found. IsRowFrom table cell.rowid values found)
-    → IfNone made ((other : Row) → ¬ IsRowFrom table cell.rowid values other)
-    → MatchResult (ok_or made Changed) (λ found. found ≡ row) (λ e. e ≡ NoMemory)
-row_found table cell row values is same (Some found) from none = one_row table cell row found values is same from
-row_found table cell row values is same None from none = absurd (none row (rw same is.makes))
+-- a payload that has bytes is found, where nothing fails
+pub payload_found : (pages : Pages) (payload : PayloadData) (bytes : List ℕ) → HasBytes pages payload bytes → (found : Option (CowSlice ℕ Global))
+    → IfSome found (λ f. HasBytes pages payload (cow_slice_items f)) → IfNone found ((other : List ℕ) → ¬ HasBytes pages payload other)
+    → MatchResult (ok_or found Changed) (λ f. cow_slice_items f ≡ bytes) (λ e. (e ≡ ReadFailed) ⊎ (e ≡ NoMemory))
+payload_found pages payload bytes has (Some found) is none = one_payload pages payload (cow_slice_items found) bytes is has
+payload_found pages payload bytes has None is none = absurd (none bytes has)

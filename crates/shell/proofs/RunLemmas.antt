@@ -26,7 +26,7 @@ use Rattle.shell.specs.Answer.{Answers, Stops, scan_query}
 use Rattle.shell.specs.State.{IsReady, widths}
 use Rattle.shell.specs.Stream.{Streams, StreamsUntil, shown}
 
-some_one : {X : Type 0} (x y : X) → Some x ≡ Some y → x ≡ y
+pub some_one : {X : Type 0} (x y : X) → Some x ≡ Some y → x ≡ y
 some_one x y e = cc
 
 -- what holds of the items of two lists at each place

@@ -1,17 +1,18 @@
 -- Rows that are written one after another.
-use Rattle.std.proofs.Common.{◌≡◌, ◌≢◌, ◌∙◌, ◌⊎◌, inl, inr, ◌+◌, ◌-◌, ◌^◌, ◌<◌, ◌≤◌, min, arith, ℕ, suc, IsTrue, List, [], ◌∷◌, ◌++◌, drop, length, map, Option, None, Some, Result, Ok, Err, MatchResult, IfErr, refl, sym, ap, append-nil, append_assoc, subst}
+use Rattle.std.proofs.Common.{◌≡◌, ◌≢◌, ◌∙◌, ◌⊎◌, inl, inr, ◌+◌, ◌-◌, ◌^◌, ◌<◌, ◌≤◌, min, arith, ℕ, suc, IsTrue, All, List, [], ◌∷◌, ◌++◌, drop, length, map, Option, None, Some, Result, Ok, Err, MatchResult, IfErr, refl, sym, ap, append-nil, append_assoc, subst}
 use Rattle.std.proofs.lemmas.Grind.{common_steps}
 use Rattle.std.specs.List.{AllZip}
+use Rattle.std.proofs.lemmas.List.Elements.{All-head, All-tail}
 use Rattle.std.specs.Io.KnownBytes.{Appends}
 use Rattle.values.specs.Sink.{SinkFacts, Writes}
 use Rattle.values.specs.declared.fault.Fault.{Fault}
 use Rattle.values.specs.declared.fault.Fault.TheVariants.{Changed, NoMemory, ReadFailed, WriteFailed}
 use Rattle.values.proofs.SinkLemmas.{Appends-none, Appends-then}
-use Rattle.pager.specs.PagerState.{PagerState, Stays}
+use Rattle.pager.specs.PagerState.{IsChained, PagerState, Stays}
 use Rattle.pager.proofs.StaysLemmas.{Stays-trans}
 use Rattle.image.specs.Cell.{CellData}
 use Rattle.image.specs.Pages.{Pages, pages_in}
-use Rattle.image.specs.Tree.{Place}
+use Rattle.image.specs.Tree.{IsRowAt, Place}
 use Rattle.btree.specs.declared.cursor.Cursor.{Cursor}
 use Rattle.btree.specs.Listing.{IsAt, IsEntry}
 use Rattle.btree.specs.Rest.{pages_seen}
@@ -19,7 +20,7 @@ use Rattle.meaning.specs.Body.{Row}
 use Rattle.schema.specs.TableData.{TableData}
 use Rattle.integrity.specs.Stored.{IsRowOf, IsStored, StoresRow}
 use Rattle.explain.specs.Text.{row_text, rows_text}
-use Rattle.shell.specs.Stream.{Streams, StreamsUntil, cells_of, shown, size_of}
+use Rattle.shell.specs.Stream.{IsUnchained, Streams, StreamsUntil, cells_of, shown, size_of}
 use Rattle.image.proofs.CellLemmas.{one_cell}
 
 -- at another fault than that of a write nothing is written of the rows
@@ -32,6 +33,11 @@ nothing_given e columns rows old same other = record {
   prints = record { cut = λ is. absurd (other is); whole = λ _. Appends-none old.written };
   same_image = same;
 }
+
+pub failed_read : (e : Fault) (columns : List ℕ) (rows : List Row) (old : SinkFacts) → (e ≡ ReadFailed) ⊎ (e ≡ NoMemory)
+    → StreamsUntil e columns rows old old
+failed_read e columns rows old (inl is) = nothing_given e columns rows old (λ changed. cc) (λ failed. cc)
+failed_read e columns rows old (inr is) = nothing_given e columns rows old (λ changed. cc) (λ failed. cc)
 
 pub no_memory : (e : Fault) (columns : List ℕ) (rows : List Row) (old : SinkFacts) → e ≡ NoMemory → StreamsUntil e columns rows old old
 no_memory e columns rows old is = nothing_given e columns rows old (λ changed. cc) (λ failed. cc)
@@ -111,12 +117,17 @@ until_behind e columns given some more old mid new before until = record {
   same_image = until.same_image;
 }
 
--- Some of the rows are written and counted, and a cursor stands before the cells of the others.
-pub record Given (pages : Pages) (table : TableData) (columns : List ℕ) (rows : List Row) (cursor : Cursor) (asked budget n : ℕ) (old new : SinkFacts) : Type 0 where
+-- the cell at a place has no overflow page
+abbrev IsLocal : Pages → Place → Type 0
+IsLocal pages place = (cell : CellData) → IsRowAt pages place cell → cell.payload.overflow ≡ None
+
+-- Some of the rows of these cells are written and counted, and a cursor stands before the cells of the others.
+pub record Given (pages : Pages) (table : TableData) (columns : List ℕ) (rows : List Row) (all : List Place) (cursor : Cursor) (asked budget n : ℕ) (old new : SinkFacts) : Type 0 where
   pub given : List Row
   pub rest : List Row
   pub places : List Place
   pub whole : given ++ rest ≡ rows
+  pub local : All (IsLocal pages) all → All (IsLocal pages) places
   pub at : IsAt pages cursor places asked budget
   pub stored : AllZip (StoresRow pages table) places rest
   pub written : Appends old.written new.written (shown_text columns given)
@@ -126,7 +137,7 @@ pub record Given (pages : Pages) (table : TableData) (columns : List ℕ) (rows 
 record IsFirst (pages : Pages) (table : TableData) (cell : CellData) (rest : List Row) (others : List Place) : Type 0 where
   row : Row
   more : List Row
-  is : IsRowOf table cell row
+  is : IsRowOf pages table cell row
   rest_is : rest ≡ row ∷ more
   stored : AllZip (StoresRow pages table) others more
 
@@ -137,7 +148,7 @@ first_cell pages table cell (place ∷ places) [] stored entry = absurd stored
 first_cell pages table cell (place ∷ places) (row ∷ more) stored entry = record {
   row = row;
   more = more;
-  is = subst (λ (c : CellData). IsRowOf table c row) (one_cell pages place stored.0.cell cell stored.0.at entry) stored.0.is;
+  is = subst (λ (c : CellData). IsRowOf pages table c row) (one_cell pages place stored.0.cell cell stored.0.at entry) stored.0.is;
   rest_is = refl;
   stored = stored.1;
 }
@@ -148,8 +159,17 @@ no_cell pages table [] [] stored entry = refl
 no_cell pages table [] (row ∷ rest) stored entry = absurd stored
 no_cell pages table (place ∷ places) rest stored entry = absurd entry
 
-module _ (pages : Pages) (table : TableData) (columns : List ℕ) (rows : List Row) (cursor : Cursor) (asked budget n : ℕ) (old mid : SinkFacts)
-    (g : Given pages table columns rows cursor asked budget n old mid) where
+first_local : (pages : Pages) (cell : CellData) (places : List Place) → IsEntry pages places (Some cell) → All (IsLocal pages) places
+    → cell.payload.overflow ≡ None
+first_local pages cell [] entry all = absurd cc
+first_local pages cell (place ∷ places) entry all = All-head (IsLocal pages) place places all cell entry
+
+all_drop : (P : Place → Type 0) (places : List Place) → All P places → All P (drop 1 places)
+all_drop P [] all = all
+all_drop P (place ∷ places) all = All-tail P place places all
+
+module _ (pages : Pages) (table : TableData) (columns : List ℕ) (rows : List Row) (all : List Place) (cursor : Cursor) (asked budget n : ℕ) (old mid : SinkFacts)
+    (g : Given pages table columns rows all cursor asked budget n old mid) where
   -- a fault after the rows that are given
   until_given : (e : Fault) (rest : List Row) (new : SinkFacts) (first : List Row) → g.rest ≡ first ++ rest
       → StreamsUntil e columns first mid new → StreamsUntil e columns rows old new
@@ -159,21 +179,22 @@ module _ (pages : Pages) (table : TableData) (columns : List ℕ) (rows : List R
 
   Given-all : g.rest ≡ [] → Streams columns rows n old mid
   Given-all none =
-      let all : g.given ≡ rows = sym (append-nil g.given) ∙ ap (λ t. g.given ++ t) (sym none) ∙ g.whole in
+      let whole : g.given ≡ rows = sym (append-nil g.given) ∙ ap (λ t. g.given ++ t) (sym none) ∙ g.whole in
       record {
-        written = rw (← all) g.written;
-        counted_is = g.counted ∙ ap (λ k. min k (2 ^ 64 - 1)) (ap length all ∙ sym (length-shown columns rows));
+        written = rw (← whole) g.written;
+        counted_is = g.counted ∙ ap (λ k. min k (2 ^ 64 - 1)) (ap length whole ∙ sym (length-shown columns rows));
       }
 
   module _ (cell : CellData) (first : IsFirst pages table cell g.rest (drop 1 g.places)) where
     Given-next : (next : Cursor) (asked' n' : ℕ) (new : SinkFacts) → IsAt pages next (drop 1 g.places) asked' budget
         → Appends mid.written new.written (row_text (shown columns first.row)) → n' ≡ min (n + 1) (2 ^ 64 - 1)
-        → Given pages table columns rows next asked' budget n' old new
+        → Given pages table columns rows all next asked' budget n' old new
     Given-next next asked' n' new at written is = record {
       given = g.given ++ (first.row ∷ []);
       rest = first.more;
       places = drop 1 g.places;
       whole = append_assoc g.given (first.row ∷ []) first.more ∙ ap (λ t. g.given ++ t) (sym first.rest_is) ∙ g.whole;
+      local = λ every. all_drop (IsLocal pages) g.places (g.local every);
       at = at;
       stored = first.stored;
       written = rw (shown_text-push columns g.given first.row) (Appends-then _ _ _ _ _ g.written written);
@@ -201,17 +222,19 @@ pub record Streaming (start now : PagerState) (table : TableData) (columns : Lis
   pub reads : now.source.failures ≡ start.source.failures
   pub writes : new.failures ≡ old.failures
   pub rows : IsTrue start.source.steady → (levels : ℕ) (rows : List Row) → IsStored (pages_seen start) table levels rows → levels < 20
-      → Given (pages_seen start) table columns rows cursor now.asked (start.asked + size_of (pages_seen start) table levels) n old new
+      → Given (pages_seen start) table columns rows (cells_of (pages_seen start) table levels) cursor now.asked (start.asked + size_of (pages_seen start) table levels) n old new
+  pub unchained : IsTrue start.source.steady → (levels : ℕ) (rows : List Row) → IsStored (pages_seen start) table levels rows → levels < 20
+      → IsUnchained (pages_seen start) table levels → now.chained ≡ start.chained
 
 seen_same : (start now : PagerState) → Stays start now → pages_seen now ≡ pages_seen start
 seen_same start now stays = λ k. pages_in (stays.header k) (stays.bytes k)
 
 pub Streaming-start : (start now : PagerState) (table : TableData) (columns : List ℕ) (cursor : Cursor) (n : ℕ) (old : SinkFacts)
-    → Stays start now → now.source.failures ≡ start.source.failures
+    → Stays start now → now.source.failures ≡ start.source.failures → now.chained ≡ start.chained
     → (IsTrue start.source.steady → (levels : ℕ) (rows : List Row) → IsStored (pages_seen start) table levels rows → levels < 20
     → IsAt (pages_seen start) cursor (cells_of (pages_seen start) table levels) now.asked (start.asked + size_of (pages_seen start) table levels))
     → n ≡ 0 → Streaming start now table columns cursor n old old
-Streaming-start start now table columns cursor n old stays reads lists is = record {
+Streaming-start start now table columns cursor n old stays reads chained lists is = record {
   stays = stays;
   reads = reads;
   writes = refl;
@@ -220,16 +243,22 @@ Streaming-start start now table columns cursor n old stays reads lists is = reco
     rest = rows;
     places = cells_of (pages_seen start) table levels;
     whole = refl;
+    local = λ every. every;
     at = lists steady levels rows stored few;
     stored = stored.rows_are;
     written = Appends-none old.written;
     counted = omega arith;
   };
+  unchained = λ steady levels rows stored few local. chained;
 }
 
 -- what the cursor says of the cell that it stands at
 abbrev pub IsEntryOf : Cursor → Option CellData → Type 0
 IsEntryOf cursor cell = (pages : Pages) (places : List Place) (asked budget : ℕ) → IsAt pages cursor places asked budget → IsEntry pages places cell
+
+-- what is said of the cell that the cursor stands at, as these pages have it
+abbrev pub Says : PagerState → TableData → CellData → (Row → Type 0) → Type 0
+Says now table cell Then = IsTrue now.source.steady → (row : Row) → IsRowOf (pages_seen now) table cell row → Then row
 
 -- what a step says
 abbrev pub Steps : PagerState → Cursor → (List Place → ℕ → Type 0) → Type 0
@@ -243,15 +272,12 @@ module _ (start now : PagerState) (table : TableData) (columns : List ℕ) (curs
 
   module _ (steady : IsTrue start.source.steady) (levels : ℕ) (rows : List Row) (stored : IsStored (pages_seen start) table levels rows)
       (few : levels < 20) where
-    now_given : Given (pages_seen start) table columns rows cursor now.asked (start.asked + size_of (pages_seen start) table levels) n old mid
+    now_given : Given (pages_seen start) table columns rows (cells_of (pages_seen start) table levels) cursor now.asked (start.asked + size_of (pages_seen start) table levels) n old mid
     now_given = s.rows steady levels rows stored few
-
-    now_at : IsAt (pages_seen now) cursor now_given.places now.asked (start.asked + size_of (pages_seen start) table levels)
-    now_at = rw (seen_same start now s.stays) now_given.at
 
     pub Streaming-done : IsEntryOf cursor None → Streams columns rows n old mid
     Streaming-done entry =
-        Given-all _ _ _ _ _ _ _ _ _ _ now_given
+        Given-all _ _ _ _ _ _ _ _ _ _ _ now_given
         (no_cell (pages_seen start) table now_given.places now_given.rest now_given.stored (entry _ _ _ _ now_given.at))
 
     pub asked_most : now.asked ≤ start.asked + size_of (pages_seen start) table levels
@@ -261,33 +287,65 @@ module _ (start now : PagerState) (table : TableData) (columns : List ℕ) (curs
         → IsFirst (pages_seen start) table cell now_given.rest (drop 1 now_given.places)
     now_first cell entry = first_cell (pages_seen start) table cell now_given.places now_given.rest now_given.stored (entry _ _ _ _ now_given.at)
 
+    -- what was said of the cell
+    said : (cell : CellData) (Then : Row → Type 0) → Says now table cell Then → (entry : IsEntryOf cursor (Some cell)) → Then (now_first cell entry).row
+    said cell Then says entry =
+        says (is_steady steady) (now_first cell entry).row
+        (subst (λ (p : Pages). IsRowOf p table cell (now_first cell entry).row) (sym (seen_same start now s.stays)) (now_first cell entry).is)
+
     pub Streaming-cut : (cell : CellData) (e : Fault) (new : SinkFacts) → IsEntryOf cursor (Some cell)
-        → ((row : Row) → IsRowOf table cell row → StreamsUntil e columns (row ∷ []) mid new)
+        → Says now table cell (λ row. StreamsUntil e columns (row ∷ []) mid new)
         → StreamsUntil e columns rows old new
     Streaming-cut cell e new entry written =
         let first = now_first cell entry in
-        until_given _ _ _ _ _ _ _ _ _ _ now_given e first.more new (first.row ∷ []) first.rest_is (written first.row first.is)
+        until_given _ _ _ _ _ _ _ _ _ _ _ now_given e first.more new (first.row ∷ []) first.rest_is
+        (said cell (λ row. StreamsUntil e columns (row ∷ []) mid new) written entry)
 
-    pub Streaming-stopped : (cell : CellData) (e : Fault) (new : SinkFacts) → IsEntryOf cursor (Some cell)
-        → ((row : Row) → IsRowOf table cell row → Appends mid.written new.written (row_text (shown columns row)))
-        → Steps now cursor (λ _ _. e ≢ Changed) → e ≢ WriteFailed → StreamsUntil e columns rows old new
-    Streaming-stopped cell e new entry written sound other =
+    -- the cursor stands where it stood, once overflow pages were read
+    still_at : (wrote : PagerState) → IsChained now wrote
+        → IsAt (pages_seen wrote) cursor now_given.places wrote.asked (start.asked + size_of (pages_seen start) table levels)
+    still_at wrote chained =
+        subst (λ (a : ℕ). IsAt (pages_seen wrote) cursor now_given.places a (start.asked + size_of (pages_seen start) table levels)) (sym chained.asked)
+        (subst (λ (p : Pages). IsAt p cursor now_given.places now.asked (start.asked + size_of (pages_seen start) table levels))
+        (sym (seen_same start wrote (Stays-trans start now wrote s.stays chained.stays))) now_given.at)
+
+    wrote_steady : (wrote : PagerState) → IsChained now wrote → IsTrue wrote.source.steady
+    wrote_steady wrote chained = rw chained.stays.steady (is_steady steady)
+
+    pub Streaming-stopped : (wrote : PagerState) (cell : CellData) (e : Fault) (new : SinkFacts) → IsEntryOf cursor (Some cell) → IsChained now wrote
+        → Says now table cell (λ row. Appends mid.written new.written (row_text (shown columns row)))
+        → Steps wrote cursor (λ _ _. e ≢ Changed) → e ≢ WriteFailed → StreamsUntil e columns rows old new
+    Streaming-stopped wrote cell e new entry chained written sound other =
         let first = now_first cell entry in
-        until_next _ _ _ _ _ _ _ _ _ _ now_given cell first e new (written first.row first.is)
-        (sound (is_steady steady) now_given.places _ now_at) other
+        until_next _ _ _ _ _ _ _ _ _ _ _ now_given cell first e new
+        (said cell (λ row. Appends mid.written new.written (row_text (shown columns row))) written entry)
+        (sound (wrote_steady wrote chained) now_given.places _ (still_at wrote chained)) other
 
-  pub Streaming-next : (then : PagerState) (cell : CellData) (next : Cursor) (n' : ℕ) (new : SinkFacts) → IsEntryOf cursor (Some cell)
-      → ((row : Row) → IsRowOf table cell row → Appends mid.written new.written (row_text (shown columns row)))
-      → Steps now cursor (λ places budget. IsAt (pages_seen now) next (drop 1 places) then.asked budget)
-      → Stays now then → then.source.failures ≡ now.source.failures → new.failures ≡ mid.failures → n' ≡ min (n + 1) (2 ^ 64 - 1)
+    now_local : (cell : CellData) → IsEntryOf cursor (Some cell) → IsUnchained (pages_seen start) table levels → cell.payload.overflow ≡ None
+    now_local cell entry every =
+        first_local (pages_seen start) cell now_given.places (entry _ _ _ _ now_given.at) (now_given.local every)
+
+  pub Streaming-next : (wrote then : PagerState) (cell : CellData) (next : Cursor) (n' : ℕ) (new : SinkFacts) → IsEntryOf cursor (Some cell)
+      → IsChained now wrote → wrote.source.failures ≡ now.source.failures → (cell.payload.overflow ≡ None → wrote ≡ now)
+      → Says now table cell (λ row. Appends mid.written new.written (row_text (shown columns row)))
+      → Steps wrote cursor (λ places budget. IsAt (pages_seen wrote) next (drop 1 places) then.asked budget)
+      → Stays wrote then → then.source.failures ≡ wrote.source.failures → then.chained ≡ wrote.chained → new.failures ≡ mid.failures
+      → n' ≡ min (n + 1) (2 ^ 64 - 1)
       → Streaming start then table columns next n' old new
-  Streaming-next then cell next n' new entry written lists stays reads writes is = record {
-    stays = Stays-trans start now then s.stays stays;
-    reads = reads ∙ s.reads;
+  Streaming-next wrote then cell next n' new entry chained kept unread written lists stays reads no_chain writes is = record {
+    stays = Stays-trans start wrote then (Stays-trans start now wrote s.stays chained.stays) stays;
+    reads = reads ∙ kept ∙ s.reads;
     writes = writes ∙ s.writes;
     rows = λ steady levels rows stored few.
         let first = now_first steady levels rows stored few cell entry in
-        let stands = rw (seen_same start now s.stays) at (lists (is_steady steady) _ _ (now_at steady levels rows stored few)) in
-        Given-next _ _ _ _ _ _ _ _ _ _ (now_given steady levels rows stored few) cell first next then.asked n' new stands
-        (written first.row first.is) is;
+        let here = now_given steady levels rows stored few in
+        let budget = start.asked + size_of (pages_seen start) table levels in
+        let stands : IsAt (pages_seen start) next (drop 1 here.places) then.asked budget =
+        subst (λ (p : Pages). IsAt p next (drop 1 here.places) then.asked budget) (seen_same start wrote (Stays-trans start now wrote s.stays chained.stays))
+        (lists (wrote_steady steady levels rows stored few wrote chained) here.places budget (still_at steady levels rows stored few wrote chained)) in
+        Given-next _ _ _ _ _ _ _ _ _ _ _ here cell first next then.asked n' new stands
+        (said steady levels rows stored few cell (λ row. Appends mid.written new.written (row_text (shown columns row))) written entry) is;
+    unchained = λ steady levels rows stored few every.
+        no_chain ∙ ap (λ (p : PagerState). p.chained) (unread (now_local steady levels rows stored few cell entry every))
+        ∙ s.unchained steady levels rows stored few every;
   }

@@ -1,12 +1,13 @@
 -- What a scan of a table's rows has written.
-use Rattle.std.specs.Prelude.{◌≡◌, ◌≢◌, ℕ, List, ◌++◌, map}
+use Rattle.std.specs.Prelude.{◌≡◌, ◌≢◌, ℕ, All, List, ◌++◌, map, None}
 use Rattle.values.specs.Sink.{SinkFacts}
 use Rattle.values.specs.declared.fault.Fault.{Fault}
 use Rattle.values.specs.declared.fault.Fault.TheVariants.{Changed}
 use Rattle.image.specs.declared.kind.TreeKind.TheVariants.{Table}
 use Rattle.image.specs.Pages.{Pages}
 use Rattle.image.specs.Shape.{places_under, size_under}
-use Rattle.image.specs.Tree.{Place}
+use Rattle.image.specs.Cell.{CellData}
+use Rattle.image.specs.Tree.{Place, IsRowAt}
 use Rattle.schema.specs.TableData.{TableData}
 use Rattle.meaning.specs.Body.{Row, value_at}
 use Rattle.shell.specs.Printed.{Prints, PrintsUntil}
@@ -33,3 +34,8 @@ cells_of pages table levels = places_under pages Table levels table.root
 
 abbrev pub size_of : Pages → TableData → ℕ → ℕ
 size_of pages table levels = size_under pages levels table.root
+
+-- no cell of the table has an overflow page
+abbrev pub IsUnchained : Pages → TableData → ℕ → Type 0
+IsUnchained pages table levels =
+    All (λ place. (cell : CellData) → IsRowAt pages place cell → cell.payload.overflow ≡ None) (cells_of pages table levels)

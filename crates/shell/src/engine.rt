@@ -18,7 +18,7 @@ ghost use Rattle.schema.specs.TableData.{TableData};
 ghost use Rattle.integrity.specs.Stored.{IsStored};
 ghost use Rattle.shell.specs.Answer.{Answers, Stops};
 ghost use Rattle.shell.specs.State.{IsPreparedFor, IsReady, Keeps};
-ghost use Rattle.shell.specs.Stream.{size_of};
+ghost use Rattle.shell.specs.Stream.{IsUnchained, size_of};
 
 use crate::query::run_query;
 use crate::{Prepared, Report};
@@ -127,6 +127,10 @@ impl<S: Source> Engine<S> {
             → prepared.now.query.source ≡ table place → slice_get self.old.tables place ≡ Some stored
             → IsStored (pages_of self.old.pager.source.bytes) stored levels rows → levels < 20
             → IfOk result (λ report. report.asked ≤ size_of (pages_of self.old.pager.source.bytes) stored levels) }
+        ensures unchained { IsTrue self.old.pager.source.steady → (place : ℕ) (stored : TableData) (levels : ℕ) (rows : List Row)
+            → prepared.now.query.source ≡ table place → slice_get self.old.tables place ≡ Some stored
+            → IsStored (pages_of self.old.pager.source.bytes) stored levels rows → levels < 20
+            → IsUnchained (pages_of self.old.pager.source.bytes) stored levels → IfOk result (λ report. report.chained ≡ 0) }
         ensures only { IfErr result (λ e. (e ≡ Fault.ReadFailed) ⊎ (e ≡ Fault.NoMemory) ⊎ (e ≡ Fault.Changed) ⊎ (e ≡ Fault.WriteFailed)) }
         ensures reads { Counts Fault.ReadFailed result self.old.pager.source.failures self.new.pager.source.failures }
         ensures writes { Counts Fault.WriteFailed result (W.facts out.old).failures (W.facts out.new).failures }

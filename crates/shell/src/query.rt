@@ -9,7 +9,7 @@ ghost use Rattle.schema.specs.TableData.{TableData};
 ghost use Rattle.integrity.specs.Stored.{IsStored};
 ghost use Rattle.shell.specs.Answer.{Answers, Stops, scan_query};
 ghost use Rattle.shell.specs.State.{IsReady, widths};
-ghost use Rattle.shell.specs.Stream.{size_of};
+ghost use Rattle.shell.specs.Stream.{IsUnchained, size_of};
 
 use crate::stream::write_rows;
 use pager::{Pager, Source};
@@ -58,6 +58,9 @@ pub(crate) fn run_query<S: Source, W: Sink>(
     ensures pages { IsTrue pager.old.state.source.steady → (table : TableData) (levels : ℕ) (rows : List Row)
         → slice_get tables.now source ≡ Some table → IsStored (pages_of pager.old.state.source.bytes) table levels rows → levels < 20
         → IfOk result (λ report. report.asked ≤ size_of (pages_of pager.old.state.source.bytes) table levels) }
+    ensures unchained { IsTrue pager.old.state.source.steady → (table : TableData) (levels : ℕ) (rows : List Row)
+        → slice_get tables.now source ≡ Some table → IsStored (pages_of pager.old.state.source.bytes) table levels rows → levels < 20
+        → IsUnchained (pages_of pager.old.state.source.bytes) table levels → IfOk result (λ report. report.chained ≡ 0) }
     ensures only { IfErr result (λ e. (e ≡ Fault.ReadFailed) ⊎ (e ≡ Fault.NoMemory) ⊎ (e ≡ Fault.Changed) ⊎ (e ≡ Fault.WriteFailed)) }
     ensures reads { Counts Fault.ReadFailed result pager.old.state.source.failures pager.new.state.source.failures }
     ensures writes { Counts Fault.WriteFailed result (W.facts out.old).failures (W.facts out.new).failures }

@@ -1,27 +1,30 @@
 //! The rows of a table, written one by one as they are read.
-ghost use Rattle.std.specs.Prelude.{◌≡◌, ◌≢◌, ◌⊎◌, ◌+◌, ◌<◌, ◌≤◌, ◌∷◌, [], drop, ℕ, All, IfErr, IfOk, IsTrue, List, MatchResult, length, map};
+ghost use Rattle.std.specs.Prelude.{◌≡◌, ◌≢◌, ◌⊎◌, ◌+◌, ◌<◌, ◌≤◌, ◌∷◌, [], drop, ℕ, All, IfErr, IfOk, IsTrue, List, MatchResult, None, length, map};
 ghost use Rattle.std.specs.Io.KnownBytes.{Appends};
 ghost use Rattle.values.specs.Datum.{datum_of_ref};
 ghost use Rattle.values.specs.Fault.{Counts};
-ghost use Rattle.pager.specs.PagerState.{IsPageNumber, Stays};
+ghost use Rattle.std.specs.Cow.{cow_slice_items};
+ghost use Rattle.pager.specs.PagerState.{IsChained, IsPageNumber, Stays};
+ghost use Rattle.image.specs.Chain.{HasBytes};
 ghost use Rattle.image.specs.Tree.{Place};
 ghost use Rattle.btree.specs.Left.{steps_left};
 ghost use Rattle.btree.specs.Listing.{IsAt};
 ghost use Rattle.btree.specs.Rest.{pages_seen};
-ghost use Rattle.btree.specs.Views.{cell_data};
+ghost use Rattle.btree.specs.Views.{cell_data, payload_data};
 ghost use Rattle.meaning.specs.Body.{Row};
 ghost use Rattle.explain.specs.Text.{row_text};
-ghost use Rattle.integrity.specs.Stored.{IsRowOf, IsStored};
-ghost use Rattle.shell.specs.Stream.{Streams, StreamsUntil, cells_of, shown, size_of};
+ghost use Rattle.integrity.specs.Stored.{IsRowOf, IsRowRecord, IsStored};
+ghost use Rattle.shell.specs.Stream.{IsUnchained, Streams, StreamsUntil, cells_of, shown, size_of};
 
-use btree::{Cell, Cursor};
+use btree::{Cell, Cursor, payload};
 use explain::row_text;
 use integrity::RowView;
 use pager::{Pager, Source};
-use records::{RecordFault, RecordView};
+use records::RecordFault;
 use schema::Table;
 use smallvec::SmallVec;
 use std::alloc::Global;
+use std::borrow::CowSlice;
 use values::{Fault, Sink, ValueRef};
 
 /// A record's fault, as a run answers it: a record that was sound and is not has changed.
@@ -35,21 +38,39 @@ fn record_fault(fault: RecordFault) -> Fault
     }
 }
 
-/// The row of a table that a cell is. Its faults are `NoMemory`, and `Changed` where the cell is none.
-fn row_of<'p>(alloc: Global, table: &Table, cell: &Cell<'p>) -> Result<RowView<'p>, Fault>
-    ensures found { (row : Row) → IsRowOf table.now (cell_data cell.now) row
+/// The payload of a cell. Its faults are `ReadFailed`, `NoMemory`, and `Changed` where its overflow pages are no chain.
+fn payload_of<'p, S: Source>(
+    alloc: Global,
+    pager: &mut Pager<S>,
+    cell: &Cell<'p>,
+) -> Result<CowSlice<'p, u8>, Fault>
+    ensures bytes { IsTrue pager.old.state.source.steady → (bytes : List ℕ)
+        → HasBytes (pages_seen pager.old.state) (payload_data cell.now.payload) bytes
+        → MatchResult result (λ found. cow_slice_items found ≡ bytes) (λ e. (e ≡ Fault.ReadFailed) ⊎ (e ≡ Fault.NoMemory)) }
+    ensures only { IfErr result (λ e. (e ≡ Fault.ReadFailed) ⊎ (e ≡ Fault.NoMemory) ⊎ (e ≡ Fault.Changed)) }
+    ensures reads { Counts Fault.ReadFailed result pager.old.state.source.failures pager.new.state.source.failures }
+    ensures unread { cell.now.payload.overflow ≡ None → pager.new.state ≡ pager.old.state }
+    ensures chained { IsChained pager.old.state pager.new.state }
+{
+    payload(alloc, pager, cell)?.ok_or(Fault::Changed)
+}
+
+/// The row of a table that the bytes of a payload are. Its faults are `NoMemory`, and `Changed` where they are none.
+fn row_of<'p>(
+    alloc: Global,
+    table: &Table,
+    rowid: Option<i64>,
+    payload: &'p [u8],
+) -> Result<RowView<'p>, Fault>
+    ensures found { (row : Row) → IsRowRecord table.now rowid payload.now row
         → MatchResult result (λ found. found ≡ row) (λ e. e ≡ Fault.NoMemory) }
     ensures wide { IfOk result (λ row. length row ≡ length table.now.columns) }
     ensures only { IfErr result (λ e. (e ≡ Fault.NoMemory) ⊎ (e ≡ Fault.Changed)) }
 {
-    if cell.payload.overflow.is_some() {
-        return Err(Fault::Changed);
+    match RowView::read(alloc, table, rowid, payload) {
+        Ok(row) => Ok(row),
+        Err(fault) => Err(record_fault(fault)),
     }
-    let fields = match RecordView::read(alloc, cell.payload.local) {
-        Ok(fields) => fields,
-        Err(fault) => return Err(record_fault(fault)),
-    };
-    RowView::new(table, cell.rowid, fields).ok_or(Fault::Changed)
 }
 
 /// The values of these columns.
@@ -70,22 +91,28 @@ fn shown_values<'p>(
 }
 
 /// Writes these columns of the row that a cell is.
-fn write_cell<W: Sink>(
+fn write_cell<S: Source, W: Sink>(
     alloc: Global,
+    pager: &mut Pager<S>,
     table: &Table,
     cell: &Cell<'_>,
     columns: &[usize],
     out: &mut W,
 ) -> Result<(), Fault>
     requires { All (λ at. at < length table.now.columns) columns.now }
-    ensures rows { (row : Row) → IsRowOf table.now (cell_data cell.now) row
+    ensures rows { IsTrue pager.old.state.source.steady → (row : Row)
+        → IsRowOf (pages_seen pager.old.state) table.now (cell_data cell.now) row
         → MatchResult result
         (λ _. Appends (W.facts out.old).written (W.facts out.new).written (row_text (shown columns.now row)))
         (λ e. StreamsUntil e columns.now (row ∷ []) (W.facts out.old) (W.facts out.new)) }
-    ensures only { IfErr result (λ e. (e ≡ Fault.NoMemory) ⊎ (e ≡ Fault.Changed) ⊎ (e ≡ Fault.WriteFailed)) }
+    ensures only { IfErr result (λ e. (e ≡ Fault.ReadFailed) ⊎ (e ≡ Fault.NoMemory) ⊎ (e ≡ Fault.Changed) ⊎ (e ≡ Fault.WriteFailed)) }
+    ensures reads { Counts Fault.ReadFailed result pager.old.state.source.failures pager.new.state.source.failures }
     ensures writes { Counts Fault.WriteFailed result (W.facts out.old).failures (W.facts out.new).failures }
+    ensures unread { cell.now.payload.overflow ≡ None → pager.new.state ≡ pager.old.state }
+    ensures chained { IsChained pager.old.state pager.new.state }
 {
-    let row = row_of(alloc, table, cell)?;
+    let bytes = payload_of(alloc, pager, cell)?;
+    let row = row_of(alloc, table, cell.rowid, bytes.as_slice())?;
     let values = shown_values(alloc, &row, columns)?;
     row_text(values.as_slice(), out)
 }
@@ -114,6 +141,7 @@ fn first_row<S: Source>(alloc: Global, pager: &mut Pager<S>, table: &Table) -> R
         (λ e. e ≢ Fault.Changed) }
     ensures only { IfErr result (λ e. (e ≡ Fault.ReadFailed) ⊎ (e ≡ Fault.NoMemory) ⊎ (e ≡ Fault.Changed)) }
     ensures reads { Counts Fault.ReadFailed result pager.old.state.source.failures pager.new.state.source.failures }
+    ensures unchained { pager.new.state.chained ≡ pager.old.state.chained }
     ensures stays { Stays pager.old.state pager.new.state }
 {
     match Cursor::first(alloc, pager, table.root()) {
@@ -132,6 +160,7 @@ fn next_row<S: Source>(cursor: &mut Cursor, pager: &mut Pager<S>) -> Result<(), 
     ensures left { IfOk result (λ _. 0 < steps_left cursor.old → steps_left cursor.new < steps_left cursor.old) }
     ensures only { IfErr result (λ e. (e ≡ Fault.ReadFailed) ⊎ (e ≡ Fault.NoMemory) ⊎ (e ≡ Fault.Changed)) }
     ensures reads { Counts Fault.ReadFailed result pager.old.state.source.failures pager.new.state.source.failures }
+    ensures unchained { pager.new.state.chained ≡ pager.old.state.chained }
     ensures stays { Stays pager.old.state pager.new.state }
 {
     if let Err(fault) = cursor.next(pager) {
@@ -158,6 +187,10 @@ pub(crate) fn write_rows<S: Source, W: Sink>(
     ensures pages { IsTrue pager.old.state.source.steady → (levels : ℕ) (rows : List Row)
         → IsStored (pages_seen pager.old.state) table.now levels rows → levels < 20
         → IfOk result (λ _. pager.new.state.asked ≤ pager.old.state.asked + size_of (pages_seen pager.old.state) table.now levels) }
+    ensures unchained { IsTrue pager.old.state.source.steady → (levels : ℕ) (rows : List Row)
+        → IsStored (pages_seen pager.old.state) table.now levels rows → levels < 20
+        → IsUnchained (pages_seen pager.old.state) table.now levels
+        → IfOk result (λ _. pager.new.state.chained ≡ pager.old.state.chained) }
     ensures only { IfErr result (λ e. (e ≡ Fault.ReadFailed) ⊎ (e ≡ Fault.NoMemory) ⊎ (e ≡ Fault.Changed) ⊎ (e ≡ Fault.WriteFailed)) }
     ensures reads { Counts Fault.ReadFailed result pager.old.state.source.failures pager.new.state.source.failures }
     ensures writes { Counts Fault.WriteFailed result (W.facts out.old).failures (W.facts out.new).failures }
@@ -166,7 +199,7 @@ pub(crate) fn write_rows<S: Source, W: Sink>(
     let mut cursor = first_row(alloc, pager, table)?;
     let mut count = 0u64;
     while let Some(cell) = cursor.entry() {
-        write_cell(alloc, table, &cell, columns, out)?;
+        write_cell(alloc, pager, table, &cell, columns, out)?;
         next_row(&mut cursor, pager)?;
         count = count.saturating_add(1);
     }

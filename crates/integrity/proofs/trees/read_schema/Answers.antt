@@ -2,12 +2,14 @@ use Rattle.std.proofs.Common.{◌≡◌, ℕ, List, None, ◌*◌, refl, rules, 
 use Rattle.std.proofs.lemmas.Result.{err_from_is_err_and}
 use Rattle.pager.specs.Page.{page_of}
 use Rattle.pager.specs.declared.header.Header.{Header}
+use Rattle.pager.proofs.StaysLemmas.{Stays-trans}
+use Rattle.image.specs.Pages.{Pages}
 use Rattle.image.specs.declared.kind.TreeKind.TheVariants.{Table}
 use Rattle.image.specs.declared.kind.Level.{Level}
 use Rattle.image.specs.declared.kind.Level.TheVariants.{Leaf, Interior}
 use Rattle.btree.specs.Bytes.{HasHeaderAt}
 use Rattle.btree.specs.Rest.{pages_seen}
-use Rattle.btree.proofs.SeenLemmas.{still_steady}
+use Rattle.btree.proofs.SeenLemmas.{same_pages, still_steady}
 use Rattle.schema.specs.TableData.{TableData, schema_table}
 use Rattle.integrity.specs.Checked.{IsCheckedTree, schema}
 use Rattle.integrity.specs.RowFaults.{AreLeafRows, IsBrokenTable, IsRowsFault}
@@ -58,6 +60,7 @@ returns-then-eq-clause-fault g c = λ steady.
 pub returns-in_err-rows-clause-fault : goal.returns-in_err-rows-clause-fault
 returns-in_err-rows-clause-fault g c = λ steady.
     let stays = c.check_table.ensures.stays in
+    let read = Stays-trans _ _ _ stays c.page.ensures.used.stays in
     let told = c.in_ok-page.ensures in
     let page = subst (λ (b : List ℕ). c.in_ok-page.page ≡ page_of b 1) stays.bytes (told.page (still_steady _ _ stays steady)) in
     let long = told.long ∙ ap (λ (h : Header). h.page_size) stays.header in
@@ -75,11 +78,14 @@ returns-in_err-rows-clause-fault g c = λ steady.
     let p = err_from_is_err_and c.from_residual-in_err-rows.result c.from_residual-in_err-rows.ensures.1 in
     rw (p.1, p.2)
     (rows_cause (pages_seen c.args.pager.now.state) _ _ _ seen _ tree leaf _
-    (subst (λ (t : TableData). IsRowsFault t 1 c.in-Some.view.at (c.header-header.result.pages * c.header-header.result.page_size) c.in-Some.view.page c.in_err-rows.field-0.0) c.requires c.in_err-rows.ensures.fault))
+    (subst (λ (q : Pages). IsRowsFault q schema_table 1 c.in-Some.view.at (c.header-header.result.pages * c.header-header.result.page_size) c.in-Some.view.page c.in_err-rows.field-0.0) (same_pages _ _ read)
+    (subst (λ (t : TableData). IsRowsFault (pages_seen c.page.new.self.state) t 1 c.in-Some.view.at (c.header-header.result.pages * c.header-header.result.page_size) c.in-Some.view.page c.in_err-rows.field-0.0) c.requires
+    (c.in_err-rows.ensures.fault (still_steady _ _ read steady)))))
 
 pub returns-clause-rows : goal.returns-clause-rows
 returns-clause-rows g c = λ steady.
     let stays = c.check_table.ensures.stays in
+    let read = Stays-trans _ _ _ stays c.page.ensures.used.stays in
     let told = c.in_ok-page.ensures in
     let page = subst (λ (b : List ℕ). c.in_ok-page.page ≡ page_of b 1) stays.bytes (told.page (still_steady _ _ stays steady)) in
     let long = told.long ∙ ap (λ (h : Header). h.page_size) stays.header in
@@ -95,7 +101,9 @@ returns-clause-rows g c = λ steady.
     let level : c.in-Some.view.level ≡ Leaf = not_interior c.in-Some.view.level (search rules) in
     let leaf = subst (λ (l : Level). HasHeaderAt c.in-Some.view.at Table l c.in-Some.view.page) level header in
     schema_rows (pages_seen c.args.pager.now.state) _ _ _ seen _ tree leaf c.in_ok-rows.rows.items
-    (subst (λ (t : TableData). AreLeafRows t c.in-Some.view.at (c.header-header.result.pages * c.header-header.result.page_size) c.in-Some.view.page c.in_ok-rows.rows.items) c.requires c.in_ok-rows.ensures.rows)
+    (subst (λ (q : Pages). AreLeafRows q schema_table c.in-Some.view.at (c.header-header.result.pages * c.header-header.result.page_size) c.in-Some.view.page c.in_ok-rows.rows.items) (same_pages _ _ read)
+    (subst (λ (t : TableData). AreLeafRows (pages_seen c.page.new.self.state) t c.in-Some.view.at (c.header-header.result.pages * c.header-header.result.page_size) c.in-Some.view.page c.in_ok-rows.rows.items) c.requires
+    (c.in_ok-rows.ensures.rows (still_steady _ _ read steady))))
 
 pub returns-clause-checked : goal.returns-clause-checked
 returns-clause-checked g c = λ steady.

@@ -11,7 +11,9 @@ use Rattle.image.specs.declared.kind.TreeKind.TheVariants.{Table}
 use Rattle.image.specs.Broken.{IsBroken}
 use Rattle.image.specs.Shape.{places_under}
 use Rattle.values.specs.declared.fault.Fault.TheVariants.{BadDepth}
+use Rattle.integrity.specs.declared.walk.TreeCounts.{TreeCounts}
 use Rattle.integrity.specs.Keys.{HasCells}
+use Rattle.integrity.specs.RowFaults.{AreRowsIn, IsLeafFault}
 use Rattle.integrity.specs.Stored.{HoldsRow}
 use Rattle.integrity.proofs.HeldLemmas.{held_leaf, held_more, held_under, leaf_fault}
 use Rattle.integrity.proofs.WalkLemmas.{see, seen_child}
@@ -38,15 +40,17 @@ returns-in_err-level-clause-fault g t c = λ steady.
 pub returns-then-eq-clause-tree : goal.returns-then-eq-clause-tree
 returns-then-eq-clause-tree g t c = λ steady.
     let leaf : c.in-Some.view.level ≡ Leaf = sym c.in_ok-level.ensures.level ∙ search rules in
-    leaf_tree c.args.pager.now.state c.header-header.result c.header-header.ensures.value c.header-header.ensures.sound c.args.n c.in_ok-page.page
+    subst (λ (counts : TreeCounts). IsTree (pages_seen c.args.pager.now.state) c.args.table.now.root counts.levels c.args.low c.args.high c.args.n) (sym c.counts_of_page.ensures)
+    (leaf_tree c.args.pager.now.state c.header-header.result c.header-header.ensures.value c.header-header.ensures.sound c.args.n c.in_ok-page.page
     (c.in_ok-page.ensures.page steady) c.in_ok-page.ensures.long c.args.table.now.root c.args.depth c.args.low c.args.high (c.requires.met steady)
-    c.in-Some.view c.in-Some.ensures.found c.in-Some.ensures.header c.in_ok-level.ensures.head leaf
+    c.in-Some.view c.in-Some.ensures.found c.in-Some.ensures.header c.in_ok-level.ensures.head leaf)
 
 pub returns-then-eq-clause-counts : goal.returns-then-eq-clause-counts
 returns-then-eq-clause-counts g t c = λ steady.
-    leaf_counts c.args.pager.now.state c.header-header.result c.header-header.ensures.value c.header-header.ensures.sound c.args.n c.in_ok-page.page
+    subst (λ (counts : TreeCounts). AreCounts (pages_seen c.args.pager.now.state) counts.levels c.args.n counts.rows counts.pages) (sym c.counts_of_page.ensures)
+    (leaf_counts c.args.pager.now.state c.header-header.result c.header-header.ensures.value c.header-header.ensures.sound c.args.n c.in_ok-page.page
     (c.in_ok-page.ensures.page steady) c.in_ok-page.ensures.long c.args.table.now.root c.args.depth c.args.low c.args.high (c.requires.met steady)
-    c.in-Some.view c.in-Some.ensures.found c.in-Some.ensures.header c.from.result (search rules) (search rules)
+    c.in-Some.view c.in-Some.ensures.found c.in-Some.ensures.header c.from.result (search rules) (search rules))
 
 pub returns-in_default-child_within-clause-fault : goal.returns-in_default-child_within-clause-fault
 returns-in_default-child_within-clause-fault g t c = λ steady.
@@ -199,6 +203,7 @@ check_rows-requires-clause-cells g t c =
 
 pub returns-in_err-check_rows-clause-fault : goal.returns-in_err-check_rows-clause-fault
 returns-in_err-check_rows-clause-fault g t c = λ steady.
+    let read = c.page.ensures.used.stays in
     let leaf : c.in-Some.view.level ≡ Leaf = sym c.in_ok-level.ensures.level ∙ search rules in
     let met = c.requires.met steady in
     let seen = see c.args.pager.now.state c.header-header.result c.header-header.ensures.value c.header-header.ensures.sound c.args.n c.in_ok-page.page
@@ -209,15 +214,21 @@ returns-in_err-check_rows-clause-fault g t c = λ steady.
     c.in-Some.view c.in-Some.ensures.found c.in-Some.ensures.header c.in_ok-level.ensures.head leaf in
     let p = err_from_is_err_and c.from_residual-in_err-check_rows.result c.from_residual-in_err-check_rows.ensures.1 in
     rw (p.1, p.2)
-    (inr (⊎_elim inl (λ broken. inr (inr (leaf_fault (pages_seen c.args.pager.now.state) c.args.table.now c.args.n _ _ _ seen c.args.depth tree.0 met.stands _ broken)))
-    c.in_err-check_rows.ensures.fault))
+    (⊎_elim inl (λ other. inr (⊎_elim inl
+    (λ broken. inr (inr (leaf_fault (pages_seen c.args.pager.now.state) c.args.table.now c.args.n _ _ _ seen c.args.depth tree.0 met.stands _
+    (subst (λ (p : Pages). IsLeafFault p c.args.table.now c.args.n c.in-Some.view.at (c.header-header.result.pages * c.header-header.result.page_size) c.in-Some.view.page c.in_err-check_rows.field-0.0) (same_pages _ _ read) broken)))) other))
+    (c.in_err-check_rows.ensures.fault (still_steady _ _ read steady)))
 
 pub returns-then-eq-clause-rows : goal.returns-then-eq-clause-rows
 returns-then-eq-clause-rows g t c = λ steady.
+    let read = c.page.ensures.used.stays in
     let seen = see c.args.pager.now.state c.header-header.result c.header-header.ensures.value c.header-header.ensures.sound c.args.n c.in_ok-page.page
     (c.in_ok-page.ensures.page steady) c.in_ok-page.ensures.long c.args.table.now.root c.args.depth c.args.low c.args.high (c.requires.met steady)
     c.in-Some.view c.in-Some.ensures.found c.in-Some.ensures.header in
-    held_leaf (pages_seen c.args.pager.now.state) c.args.table.now c.args.n _ _ _ seen c.in_ok-check_rows.ensures.rows
+    let rows = subst (λ (p : Pages). AreRowsIn p c.args.table.now c.in-Some.view.at (c.header-header.result.pages * c.header-header.result.page_size) c.in-Some.view.page) (same_pages _ _ read)
+    (c.in_ok-check_rows.ensures.rows (still_steady _ _ read steady)) in
+    subst (λ (counts : TreeCounts). All (HoldsRow (pages_seen c.args.pager.now.state) c.args.table.now) (places_under (pages_seen c.args.pager.now.state) Table counts.levels c.args.n)) (sym c.counts_of_page.ensures)
+    (held_leaf (pages_seen c.args.pager.now.state) c.args.table.now c.args.n _ _ _ seen rows)
 
 pub returns-clause-rows : goal.returns-clause-rows
 returns-clause-rows g t c = λ steady.

@@ -1,5 +1,11 @@
+use Rattle.std.proofs.Common.{◌≡◌, ◌∙◌, sym, subst, arith}
 use Rattle.std.proofs.lemmas.Result.{err_from_is_err_and}
-use Rattle.shell.proofs.RunLemmas.{answers, columns_within, stops}
+use Rattle.image.specs.Pages.{Pages, pages_in, pages_of}
+use Rattle.btree.specs.Rest.{pages_seen}
+use Rattle.schema.specs.TableData.{TableData}
+use Rattle.integrity.specs.Stored.{IsStored}
+use Rattle.shell.specs.Stream.{IsUnchained}
+use Rattle.shell.proofs.RunLemmas.{answers, columns_within, some_one, stops}
 use Rattle.shell.proofs.query.run_query.Goals as goal
 
 pub write_rows-requires-clause-columns : goal.write_rows-requires-clause-columns
@@ -17,3 +23,15 @@ pub returns-clause-answer : goal.returns-clause-answer
 returns-clause-answer g c = λ steady.
     answers c.args.pager.now.state c.args.tables.now c.args.source c.args.columns.now c.table_of.result.now c.requires.ready
     c.table_of.ensures steady _ _ _ (c.in_ok-rows.ensures.rows steady)
+
+pub returns-clause-unchained : goal.returns-clause-unchained
+returns-clause-unchained g c = λ steady table levels rows found stored few every.
+    let state = c.args.pager.now.state in
+    let same : pages_of state.source.bytes ≡ pages_seen state = λ k. pages_in (sym (c.requires.ready.header steady) k) state.source.bytes in
+    let is : table ≡ c.table_of.result.now = some_one _ _ (sym found ∙ c.table_of.ensures) in
+    let here : IsStored (pages_seen state) c.table_of.result.now levels rows =
+    subst (λ (t : TableData). IsStored (pages_seen state) t levels rows) is (subst (λ (p : Pages). IsStored p table levels rows) same stored) in
+    let local : IsUnchained (pages_seen state) c.table_of.result.now levels =
+    subst (λ (t : TableData). IsUnchained (pages_seen state) t levels) is (subst (λ (p : Pages). IsUnchained p table levels) same every) in
+    let kept = c.in_ok-rows.ensures.unchained steady levels rows here few local in
+    omega (arith, kept, c.chained.ensures, c.chained-chained.ensures)

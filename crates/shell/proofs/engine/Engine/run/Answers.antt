@@ -15,3 +15,12 @@ returns-clause-pages g c = λ steady place stored levels rows is found held few.
     let tables = c.tables.ensures ∙ ap (λ (e : EngineState). e.tables) self in
     let source = one_place _ place (sym c.source.ensures ∙ ap (λ (p : ResolvedData). p.query.source) c.prepared.view_is ∙ is) in
     rw (← bytes) (c.run_query.ensures.pages seen stored levels rows (rw (tables, source) found) (rw bytes held) few)
+
+pub returns-clause-unchained : goal.returns-clause-unchained
+returns-clause-unchained g c = λ steady place stored levels rows is found held few every.
+    let self = c.self.view_is in
+    let bytes = ap (λ (e : EngineState). e.pager.source.bytes) self in
+    let seen : IsTrue c.self.inside.pager.state.source.steady = rw (ap (λ (e : EngineState). e.pager.source.steady) self) steady in
+    let tables = c.tables.ensures ∙ ap (λ (e : EngineState). e.tables) self in
+    let source = one_place _ place (sym c.source.ensures ∙ ap (λ (p : ResolvedData). p.query.source) c.prepared.view_is ∙ is) in
+    c.run_query.ensures.unchained seen stored levels rows (rw (tables, source) found) (rw bytes held) few (rw bytes every)
