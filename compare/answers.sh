@@ -66,6 +66,21 @@ for size in 512 1024 2048 4096 8192 16384 32768 65536; do
     expect 72 "$file" "SELECT d, c FROM long"
 done
 
+# Payloads of 477, 478, 985, 2000 and 2002 bytes, three bytes more than their texts have: with pages of 512 bytes these go on
+# in 0, 1, 1, 3 and 4 overflow pages, of which sqlite3's table dbstat tells, where it has that.
+size=512
+file="$folder/worked.db"
+sqlite3 "$file" "PRAGMA page_size=$size;
+    CREATE TABLE t(b TEXT) STRICT;
+    INSERT INTO t SELECT printf('%.*c', value, 'x') || 'end' FROM json_each('[471, 472, 979, 1994, 1996]');" >"$folder/made" 2>&1
+sqlite3 "$file" "SELECT quote(b) FROM t ORDER BY rowid" >"$wanted"
+expect 5 "$file" "SELECT b FROM t"
+if sqlite3 "$file" "SELECT count(*) FROM dbstat" >"$folder/made" 2>&1; then
+    echo 9 >"$wanted"
+    sqlite3 "$file" "SELECT count(*) FROM dbstat WHERE pagetype = 'overflow'" >"$answer" 2>&1
+    if cmp -s "$wanted" "$answer"; then pass; else fail "overflow pages of $file"; fi
+fi
+
 # A text of 10,000,000 letters, between two that are short.
 size=4096
 file="$folder/longest.db"
