@@ -4,3 +4,5 @@ pub mod AnswerLemmas
 pub mod ReachLemmas
 pub mod LikeLemmas
 pub mod ColumnLemmas
+pub mod SameLemmas
+pub mod TypeLemmas

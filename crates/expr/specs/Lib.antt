@@ -9,3 +9,4 @@ pub mod Conjuncts
 pub mod Laws
 pub mod Reaches
 pub mod Columns
+pub mod Types

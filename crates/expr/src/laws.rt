@@ -3,6 +3,7 @@ ghost use Rattle.expr.specs.Columns.{DependsOnColumns};
 ghost use Rattle.expr.specs.Laws.{ConjunctsAreLeaves, StandsForAll, IsTotal, KeepsConjuncts, AddsNoOverflow};
 ghost use Rattle.expr.specs.Like.{TestIsRelation};
 ghost use Rattle.expr.specs.Reaches.{ReachedIsNone};
+ghost use Rattle.expr.specs.Types.{EvalHasType, ValuesHaveTypes};
 
 /// A value with nothing out of range is the value, whatever stands for results out of range.
 pub fn stands_for_all()
@@ -42,4 +43,11 @@ pub fn conjuncts_are_leaves()
 /// Rows that agree at the columns that an expression names give one value, and overflow together.
 pub fn depends_on_columns()
     ensures { DependsOnColumns }
+{}
+
+/// The value of a typed expression has its type or is NULL, on a row whose values have the types of their columns or
+/// are NULL, where NULL or a whole number stands for results out of range.
+pub fn values_have_types()
+    ensures run { ValuesHaveTypes }
+    ensures value { EvalHasType }
 {}

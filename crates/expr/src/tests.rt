@@ -1,5 +1,7 @@
 //! Worked values.
-use crate::{Arithmetic, Arm, Comparison, Expr, Function, columns, conjuncts, copy, eval, is_true};
+use crate::{
+    Arithmetic, Arm, Comparison, Expr, Function, columns, conjuncts, copy, eval, is_true, same_tree,
+};
 use std::alloc::{AllocError, Global};
 use std::test::Fail;
 use values::{Fault, Value};
@@ -215,5 +217,19 @@ fn named_columns(rt: HostRuntime) -> Result<(), Fail> {
     let mut found = Vec::new(alloc);
     columns(&expr, &mut found)?;
     assert!(rt; found.as_slice() == [3, 1].as_slice());
+    Ok(())
+}
+
+#[test]
+fn one_tree(rt: HostRuntime) -> Result<(), Fail> {
+    let alloc = rt.alloc();
+    let sum = arithmetic(alloc, Arithmetic::Add, Expr::Column(0), int(1))?;
+    let swapped = arithmetic(alloc, Arithmetic::Add, int(1), Expr::Column(0))?;
+    assert!(rt; !same_tree(&sum, &swapped));
+    let choice = Expr::iif(alloc, sum, text(alloc, "a")?, null())?;
+    assert!(rt; same_tree(&choice, &copy(alloc, &choice)?));
+    let list = contained(alloc, int(1), vec![in alloc; int(2), null()]?)?;
+    let longer = contained(alloc, int(1), vec![in alloc; int(2), null(), null()]?)?;
+    assert!(rt; !same_tree(&list, &longer));
     Ok(())
 }
