@@ -4,3 +4,9 @@ pub mod SelectLemmas
 pub mod CreateLemmas
 pub mod ColumnLemmas
 pub mod StatementLemmas
+pub mod ExprSteps
+pub mod ExprShape
+pub mod ExprTurns
+pub mod ExprComplete
+pub mod ExprLemmas
+pub mod ExprExamples

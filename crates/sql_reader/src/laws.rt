@@ -1,6 +1,10 @@
 //! What holds of the definitions alone.
-ghost use Rattle.std.specs.Prelude.{◌≡◌, List, ℕ};
+ghost use Rattle.std.specs.Prelude.{◌≡◌, List, [], ℕ};
+ghost use Rattle.tokens.specs.Lexeme.{Lexeme};
 ghost use Rattle.sql_reader.specs.CreateGrammar.{SpellsCreate};
+ghost use Rattle.sql_reader.specs.ExprExamples.{Examples};
+ghost use Rattle.sql_reader.specs.ExprGrammar.{Expresses};
+ghost use Rattle.sql_reader.specs.ExprTree.{ExprTree};
 ghost use Rattle.sql_reader.specs.SelectGrammar.{SpellsSelect};
 ghost use Rattle.sql_reader.specs.Tree.{SelectTree, TableTree};
 
@@ -14,4 +18,15 @@ pub fn one_select()
 pub fn one_create()
     ensures { (text : List ℕ) (first second : TableTree) → SpellsCreate text first → SpellsCreate text second
         → first ≡ second }
+{}
+
+/// Tokens spell at most one expression, of so many levels.
+pub fn one_expression()
+    ensures { (tokens : List Lexeme) (h i : ℕ) (first second : ExprTree) → Expresses 1 h first tokens []
+        → Expresses 1 i second tokens [] → (first ≡ second) × (h ≡ i) }
+{}
+
+/// Worked expressions.
+pub fn examples()
+    ensures { Examples }
 {}

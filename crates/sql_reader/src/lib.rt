@@ -5,13 +5,16 @@
 //! proved.
 //! Today a SELECT gives `*` or names of columns, from one table, and a CREATE TABLE is STRICT and has columns of the
 //! types INT, INTEGER, TEXT and BLOB, with PRIMARY KEY and NOT NULL alone. What the grammar doesn't rule out is left to
-//! the schema: a constraint may be written twice, and PRIMARY KEY at several columns.
+//! the schema: a constraint may be written twice, and PRIMARY KEY at several columns. The grammar of expressions is
+//! there, with the law that tokens spell at most one; no statement has them yet. A call of an expression has neither
+//! FILTER nor OVER today.
 //!
 //! The modules, in the order in which data passes them: `steps` (over tokens), `select` and `create` (the statements),
-//! `limits` (of both), `tree` (what is handed out), and `laws`.
+//! `limits` (of both), `tree` and `expr` (what is handed out), and `laws`.
 #![tactic(auto)]
 
 mod create;
+mod expr;
 pub mod laws;
 mod limits;
 mod select;
@@ -19,6 +22,7 @@ mod steps;
 mod tree;
 
 pub use create::read_create;
+pub use expr::{Arm, BinaryOperator, Expr, Function, PostfixOperator, PrefixOperator};
 pub use select::read_select;
 pub use tree::{Column, ColumnConstraint, ColumnType, CreateTable, ResultColumns, Select};
 

@@ -1,0 +1,334 @@
+-- What each phrase of an expression has.
+use Rattle.std.proofs.Common.{
+  ◌≡◌,
+  ◌≢◌,
+  ◌⊎◌,
+  Bool,
+  true,
+  false,
+  ℕ,
+  zero,
+  suc,
+  ◌+◌,
+  ◌-◌,
+  ◌<◌,
+  ◌≤◌,
+  max,
+  List,
+  [],
+  ◌∷◌,
+  length,
+  Option,
+  Some,
+  None,
+  refl,
+  sym,
+  ap,
+  ◌∙◌,
+  arith,
+  subst,
+  zero-add,
+  suc-add,
+}
+use mathlib.Core.Logic.{inl, inr}
+use Rattle.tokens.specs.Lexeme.{Lexeme}
+use Rattle.tokens.specs.declared.keyword.Keyword.{Keyword}
+use Rattle.tokens.specs.declared.keyword.Keyword.TheVariants as k
+use Rattle.tokens.specs.declared.sign.Sign.{Sign}
+use Rattle.tokens.specs.declared.sign.Sign.TheVariants as s
+use Rattle.sql_reader.specs.ExprGrammar.{
+  level_of,
+  level_of_prefix,
+  Joins,
+  Precedes,
+  Follows,
+  MaybeNot,
+  IsLiteral,
+  Expresses,
+  ExpressesAll,
+  ExpressesItem,
+  ExpressesOperand,
+  ExpressesArms,
+  ExpressesElse,
+}
+use Rattle.sql_reader.specs.ExprReading.{
+  Opening,
+  opening,
+  Joint,
+  joint,
+  joint_after_is,
+  level_of_joint,
+  binds,
+  Following,
+  following,
+  Inside,
+  inside,
+  after_when,
+  after_else,
+}
+use Rattle.sql_reader.specs.ExprTree.{ExprTree, ExprTrees, MaybeExpr, ArmTrees}
+use Rattle.sql_reader.specs.Reading.{Rest, after_close}
+use Rattle.sql_reader.specs.declared.expr.BinaryOperator.{BinaryOperator}
+use Rattle.sql_reader.specs.declared.expr.BinaryOperator.TheVariants as o
+use Rattle.sql_reader.specs.declared.expr.PostfixOperator.{PostfixOperator}
+use Rattle.sql_reader.specs.declared.expr.PrefixOperator.{PrefixOperator}
+use Rattle.sql_reader.specs.declared.expr.PrefixOperator.TheVariants as p
+
+-- Levels
+
+pub level_small : (op : BinaryOperator) → level_of op ≤ 9
+level_small o.Or = omega arith
+level_small _ = omega arith
+
+pub level_large : (op : BinaryOperator) → 1 ≤ level_of op
+level_large o.Or = omega arith
+level_large _ = omega arith
+
+level_gap : (op : BinaryOperator) → level_of op ≢ 3
+level_gap o.Or = λ h. absurd (omega arith)
+level_gap _ = λ h. absurd (omega arith)
+
+joint_cases : (j : Joint) → (level_of_joint j ≤ 9) ⊎ (level_of_joint j ≡ 12)
+joint_cases (Joint.Binary op ts) = inl (level_small op)
+joint_cases Joint.Tight = inr refl
+joint_cases _ = inl (omega arith)
+
+-- an operator's level, or what belongs to a name
+pub binds_cases : (ts : Rest) → (binds ts ≤ 9) ⊎ (binds ts ≡ 12)
+binds_cases ts = joint_cases (joint ts)
+
+joint_gap : (j : Joint) → level_of_joint j ≢ 3
+joint_gap (Joint.Binary op ts) = level_gap op
+joint_gap _ = λ h. absurd (omega arith)
+
+-- no operator between operands stands at the level of one before its operand
+pub below_prefix : (op : PrefixOperator) (ts : Rest) → binds ts ≤ level_of_prefix op → binds ts < level_of_prefix op
+below_prefix p.Not ts h = let gap = joint_gap (joint ts) in omega (arith, gap, h)
+below_prefix _ ts h = elim (binds_cases ts) [ inl k ↦ omega (arith, k) | inr k ↦ absurd (omega (arith, h, k)) ]
+
+pub prefix_large : (op : PrefixOperator) → (3 ≤ level_of_prefix op) × (level_of_prefix op ≤ 10)
+prefix_large p.Not = (omega arith, omega arith)
+prefix_large _ = (omega arith, omega arith)
+
+-- A phrase of a level is one of each looser level
+
+looser : (n : ℕ) {q h : ℕ} {e : ExprTree} {from after : Rest} → Expresses (n + q) h e from after
+    → Expresses q h e from after
+looser zero s = rw zero-add at s
+looser (suc n) s = looser n (Expresses.tighter (rw suc-add at s))
+
+pub loose : {p q h : ℕ} {e : ExprTree} {from after : Rest} → p ≤ q → Expresses q h e from after
+    → Expresses p h e from after
+loose {p} {q} {h} {e} {from} {after} le x =
+    looser (q - p) (let i : q ≡ (q - p) + p = omega arith in subst (λ n. Expresses n h e from after) i x)
+
+-- The front of a phrase
+
+pub literal_opening : {e : ExprTree} {word : Lexeme} → IsLiteral e word → (ts : Rest)
+    → opening (word ∷ ts) ≡ Opening.Value e ts
+literal_opening IsLiteral.number ts = refl
+literal_opening IsLiteral.text ts = refl
+literal_opening IsLiteral.blob ts = refl
+literal_opening IsLiteral.null ts = refl
+
+pub prefix_opening : {op : PrefixOperator} {word : Lexeme} → Precedes op word → (ts : Rest)
+    → opening (word ∷ ts) ≡ Opening.Operator op ts
+prefix_opening Precedes.not ts = refl
+prefix_opening Precedes.minus ts = refl
+prefix_opening Precedes.plus ts = refl
+prefix_opening Precedes.tilde ts = refl
+
+-- a phrase begins with an operand
+pub begins : {q h : ℕ} {e : ExprTree} {from after : Rest} → Expresses q h e from after
+    → opening from ≢ Opening.Nothing
+begins (Expresses.tighter x) = begins x
+begins (Expresses.binary x j y) = begins x
+begins (Expresses.between x n y z) = begins x
+begins (Expresses.in_none x n) = begins x
+begins (Expresses.in_list x n xs) = begins x
+begins (Expresses.postfix x w) = begins x
+begins (Expresses.prefix {from = from} w x) = λ i. let j = prefix_opening w from in cc
+begins (Expresses.literal {after = after} w) = λ i. let j = literal_opening w after in cc
+begins Expresses.column = λ i. cc
+begins Expresses.column_of = λ i. cc
+begins (Expresses.parentheses x) = λ i. cc
+begins (Expresses.count_rows f) = λ i. cc
+begins (Expresses.call_none f t) = λ i. cc
+begins (Expresses.call f xs t) = λ i. cc
+begins (Expresses.choice x xs y) = λ i. cc
+
+pub begins_item : {b : Bool} {h : ℕ} {e : ExprTree} {from after : Rest} → ExpressesItem b h e from after
+    → opening from ≢ Opening.Nothing
+begins_item (ExpressesItem.expression x) = begins x
+begins_item ExpressesItem.number = λ i. cc
+
+pub begins_all : {numbers : ℕ → Bool} {place h : ℕ} {es : ExprTrees} {from after : Rest}
+    → ExpressesAll numbers place h es from after → opening from ≢ Opening.Nothing
+begins_all (ExpressesAll.last x) = begins_item x
+begins_all (ExpressesAll.more x xs) = begins_item x
+
+no_close : (ts : Rest) → opening ts ≢ Opening.Nothing → after_close ts ≡ None
+no_close (Lexeme.Punctuation s.Close ∷ ts) h = absurd (h refl)
+no_close _ h = refl
+
+pub all_no_close : {numbers : ℕ → Bool} {place h : ℕ} {es : ExprTrees} {from after : Rest}
+    → ExpressesAll numbers place h es from after → after_close from ≡ None
+all_no_close {from = from} x = no_close from (begins_all x)
+
+has_arguments : (ts : Rest) → opening ts ≢ Opening.Nothing → inside ts ≡ Inside.Arguments
+has_arguments (Lexeme.Punctuation s.Close ∷ ts) h = absurd (h refl)
+has_arguments (Lexeme.Punctuation s.Star ∷ ts) h = absurd (h refl)
+has_arguments _ h = refl
+
+pub all_arguments : {numbers : ℕ → Bool} {place h : ℕ} {es : ExprTrees} {from after : Rest}
+    → ExpressesAll numbers place h es from after → inside from ≡ Inside.Arguments
+all_arguments {from = from} x = has_arguments from (begins_all x)
+
+no_when : (ts : Rest) → opening ts ≢ Opening.Nothing → after_when ts ≡ None
+no_when (Lexeme.Reserved k.When ∷ ts) h = absurd (h refl)
+no_when _ h = refl
+
+pub begins_no_when : {q h : ℕ} {e : ExprTree} {from after : Rest} → Expresses q h e from after
+    → after_when from ≡ None
+begins_no_when {from = from} x = no_when from (begins x)
+
+-- a phrase tighter than NOT doesn't begin with it
+pub begins_tight : {q h : ℕ} {e : ExprTree} {from after : Rest} → Expresses q h e from after → 3 < q
+    → (ts : Rest) → from ≢ Lexeme.Reserved k.Not ∷ ts
+begins_tight (Expresses.tighter x) l = begins_tight x (omega (arith, l))
+begins_tight (Expresses.binary x j y) l = begins_tight x l
+begins_tight (Expresses.between x n y z) l = begins_tight x l
+begins_tight (Expresses.in_none x n) l = begins_tight x l
+begins_tight (Expresses.in_list x n xs) l = begins_tight x l
+begins_tight (Expresses.postfix x w) l = begins_tight x l
+begins_tight (Expresses.prefix Precedes.not x) l = absurd (omega (arith, l))
+begins_tight (Expresses.prefix Precedes.minus x) l = λ ts i. cc
+begins_tight (Expresses.prefix Precedes.plus x) l = λ ts i. cc
+begins_tight (Expresses.prefix Precedes.tilde x) l = λ ts i. cc
+begins_tight (Expresses.literal IsLiteral.number) l = λ ts i. cc
+begins_tight (Expresses.literal IsLiteral.text) l = λ ts i. cc
+begins_tight (Expresses.literal IsLiteral.blob) l = λ ts i. cc
+begins_tight (Expresses.literal IsLiteral.null) l = λ ts i. cc
+begins_tight Expresses.column l = λ ts i. cc
+begins_tight Expresses.column_of l = λ ts i. cc
+begins_tight (Expresses.parentheses x) l = λ ts i. cc
+begins_tight (Expresses.count_rows f) l = λ ts i. cc
+begins_tight (Expresses.call_none f t) l = λ ts i. cc
+begins_tight (Expresses.call f xs t) l = λ ts i. cc
+begins_tight (Expresses.choice x xs y) l = λ ts i. cc
+
+-- What stands behind a phrase
+
+is_joint : (ts : Rest) → ((us : Rest) → ts ≢ Lexeme.Reserved k.Not ∷ us) → joint_after_is ts ≡ Joint.Binary o.Is ts
+is_joint (Lexeme.Reserved k.Not ∷ ts) h = absurd (h ts refl)
+is_joint _ h = refl
+
+pub joins_joint : {op : BinaryOperator} {from after : Rest} → Joins op from after
+    → ((us : Rest) → after ≢ Lexeme.Reserved k.Not ∷ us) → joint from ≡ Joint.Binary op after
+joins_joint Joins.is h = is_joint _ h
+joins_joint Joins.or h = refl
+joins_joint Joins.and h = refl
+joins_joint Joins.equal h = refl
+joins_joint Joins.double_equal h = refl
+joins_joint Joins.not_equal h = refl
+joins_joint Joins.less_greater h = refl
+joins_joint Joins.is_not h = refl
+joins_joint Joins.like h = refl
+joins_joint Joins.not_like h = refl
+joins_joint Joins.less h = refl
+joins_joint Joins.less_equal h = refl
+joins_joint Joins.greater h = refl
+joins_joint Joins.greater_equal h = refl
+joins_joint Joins.ampersand h = refl
+joins_joint Joins.bar h = refl
+joins_joint Joins.plus h = refl
+joins_joint Joins.minus h = refl
+joins_joint Joins.star h = refl
+joins_joint Joins.slash h = refl
+joins_joint Joins.percent h = refl
+joins_joint Joins.double_bar h = refl
+
+-- OR and AND may stand before NOT
+pub joint_of : {op : BinaryOperator} {from after : Rest} {h : ℕ} {e : ExprTree} {rest : Rest} → Joins op from after
+    → Expresses (suc (level_of op)) h e after rest → joint from ≡ Joint.Binary op after
+joint_of Joins.or x = refl
+joint_of Joins.and x = refl
+joint_of Joins.is x = is_joint _ (begins_tight x (omega arith))
+joint_of j x = joins_joint j (begins_tight x (omega arith))
+
+pub between_joint : {n : Bool} {from after : Rest} → MaybeNot k.Between n from after
+    → joint from ≡ Joint.Between n after
+between_joint MaybeNot.plain = refl
+between_joint MaybeNot.negated = refl
+
+pub in_joint : {n : Bool} {from after : Rest} → MaybeNot k.In n from after → joint from ≡ Joint.In n after
+in_joint MaybeNot.plain = refl
+in_joint MaybeNot.negated = refl
+
+pub postfix_joint : {op : PostfixOperator} {word : Lexeme} → Follows op word → (ts : Rest)
+    → joint (word ∷ ts) ≡ Joint.Postfix op ts
+postfix_joint Follows.is_null ts = refl
+postfix_joint Follows.not_null ts = refl
+
+-- nothing that belongs to a name
+pub no_following : (ts : Rest) → binds ts ≤ 11 → following ts ≡ Following.Else
+no_following (Lexeme.Punctuation s.Open ∷ ts) h = absurd (omega (arith, h))
+no_following (Lexeme.Punctuation s.Dot ∷ ts) h = absurd (omega (arith, h))
+no_following _ h = refl
+
+-- How many tokens
+
+joins_room : {op : BinaryOperator} {from after : Rest} → Joins op from after → length after < length from
+joins_room Joins.or = omega arith
+joins_room Joins.is_not = omega arith
+joins_room Joins.not_like = omega arith
+joins_room _ = omega arith
+
+not_room : {word : Keyword} {n : Bool} {from after : Rest} → MaybeNot word n from after → length after < length from
+not_room MaybeNot.plain = omega arith
+not_room MaybeNot.negated = omega arith
+
+-- a phrase has more tokens than levels
+mutual
+  pub room : {q h : ℕ} {e : ExprTree} {from after : Rest} → Expresses q h e from after
+      → h + length after < length from
+  room (Expresses.tighter x) = room x
+  room (Expresses.binary x j y) = omega (arith, room x, joins_room j, room y)
+  room (Expresses.between x n y z) = omega (arith, room x, not_room n, room y, room z)
+  room (Expresses.in_none x n) = omega (arith, room x, not_room n)
+  room (Expresses.in_list x n xs) = omega (arith, room x, not_room n, room_all xs)
+  room (Expresses.postfix x w) = omega (arith, room x)
+  room (Expresses.prefix w x) = omega (arith, room x)
+  room (Expresses.literal w) = omega arith
+  room Expresses.column = omega arith
+  room Expresses.column_of = omega arith
+  room (Expresses.parentheses x) = omega (arith, room x)
+  room (Expresses.count_rows f) = omega arith
+  room (Expresses.call_none f t) = omega arith
+  room (Expresses.call f xs t) = omega (arith, room_all xs)
+  room (Expresses.choice x xs y) = omega (arith, room_operand x, room_arms xs, room_else y)
+
+  pub room_all : {numbers : ℕ → Bool} {place h : ℕ} {es : ExprTrees} {from after : Rest}
+      → ExpressesAll numbers place h es from after → h + length after < length from
+  room_all (ExpressesAll.last x) = room_item x
+  room_all (ExpressesAll.more x xs) = omega (arith, room_item x, room_all xs)
+
+  pub room_item : {b : Bool} {h : ℕ} {e : ExprTree} {from after : Rest} → ExpressesItem b h e from after
+      → h + length after < length from
+  room_item (ExpressesItem.expression x) = room x
+  room_item ExpressesItem.number = omega arith
+
+  pub room_operand : {h : ℕ} {e : MaybeExpr} {from after : Rest} → ExpressesOperand h e from after
+      → h + length after ≤ length from
+  room_operand ExpressesOperand.no_operand = omega arith
+  room_operand (ExpressesOperand.operand x) = omega (arith, room x)
+
+  pub room_arms : {h : ℕ} {es : ArmTrees} {from after : Rest} → ExpressesArms h es from after
+      → h + length after < length from
+  room_arms (ExpressesArms.last_arm x y) = omega (arith, room x, room y)
+  room_arms (ExpressesArms.more_arms x y xs) = omega (arith, room x, room y, room_arms xs)
+
+  pub room_else : {h : ℕ} {e : MaybeExpr} {from after : Rest} → ExpressesElse h e from after
+      → h + length after < length from
+  room_else ExpressesElse.no_else = omega arith
+  room_else (ExpressesElse.otherwise x) = omega (arith, room x)

@@ -1,0 +1,46 @@
+-- The tree of an expression, without where it lies in memory. Parentheses are gone.
+use Rattle.std.specs.Prelude.{ℕ, suc, ℤ, Bool, List, Option}
+use Rattle.sql_reader.specs.Tree.{Name}
+use Rattle.sql_reader.specs.declared.expr.BinaryOperator.{BinaryOperator}
+use Rattle.sql_reader.specs.declared.expr.Function.{Function}
+use Rattle.sql_reader.specs.declared.expr.PostfixOperator.{PostfixOperator}
+use Rattle.sql_reader.specs.declared.expr.PrefixOperator.{PrefixOperator}
+
+mutual
+  pub data ExprTree : Type 0 where
+    Null : ExprTree
+    Number : ℤ → ExprTree
+    Text : List ℕ → ExprTree
+    Blob : List ℕ → ExprTree
+    -- a column, behind the name of its table where that is written
+    Column : Option Name → Name → ExprTree
+    Prefix : PrefixOperator → ExprTree → ExprTree
+    Binary : BinaryOperator → ExprTree → ExprTree → ExprTree
+    Postfix : PostfixOperator → ExprTree → ExprTree
+    -- whether NOT is written, the value, the lower bound, the upper bound
+    Between : Bool → ExprTree → ExprTree → ExprTree → ExprTree
+    -- whether NOT is written, the value, the members
+    In : Bool → ExprTree → ExprTrees → ExprTree
+    -- count(*)
+    CountRows : ExprTree
+    Call : Function → ExprTrees → ExprTree
+    -- the operand if there is one, the arms, and what stands behind ELSE
+    Case : MaybeExpr → ArmTrees → MaybeExpr → ExprTree
+
+  pub data ExprTrees : Type 0 where
+    No_more : ExprTrees
+    More : ExprTree → ExprTrees → ExprTrees
+
+  pub data MaybeExpr : Type 0 where
+    Absent : MaybeExpr
+    Present : ExprTree → MaybeExpr
+
+  -- the arms of a CASE: what stands behind WHEN, and behind THEN
+  pub data ArmTrees : Type 0 where
+    No_arm : ArmTrees
+    Arm : ExprTree → ExprTree → ArmTrees → ArmTrees
+
+-- how many there are
+abbrev pub count : ExprTrees → ℕ
+count ExprTrees.No_more = 0
+count (ExprTrees.More e es) = suc (count es)
