@@ -1,5 +1,5 @@
 -- An expression's value hangs on the columns that it names alone.
-use Rattle.std.proofs.Common.{◌≡◌, ℕ, List, [], ◌∷◌, ◌++◌, Option, Some, None, option_map, refl, ap, ◌∙◌}
+use Rattle.std.proofs.Common.{◌≡◌, ℕ, List, [], ◌∷◌, ◌++◌, Option, Some, None, refl, ap, ◌∙◌}
 use Rattle.std.specs.Option.{option_and_then}
 use Rattle.values.specs.Datum.{Datum}
 use Rattle.expr.specs.Columns.{columns_of, columns_of_all, columns_of_arms, Agree, DependsOnColumns}

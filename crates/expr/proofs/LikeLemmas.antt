@@ -1,5 +1,5 @@
 -- The test of LIKE is its relation, and the first place of a segment is as good as any other.
-use Rattle.std.proofs.Common.{◌≡◌, ◌↔◌, ℕ, Bool, true, false, ◌==◌, ◌||◌, ◌&&◌, if◌then◌else◌, List, [], ◌∷◌, ◌++◌, IsTrue, MatchBool, length, Option, Some, None, refl, sym, ap, subst, ◌∙◌}
+use Rattle.std.proofs.Common.{◌≡◌, ℕ, Bool, true, false, ◌==◌, ◌||◌, ◌&&◌, if◌then◌else◌, List, [], ◌∷◌, ◌++◌, IsTrue, MatchBool, length, Option, Some, None, refl, sym, ap, subst, ◌∙◌}
 use Rattle.std.proofs.Math.Dec.{eqb-suc-zero}
 use Rattle.std.proofs.lemmas.List.{append_assoc, nil_from_length}
 use Rattle.expr.specs.Like.{fits_one, Likes, any_rest, on_first, is_empty, likes, TestIsRelation, past_one, past}

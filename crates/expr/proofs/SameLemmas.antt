@@ -1,5 +1,5 @@
 -- Two lists, one of which is read to its end.
-use Rattle.std.proofs.Common.{◌≡◌, ◌↔◌, ◌≤◌, ◌==◌, ℕ, Bool, true, false, List, [], ◌∷◌, IsTrue, length, drop, refl, sym, subst, ◌∙◌}
+use Rattle.std.proofs.Common.{◌≡◌, ◌↔◌, ◌≤◌, ◌==◌, ℕ, Bool, true, false, List, [], ◌∷◌, IsTrue, length, drop, refl, sym, ◌∙◌}
 use Rattle.std.proofs.Math.Dec.{eqb-suc-zero}
 use Rattle.std.proofs.lemmas.List.{at_drop_all}
 use Rattle.expr.specs.declared.tree.Arm.{Arm}

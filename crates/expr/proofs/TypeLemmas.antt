@@ -1,20 +1,23 @@
 -- The value of a typed expression has its type.
 use Rattle.std.proofs.Common.{◌≡◌, ℕ, zero, suc, if◌then◌else◌, ℤ, Bool, true, false, List, [], ◌∷◌, Option, Some, None, option_map, refl, subst, slice_get, slice_index_or, unwrap_or}
-use Rattle.std.specs.List.{AllZip}
+use Rattle.std.specs.List.{All, AllZip}
+use Rattle.std.proofs.lemmas.List.Elements.{All-append, All-cons, All-nil}
 use Rattle.std.specs.Option.{IfSome, option_and_then}
 use Rattle.values.specs.declared.value.Ty.{Ty}
-use Rattle.values.specs.declared.value.Ty.TheVariants.{Int, Text, Blob}
+use Rattle.values.specs.declared.value.Ty.TheVariants.{Int, Text}
 use Rattle.values.specs.Datum.{Datum, null, int, text, blob}
 use Rattle.expr.specs.declared.tree.Arithmetic.{Arithmetic}
 use Rattle.expr.specs.declared.tree.Arithmetic.TheVariants.{Add, Sub, Mul, Div, Rem, BitAnd, BitOr}
+use Rattle.expr.specs.declared.tree.Comparison.TheVariants.{Ge, Le}
 use Rattle.expr.specs.declared.tree.Function.{Function}
 use Rattle.expr.specs.declared.tree.Function.TheVariants.{Neg, BitNot, Not, Abs, Length, Lower, Upper, Hex, TypeOf}
-use Rattle.expr.specs.Operations.{settle, fits_64, is_zero, of_integers, arithmetic_of, truth, condition, comparison, concat_of, is_null, unless_true, null_if_equal}
+use Rattle.expr.specs.Operations.{settle, fits_64, is_zero, of_integers, arithmetic_of, condition, comparison, concat_of, is_null, unless_true, null_if_equal}
 use Rattle.expr.specs.Functions.{of_int, of_text, length_of, hex_of, call_of}
 use Rattle.expr.specs.Like.{like_of}
 use Rattle.expr.specs.Meaning.{both, and_then, or_else, first_value, chosen, or_otherwise, holds, run, run_first, run_arms}
 use Rattle.expr.specs.Term.{Term, Terms, Arms, literal, column, call, arithmetic, concat, compare, is, and, or, between, among, coalesce, choice, choice_of, null_if, like, none, more, no_arms, arm}
-use Rattle.expr.specs.Types.{IsOfType, gives, HasType, HaveType, ArmsHaveTypes, ValuesHaveTypes, EvalHasType}
+use Rattle.expr.specs.Conjuncts.{conjuncts}
+use Rattle.expr.specs.Types.{IsOfType, gives, HasType, HaveType, ArmsHaveTypes, ValuesHaveTypes, EvalHasType, ConjunctsAreTyped, TypesOfExamples}
 
 abbrev Good : Ty → Option Datum → Type 0
 Good ty m = IfSome m (IsOfType ty)
@@ -227,3 +230,20 @@ value_or_null ty (Some v) p = p
 
 pub eval_has_type : EvalHasType
 eval_has_type w columns row t ty stand_in fits h = value_or_null ty (run (Some w) row t) (values_have_types (Some w) columns row t ty stand_in fits h)
+
+pub conjuncts_are_typed : ConjunctsAreTyped
+conjuncts_are_typed columns (and a b) h =
+    All-append (λ c. HasType columns c Int) (conjuncts a) (conjuncts b) (conjuncts_are_typed columns a h.0) (conjuncts_are_typed columns b h.1)
+conjuncts_are_typed columns (between x a b) h =
+    let above : HasType columns (compare Ge x a) Int = (h.0, h.1, h.2, refl) in
+    let below : HasType columns (compare Le x b) Int = (h.0, h.1, h.3, refl) in
+    All-cons
+    (λ c. HasType columns c Int)
+    (compare Ge x a)
+    (compare Le x b ∷ [])
+    above
+    (All-cons (λ c. HasType columns c Int) (compare Le x b) [] below (All-nil (λ c. HasType columns c Int)))
+conjuncts_are_typed columns t h = All-cons (λ c. HasType columns c Int) t [] h (All-nil (λ c. HasType columns c Int))
+
+pub types_of_examples : TypesOfExamples
+types_of_examples = ((Int, refl, (refl, (refl, refl, refl), tt), tt), (λ ty h. let differ : Some Text ≡ Some Int = h.1 in cc))

@@ -1,12 +1,14 @@
 -- Which expressions are typed. (STRICT Tables)
-use Rattle.std.specs.Prelude.{◌≡◌, ◌⊎◌, ⊤, List, Option, Some, slice_get}
-use Rattle.std.specs.List.{AllZip}
+use Rattle.std.specs.Prelude.{◌≡◌, ◌⊎◌, ⊤, List, [], ◌∷◌, pos, Option, Some, slice_get}
+use Rattle.std.specs.List.{All, AllZip}
 use Rattle.std.specs.Option.{IfSome}
+use Rattle.expr.specs.declared.tree.Arithmetic.TheVariants.{Add}
 use Rattle.expr.specs.declared.tree.Function.{Function}
 use Rattle.expr.specs.declared.tree.Function.TheVariants.{Neg, BitNot, Not, Abs, Length, Lower, Upper, Hex, TypeOf}
 use Rattle.values.specs.declared.value.Ty.{Ty}
 use Rattle.values.specs.declared.value.Ty.TheVariants.{Int, Text, Blob}
 use Rattle.values.specs.Datum.{Datum, null, int, text, blob, type_of}
+use Rattle.expr.specs.Conjuncts.{conjuncts}
 use Rattle.expr.specs.Meaning.{eval, run}
 use Rattle.expr.specs.Term.{Term, Terms, Arms, literal, column, call, arithmetic, concat, compare, is, and, or, between, among, coalesce, choice, choice_of, null_if, like, none, more, no_arms, arm}
 
@@ -80,3 +82,14 @@ ValuesHaveTypes = (o : Option Datum) (columns : List Ty) (row : List Datum) (t :
 -- the same, where something does
 abbrev pub EvalHasType : Type 0
 EvalHasType = (w : Datum) (columns : List Ty) (row : List Datum) (t : Term) (ty : Ty) → IsOfType Int w → AllZip IsOfType columns row → HasType columns t ty → IsOfType ty (eval w t row)
+
+-- each conjunct of a condition, an expression that is a whole number, is a condition
+abbrev pub ConjunctsAreTyped : Type 0
+ConjunctsAreTyped = (columns : List Ty) (t : Term) → HasType columns t Int → All (λ c. HasType columns c Int) (conjuncts t)
+
+-- over a column of whole numbers and one of texts: CASE c0 WHEN 1 THEN c1 || '' ELSE NULL END is a text, and c0 + c1 is
+-- of no type
+abbrev pub TypesOfExamples : Type 0
+TypesOfExamples =
+    HasType (Int ∷ Text ∷ []) (choice_of (column 0) (arm (literal (int (pos 1))) (concat (column 1) (literal (text []))) no_arms) (literal null)) Text
+    × ((ty : Ty) → ¬ HasType (Int ∷ Text ∷ []) (arithmetic Add (column 0) (column 1)) ty)

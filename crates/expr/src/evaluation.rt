@@ -1,11 +1,12 @@
 //! The value of an expression on a row.
 ghost use Rattle.std.specs.Prelude.{◌≡◌, ◌⊎◌, Some, None, Err, map, option_map, slice_index_or, IfOk, IfErr};
 ghost use Rattle.std.specs.Option.{option_copied};
+ghost use Rattle.std.specs.Cow.{cow_value};
 ghost use Rattle.values.specs.Datum.{Datum, datum_of, null};
 ghost use Rattle.expr.specs.Operations.{any_equal, comparison, truth};
 ghost use Rattle.expr.specs.View.{term};
-ghost use Rattle.expr.specs.Meaning.{eval, Overflows, and_then, or_else, run, run_all, run_first, run_arms};
-ghost use Rattle.expr.specs.Contract.{Answers, Gives, trees, arm_trees};
+ghost use Rattle.expr.specs.Meaning.{eval, Overflows, and_then, or_else, run_all, run_first, run_arms};
+ghost use Rattle.expr.specs.Contract.{Answers, Gives, trees, arm_trees, value_on};
 
 use crate::like_operator::like;
 use crate::operations::{
@@ -14,6 +15,7 @@ use crate::operations::{
 };
 use crate::{Arm, Comparison, Expr, functions};
 use std::alloc::{AllocError, Global};
+use std::borrow::Cow;
 use values::{Fault, Value};
 
 /// The value of an expression on a row, whatever stands for results out of range; `Overflow` exactly where an
@@ -40,31 +42,31 @@ struct Evaluator<'a> {
 
 impl<'a> Evaluator<'a> {
     #[cycle(eval)]
-    fn compute(&self, e: &Expr) -> Result<Value, Stop>
-        ensures { Gives result (run None (map datum_of self.now.row.now) (term e.now)) }
+    fn compute(&self, e: &'a Expr) -> Result<Value, Stop>
+        ensures { Gives result (value_on self.now.row.now e.now) }
     {
         match e {
             Expr::Literal(v) => Ok(v.as_ref().to_value(self.alloc)?),
             Expr::Column(i) => Ok(self.column(*i)?),
-            Expr::Call(f, a) => functions::call(self.alloc, *f, &self.compute(a)?),
-            Expr::Arithmetic(op, a, b) => arithmetic(*op, &self.compute(a)?, &self.compute(b)?),
-            Expr::Concat(a, b) => Ok(concat(self.compute(a)?, &self.compute(b)?)?),
+            Expr::Call(f, a) => functions::call(self.alloc, *f, &*self.operand(a)?),
+            Expr::Arithmetic(op, a, b) => arithmetic(*op, &*self.operand(a)?, &*self.operand(b)?),
+            Expr::Concat(a, b) => Ok(concat(self.compute(a)?, &*self.operand(b)?)?),
             Expr::Compare(op, a, b) => {
-                Ok(from_condition(comparison(*op, &self.compute(a)?, &self.compute(b)?)))
+                Ok(from_condition(comparison(*op, &*self.operand(a)?, &*self.operand(b)?)))
             }
             Expr::Is(a, b) => {
-                Ok(from_condition(Some(is_same(&self.compute(a)?, &self.compute(b)?))))
+                Ok(from_condition(Some(is_same(&*self.operand(a)?, &*self.operand(b)?))))
             }
-            Expr::And(a, b) => self.and_then(truth(&self.compute(a)?), b),
-            Expr::Or(a, b) => self.or_else(truth(&self.compute(a)?), b),
+            Expr::And(a, b) => self.and_then(truth(&*self.operand(a)?), b),
+            Expr::Or(a, b) => self.or_else(truth(&*self.operand(a)?), b),
             Expr::Between(x, a, b) => {
-                let x = self.compute(x)?;
-                let above = self.compare_with(Comparison::Ge, &x, a)?;
-                self.and_at_most(above, &x, b)
+                let x = self.operand(x)?;
+                let above = self.compare_with(Comparison::Ge, &*x, a)?;
+                self.and_at_most(above, &*x, b)
             }
             Expr::In(x, items) => {
-                let x = self.compute(x)?;
-                Ok(from_condition(self.any_equal(&x, items)?))
+                let x = self.operand(x)?;
+                Ok(from_condition(self.any_equal(&*x, items)?))
             }
             Expr::Coalesce(items) => self.first_value(items),
             Expr::Case(None, arms, otherwise) => match self.choose(None, arms)? {
@@ -72,14 +74,29 @@ impl<'a> Evaluator<'a> {
                 None => self.compute(otherwise),
             },
             Expr::Case(Some(x), arms, otherwise) => {
-                let x = self.compute(x)?;
-                match self.choose(Some(&x), arms)? {
+                let x = self.operand(x)?;
+                match self.choose(Some(&*x), arms)? {
                     Some(v) => Ok(v),
                     None => self.compute(otherwise),
                 }
             }
-            Expr::NullIf(a, b) => Ok(null_if_equal(self.compute(a)?, &self.compute(b)?)),
-            Expr::Like(a, b) => Ok(like(self.alloc, &self.compute(a)?, &self.compute(b)?)?),
+            Expr::NullIf(a, b) => Ok(null_if_equal(self.compute(a)?, &*self.operand(b)?)),
+            Expr::Like(a, b) => Ok(like(self.alloc, &*self.operand(a)?, &*self.operand(b)?)?),
+        }
+    }
+
+    // The value of an operand, which is read and not kept: borrowed where it stands in the tree or in the row.
+    #[cycle(eval)]
+    fn operand(&self, e: &'a Expr) -> Result<Cow<'a, Value>, Stop>
+        ensures { Answers (λ v. datum_of (cow_value v)) result (value_on self.now.row.now e.now) }
+    {
+        match e {
+            Expr::Literal(v) => Ok(Cow::Borrowed(v)),
+            Expr::Column(i) => Ok(match self.row.get(*i) {
+                Some(v) => Cow::Borrowed(v),
+                None => Cow::Owned(Value::Null),
+            }),
+            _ => Ok(Cow::Owned(self.compute(e)?)),
         }
     }
 
@@ -95,41 +112,40 @@ impl<'a> Evaluator<'a> {
 
     // A value against that of an expression.
     #[cycle(eval)]
-    fn compare_with(&self, op: Comparison, x: &Value, e: &Expr) -> Result<Option<bool>, Stop>
-        ensures { Answers (λ b. b) result (option_map (comparison op (datum_of x.now)) (run None (map datum_of self.now.row.now) (term e.now))) }
+    fn compare_with(&self, op: Comparison, x: &Value, e: &'a Expr) -> Result<Option<bool>, Stop>
+        ensures { Answers (λ b. b) result (option_map (comparison op (datum_of x.now)) (value_on self.now.row.now e.now)) }
     {
-        let y = self.compute(e)?;
-        Ok(comparison(op, x, &y))
+        Ok(comparison(op, x, &*self.operand(e)?))
     }
 
     // AND, past its left side.
     #[cycle(eval)]
-    fn and_then(&self, left: Option<bool>, right: &Expr) -> Result<Value, Stop>
-        ensures { Gives result (and_then (Some left) (option_map truth (run None (map datum_of self.now.row.now) (term right.now)))) }
+    fn and_then(&self, left: Option<bool>, right: &'a Expr) -> Result<Value, Stop>
+        ensures { Gives result (and_then (Some left) (option_map truth (value_on self.now.row.now right.now))) }
     {
         if left == Some(false) {
             return Ok(from_condition(left));
         }
-        let right = truth(&self.compute(right)?);
+        let right = truth(&*self.operand(right)?);
         Ok(from_condition(and3(left, right)))
     }
 
     // OR, past its left side.
     #[cycle(eval)]
-    fn or_else(&self, left: Option<bool>, right: &Expr) -> Result<Value, Stop>
-        ensures { Gives result (or_else (Some left) (option_map truth (run None (map datum_of self.now.row.now) (term right.now)))) }
+    fn or_else(&self, left: Option<bool>, right: &'a Expr) -> Result<Value, Stop>
+        ensures { Gives result (or_else (Some left) (option_map truth (value_on self.now.row.now right.now))) }
     {
         if left == Some(true) {
             return Ok(from_condition(left));
         }
-        let right = truth(&self.compute(right)?);
+        let right = truth(&*self.operand(right)?);
         Ok(from_condition(or3(left, right)))
     }
 
     // BETWEEN, past its lower bound.
     #[cycle(eval)]
-    fn and_at_most(&self, above: Option<bool>, x: &Value, high: &Expr) -> Result<Value, Stop>
-        ensures { Gives result (and_then (Some above) (option_map (comparison Comparison.Le (datum_of x.now)) (run None (map datum_of self.now.row.now) (term high.now)))) }
+    fn and_at_most(&self, above: Option<bool>, x: &Value, high: &'a Expr) -> Result<Value, Stop>
+        ensures { Gives result (and_then (Some above) (option_map (comparison Comparison.Le (datum_of x.now)) (value_on self.now.row.now high.now))) }
     {
         if above == Some(false) {
             return Ok(from_condition(above));
@@ -140,20 +156,20 @@ impl<'a> Evaluator<'a> {
 
     // Whether a value equals one of a list, all of which are computed.
     #[cycle(eval)]
-    fn any_equal(&self, x: &Value, items: &[Expr]) -> Result<Option<bool>, Stop>
+    fn any_equal(&self, x: &Value, items: &'a [Expr]) -> Result<Option<bool>, Stop>
         ensures { Answers (λ b. b) result (option_map (any_equal (datum_of x.now)) (run_all None (map datum_of self.now.row.now) (trees items.now))) }
     {
         let mut found = Some(false);
         for item in items {
-            let y = self.compute(item)?;
-            found = or3(found, comparison(Comparison::Eq, x, &y));
+            let y = self.operand(item)?;
+            found = or3(found, comparison(Comparison::Eq, x, &*y));
         }
         Ok(found)
     }
 
     // The first value that is not NULL.
     #[cycle(eval)]
-    fn first_value(&self, items: &[Expr]) -> Result<Value, Stop>
+    fn first_value(&self, items: &'a [Expr]) -> Result<Value, Stop>
         ensures { Gives result (run_first None (map datum_of self.now.row.now) (trees items.now)) }
     {
         for item in items {
@@ -167,14 +183,14 @@ impl<'a> Evaluator<'a> {
 
     // What the first arm of a CASE that holds gives.
     #[cycle(eval)]
-    fn choose(&self, operand: Option<&Value>, arms: &[Arm]) -> Result<Option<Value>, Stop>
+    fn choose(&self, operand: Option<&Value>, arms: &'a [Arm]) -> Result<Option<Value>, Stop>
         ensures { Answers (option_map datum_of) result (run_arms None (map datum_of self.now.row.now) (option_map datum_of (option_copied operand.entry)) (arm_trees arms.now)) }
     {
         for arm in arms {
-            let c = self.compute(&arm.when)?;
+            let c = self.operand(&arm.when)?;
             let holds = match operand {
-                None => truth(&c),
-                Some(x) => comparison(Comparison::Eq, x, &c),
+                None => truth(&*c),
+                Some(x) => comparison(Comparison::Eq, x, &*c),
             };
             if holds == Some(true) {
                 return Ok(Some(self.compute(&arm.then)?));

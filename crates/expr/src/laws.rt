@@ -3,7 +3,7 @@ ghost use Rattle.expr.specs.Columns.{DependsOnColumns};
 ghost use Rattle.expr.specs.Laws.{ConjunctsAreLeaves, StandsForAll, IsTotal, KeepsConjuncts, AddsNoOverflow};
 ghost use Rattle.expr.specs.Like.{TestIsRelation};
 ghost use Rattle.expr.specs.Reaches.{ReachedIsNone};
-ghost use Rattle.expr.specs.Types.{EvalHasType, ValuesHaveTypes};
+ghost use Rattle.expr.specs.Types.{ConjunctsAreTyped, EvalHasType, TypesOfExamples, ValuesHaveTypes};
 
 /// A value with nothing out of range is the value, whatever stands for results out of range.
 pub fn stands_for_all()
@@ -50,4 +50,15 @@ pub fn depends_on_columns()
 pub fn values_have_types()
     ensures run { ValuesHaveTypes }
     ensures value { EvalHasType }
+{}
+
+/// Each conjunct of a condition that is typed is typed.
+pub fn conjuncts_are_typed()
+    ensures { ConjunctsAreTyped }
+{}
+
+/// The types of two expressions over a column of whole numbers and one of texts: a CASE that is a text, and a sum that
+/// is of no type.
+pub fn types_of_examples()
+    ensures { TypesOfExamples }
 {}
