@@ -73,7 +73,6 @@ use Rattle.sql_reader.specs.ExprReading.{
   Inside,
   inside,
   after_and,
-  after_comma,
   after_when,
   after_then,
   after_else,
@@ -82,11 +81,11 @@ use Rattle.sql_reader.specs.ExprReading.{
   alone,
   Inner,
   item,
-  joined,
-  tail,
+  others,
+  put,
+  series,
   list,
-  joined_arm,
-  arms_tail,
+  arm,
   arms,
   operand_of_case,
   otherwise,
@@ -107,9 +106,9 @@ use Rattle.sql_reader.specs.ExprReading.{
   inner,
   expr,
 }
-use Rattle.sql_reader.specs.ExprTree.{ExprTree, ExprTrees, MaybeExpr, ArmTrees, count}
+use Rattle.sql_reader.specs.ExprTree.{ExprTree, ExprTrees, MaybeExpr, ArmTrees, trees_of, arms_of, count}
 use Rattle.sql_reader.specs.Functions.{function_of, takes, takes_number}
-use Rattle.sql_reader.specs.Reading.{Rest, after_close, after_open}
+use Rattle.sql_reader.specs.Reading.{Rest, after_close, after_comma, after_open}
 use Rattle.sql_reader.specs.Tree.{Name}
 use Rattle.sql_reader.specs.declared.expr.BinaryOperator.{BinaryOperator}
 use Rattle.sql_reader.specs.declared.expr.Function.{Function}
@@ -122,6 +121,11 @@ use Rattle.sql_reader.proofs.ExprShape.{
   literal_opening,
   prefix_opening,
   all_no_close,
+  list_of,
+  trees_of_list,
+  count_of_list,
+  arms_list,
+  arms_of_list,
   all_arguments,
   begins_no_when,
   joint_of,
@@ -359,41 +363,56 @@ number_reads n after d stop =
     (literal_reads (ExprTree.Number n) (Lexeme.Number n ∷ after) after refl) d 1 (omega arith) (omega arith)
     (omega (arith, stop))
 
+last_of_series : {A : Type 0} (phrase : ℕ → Rest → Outcome (Read A)) (next : Rest → Option Rest) (d h n place : ℕ)
+    (x : A) (from after : Rest) → phrase place from ≡ fits d (suc h) (Ok (read x (suc h) after)) → next after ≡ None
+    → series phrase next (suc n) place from ≡ fits d (suc h) (Ok (read (x ∷ []) (suc h) after))
+unfolding series
+last_of_series phrase next d h n place x from after is none =
+    step_last d (suc h) (phrase place from) (read x (suc h) after)
+    (λ z. others (series phrase next n (suc place)) z.rest (next z.rest) >>= λ zs. Ok (put z zs))
+    (read (x ∷ []) (max (suc h) 0) after) is
+    (ap (λ o. others (series phrase next n (suc place)) after o >>= λ zs. Ok (put (read x (suc h) after) zs)) none)
+    ∙ fits_read d (suc h) (suc h) (max (suc h) 0) (suc h) _ after refl (omega arith)
+
+more_of_series : {A : Type 0} (phrase : ℕ → Rest → Outcome (Read A)) (next : Rest → Option Rest)
+    (d h i n place : ℕ) (x : A) (xs : List A) (from rest start after : Rest)
+    → phrase place from ≡ fits d (suc h) (Ok (read x (suc h) rest)) → next rest ≡ Some start
+    → series phrase next n (suc place) start ≡ fits d (suc i) (Ok (read xs (suc i) after))
+    → series phrase next (suc n) place from
+    ≡ fits d (suc (max h i)) (Ok (read (x ∷ xs) (suc (max h i)) after))
+unfolding series
+more_of_series phrase next d h i n place x xs from rest start after is some more =
+    step d (suc h) (suc i) (phrase place from) (read x (suc h) rest)
+    (λ z. others (series phrase next n (suc place)) z.rest (next z.rest) >>= λ zs. Ok (put z zs))
+    (read (x ∷ xs) (max (suc h) (suc i)) after) is
+    (ap (λ o. others (series phrase next n (suc place)) rest o >>= λ zs. Ok (put (read x (suc h) rest) zs)) some
+    ∙ step_last d (suc i) (series phrase next n (suc place) start) (read xs (suc i) after)
+    (λ zs. Ok (put (read x (suc h) rest) zs)) (read (x ∷ xs) (max (suc h) (suc i)) after) more refl)
+    ∙ fits_read d (max (suc h) (suc i)) (suc (max h i)) (max (suc h) (suc i)) (suc (max h i)) _ after (omega arith)
+    (omega arith)
+
 abbrev pub ReadsAll : (ℕ → Bool) → ℕ → ℕ → ExprTrees → Rest → Rest → Type 0
 ReadsAll numbers place h es from after =
     (d n : ℕ) → length from < n → Ends after
-    → list (inner d) numbers n place from ≡ fits d (suc h) (Ok (read es (suc h) after))
+    → list (inner d) numbers n place from ≡ fits d (suc h) (Ok (read (list_of es) (suc h) after))
 
 last_reads : (numbers : ℕ → Bool) (place h : ℕ) (e : ExprTree) (from after : Rest)
     → ReadsItem (numbers place) h e from after
     → ReadsAll numbers place h (ExprTrees.More e ExprTrees.No_more) from after
-unfolding list
 last_reads numbers place h e from after x d zero less ends = absurd (omega (arith, less))
 last_reads numbers place h e from after x d (suc n) less ends =
-    step_last d (suc h) (item (inner d) (numbers place) from) (read e (suc h) after)
-    (λ z. tail (list (inner d) numbers n (suc place)) z.rest (after_comma z.rest) >>= λ zs. Ok (joined z zs))
-    (read (ExprTrees.More e ExprTrees.No_more) (max (suc h) 0) after) (x d ends.no_operator)
-    (ap (λ o. tail (list (inner d) numbers n (suc place)) after o >>= λ zs. Ok (joined (read e (suc h) after) zs))
-    ends.no_comma)
-    ∙ fits_read d (suc h) (suc h) (max (suc h) 0) (suc h) _ after refl (omega arith)
+    last_of_series (λ place. item (inner d) (numbers place)) after_comma d h n place e from after (x d ends.no_operator)
+    ends.no_comma
 
 more_reads : (numbers : ℕ → Bool) (place h i : ℕ) (e : ExprTree) (es : ExprTrees) (from rest after : Rest)
     → h + length (Lexeme.Punctuation s.Comma ∷ rest) < length from
     → ReadsItem (numbers place) h e from (Lexeme.Punctuation s.Comma ∷ rest)
     → ReadsAll numbers (suc place) i es rest after
     → ReadsAll numbers place (max h i) (ExprTrees.More e es) from after
-unfolding list
 more_reads numbers place h i e es from rest after shorter x xs d zero less ends = absurd (omega (arith, less))
 more_reads numbers place h i e es from rest after shorter x xs d (suc n) less ends =
-    step d (suc h) (suc i) (item (inner d) (numbers place) from)
-    (read e (suc h) (Lexeme.Punctuation s.Comma ∷ rest))
-    (λ z. tail (list (inner d) numbers n (suc place)) z.rest (after_comma z.rest) >>= λ zs. Ok (joined z zs))
-    (read (ExprTrees.More e es) (max (suc h) (suc i)) after) (x d refl)
-    (step_last d (suc i) (list (inner d) numbers n (suc place) rest) (read es (suc i) after)
-    (λ zs. Ok (joined (read e (suc h) (Lexeme.Punctuation s.Comma ∷ rest)) zs))
-    (read (ExprTrees.More e es) (max (suc h) (suc i)) after) (xs d n (omega (arith, less, shorter)) ends) refl)
-    ∙ fits_read d (max (suc h) (suc i)) (suc (max h i)) (max (suc h) (suc i)) (suc (max h i)) _ after (omega arith)
-    (omega arith)
+    more_of_series (λ place. item (inner d) (numbers place)) after_comma d h i n place e (list_of es) from
+    (Lexeme.Punctuation s.Comma ∷ rest) rest after (x d refl) refl (xs d n (omega (arith, less, shorter)) ends)
 
 close_ends : (after : Rest) → Ends (Lexeme.Punctuation s.Close ∷ after)
 close_ends after = record { no_operator = refl; no_comma = refl }
@@ -407,13 +426,14 @@ in_list_reads n h i e es from mid rest after j begins x xs d p one below stop =
     by_extension d p 4 h (suc (max h i)) e (ExprTree.In n e es) from mid after _ one below j refl (omega arith) x (λ room.
     ap (members (inner d) d n (read e h mid) rest) begins
     ∙ (step_last d (suc i) (list (inner d) nowhere (suc (length rest)) 0 rest)
-    (read es (suc i) (Lexeme.Punctuation s.Close ∷ after))
+    (read (list_of es) (suc i) (Lexeme.Punctuation s.Close ∷ after))
     (λ zs. needed (after_close zs.rest) >>= λ rest. loosely rest
-    >>= λ rest. Ok (read (ExprTree.In n e zs.tree) (max (suc h) zs.levels) rest))
-    (read (ExprTree.In n e es) (max (suc h) (suc i)) after)
+    >>= λ rest. Ok (read (ExprTree.In n e (trees_of zs.tree)) (max (suc h) zs.levels) rest))
+    (read (ExprTree.In n e (trees_of (list_of es))) (max (suc h) (suc i)) after)
     (xs d (suc (length rest)) (omega arith) (close_ends after))
-    (ap (λ r. r >>= λ rest. Ok (read (ExprTree.In n e es) (max (suc h) (suc i)) rest)) (is_loose after stop))
-    ∙ with_first d h (suc i) (suc (max h i)) (ExprTree.In n e es) after room (omega arith)))
+    (ap (λ r. r >>= λ rest. Ok (read (ExprTree.In n e (trees_of (list_of es))) (max (suc h) (suc i)) rest)) (is_loose after stop))
+    ∙ (ap (λ es. fits d (suc i) (Ok (read (ExprTree.In n e es) (max (suc h) (suc i)) after))) (trees_of_list es)
+    ∙ with_first d h (suc i) (suc (max h i)) (ExprTree.In n e es) after room (omega arith))))
 
 call_reads : (word : Name) (function : Function) (h : ℕ) (es : ExprTrees) (from after : Rest)
     → function_of word ≡ Some function → inside from ≡ Inside.Arguments → takes function (count es) ≡ true
@@ -425,11 +445,13 @@ call_reads word function h es from after is some enough xs d p one below stop =
     (ap (λ o. called (inner d) d o from) is
     ∙ (ap (arguments (inner d) d function from) some
     ∙ step_last d (suc h) (list (inner d) (takes_number function) (suc (length from)) 0 from)
-    (read es (suc h) (Lexeme.Punctuation s.Close ∷ after))
-    (λ zs. needed (after_close zs.rest) >>= λ rest. kept_if (takes function (count zs.tree)) rest
-    >>= λ rest. Ok (read (ExprTree.Call function zs.tree) zs.levels rest))
+    (read (list_of es) (suc h) (Lexeme.Punctuation s.Close ∷ after))
+    (λ zs. needed (after_close zs.rest) >>= λ rest. kept_if (takes function (length zs.tree)) rest
+    >>= λ rest. Ok (read (ExprTree.Call function (trees_of zs.tree)) zs.levels rest))
     (read (ExprTree.Call function es) (suc h) after) (xs d (suc (length from)) (omega arith) (close_ends after))
-    (ap (λ b. kept_if b after >>= λ rest. Ok (read (ExprTree.Call function es) (suc h) rest)) enough)))
+    (ap (λ b. kept_if b after >>= λ rest. Ok (read (ExprTree.Call function (trees_of (list_of es))) (suc h) rest))
+    (ap (takes function) (count_of_list es) ∙ enough)
+    ∙ ap (λ es. Ok (read (ExprTree.Call function es) (suc h) after)) (trees_of_list es))))
 
 -- CASE
 
@@ -468,61 +490,46 @@ pub record ArmsEnd (after : Rest) : Type 0 where
 pub record ReadsArms (h : ℕ) (es : ArmTrees) (from after : Rest) : Type 0 where
   pub rest : Rest
   pub is : from ≡ Lexeme.Reserved k.When ∷ rest
-  pub reads : (d n : ℕ) → length rest < n → ArmsEnd after
-      → arms (inner d) n rest ≡ fits d (suc h) (Ok (read es (suc h) after))
+  pub reads : (d n place : ℕ) → length rest < n → ArmsEnd after
+      → arms (inner d) n place rest ≡ fits d (suc h) (Ok (read (arms_list es) (suc h) after))
 
-last_arm_reads : (h i : ℕ) (x y : ExprTree) (from mid after : Rest)
-    → Reads 1 h x from (Lexeme.Reserved k.Then ∷ mid) → Reads 1 i y mid after → (d n : ℕ) → length from < n
-    → ArmsEnd after
-    → arms (inner d) n from
-    ≡ fits d (suc (max h i)) (Ok (read (ArmTrees.Arm x y ArmTrees.No_arm) (suc (max h i)) after))
-unfolding arms
-last_arm_reads h i x y from mid after rx ry d zero less ends = absurd (omega (arith, less))
-last_arm_reads h i x y from mid after rx ry d (suc n) less ends =
+arm_reads : (h i d : ℕ) (x y : ExprTree) (from mid after : Rest) → Reads 1 h x from (Lexeme.Reserved k.Then ∷ mid)
+    → Reads 1 i y mid after → binds after ≡ 0
+    → arm (inner d) from ≡ fits d (suc (max h i)) (Ok (read (x, y) (suc (max h i)) after))
+arm_reads h i d x y from mid after rx ry stop =
     step d (suc h) (suc i) (inner d 1 from) (read x (suc h) (Lexeme.Reserved k.Then ∷ mid))
     (λ v. needed (after_then v.rest) >>= λ rest. inner d 1 rest
-    >>= λ w. arms_tail (arms (inner d) n) w.rest (after_when w.rest) >>= λ more. Ok (joined_arm v w more))
-    (read (ArmTrees.Arm x y ArmTrees.No_arm) (max (max (suc h) (suc i)) 0) after)
+    >>= λ w. Ok (read (v.tree, w.tree) (max v.levels w.levels) w.rest))
+    (read (x, y) (max (suc h) (suc i)) after)
     (inner_reads 1 h x from _ rx d 1 (omega arith) (omega arith) (omega arith))
     (step_last d (suc i) (inner d 1 mid) (read y (suc i) after)
-    (λ w. arms_tail (arms (inner d) n) w.rest (after_when w.rest)
-    >>= λ more. Ok (joined_arm (read x (suc h) (Lexeme.Reserved k.Then ∷ mid)) w more))
-    (read (ArmTrees.Arm x y ArmTrees.No_arm) (max (max (suc h) (suc i)) 0) after)
-    (inner_reads 1 i y mid after ry d 1 (omega arith) (omega arith) (omega (arith, ends.no_operator)))
-    (ap (λ o. arms_tail (arms (inner d) n) after o
-    >>= λ more. Ok (joined_arm (read x (suc h) (Lexeme.Reserved k.Then ∷ mid)) (read y (suc i) after) more))
-    ends.no_when))
-    ∙ fits_read d (max (suc h) (suc i)) (suc (max h i)) (max (max (suc h) (suc i)) 0) (suc (max h i)) _ after
-    (omega arith) (omega arith)
+    (λ w. Ok (read (x, w.tree) (max (suc h) w.levels) w.rest))
+    (read (x, y) (max (suc h) (suc i)) after)
+    (inner_reads 1 i y mid after ry d 1 (omega arith) (omega arith) (omega (arith, stop))) refl)
+    ∙ fits_read d (max (suc h) (suc i)) (suc (max h i)) (max (suc h) (suc i)) (suc (max h i)) _ after (omega arith)
+    (omega arith)
+
+last_arm_reads : (h i : ℕ) (x y : ExprTree) (from mid after : Rest)
+    → Reads 1 h x from (Lexeme.Reserved k.Then ∷ mid) → Reads 1 i y mid after → (d n place : ℕ) → length from < n
+    → ArmsEnd after
+    → arms (inner d) n place from ≡ fits d (suc (max h i)) (Ok (read ((x, y) ∷ []) (suc (max h i)) after))
+last_arm_reads h i x y from mid after rx ry d zero place less ends = absurd (omega (arith, less))
+last_arm_reads h i x y from mid after rx ry d (suc n) place less ends =
+    last_of_series (λ place. arm (inner d)) after_when d (max h i) n place (x, y) from after
+    (arm_reads h i d x y from mid after rx ry ends.no_operator) ends.no_when
 
 more_arms_reads : (h i j : ℕ) (x y : ExprTree) (es : ArmTrees) (from mid whens after : Rest)
     → h + suc (length mid) < length from → i + length whens < length mid
     → Reads 1 h x from (Lexeme.Reserved k.Then ∷ mid) → Reads 1 i y mid whens → ReadsArms j es whens after
-    → (d n : ℕ) → length from < n → ArmsEnd after
-    → arms (inner d) n from
-    ≡ fits d (suc (max (max h i) j)) (Ok (read (ArmTrees.Arm x y es) (suc (max (max h i) j)) after))
-unfolding arms
-more_arms_reads h i j x y es from mid whens after short shorter rx ry rs d zero less ends = absurd (omega (arith, less))
-more_arms_reads h i j x y es from mid whens after short shorter rx ry rs d (suc n) less ends =
-    step d (suc h) (max (suc i) (suc j)) (inner d 1 from) (read x (suc h) (Lexeme.Reserved k.Then ∷ mid))
-    (λ v. needed (after_then v.rest) >>= λ rest. inner d 1 rest
-    >>= λ w. arms_tail (arms (inner d) n) w.rest (after_when w.rest) >>= λ more. Ok (joined_arm v w more))
-    (read (ArmTrees.Arm x y es) (max (max (suc h) (suc i)) (suc j)) after)
-    (inner_reads 1 h x from _ rx d 1 (omega arith) (omega arith) (omega arith))
-    (step d (suc i) (suc j) (inner d 1 mid) (read y (suc i) whens)
-    (λ w. arms_tail (arms (inner d) n) w.rest (after_when w.rest)
-    >>= λ more. Ok (joined_arm (read x (suc h) (Lexeme.Reserved k.Then ∷ mid)) w more))
-    (read (ArmTrees.Arm x y es) (max (max (suc h) (suc i)) (suc j)) after)
-    (inner_reads 1 i y mid whens ry d 1 (omega arith) (omega arith)
-    (let b = ap binds rs.is in omega (arith, b)))
-    (ap (λ ts. arms_tail (arms (inner d) n) whens (after_when ts)
-    >>= λ more. Ok (joined_arm (read x (suc h) (Lexeme.Reserved k.Then ∷ mid)) (read y (suc i) whens) more)) rs.is
-    ∙ step_last d (suc j) (arms (inner d) n rs.rest) (read es (suc j) after)
-    (λ more. Ok (joined_arm (read x (suc h) (Lexeme.Reserved k.Then ∷ mid)) (read y (suc i) whens) more))
-    (read (ArmTrees.Arm x y es) (max (max (suc h) (suc i)) (suc j)) after)
-    (rs.reads d n (let b = ap length rs.is in omega (arith, b, less, short, shorter)) ends) refl))
-    ∙ fits_read d (max (suc h) (max (suc i) (suc j))) (suc (max (max h i) j)) (max (max (suc h) (suc i)) (suc j))
-    (suc (max (max h i) j)) _ after (omega arith) (omega arith)
+    → (d n place : ℕ) → length from < n → ArmsEnd after
+    → arms (inner d) n place from
+    ≡ fits d (suc (max (max h i) j)) (Ok (read ((x, y) ∷ arms_list es) (suc (max (max h i) j)) after))
+more_arms_reads h i j x y es from mid whens after short shorter rx ry rs d zero place less ends =
+    absurd (omega (arith, less))
+more_arms_reads h i j x y es from mid whens after short shorter rx ry rs d (suc n) place less ends =
+    more_of_series (λ place. arm (inner d)) after_when d (max h i) j n place (x, y) (arms_list es) from whens rs.rest after
+    (arm_reads h i d x y from mid whens rx ry (ap binds rs.is)) (ap after_when rs.is)
+    (rs.reads d n (suc place) (let b = ap length rs.is in omega (arith, b, less, short, shorter)) ends)
 
 abbrev pub ReadsElse : ℕ → MaybeExpr → Rest → Rest → Type 0
 ReadsElse h e from after =
@@ -555,21 +562,22 @@ unfolding operand_at choice
 choice_reads h i j base other es from whens rest after ends rx rs ry d p one below stop =
     by_operand d p (suc (max h (max i j))) (ExprTree.Case base es other) (Lexeme.Reserved k.Case ∷ from) after
     (step d rx.0 (max (suc i) ry.0) (operand_of_case (inner d) d from (after_when from)) (read base rx.0 whens)
-    (λ x. needed (after_when x.rest) >>= λ whens. arms (inner d) (suc (length whens)) whens
+    (λ x. needed (after_when x.rest) >>= λ whens. arms (inner d) (suc (length whens)) 0 whens
     >>= λ xs. otherwise (inner d) d xs.rest (after_else xs.rest)
-    >>= λ y. Ok (read (ExprTree.Case x.tree xs.tree y.tree) (max x.levels (max xs.levels y.levels)) y.rest))
+    >>= λ y. Ok (read (ExprTree.Case x.tree (arms_of xs.tree) y.tree) (max x.levels (max xs.levels y.levels)) y.rest))
     (read (ExprTree.Case base es other) (max rx.0 (max (suc i) ry.0)) after) (rx.2 d)
-    (ap (λ ts. needed (after_when ts) >>= λ whens. arms (inner d) (suc (length whens)) whens
+    (ap (λ ts. needed (after_when ts) >>= λ whens. arms (inner d) (suc (length whens)) 0 whens
     >>= λ xs. otherwise (inner d) d xs.rest (after_else xs.rest)
-    >>= λ y. Ok (read (ExprTree.Case base xs.tree y.tree) (max rx.0 (max xs.levels y.levels)) y.rest)) rs.is
-    ∙ step d (suc i) ry.0 (arms (inner d) (suc (length rs.rest)) rs.rest) (read es (suc i) rest)
+    >>= λ y. Ok (read (ExprTree.Case base (arms_of xs.tree) y.tree) (max rx.0 (max xs.levels y.levels)) y.rest)) rs.is
+    ∙ step d (suc i) ry.0 (arms (inner d) (suc (length rs.rest)) 0 rs.rest) (read (arms_list es) (suc i) rest)
     (λ xs. otherwise (inner d) d xs.rest (after_else xs.rest)
-    >>= λ y. Ok (read (ExprTree.Case base xs.tree y.tree) (max rx.0 (max xs.levels y.levels)) y.rest))
+    >>= λ y. Ok (read (ExprTree.Case base (arms_of xs.tree) y.tree) (max rx.0 (max xs.levels y.levels)) y.rest))
     (read (ExprTree.Case base es other) (max rx.0 (max (suc i) ry.0)) after)
-    (rs.reads d (suc (length rs.rest)) (omega arith) ends)
+    (rs.reads d (suc (length rs.rest)) 0 (omega arith) ends)
     (step_last d ry.0 (otherwise (inner d) d rest (after_else rest)) (read other ry.0 after)
-    (λ y. Ok (read (ExprTree.Case base es y.tree) (max rx.0 (max (suc i) y.levels)) y.rest))
-    (read (ExprTree.Case base es other) (max rx.0 (max (suc i) ry.0)) after) (ry.2 d) refl))
+    (λ y. Ok (read (ExprTree.Case base (arms_of (arms_list es)) y.tree) (max rx.0 (max (suc i) y.levels)) y.rest))
+    (read (ExprTree.Case base es other) (max rx.0 (max (suc i) ry.0)) after) (ry.2 d)
+    (ap (λ es. Ok (read (ExprTree.Case base es other) (max rx.0 (max (suc i) ry.0)) after)) (arms_of_list es))))
     ∙ fits_read d (max rx.0 (max (suc i) ry.0)) (suc (max h (max i j))) (max rx.0 (max (suc i) ry.0))
     (suc (max h (max i j))) _ after (omega (arith, rx.1, ry.1)) (omega (arith, rx.1, ry.1)))
 

@@ -28,9 +28,7 @@ use Rattle.sql_reader.specs.ExprReading.{
   extended,
   extended_at,
   operand_at,
-  list,
-  arms,
-  choice,
+  series,
 }
 use Rattle.sql_reader.specs.ExprTree.{ExprTree}
 use Rattle.sql_reader.specs.Functions.{function_of}
@@ -55,11 +53,11 @@ unfolding inner expr_by climb extended extended_at operand_at
 no_looser = refl
 
 no_fewer : expr 4 1 (word (codes "ifnull") ∷ sign s.Open ∷ word a ∷ sign s.Close ∷ []) ≡ Err Refusal.Syntax
-unfolding inner expr_by climb extended extended_at operand_at list function_of
+unfolding inner expr_by climb extended extended_at operand_at series function_of
 no_fewer = refl
 
 no_column : expr 4 1 (word (codes "ntile") ∷ sign s.Open ∷ word a ∷ sign s.Close ∷ []) ≡ Err Refusal.Syntax
-unfolding inner expr_by climb extended extended_at operand_at list function_of
+unfolding inner expr_by climb extended extended_at operand_at series function_of
 no_column = refl
 
 count_named : function_of (codes "Count") ≡ Some f.Count

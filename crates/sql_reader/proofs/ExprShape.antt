@@ -66,7 +66,7 @@ use Rattle.sql_reader.specs.ExprReading.{
   after_when,
   after_else,
 }
-use Rattle.sql_reader.specs.ExprTree.{ExprTree, ExprTrees, MaybeExpr, ArmTrees}
+use Rattle.sql_reader.specs.ExprTree.{ExprTree, ExprTrees, MaybeExpr, ArmTrees, trees_of, arms_of, count}
 use Rattle.sql_reader.specs.Reading.{Rest, after_close}
 use Rattle.sql_reader.specs.declared.expr.BinaryOperator.{BinaryOperator}
 use Rattle.sql_reader.specs.declared.expr.BinaryOperator.TheVariants as o
@@ -275,6 +275,32 @@ pub no_following : (ts : Rest) → binds ts ≤ 11 → following ts ≡ Followin
 no_following (Lexeme.Punctuation s.Open ∷ ts) h = absurd (omega (arith, h))
 no_following (Lexeme.Punctuation s.Dot ∷ ts) h = absurd (omega (arith, h))
 no_following _ h = refl
+
+-- Lists of trees
+
+abbrev pub list_of : ExprTrees → List ExprTree
+list_of ExprTrees.No_more = []
+list_of (ExprTrees.More e es) = e ∷ list_of es
+
+abbrev pub arms_list : ArmTrees → List (ExprTree × ExprTree)
+arms_list ArmTrees.No_arm = []
+arms_list (ArmTrees.Arm x y arms) = (x, y) ∷ arms_list arms
+
+pub trees_of_list : (es : ExprTrees) → trees_of (list_of es) ≡ es
+trees_of_list ExprTrees.No_more = refl
+trees_of_list (ExprTrees.More e es) = ap (ExprTrees.More e) (trees_of_list es)
+
+pub arms_of_list : (arms : ArmTrees) → arms_of (arms_list arms) ≡ arms
+arms_of_list ArmTrees.No_arm = refl
+arms_of_list (ArmTrees.Arm x y arms) = ap (ArmTrees.Arm x y) (arms_of_list arms)
+
+pub count_of_list : (es : ExprTrees) → length (list_of es) ≡ count es
+count_of_list ExprTrees.No_more = refl
+count_of_list (ExprTrees.More e es) = ap suc (count_of_list es)
+
+pub count_trees : (es : List ExprTree) → count (trees_of es) ≡ length es
+count_trees [] = refl
+count_trees (e ∷ es) = ap suc (count_trees es)
 
 -- How many tokens
 

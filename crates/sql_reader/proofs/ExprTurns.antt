@@ -45,7 +45,7 @@ use Rattle.sql_reader.specs.ExprReading.{
   extended,
   climb,
 }
-use Rattle.sql_reader.specs.ExprTree.{ExprTree, ExprTrees}
+use Rattle.sql_reader.specs.ExprTree.{ExprTree, ExprTrees, trees_of}
 use Rattle.sql_reader.specs.Reading.{Rest, after_close, after_open}
 use Rattle.sql_reader.proofs.ExprSteps.{bind_ok, bind_same, ok_inj}
 
@@ -76,7 +76,7 @@ module _ (inner : Inner) (d : ℕ) where
       let a = bind_ok (list inner nowhere (suc (length ts)) 0 ts) _ y k in
       let b = bind_ok (needed (after_close a.0.rest)) _ y a.2 in
       let c = bind_ok (loosely b.0) _ y b.2 in
-      rises x.levels (read (ExprTree.In n x.tree a.0.tree) (max (suc x.levels) a.0.levels) c.0) y c.2 (omega arith)
+      rises x.levels (read (ExprTree.In n x.tree (trees_of a.0.tree)) (max (suc x.levels) a.0.levels) c.0) y c.2 (omega arith)
 
   extended_at_rises : (x y : Read ExprTree) (j : Joint) → extended_at inner d x j ≡ Ok y → x.levels < y.levels
   unfolding extended_at

@@ -8,5 +8,9 @@ pub mod ExprSteps
 pub mod ExprShape
 pub mod ExprTurns
 pub mod ExprComplete
+pub mod ExprFronts
+pub mod ExprSound
+pub mod ExprLoops
 pub mod ExprLemmas
 pub mod ExprExamples
+pub mod ExprTextLemmas

@@ -33,7 +33,7 @@ use Rattle.sql_reader.specs.View.{lexemes_of}
 
 -- Any grammar
 
-same_lexemes : (items : List Token) → lexemes (map placed_of items) ≡ lexemes_of items
+pub same_lexemes : (items : List Token) → lexemes (map placed_of items) ≡ lexemes_of items
 same_lexemes [] = refl
 same_lexemes (t ∷ items) = ap (λ ts. (placed_of t).lexeme ∷ ts) (same_lexemes items)
 

@@ -23,6 +23,8 @@ use Rattle.std.specs.Prelude.{
   nat_le,
   if◌then◌else◌,
 }
+use Rattle.values.specs.declared.fault.Fault.{Fault}
+use Rattle.values.specs.declared.fault.Fault.TheVariants as e
 use Rattle.tokens.specs.Lexeme.{Lexeme}
 use Rattle.tokens.specs.declared.keyword.Keyword.{Keyword}
 use Rattle.tokens.specs.declared.keyword.Keyword.TheVariants as k
@@ -31,9 +33,9 @@ use Rattle.tokens.specs.declared.sign.Sign.TheVariants as s
 use Rattle.tokens.specs.declared.token.Quoting.{Quoting}
 use Rattle.tokens.specs.declared.token.Quoting.TheVariants as q
 use Rattle.sql_reader.specs.ExprGrammar.{level_of, level_of_prefix, nowhere}
-use Rattle.sql_reader.specs.ExprTree.{ExprTree, ExprTrees, MaybeExpr, ArmTrees, count}
+use Rattle.sql_reader.specs.ExprTree.{ExprTree, ExprTrees, MaybeExpr, trees_of, arms_of}
 use Rattle.sql_reader.specs.Functions.{function_of, takes, takes_number}
-use Rattle.sql_reader.specs.Reading.{Rest, name, after_close, after_open}
+use Rattle.sql_reader.specs.Reading.{Rest, name, after_close, after_comma, after_open}
 use Rattle.sql_reader.specs.Tree.{Name}
 use Rattle.sql_reader.specs.declared.expr.BinaryOperator.{BinaryOperator}
 use Rattle.sql_reader.specs.declared.expr.BinaryOperator.TheVariants as o
@@ -63,6 +65,17 @@ needed (Some x) = Ok x
 
 abbrev pub kept_if : {A : Type 0} → Bool → A → Outcome A
 kept_if kept x = if kept then Ok x else Err Refusal.Syntax
+
+-- what a function of the program returned, seen by view, is this outcome, unless memory ran out
+abbrev pub Fails : {B : Type 0} → Fault → Outcome B → Type 0
+Fails (e.Syntax place) outcome = outcome ≡ Err Refusal.Syntax
+Fails e.Limit outcome = outcome ≡ Err Refusal.Limit
+Fails e.NoMemory outcome = Unit {0}
+Fails _ outcome = ⊥
+
+abbrev pub Yields : {A B : Type 0} → (A → B) → Result A Fault → Outcome B → Type 0
+Yields view (Ok x) outcome = outcome ≡ Ok (view x)
+Yields view (Err fault) outcome = Fails fault outcome
 
 -- a tree, how many levels it has, and the tokens after it
 pub record Read (A : Type 0) : Type 0 where
@@ -205,10 +218,6 @@ abbrev pub after_and : Rest → Option Rest
 after_and (Lexeme.Reserved k.And ∷ ts) = Some ts
 after_and _ = None
 
-abbrev pub after_comma : Rest → Option Rest
-after_comma (Lexeme.Punctuation s.Comma ∷ ts) = Some ts
-after_comma _ = None
-
 abbrev pub after_when : Rest → Option Rest
 after_when (Lexeme.Reserved k.When ∷ ts) = Some ts
 after_when _ = None
@@ -243,40 +252,43 @@ abbrev pub item : Inner → Bool → Rest → Outcome (Read ExprTree)
 item inner true ts = alone ts >>= inner 1
 item inner false ts = inner 1 ts
 
-abbrev pub joined : Read ExprTree → Read ExprTrees → Read ExprTrees
-joined x xs = read (ExprTrees.More x.tree xs.tree) (max x.levels xs.levels) xs.rest
+-- one phrase before others
+abbrev pub put : {A : Type 0} → Read A → Read (List A) → Read (List A)
+put x xs = read (x.tree ∷ xs.tree) (max x.levels xs.levels) xs.rest
 
--- what follows an item
-abbrev pub tail : (Rest → Outcome (Read ExprTrees)) → Rest → Option Rest → Outcome (Read ExprTrees)
-tail list ts None = Ok (read ExprTrees.No_more 0 ts)
-tail list ts (Some next) = list next
+-- what follows a phrase: none, or the others
+abbrev pub others : {A : Type 0} → (Rest → Outcome (Read (List A))) → Rest → Option Rest → Outcome (Read (List A))
+others more ts None = Ok (read [] 0 ts)
+others more ts (Some start) = more start
 
--- one or more, with commas between, in at most so many turns
-unfoldable pub list : Inner → (ℕ → Bool) → ℕ → ℕ → Rest → Outcome (Read ExprTrees)
-list inner numbers zero place ts = Err Refusal.Syntax
-list inner numbers (suc n) place ts =
-    item inner (numbers place) ts
-    >>= λ x. tail (list inner numbers n (suc place)) x.rest (after_comma x.rest)
-    >>= λ xs. Ok (joined x xs)
+-- one phrase or more, where `next` tells whether a further one follows, in at most so many turns; a phrase is told its
+-- place
+unfoldable pub series : {A : Type 0} → (ℕ → Rest → Outcome (Read A)) → (Rest → Option Rest) → ℕ → ℕ → Rest
+    → Outcome (Read (List A))
+series phrase next zero place ts = Err Refusal.Syntax
+series phrase next (suc n) place ts =
+    phrase place ts
+    >>= λ x. others (series phrase next n (suc place)) x.rest (next x.rest)
+    >>= λ xs. Ok (put x xs)
 
-abbrev pub joined_arm : Read ExprTree → Read ExprTree → Read ArmTrees → Read ArmTrees
-joined_arm x y arms =
-    read (ArmTrees.Arm x.tree y.tree arms.tree) (max (max x.levels y.levels) arms.levels) arms.rest
+-- with commas between
+abbrev pub list : Inner → (ℕ → Bool) → ℕ → ℕ → Rest → Outcome (Read (List ExprTree))
+list inner numbers = series (λ place. item inner (numbers place)) after_comma
 
--- what follows an arm
-abbrev pub arms_tail : (Rest → Outcome (Read ArmTrees)) → Rest → Option Rest → Outcome (Read ArmTrees)
-arms_tail arms ts None = Ok (read ArmTrees.No_arm 0 ts)
-arms_tail arms ts (Some next) = arms next
-
--- one arm or more, behind the first WHEN, in at most so many turns
-unfoldable pub arms : Inner → ℕ → Rest → Outcome (Read ArmTrees)
-arms inner zero ts = Err Refusal.Syntax
-arms inner (suc n) ts =
+-- behind WHEN
+abbrev pub arm : Inner → Rest → Outcome (Read (ExprTree × ExprTree))
+arm inner ts =
     inner 1 ts
     >>= λ x. needed (after_then x.rest)
-    >>= λ then_rest. inner 1 then_rest
-    >>= λ y. arms_tail (arms inner n) y.rest (after_when y.rest)
-    >>= λ more. Ok (joined_arm x y more)
+    >>= λ rest. inner 1 rest
+    >>= λ y. Ok (read (x.tree, y.tree) (max x.levels y.levels) y.rest)
+
+abbrev pub arms : Inner → ℕ → ℕ → Rest → Outcome (Read (List (ExprTree × ExprTree)))
+arms inner = series (λ place. arm inner) after_when
+
+abbrev pub function_at : Quoting → Name → Option Function
+function_at q.Bare word = function_of word
+function_at _ word = None
 
 -- d is how many levels there may be
 module _ (inner : Inner) (d : ℕ) where
@@ -296,9 +308,9 @@ module _ (inner : Inner) (d : ℕ) where
   choice ts =
       operand_of_case ts (after_when ts)
       >>= λ x. needed (after_when x.rest)
-      >>= λ whens. arms inner (suc (length whens)) whens
+      >>= λ whens. arms inner (suc (length whens)) 0 whens
       >>= λ xs. otherwise xs.rest (after_else xs.rest)
-      >>= λ y. Ok (read (ExprTree.Case x.tree xs.tree y.tree) (max x.levels (max xs.levels y.levels)) y.rest)
+      >>= λ y. Ok (read (ExprTree.Case x.tree (arms_of xs.tree) y.tree) (max x.levels (max xs.levels y.levels)) y.rest)
 
   -- a call that has no argument
   abbrev pub bare_call : ExprTree → Rest → Outcome (Read ExprTree)
@@ -315,16 +327,12 @@ module _ (inner : Inner) (d : ℕ) where
   arguments function ts Inside.Arguments =
       list inner (takes_number function) (suc (length ts)) 0 ts
       >>= λ xs. needed (after_close xs.rest)
-      >>= λ rest. kept_if (takes function (count xs.tree)) rest
-      >>= λ rest. Ok (read (ExprTree.Call function xs.tree) xs.levels rest)
+      >>= λ rest. kept_if (takes function (length xs.tree)) rest
+      >>= λ rest. Ok (read (ExprTree.Call function (trees_of xs.tree)) xs.levels rest)
 
   abbrev pub called : Option Function → Rest → Outcome (Read ExprTree)
   called None ts = Err Refusal.Syntax
   called (Some function) ts = arguments function ts (inside ts)
-
-  abbrev pub function_at : Quoting → Name → Option Function
-  function_at q.Bare word = function_of word
-  function_at _ word = None
 
   -- what begins with a name
   abbrev pub named : Quoting → Name → Rest → Following → Outcome (Read ExprTree)
@@ -356,7 +364,7 @@ module _ (inner : Inner) (d : ℕ) where
       list inner nowhere (suc (length ts)) 0 ts
       >>= λ xs. needed (after_close xs.rest)
       >>= λ rest. loosely rest
-      >>= λ rest. Ok (read (ExprTree.In n x.tree xs.tree) (max (suc x.levels) xs.levels) rest)
+      >>= λ rest. Ok (read (ExprTree.In n x.tree (trees_of xs.tree)) (max (suc x.levels) xs.levels) rest)
 
   unfoldable pub extended_at : Read ExprTree → Joint → Outcome (Read ExprTree)
   extended_at x (Joint.Binary op ts) =
@@ -395,3 +403,18 @@ inner (suc d) p ts = raised (expr_by (inner d) d p ts)
 -- an expression of at least the level p and of at most d levels
 abbrev pub expr : ℕ → ℕ → Rest → Outcome (Read ExprTree)
 expr d p ts = expr_by (inner d) d p ts
+
+abbrev pub ended : ExprTree → Rest → Outcome ExprTree
+ended e [] = Ok e
+ended e (t ∷ ts) = Err Refusal.Syntax
+
+-- Nothing may stand behind an expression; where there are too few tokens for the levels, a limit is met by nothing that
+-- is spelt
+abbrev pub settled : ℕ → ℕ → Outcome (Read ExprTree) → Outcome ExprTree
+settled d n (Ok x) = ended x.tree x.rest
+settled d n (Err Refusal.Limit) = if nat_le n d then Err Refusal.Syntax else Err Refusal.Limit
+settled d n (Err Refusal.Syntax) = Err Refusal.Syntax
+
+-- an expression of all the tokens, of at most d levels
+abbrev pub whole : ℕ → Rest → Outcome ExprTree
+whole d ts = settled d (length ts) (expr d 1 ts)

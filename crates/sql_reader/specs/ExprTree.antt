@@ -1,5 +1,5 @@
 -- The tree of an expression, without where it lies in memory. Parentheses are gone.
-use Rattle.std.specs.Prelude.{ℕ, suc, ℤ, Bool, List, Option}
+use Rattle.std.specs.Prelude.{ℕ, suc, ℤ, Bool, List, [], ◌∷◌, Option}
 use Rattle.sql_reader.specs.Tree.{Name}
 use Rattle.sql_reader.specs.declared.expr.BinaryOperator.{BinaryOperator}
 use Rattle.sql_reader.specs.declared.expr.Function.{Function}
@@ -39,6 +39,14 @@ mutual
   pub data ArmTrees : Type 0 where
     No_arm : ArmTrees
     Arm : ExprTree → ExprTree → ArmTrees → ArmTrees
+
+abbrev pub trees_of : List ExprTree → ExprTrees
+trees_of [] = No_more
+trees_of (e ∷ es) = More e (trees_of es)
+
+abbrev pub arms_of : List (ExprTree × ExprTree) → ArmTrees
+arms_of [] = No_arm
+arms_of (a ∷ arms) = Arm a.0 a.1 (arms_of arms)
 
 -- how many there are
 abbrev pub count : ExprTrees → ℕ

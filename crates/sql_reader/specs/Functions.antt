@@ -37,9 +37,13 @@ functions =
     ∷ f.Lead ∷ f.Length ∷ f.Lower ∷ f.Max ∷ f.Min ∷ f.NthValue ∷ f.NTile ∷ f.NullIf ∷ f.Rank ∷ f.RowNumber ∷ f.Sum
     ∷ f.TypeOf ∷ f.Upper ∷ []
 
--- the function that an unquoted word names, in letters of either case
+-- whether a word names a function, in letters of either case
+abbrev pub is_function : Function → Name → Bool
+is_function function word = str_eq_ignore_ascii_case (spelling function) word
+
+-- the function that an unquoted word names
 unfoldable pub function_of : Name → Option Function
-function_of word = find (λ function. str_eq_ignore_ascii_case (spelling function) word) functions
+function_of word = find (λ function. is_function function word) functions
 
 -- whether a function has so many arguments
 abbrev pub takes : Function → ℕ → Bool

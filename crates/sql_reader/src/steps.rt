@@ -1,5 +1,6 @@
 //! Steps over tokens.
 ghost use Rattle.std.specs.Prelude.{◌≡◌, ◌<◌, length, option_map, string_bytes, IfOk, IfSome};
+ghost use Rattle.sql_reader.specs.ExprReading as expr_spec;
 ghost use Rattle.sql_reader.specs.Reading as spec;
 ghost use Rattle.sql_reader.specs.Reading.{Gives, IsSyntax};
 ghost use Rattle.sql_reader.specs.View.{lexemes_of};
@@ -169,6 +170,81 @@ pub(crate) fn after_null<'t>(tokens: &'t [Token<'t>]) -> Option<&'t [Token<'t>]>
         [
             Token {
                 kind: TokenKind::Keyword(Keyword::Null),
+                ..
+            },
+            rest @ ..,
+        ] => Some(rest),
+        _ => None,
+    }
+}
+
+pub(crate) fn after_and<'t>(tokens: &'t [Token<'t>]) -> Option<&'t [Token<'t>]>
+    ensures { option_map (λ r. lexemes_of r.now) result ≡ expr_spec.after_and (lexemes_of tokens.now) }
+{
+    match tokens {
+        [
+            Token {
+                kind: TokenKind::Keyword(Keyword::And),
+                ..
+            },
+            rest @ ..,
+        ] => Some(rest),
+        _ => None,
+    }
+}
+
+pub(crate) fn after_when<'t>(tokens: &'t [Token<'t>]) -> Option<&'t [Token<'t>]>
+    ensures { option_map (λ r. lexemes_of r.now) result ≡ expr_spec.after_when (lexemes_of tokens.now) }
+{
+    match tokens {
+        [
+            Token {
+                kind: TokenKind::Keyword(Keyword::When),
+                ..
+            },
+            rest @ ..,
+        ] => Some(rest),
+        _ => None,
+    }
+}
+
+pub(crate) fn after_then<'t>(tokens: &'t [Token<'t>]) -> Option<&'t [Token<'t>]>
+    ensures { option_map (λ r. lexemes_of r.now) result ≡ expr_spec.after_then (lexemes_of tokens.now) }
+{
+    match tokens {
+        [
+            Token {
+                kind: TokenKind::Keyword(Keyword::Then),
+                ..
+            },
+            rest @ ..,
+        ] => Some(rest),
+        _ => None,
+    }
+}
+
+pub(crate) fn after_else<'t>(tokens: &'t [Token<'t>]) -> Option<&'t [Token<'t>]>
+    ensures { option_map (λ r. lexemes_of r.now) result ≡ expr_spec.after_else (lexemes_of tokens.now) }
+{
+    match tokens {
+        [
+            Token {
+                kind: TokenKind::Keyword(Keyword::Else),
+                ..
+            },
+            rest @ ..,
+        ] => Some(rest),
+        _ => None,
+    }
+}
+
+pub(crate) fn after_end<'t>(tokens: &'t [Token<'t>]) -> Option<&'t [Token<'t>]>
+    ensures { option_map (λ r. lexemes_of r.now) result ≡ expr_spec.after_end (lexemes_of tokens.now) }
+{
+    match tokens {
+        [
+            Token {
+                kind: TokenKind::Keyword(Keyword::End),
                 ..
             },
             rest @ ..,
