@@ -1,6 +1,6 @@
--- What is behind a token, a space or a comment is the end of what it began, and shorter.
-use Rattle.std.proofs.Common.{◌≡◌, ℕ, Bool, true, ◌-◌, ◌<◌, List, [], ◌∷◌, ◌++◌, length, Some, refl, sym, ap, ◌∙◌, subst, arith, append_assoc, length-append}
-use Rattle.std.proofs.lemmas.Str.{IsCharBoundary-at_seam}
+-- What is behind a token, a space or a comment is the end of what it began, and shorter; the text may be cut there.
+use Rattle.std.proofs.Common.{◌≡◌, ℕ, Bool, true, ◌+◌, ◌-◌, ◌<◌, ◌≤◌, List, [], ◌∷◌, ◌++◌, length, take, drop, Some, refl, sym, ap, ◌∙◌, subst, arith, append_assoc, length-append, length-take-le, drop-drop, drop_at}
+use Rattle.std.proofs.lemmas.Str.{IsCharBoundary-at_seam, IsCharBoundary-from_drop}
 use Rattle.std.proofs.lemmas.Bool.{or_left}
 use Rattle.std.specs.Str.{IsUtf8, IsCharBoundary}
 use Rattle.tokens.proofs.BlankLemmas.{blank_sound}
@@ -9,6 +9,7 @@ use Rattle.tokens.specs.Bytes.{is_digit, begins_word, is_in_word}
 use Rattle.tokens.specs.Lexeme.{Lexeme, Run, Quoted, Hex, Closes, Begins, Blank}
 use Rattle.tokens.specs.Reading.{token, blank}
 use Rattle.tokens.specs.Sign.{spelling}
+use Rattle.tokens.specs.Tokens.{between, StandsIn}
 use Rattle.tokens.specs.declared.keyword.Grammar.{Grammar}
 use Rattle.tokens.specs.declared.sign.Sign.{Sign}
 use Rattle.tokens.specs.declared.sign.Sign.TheVariants as s
@@ -120,3 +121,40 @@ token_boundary grammar from after t u h =
     let e = ap length l.parts in
     subst (IsCharBoundary from) (let i : length (l.first ∷ l.front) ≡ length from - length after = omega (arith, length-append l.front after) in i)
     (IsCharBoundary-at_seam from (l.first ∷ l.front) after l.parts u)
+
+leaves_drop : {from after : List ℕ} → Leaves from after → after ≡ drop (length from - length after) from
+leaves_drop {from = from} {after = after} l =
+    let e = ap length l.parts in
+    let n : length (l.first ∷ l.front) ≡ length from - length after = omega (arith, length-append l.front after) in
+    sym (ap (drop (length from - length after)) l.parts ∙ drop_at (l.first ∷ l.front) after (length from - length after) n)
+
+-- from is the rest of the text, and after what is behind its front: then after is the rest of the text too
+leaves_further : (text from after : List ℕ) → length from ≤ length text → from ≡ drop (length text - length from) text → Leaves from after
+    → after ≡ drop (length text - length after) text
+leaves_further text from after within e l =
+    let less = leaves_less l in
+    let n : (length text - length from) + (length from - length after) ≡ length text - length after = omega arith in
+    leaves_drop l ∙ (ap (drop (length from - length after)) e
+    ∙ (drop-drop (length from - length after) (length text - length from) text ∙ ap (λ k. drop k text) n))
+
+-- what is behind a space or a comment, or a token, is the rest of the text
+pub blank_further : (text from after : List ℕ) → length from ≤ length text → from ≡ drop (length text - length from) text → blank from ≡ Some after
+    → after ≡ drop (length text - length after) text
+blank_further text from after within e h = leaves_further text from after within e (blank_leaves (blank_sound from after h))
+
+pub token_further : (grammar : Grammar) (text from after : List ℕ) (t : Lexeme) → length from ≤ length text → from ≡ drop (length text - length from) text
+    → token grammar from ≡ Some (t, after) → after ≡ drop (length text - length after) text
+token_further grammar text from after t within e h = leaves_further text from after within e (begins_leaves (sound grammar from (t, after) h))
+
+-- the text may be cut before its rest
+rest_boundary : (text rest : List ℕ) → IsUtf8 rest → rest ≡ drop (length text - length rest) text → IsCharBoundary text (length text - length rest)
+rest_boundary text rest u e = IsCharBoundary-from_drop text (length text - length rest) (omega arith) (subst IsUtf8 e u)
+
+-- the text may be cut before a token that was read, and behind it
+pub token_stands : (grammar : Grammar) (text from after : List ℕ) (t : Lexeme) → IsUtf8 from → IsUtf8 after → length from ≤ length text
+    → from ≡ drop (length text - length from) text → token grammar from ≡ Some (t, after) → StandsIn text (between (length text) from t after)
+token_stands grammar text from after t u v within e h =
+    let less = token_less grammar from after t h in
+    let wide = length-take-le (length from - length after) from (omega arith) in
+    let n : length text - length after ≡ (length text - length from) + length (take (length from - length after) from) = omega arith in
+    (rest_boundary text from u e, subst (IsCharBoundary text) n (rest_boundary text after v (token_further grammar text from after t within e h)))

@@ -1,9 +1,10 @@
 -- Tokens that are read one after the other.
-use Rattle.std.proofs.Common.{◌≡◌, ℕ, List, [], ◌∷◌, ◌++◌, map, Some, refl, sym, ap, ◌∙◌, subst}
+use Rattle.std.proofs.Common.{◌≡◌, ℕ, List, [], ◌∷◌, ◌++◌, All, map, Some, refl, sym, ap, ◌∙◌, subst}
+use Rattle.std.proofs.lemmas.List.Elements.{All-nil, All-push}
 use Rattle.tokens.proofs.ReadLemmas.{token_step}
 use Rattle.tokens.specs.Content.{lexeme_of, placed_of}
 use Rattle.tokens.specs.Reading.{token}
-use Rattle.tokens.specs.Tokens.{between, Reads}
+use Rattle.tokens.specs.Tokens.{Placed, between, StandsIn, Reads}
 use Rattle.tokens.specs.declared.keyword.Grammar.{Grammar}
 use Rattle.tokens.specs.declared.token.Token.{Token}
 
@@ -20,3 +21,14 @@ pub read_more : (grammar : Grammar) (len : ℕ) (from mid after : List ℕ) (ts 
 read_more grammar len from mid after ts us t e r h p =
     subst (λ xs. Reads grammar len from xs after) (sym (ap (map placed_of) e ∙ (map_push placed_of ts t ∙ ap (λ x. map placed_of ts ++ x ∷ []) p)))
     (token_step grammar len from mid after (map placed_of ts) (lexeme_of t.kind) r h)
+
+-- the text may be cut before and behind each token
+abbrev pub StandIn : List ℕ → List Token → Type 0
+StandIn text ts = All (λ t. StandsIn text (placed_of t)) ts
+
+pub stand_none : (text : List ℕ) (ts : List Token) → ts ≡ [] → StandIn text ts
+stand_none text ts e = subst (StandIn text) (sym e) (All-nil (λ (t : Token). StandsIn text (placed_of t)))
+
+pub stand_more : (text : List ℕ) (ts us : List Token) (t : Token) (p : Placed) → us ≡ ts ++ t ∷ [] → StandIn text ts → placed_of t ≡ p → StandsIn text p → StandIn text us
+stand_more text ts us t p e a same s =
+    subst (StandIn text) (sym e) (All-push (λ (x : Token). StandsIn text (placed_of x)) ts t a (subst (StandsIn text) (sym same) s))

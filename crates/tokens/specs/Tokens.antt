@@ -1,5 +1,6 @@
 -- Which bytes are spelt as a list of tokens.
-use Rattle.std.specs.Prelude.{◌≡◌, ℕ, ◌-◌, ◌<◌, List, [], ◌∷◌, length, take}
+use Rattle.std.specs.Prelude.{◌≡◌, ℕ, ◌+◌, ◌-◌, ◌<◌, List, [], ◌∷◌, length, take}
+use Rattle.std.specs.Str.{IsCharBoundary}
 use Rattle.values.specs.declared.fault.Fault.{Fault}
 use Rattle.values.specs.declared.fault.Fault.TheVariants.{NoMemory, Syntax}
 use Rattle.tokens.specs.Lexeme.{Lexeme, Begins, Blank}
@@ -15,6 +16,10 @@ pub record Placed : Type 0 where
 abbrev pub between : ℕ → List ℕ → Lexeme → List ℕ → Placed
 between len from lexeme after =
     record { place = len - length from; bytes = take (length from - length after) from; lexeme = lexeme }
+
+-- the text may be cut before the token and behind it
+abbrev pub StandsIn : List ℕ → Placed → Type 0
+StandsIn text t = IsCharBoundary text t.place × IsCharBoundary text (t.place + length t.bytes)
 
 -- Reads grammar len from tokens after: from, the rest of a source of so many bytes, is these tokens up to where after
 -- begins, with spaces and comments anywhere between them

@@ -1,8 +1,8 @@
 //! All tokens of a text.
-ghost use Rattle.std.specs.Prelude.{◌≡◌, ◌<◌, ◌≤◌, length, map, option_map, IfErr, IfOk, IfSome, Some};
+ghost use Rattle.std.specs.Prelude.{◌≡◌, ◌<◌, ◌≤◌, All, length, map, option_map, IfErr, IfOk, IfSome, Some};
 ghost use Rattle.tokens.specs.Content.{lexeme_of, placed_of};
 ghost use Rattle.tokens.specs.Reading as spec;
-ghost use Rattle.tokens.specs.Tokens.{IsRefused, Tokens, between};
+ghost use Rattle.tokens.specs.Tokens.{IsRefused, StandsIn, Tokens, between};
 
 use crate::blank::skip_blank;
 use crate::lexer::token_at_front;
@@ -26,13 +26,14 @@ fn placed_token<'a>(grammar: Grammar, len: usize, rest: &'a str) -> Option<(Toke
 
 /// The tokens of a text. The fault is `Syntax` with the first place that is neither in a token nor between tokens, or
 /// `NoMemory`.
-#[tactic(auto, using(crate::proofs::ReadLemmas::blank_step, crate::proofs::ReadLemmas::stops_at, crate::proofs::LeavesLemmas::blank_less))]
+#[tactic(auto, using(crate::proofs::ReadLemmas::blank_step, crate::proofs::ReadLemmas::stops_at, crate::proofs::LeavesLemmas::blank_less, crate::proofs::LeavesLemmas::blank_further))]
 pub fn read_tokens<'a>(
     alloc: Global,
     grammar: Grammar,
     text: &'a str,
 ) -> Result<Vec<Token<'a>>, Fault>
     ensures spelt { IfOk result (λ tokens. Tokens grammar text.now (map placed_of tokens.items)) }
+    ensures cut { IfOk result (λ tokens. All (λ t. StandsIn text.now (placed_of t)) tokens.items) }
     ensures refused { IfErr result (λ fault. IsRefused grammar text.now fault) }
 {
     let mut tokens = Vec::new(alloc);
