@@ -7,25 +7,16 @@ use Rattle.values.specs.declared.fault.Fault.{Fault}
 use Rattle.values.specs.declared.fault.Fault.TheVariants as f
 use Rattle.meaning.specs.Query.{Source, Term, column, QueryData}
 use Rattle.sql_reader.specs.Texts.{max_columns}
-use Rattle.sql_reader.specs.Tree.{Name, Columns, SelectTree}
+use Rattle.sql_reader.specs.SelectTrees.{SelectTree}
+use Rattle.sql_reader.specs.Tree.{Name}
 use Rattle.schema.specs.TableData.{TableData}
+use Rattle.resolver.proofs.PlainLemmas.{one_plain, zip_one}
 use Rattle.resolver.specs.Named.{IsPlaceOf, IsNowhere, IsTwice}
-use Rattle.resolver.specs.Resolved.{table_names, column_names, written_names, width_of, IsSource, HasTable, IsColumnOf, GivesColumns, IsNameOf, Resolves, IsRefused}
+use Rattle.resolver.specs.Plain.{Columns, IsPlainWith}
+use Rattle.resolver.specs.Resolved.{table_names, column_names, written_names, width_of, IsSource, HasTable, IsColumnOf, GivesColumns, IsNameOf, Resolves, AreRefused, IsRefused}
 
 some_one : {A : Type 0} (a b : A) → Some a ≡ Some b → a ≡ b
 some_one a b e = cc
-
--- what belongs to each item is one thing, and so is the list of it
-zip_one : {A B : Type 0} (R : A → B → Type 0) → ((x : A) (y z : B) → R x y → R x z → y ≡ z) → (xs : List A) (ys zs : List B)
-    → AllZip R xs ys → AllZip R xs zs → ys ≡ zs
-zip_one R one [] [] [] h k = refl
-zip_one R one [] [] (z ∷ zs) h k = absurd k
-zip_one R one [] (y ∷ ys) zs h k = absurd h
-zip_one R one (x ∷ xs) [] zs h k = absurd h
-zip_one R one (x ∷ xs) (y ∷ ys) [] h k = absurd k
-zip_one R one (x ∷ xs) (y ∷ ys) (z ∷ zs) h k =
-    let head = one x y z h.0 k.0 in
-    let tail = zip_one R one xs ys zs h.1 k.1 in cc
 
 one_column : (declared : List Name) (name : Name) (first second : Term) → IsColumnOf declared name first
     → IsColumnOf declared name second → first ≡ second
@@ -41,9 +32,9 @@ one_name : (declared : List Name) (term : Term) (first second : Name) → IsName
     → IsNameOf declared term second → first ≡ second
 one_name declared (column at) first second is also = some_one first second (sym is ∙ also)
 
-one_source : (tables : List TableData) (tree : SelectTree) (at other : ℕ) (first second : TableData)
-    → IsSource tables tree at first → IsSource tables tree other second → (at ≡ other) × (first ≡ second)
-one_source tables tree at other first second is also =
+one_source : (tables : List TableData) (name : Name) (at other : ℕ) (first second : TableData)
+    → IsSource tables name at first → IsSource tables name other second → (at ≡ other) × (first ≡ second)
+one_source tables name at other first second is also =
     let same : at ≡ other = also.place.alone at is.place.here in
     (same, some_one first second (sym is.found ∙ (ap (slice_get tables) same ∙ also.found)))
 
@@ -61,10 +52,14 @@ same_query first second s c o = same_parts first.source second.source first.colu
 pub one_query : (tables : List TableData) (tree : SelectTree) (first second : QueryData) (names others : List Name)
     → Resolves tables tree first names → Resolves tables tree second others → (first ≡ second) × (names ≡ others)
 one_query tables tree first second names others is also =
-    let one = one_source tables tree is.at also.at is.table also.table is.source also.source in
+    let plain = one_plain tree also.columns is.columns also.name is.name also.plain is.plain in
+    let place = subst (λ (n : Name). IsSource tables n also.at also.table) plain.1 also.source in
+    let one = one_source tables is.name is.at also.at is.table also.table is.source place in
     let declared : column_names also.table.columns ≡ column_names is.table.columns = ap (λ (t : TableData). column_names t.columns) (sym one.1) in
-    let columns : first.columns ≡ second.columns = one_list (column_names is.table.columns) tree.columns first.columns second.columns
-    is.columns_are (subst (λ (d : List Name). GivesColumns d tree.columns second.columns) declared also.columns_are) in
+    let same : GivesColumns (column_names also.table.columns) is.columns second.columns =
+    subst (λ (c : Columns). GivesColumns (column_names also.table.columns) c second.columns) plain.0 also.columns_are in
+    let columns : first.columns ≡ second.columns = one_list (column_names is.table.columns) is.columns first.columns second.columns
+    is.columns_are (subst (λ (d : List Name). GivesColumns d is.columns second.columns) declared same) in
     let source : first.source ≡ second.source = is.source_is ∙ (ap Source.table one.0 ∙ sym also.source_is) in
     let order : first.order ≡ second.order = is.unordered ∙ sym also.unordered in
     let named : AllZip (IsNameOf (column_names is.table.columns)) first.columns others =
@@ -102,25 +97,39 @@ width_is declared (Columns.Named written) terms z = AllZip-long (IsColumnOf decl
 
 module _ (tables : List TableData) (tree : SelectTree) (query : QueryData) (names : List Name) (r : Resolves tables tree query names) where
   -- what holds of the table that the SELECT names
-  of_table : (Holds : TableData → Type 0) → HasTable tables tree Holds → Holds r.table
-  of_table Holds h = subst Holds (one_source tables tree h.0 r.at h.1 r.table h.2 r.source).1 h.3
+  of_table : (Holds : TableData → Type 0) → HasTable tables r.name Holds → Holds r.table
+  of_table Holds h = subst Holds (one_source tables r.name h.0 r.at h.1 r.table h.2 r.source).1 h.3
 
-  pub refused_none : (fault : Fault) → IsRefused tables tree fault → fault ≢ f.NoMemory → ⊥
-  refused_none f.UnknownTable h other = h.0 r.at r.source.place.here
-  refused_none f.NotYet h other = h.0 r.at r.source.place.here
-  refused_none f.UnknownColumn h other =
-      none_written (column_names r.table.columns) tree.columns query.columns (IsNowhere (column_names r.table.columns))
+  -- what holds of the columns and the table of a plain SELECT
+  of_plain : (Holds : Columns → Name → Type 0) → IsPlainWith tree Holds → Holds r.columns r.name
+  of_plain Holds h =
+      let one = one_plain tree h.0 r.columns h.1 r.name h.2 r.plain in
+      subst (λ (c : Columns). Holds c r.name) one.0 (subst (λ (n : Name). Holds h.0 n) one.1 h.3)
+
+  names_right : (fault : Fault) → ¬ AreRefused tables r.columns r.name fault
+  names_right f.UnknownTable h = h.0 r.at r.source.place.here
+  names_right f.NotYet h = h.0 r.at r.source.place.here
+  names_right f.UnknownColumn h =
+      none_written (column_names r.table.columns) r.columns query.columns (IsNowhere (column_names r.table.columns))
       (λ name at is nowhere. nowhere at is.here) r.columns_are
-      (of_table (λ table. Any (IsNowhere (column_names table.columns)) (written_names tree.columns)) h)
-  refused_none f.Ambiguous (inl twice) other = no_two (table_names tables) tree.table r.at r.source.place twice
-  refused_none f.Ambiguous (inr h) other =
-      none_written (column_names r.table.columns) tree.columns query.columns (IsTwice (column_names r.table.columns))
+      (of_table (λ table. Any (IsNowhere (column_names table.columns)) (written_names r.columns)) h)
+  names_right f.Ambiguous (inl twice) = no_two (table_names tables) r.name r.at r.source.place twice
+  names_right f.Ambiguous (inr h) =
+      none_written (column_names r.table.columns) r.columns query.columns (IsTwice (column_names r.table.columns))
       (no_two (column_names r.table.columns)) r.columns_are
-      (of_table (λ table. Any (IsTwice (column_names table.columns)) (written_names tree.columns)) h)
-  refused_none f.Limit h other =
-      let wide = of_table (λ table. max_columns < width_of (column_names table.columns) tree.columns) h in
-      let width = width_is (column_names r.table.columns) tree.columns query.columns r.columns_are in
+      (of_table (λ table. Any (IsTwice (column_names table.columns)) (written_names r.columns)) h)
+  names_right f.Limit h =
+      let wide = of_table (λ table. max_columns < width_of (column_names table.columns) r.columns) h in
+      let width = width_is (column_names r.table.columns) r.columns query.columns r.columns_are in
       let within = r.within in
       absurd (omega arith)
+  names_right _ h = h
+
+  plain_right : (fault : Fault) → ¬ IsPlainWith tree (λ columns name. AreRefused tables columns name fault)
+  plain_right fault h = names_right fault (of_plain (λ columns name. AreRefused tables columns name fault) h)
+
+  pub refused_none : (fault : Fault) → IsRefused tables tree fault → fault ≢ f.NoMemory → ⊥
+  refused_none f.NotYet (inl h) other = h r.columns r.name r.plain
+  refused_none f.NotYet (inr h) other = plain_right f.NotYet h
   refused_none f.NoMemory h other = other refl
-  refused_none _ h other = h
+  refused_none fault h other = plain_right fault h

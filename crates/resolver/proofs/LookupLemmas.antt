@@ -1,6 +1,6 @@
 -- The place of a name: where one more declared name is looked at.
 use Rattle.std.proofs.Common.{MatchOption, ◌≡◌, ℕ, ◌+◌, ◌<◌, ◌≤◌, List, length, Option, Some, None, slice_get, slice_index_or, is_some, true, false, map, option_map, refl, sym, ap, ◌∙◌, subst, arith, below_more}
-use Rattle.std.proofs.lemmas.Option.{slice_get-map, slice_get_within, slice_get_read}
+use Rattle.std.proofs.lemmas.Option.{slice_get-get_or, slice_get-map, slice_get_within, slice_get_read}
 use Rattle.sql_reader.specs.Tree.{Name}
 use Rattle.schema.specs.Names.{IsSameName}
 use Rattle.resolver.specs.Named.{HasNameAt, IsPlaceOf, IsNowhere, IsTwice}
@@ -59,3 +59,7 @@ pub named_at : {X : Type 0} (name_of : X → Name) (items : List X) (i : ℕ) (i
 named_at name_of items i item here e less is =
     slice_get-map name_of items i
     ∙ (ap (option_map name_of) (slice_get_read items (length items) i item refl less is) ∙ ap Some (sym e))
+
+pub written_at : {X : Type 0} (name_of : X → Name) (items : List X) (i : ℕ) (d : X) → i < length items
+    → slice_get (map name_of items) i ≡ Some (name_of (slice_index_or items i d))
+written_at name_of items i d less = slice_get-map name_of items i ∙ ap (option_map name_of) (slice_get-get_or items i d less)

@@ -1,5 +1,5 @@
 -- What a SELECT means is one query, which is typed; why one was refused.
-use Rattle.std.proofs.Common.{◌≡◌, ℕ, zero, suc, ◌<◌, List, [], ◌∷◌, All, inl, inr, length, map, slice_get, slice_index_or, Some, option_map, refl, sym, ap, ◌∙◌, subst, arith}
+use Rattle.std.proofs.Common.{◌≡◌, ℕ, zero, suc, ◌<◌, List, [], ◌∷◌, All, inr, length, map, slice_get, slice_index_or, Some, option_map, refl, sym, ap, ◌∙◌, subst, arith}
 use Rattle.std.specs.List.{AllZip}
 use Rattle.std.proofs.lemmas.List.{length-map}
 use Rattle.std.proofs.lemmas.List.FromFn.{get_or-map-range_with_len, length-map-range_with_len}
@@ -7,33 +7,29 @@ use Rattle.std.proofs.lemmas.Option.{slice_get-map, slice_get_within, slice_get_
 use Rattle.values.specs.declared.fault.Fault.{Fault}
 use Rattle.values.specs.declared.fault.Fault.TheVariants as f
 use Rattle.meaning.specs.Query.{Source, Term, column, QueryData, HasSource, source_width, IsTermOf, IsTyped}
-use Rattle.sql_reader.specs.Tree.{Name, Columns, SelectTree}
+use Rattle.sql_reader.specs.SelectTrees.{SelectTree}
+use Rattle.sql_reader.specs.Tree.{Name}
 use Rattle.schema.specs.TableData.{TableData}
 use Rattle.resolver.specs.Named.{IsPlaceOf}
+use Rattle.resolver.specs.Plain.{Columns, IsPlain}
 use Rattle.resolver.specs.Resolved.{table_names, column_names, written_names, IsSource, IsColumnOf, GivesColumns, Resolves, IsRefused}
-use Rattle.resolver.specs.Lookups.{IsTableRefused, AreNamesRefused, AreColumnsRefused}
+use Rattle.resolver.specs.Lookups.{AreNamesRefused, AreColumnsRefused}
 
 -- why a SELECT was refused
-
-pub table_refused : (tables : List TableData) (tree : SelectTree) (fault : Fault)
-    → IsTableRefused (table_names tables) tree.table fault → IsRefused tables tree fault
-table_refused tables tree f.UnknownTable h = h
-table_refused tables tree f.NotYet h = h
-table_refused tables tree f.Ambiguous h = inl h
-table_refused tables tree _ h = absurd h
 
 pub names_refused : (declared : List Name) (columns : Columns) (fault : Fault)
     → AreNamesRefused declared (written_names columns) fault → AreColumnsRefused declared columns fault
 names_refused declared columns f.Limit h = absurd h
 names_refused declared columns _ h = h
 
-pub columns_refused : (tables : List TableData) (tree : SelectTree) (at : ℕ) (table : TableData) (fault : Fault)
-    → IsSource tables tree at table → AreColumnsRefused (column_names table.columns) tree.columns fault → IsRefused tables tree fault
-columns_refused tables tree at table f.UnknownColumn is h = (at, table, is, h)
-columns_refused tables tree at table f.Ambiguous is h = inr (at, table, is, h)
-columns_refused tables tree at table f.Limit is h = (at, table, is, h)
-columns_refused tables tree at table f.NoMemory is h = tt
-columns_refused tables tree at table _ is h = absurd h
+pub columns_refused : (tables : List TableData) (tree : SelectTree) (columns : Columns) (name : Name) (at : ℕ) (table : TableData)
+    (fault : Fault) → IsPlain tree columns name → IsSource tables name at table
+    → AreColumnsRefused (column_names table.columns) columns fault → IsRefused tables tree fault
+columns_refused tables tree columns name at table f.UnknownColumn plain is h = (columns, name, plain, (at, table, is, h))
+columns_refused tables tree columns name at table f.Ambiguous plain is h = (columns, name, plain, inr (at, table, is, h))
+columns_refused tables tree columns name at table f.Limit plain is h = (columns, name, plain, (at, table, is, h))
+columns_refused tables tree columns name at table f.NoMemory plain is h = tt
+columns_refused tables tree columns name at table _ plain is h = absurd h
 
 -- the places of a query are those of the catalog
 
@@ -72,19 +68,19 @@ places_within n (at ∷ places) all zero d h = all 0 (column at) (omega arith)
 places_within n (at ∷ places) all (suc k) d h =
     places_within n places (λ j e l. all (suc j) e (omega arith)) k d (omega arith)
 
-pub source_at : (tables : List TableData) (tree : SelectTree) (at : ℕ) (table : TableData) (name : Name) → name ≡ tree.table
-    → IsPlaceOf (table_names tables) name at → table ≡ slice_index_or tables at table → IsSource tables tree at table
-source_at tables tree at table name e place is = record {
-  place = subst (λ (n : Name). IsPlaceOf (table_names tables) n at) e place;
+pub source_at : (tables : List TableData) (name : Name) (at : ℕ) (table : TableData)
+    → IsPlaceOf (table_names tables) name at → table ≡ slice_index_or tables at table → IsSource tables name at table
+source_at tables name at table place is = record {
+  place = place;
   found = slice_get_read tables (length tables) at table refl (source_within tables name at place) is;
 }
 
 abbrev widths : List TableData → List ℕ
 widths tables = map (λ t. length t.columns) tables
 
-module _ (tables : List TableData) (tree : SelectTree) (at : ℕ) (table : TableData) (is : IsSource tables tree at table) where
+module _ (tables : List TableData) (name : Name) (at : ℕ) (table : TableData) (is : IsSource tables name at table) where
   has_source : HasSource (widths tables) (Source.table at)
-  has_source = rw length-map (source_within tables tree.table at is.place)
+  has_source = rw length-map (source_within tables name at is.place)
 
   width_is : source_width (widths tables) (Source.table at) ≡ length (column_names table.columns)
   width_is =
@@ -95,7 +91,7 @@ module _ (tables : List TableData) (tree : SelectTree) (at : ℕ) (table : Table
 pub resolved_is_typed : (tables : List TableData) (tree : SelectTree) (query : QueryData) (names : List Name)
     → Resolves tables tree query names → IsTyped (map (λ t. length t.columns) tables) query
 resolved_is_typed tables tree query names r = record {
-  source = rw r.source_is (has_source tables tree r.at r.table r.source);
-  columns = rw (r.source_is, width_is tables tree r.at r.table r.source) (terms_within (column_names r.table.columns) tree.columns query.columns r.columns_are);
+  source = rw r.source_is (has_source tables r.name r.at r.table r.source);
+  columns = rw (r.source_is, width_is tables r.name r.at r.table r.source) (terms_within (column_names r.table.columns) r.columns query.columns r.columns_are);
   order = rw r.unordered (λ k d h. absurd (omega arith));
 }

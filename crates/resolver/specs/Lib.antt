@@ -1,3 +1,5 @@
 pub mod Named
+pub mod Plain
+pub mod PlainView
 pub mod Resolved
 pub mod Lookups

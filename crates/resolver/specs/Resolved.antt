@@ -5,10 +5,12 @@ use Rattle.values.specs.declared.fault.Fault.{Fault}
 use Rattle.values.specs.declared.fault.Fault.TheVariants as f
 use Rattle.meaning.specs.Query.{Source, Term, column, QueryData}
 use Rattle.sql_reader.specs.Texts.{max_columns}
-use Rattle.sql_reader.specs.Tree.{Name, Columns, SelectTree}
+use Rattle.sql_reader.specs.SelectTrees.{SelectTree}
+use Rattle.sql_reader.specs.Tree.{Name}
 use Rattle.schema.specs.TableData.{ColumnData, TableData}
 use Rattle.schema.specs.Names.{IsSameName}
 use Rattle.resolver.specs.Named.{IsPlaceOf, IsNowhere, IsTwice}
+use Rattle.resolver.specs.Plain.{Columns, IsNotPlain, IsPlain, IsPlainWith}
 
 -- a query, and the names of its result columns
 pub record ResolvedData : Type 0 where
@@ -21,9 +23,9 @@ table_names tables = map (λ t. t.name) tables
 abbrev pub column_names : List ColumnData → List Name
 column_names columns = map (λ c. c.name) columns
 
--- the SELECT names this table, which stands at this place
-pub record IsSource (tables : List TableData) (tree : SelectTree) (at : ℕ) (table : TableData) : Type 0 where
-  pub place : IsPlaceOf (table_names tables) tree.table at
+-- the name stands for this table, which stands at this place
+pub record IsSource (tables : List TableData) (name : Name) (at : ℕ) (table : TableData) : Type 0 where
+  pub place : IsPlaceOf (table_names tables) name at
   pub found : slice_get tables at ≡ Some table
 
 abbrev pub IsColumnOf : List Name → Name → Term → Type 0
@@ -41,11 +43,14 @@ IsNameOf declared (column at) name = slice_get declared at ≡ Some name
 -- The SELECT is this query over tables of this catalog, and its result columns have these names.
 pub record Resolves (tables : List TableData) (tree : SelectTree) (query : QueryData) (names : List Name)
     : Type 0 where
+  pub columns : Columns
+  pub name : Name
+  pub plain : IsPlain tree columns name
   pub at : ℕ
   pub table : TableData
-  pub source : IsSource tables tree at table
+  pub source : IsSource tables name at table
   pub source_is : query.source ≡ Source.table at
-  pub columns_are : GivesColumns (column_names table.columns) tree.columns query.columns
+  pub columns_are : GivesColumns (column_names table.columns) columns query.columns
   pub within : length query.columns ≤ max_columns
   pub unordered : query.order ≡ []
   pub named : AllZip (IsNameOf (column_names table.columns)) query.columns names
@@ -64,19 +69,26 @@ abbrev pub width_of : List Name → Columns → ℕ
 width_of declared Columns.All = length declared
 width_of declared (Columns.Named written) = length written
 
--- the SELECT names a table of which this holds
-abbrev pub HasTable : List TableData → SelectTree → (TableData → Type 0) → Type 0
-HasTable tables tree Holds = (at : ℕ) × (table : TableData) × IsSource tables tree at table × Holds table
+-- the name stands for a table of which this holds
+abbrev pub HasTable : List TableData → Name → (TableData → Type 0) → Type 0
+HasTable tables name Holds = (at : ℕ) × (table : TableData) × IsSource tables name at table × Holds table
 
--- Why a SELECT was refused. The table of the schema's rows isn't one of the catalog's, and isn't served yet.
+-- Why the names of a plain SELECT, of these columns and this table, were refused. The table of the schema's rows isn't one
+-- of the catalog's, and isn't served yet.
+abbrev pub AreRefused : List TableData → Columns → Name → Fault → Type 0
+AreRefused tables columns name f.UnknownTable = IsNowhere (table_names tables) name × ¬ IsSchemaTable name
+AreRefused tables columns name f.NotYet = IsNowhere (table_names tables) name × IsSchemaTable name
+AreRefused tables columns name f.UnknownColumn =
+    HasTable tables name (λ table. Any (IsNowhere (column_names table.columns)) (written_names columns))
+AreRefused tables columns name f.Ambiguous =
+    IsTwice (table_names tables) name
+    ⊎ HasTable tables name (λ table. Any (IsTwice (column_names table.columns)) (written_names columns))
+AreRefused tables columns name f.Limit =
+    HasTable tables name (λ table. max_columns < width_of (column_names table.columns) columns)
+AreRefused tables columns name _ = ⊥
+
+-- Why a SELECT was refused: it isn't served yet, or it is plain and its names were refused, or memory ran out.
 abbrev pub IsRefused : List TableData → SelectTree → Fault → Type 0
-IsRefused tables tree f.UnknownTable = IsNowhere (table_names tables) tree.table × ¬ IsSchemaTable tree.table
-IsRefused tables tree f.NotYet = IsNowhere (table_names tables) tree.table × IsSchemaTable tree.table
-IsRefused tables tree f.UnknownColumn =
-    HasTable tables tree (λ table. Any (IsNowhere (column_names table.columns)) (written_names tree.columns))
-IsRefused tables tree f.Ambiguous =
-    IsTwice (table_names tables) tree.table
-    ⊎ HasTable tables tree (λ table. Any (IsTwice (column_names table.columns)) (written_names tree.columns))
-IsRefused tables tree f.Limit = HasTable tables tree (λ table. max_columns < width_of (column_names table.columns) tree.columns)
+IsRefused tables tree f.NotYet = IsNotPlain tree ⊎ IsPlainWith tree (λ columns name. AreRefused tables columns name f.NotYet)
 IsRefused tables tree f.NoMemory = Unit {0}
-IsRefused tables tree _ = ⊥
+IsRefused tables tree fault = IsPlainWith tree (λ columns name. AreRefused tables columns name fault)

@@ -3,14 +3,14 @@ ghost use Rattle.std.specs.Prelude.{◌≡◌, ◌<◌, ◌≤◌, All, IfErr, I
 ghost use Rattle.std.specs.List.{AllZip, range_with_len};
 ghost use Rattle.meaning.specs.Query.{column};
 ghost use Rattle.sql_reader.specs.Texts.{max_columns};
-ghost use Rattle.sql_reader.specs.View.{columns_of};
 ghost use Rattle.resolver.specs.Lookups.{AreColumnsRefused, AreNamesRefused, IsColumnRefused};
 ghost use Rattle.resolver.specs.Named.{IsPlaceOf};
+ghost use Rattle.resolver.specs.PlainView.{columns_of};
 ghost use Rattle.resolver.specs.Resolved.{column_names, GivesColumns, width_of};
 
 use crate::lookup::place_of;
+use crate::plain::Given;
 use schema::Column;
-use sql_reader::ResultColumns;
 use std::alloc::{AllocError, Global};
 use values::Fault;
 
@@ -27,15 +27,15 @@ fn place_of_column(columns: &[Column], name: &str) -> Result<usize, Fault>
 }
 
 /// The places of the columns that names stand for.
-fn places_of_names(alloc: Global, columns: &[Column], names: &[String]) -> Result<Vec<usize>, Fault>
+fn places_of_names(alloc: Global, columns: &[Column], names: &[&str]) -> Result<Vec<usize>, Fault>
     ensures places { IfOk result (λ places. AllZip (IsPlaceOf (column_names columns.now))
-        (map (λ name. string_bytes name) names.now) places.items) }
+        (map (λ name. name.now) names.now) places.items) }
     ensures refused { IfErr result (AreNamesRefused (column_names columns.now)
-        (map (λ name. string_bytes name) names.now)) }
+        (map (λ name. name.now) names.now)) }
 {
     let mut places = Vec::new(alloc);
     for name in names {
-        let place = place_of_column(columns, name.as_str())?;
+        let place = place_of_column(columns, name)?;
         places.push(place)?;
     }
     Ok(places)
@@ -49,12 +49,12 @@ fn all_places(alloc: Global, count: usize) -> Result<Vec<usize>, AllocError>
 }
 
 /// How many columns a SELECT gives of a table with these columns.
-fn width(columns: &[Column], given: &ResultColumns) -> usize
+fn width(columns: &[Column], given: &Given<'_>) -> usize
     ensures { result ≡ width_of (column_names columns.now) (columns_of given.now) }
 {
     match given {
-        ResultColumns::All => columns.len(),
-        ResultColumns::Named(names) => names.len(),
+        Given::All => columns.len(),
+        Given::Named(names) => names.len(),
     }
 }
 
@@ -63,7 +63,7 @@ fn width(columns: &[Column], given: &ResultColumns) -> usize
 pub(crate) fn places_given(
     alloc: Global,
     columns: &[Column],
-    given: &ResultColumns,
+    given: &Given<'_>,
 ) -> Result<Vec<usize>, Fault>
     ensures places { IfOk result (λ places.
         GivesColumns (column_names columns.now) (columns_of given.now) (map column places.items)) }
@@ -74,8 +74,8 @@ pub(crate) fn places_given(
         return Err(Fault::Limit);
     }
     match given {
-        ResultColumns::All => Ok(all_places(alloc, columns.len())?),
-        ResultColumns::Named(names) => places_of_names(alloc, columns, names.as_slice()),
+        Given::All => Ok(all_places(alloc, columns.len())?),
+        Given::Named(names) => places_of_names(alloc, columns, names.as_slice()),
     }
 }
 

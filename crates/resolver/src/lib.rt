@@ -1,15 +1,17 @@
 //! SELECTs whose names are resolved to places: of a table of a catalog, and of its columns. It promises that `resolve`
 //! answers Ok only with the query that a SELECT is over these tables, of which there is one at most; that such a query
 //! is typed; and that a fault comes only where its condition stands.
-//! Today a SELECT is of one table, and gives all of its columns or those that it names.
+//! Today a SELECT that is served is of one table, has no condition, and gives all columns of the table or those that it
+//! names, without an alias.
 //!
-//! The modules, in the order in which data passes them: `lookup` (the place of a name), `tables` and `columns` (what
-//! a SELECT names), `resolved` (what is handed out), and `laws`.
+//! The modules, in the order in which data passes them: `plain` (the SELECTs that are served), `lookup` (the place of a
+//! name), `tables` and `columns` (what a SELECT names), `resolved` (what is handed out), and `laws`.
 #![tactic(auto)]
 
 mod columns;
 pub mod laws;
 mod lookup;
+mod plain;
 mod resolved;
 mod tables;
 

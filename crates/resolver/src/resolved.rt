@@ -1,10 +1,11 @@
 //! SELECTs whose names are resolved.
 ghost use Rattle.std.specs.Prelude.{◌≡◌, [], IfErr, IfOk, length, map, string_bytes};
 ghost use Rattle.meaning.specs.Query.{column, IsTyped, table};
-ghost use Rattle.sql_reader.specs.View.{select_of};
+ghost use Rattle.sql_reader.specs.SelectView.{select_of};
 ghost use Rattle.resolver.specs.Resolved.{IsRefused, Resolves};
 
 use crate::columns::{names_at, places_given};
+use crate::plain::plain_select;
 use crate::tables::place_of_table;
 use schema::Table;
 use sql_reader::Select;
@@ -59,16 +60,20 @@ impl Query {
 
 /// The query that a SELECT is over the tables of a catalog. (SELECT) The fault is `UnknownTable` or `UnknownColumn`
 /// where a name stands for nothing, `Ambiguous` where it stands for two tables or columns, `Limit` where more than 100
-/// columns are given, `NotYet` where the table of the schema's rows is named, or `NoMemory`.
+/// columns are given, `NotYet` where the SELECT isn't one that is served, or names the table of the schema's rows, or
+/// `NoMemory`.
 pub fn resolve(alloc: Global, tables: &[Table], select: &Select) -> Result<Query, Fault>
     ensures means { IfOk result (λ resolved.
         Resolves tables.now (select_of select.now) resolved.query resolved.names) }
     ensures typed { IfOk result (λ resolved. IsTyped (map (λ t. length t.columns) tables.now) resolved.query) }
     ensures refused { IfErr result (IsRefused tables.now (select_of select.now)) }
 {
-    let source = place_of_table(tables, select.table.as_str())?;
+    let Some(plain) = plain_select(alloc, select)? else {
+        return Err(Fault::NotYet);
+    };
+    let source = place_of_table(tables, plain.table)?;
     let declared = tables[source].columns();
-    let columns = places_given(alloc, declared, &select.columns)?;
+    let columns = places_given(alloc, declared, &plain.columns)?;
     let names = names_at(alloc, declared, columns.as_slice())?;
     Ok(Query {
         source,

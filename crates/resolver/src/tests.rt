@@ -1,6 +1,7 @@
 //! Names that are looked up, and SELECTs over a catalog without tables.
 use crate::lookup::{Declared, place_of};
 use crate::resolve;
+use schema::Table;
 use sql_reader::read_select;
 use std::alloc::Global;
 use std::process::Abort;
@@ -64,4 +65,38 @@ fn schema_table(rt: HostRuntime) -> Result<(), Fail> {
         "SELECT name FROM SQLite_Master",
         Fault::NotYet,
     )
+}
+
+#[test]
+fn statements_that_are_not_served(rt: HostRuntime) -> Result<(), Fail> {
+    let texts = [
+        "SELECT 1",
+        "SELECT 1 FROM t",
+        "SELECT a AS b FROM t",
+        "SELECT a b FROM t",
+        "SELECT t.a FROM t",
+        "SELECT t.* FROM t",
+        "SELECT a FROM t WHERE a = 1",
+        "SELECT *, a FROM t",
+        "SELECT a, * FROM t",
+        "SELECT *, * FROM t",
+        "SELECT a, a + 1 FROM t",
+        "SELECT *",
+    ];
+    for text in texts {
+        expect_fault(&rt, rt.alloc(), text, Fault::NotYet)?;
+    }
+    Ok(())
+}
+
+#[test]
+fn names_in_parentheses(rt: HostRuntime) -> Result<(), Fail> {
+    let alloc = rt.alloc();
+    let tables = [Table::schema(alloc)?];
+    let select = read_select(alloc, "SELECT (SQL), name FROM Sqlite_Schema")?;
+    let query = resolve(alloc, &tables, &select)?;
+    assert_eq!(rt; (query.source(), query.columns()), (0, [4, 1].as_slice()));
+    assert_eq!(rt; query.names().len(), 2);
+    assert!(rt; query.names()[0].as_str() == "sql" && query.names()[1].as_str() == "name");
+    Ok(())
 }

@@ -4,21 +4,22 @@ use Rattle.values.specs.declared.fault.Fault.{Fault}
 use Rattle.values.specs.declared.fault.Fault.TheVariants as f
 use Rattle.resolver.specs.Resolved.{IsRefused, ResolvedData, Resolves}
 use Rattle.schema.specs.TableData.{TableData}
-use Rattle.sql_reader.specs.SelectGrammar.{SpellsSelect}
-use Rattle.sql_reader.specs.Texts as texts
-use Rattle.sql_reader.specs.Tree.{SelectTree, columns_of_select}
+use Rattle.sql_reader.specs.SelectTexts.{IsRefusedSelect, SpellsSelect, SpellsWithin}
+use Rattle.sql_reader.specs.SelectTrees.{SelectTree, columns_of_select}
+use Rattle.sql_reader.specs.Texts.{IsWithin}
 
 -- the text spells a SELECT within the limits, which is this query over these tables
 pub record Means (tables : List TableData) (text : List ℕ) (prepared : ResolvedData) : Type 0 where
   pub tree : SelectTree
   pub spelt : SpellsSelect text tree
-  pub within : texts.IsWithin columns_of_select text tree
+  pub within : IsWithin columns_of_select text tree
   pub resolves : Resolves tables tree prepared.query prepared.names
 
--- Why a text gives no SELECT. A text that spells none isn't called a wrong one: it may be one that isn't served yet.
+-- Why a text gives no SELECT. A text that spells none, of any number of levels, isn't called a wrong one: it may be one that
+-- isn't served yet.
 abbrev pub IsUnserved : List ℕ → Fault → Type 0
-IsUnserved text f.Limit = texts.IsRefused SpellsSelect columns_of_select text f.Limit
-IsUnserved text f.NotYet = (tree : SelectTree) → ¬ SpellsSelect text tree
+IsUnserved text f.Limit = IsRefusedSelect text f.Limit
+IsUnserved text f.NotYet = (levels : ℕ) (tree : SelectTree) → ¬ SpellsWithin levels text tree
 IsUnserved text f.NoMemory = Unit {0}
 IsUnserved text _ = ⊥
 

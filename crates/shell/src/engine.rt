@@ -3,10 +3,10 @@ ghost use Rattle.std.specs.Prelude.{◌≡◌, ◌≢◌, ◌⊎◌, ◌-◌, �
 ghost use Rattle.std.specs.NonZero.{non_zero_usize_get};
 ghost use Rattle.pager.specs.Header.{IsLeastBroken, KeepsAll};
 ghost use Rattle.pager.specs.Source.{ChangesCount};
-ghost use Rattle.sql_reader.specs.SelectGrammar.{SpellsSelect};
+ghost use Rattle.sql_reader.specs.SelectTexts.{SpellsSelect};
+ghost use Rattle.sql_reader.specs.SelectTrees.{columns_of_select};
+ghost use Rattle.sql_reader.specs.SelectView.{select_of};
 ghost use Rattle.sql_reader.specs.Texts.{IsWithin};
-ghost use Rattle.sql_reader.specs.Tree.{columns_of_select};
-ghost use Rattle.sql_reader.specs.View.{select_of};
 ghost use Rattle.integrity.specs.Checked.{HasCause, IsBrokenImage};
 ghost use Rattle.integrity.specs.Denotes.{HasTables};
 ghost use Rattle.shell.specs.Prepared.{IsUnserved, Means, Refuses};

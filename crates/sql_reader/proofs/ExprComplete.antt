@@ -1,36 +1,5 @@
 -- What spells an expression is read, with its levels.
-use Rattle.std.proofs.Common.{
-  ◌≡◌,
-  ◌≢◌,
-  Bool,
-  true,
-  false,
-  ℕ,
-  zero,
-  suc,
-  ◌+◌,
-  ◌<◌,
-  ◌≤◌,
-  max,
-  ℤ,
-  List,
-  [],
-  ◌∷◌,
-  length,
-  Option,
-  Some,
-  None,
-  Ok,
-  Err,
-  cond,
-  leb,
-  refl,
-  sym,
-  ap,
-  ◌∙◌,
-  arith,
-  subst,
-}
+use Rattle.std.proofs.Common.{◌≡◌, Bool, true, false, ℕ, zero, suc, ◌+◌, ◌<◌, ◌≤◌, max, ℤ, List, [], ◌∷◌, length, Option, Some, None, Ok, Err, leb, refl, sym, ap, ◌∙◌, arith}
 use mathlib.Core.Logic.{inl, inr}
 use Rattle.std.proofs.lemmas.Bool.{cases_lt, le-leb, lt-ltb, le-ltb, cond-true, cond-false}
 use Rattle.tokens.specs.Lexeme.{Lexeme}
@@ -38,118 +7,19 @@ use Rattle.tokens.specs.declared.keyword.Keyword.TheVariants as k
 use Rattle.tokens.specs.declared.sign.Sign.TheVariants as s
 use Rattle.tokens.specs.declared.token.Quoting.{Quoting}
 use Rattle.tokens.specs.declared.token.Quoting.TheVariants as q
-use Rattle.sql_reader.specs.ExprGrammar.{
-  level_of,
-  level_of_prefix,
-  nowhere,
-  Joins,
-  Precedes,
-  Follows,
-  MaybeNot,
-  IsLiteral,
-  Expresses,
-  ExpressesAll,
-  ExpressesItem,
-  ExpressesOperand,
-  ExpressesArms,
-  ExpressesElse,
-}
-use Rattle.sql_reader.specs.ExprReading.{
-  Refusal,
-  Outcome,
-  ◌>>=◌,
-  needed,
-  kept_if,
-  Read,
-  read,
-  Opening,
-  opening,
-  Joint,
-  joint,
-  level_of_joint,
-  binds,
-  Following,
-  following,
-  Inside,
-  inside,
-  after_and,
-  after_when,
-  after_then,
-  after_else,
-  after_end,
-  loosely,
-  alone,
-  Inner,
-  item,
-  others,
-  put,
-  series,
-  list,
-  arm,
-  arms,
-  operand_of_case,
-  otherwise,
-  choice,
-  bare_call,
-  starred,
-  arguments,
-  called,
-  named,
-  operand_at,
-  operand,
-  members,
-  extended_at,
-  extended,
-  climb,
-  expr_by,
-  raised,
-  inner,
-  expr,
-}
+use Rattle.sql_reader.specs.ExprGrammar.{level_of, level_of_prefix, nowhere, Expresses, ExpressesAll, ExpressesItem, ExpressesOperand, ExpressesArms, ExpressesElse}
+use Rattle.sql_reader.specs.ExprReading.{Refusal, Outcome, ◌>>=◌, needed, kept_if, Read, read, Opening, opening, Joint, joint, level_of_joint, binds, Inside, inside, after_and, after_when, after_then, after_else, after_end, loosely, item, others, put, series, list, arm, arms, operand_of_case, otherwise, choice, bare_call, arguments, called, named, operand_at, operand, members, extended_at, climb, expr_by, raised, inner, expr}
 use Rattle.sql_reader.specs.ExprTree.{ExprTree, ExprTrees, MaybeExpr, ArmTrees, trees_of, arms_of, count}
 use Rattle.sql_reader.specs.Functions.{function_of, takes, takes_number}
-use Rattle.sql_reader.specs.Reading.{Rest, after_close, after_comma, after_open}
+use Rattle.sql_reader.specs.Reading.{Rest, after_close, after_comma}
 use Rattle.sql_reader.specs.Tree.{Name}
 use Rattle.sql_reader.specs.declared.expr.BinaryOperator.{BinaryOperator}
 use Rattle.sql_reader.specs.declared.expr.Function.{Function}
 use Rattle.sql_reader.specs.declared.expr.Function.TheVariants as f
 use Rattle.sql_reader.specs.declared.expr.PostfixOperator.{PostfixOperator}
 use Rattle.sql_reader.specs.declared.expr.PrefixOperator.{PrefixOperator}
-use Rattle.sql_reader.proofs.ExprShape.{
-  below_prefix,
-  prefix_large,
-  literal_opening,
-  prefix_opening,
-  all_no_close,
-  list_of,
-  trees_of_list,
-  count_of_list,
-  arms_list,
-  arms_of_list,
-  all_arguments,
-  begins_no_when,
-  joint_of,
-  between_joint,
-  in_joint,
-  postfix_joint,
-  no_following,
-  level_large,
-  room,
-  room_item,
-  room_arms,
-}
-use Rattle.sql_reader.proofs.ExprSteps.{
-  fits,
-  fits_in,
-  fits_out,
-  fits_bind,
-  fits_same,
-  fits_both,
-  fits_suc,
-  step,
-  step_last,
-  fits_is,
-}
+use Rattle.sql_reader.proofs.ExprShape.{below_prefix, prefix_large, literal_opening, prefix_opening, all_no_close, list_of, trees_of_list, count_of_list, arms_list, arms_of_list, all_arguments, begins_no_when, joint_of, between_joint, in_joint, postfix_joint, no_following, room, room_item}
+use Rattle.sql_reader.proofs.ExprSteps.{fits, fits_in, fits_out, fits_bind, fits_same, fits_suc, step, step_last, fits_is}
 use Rattle.sql_reader.proofs.ExprTurns.{climb_stops, climb_step, extended_full, extended_room}
 
 pub expr_is : (d p : ℕ) (ts : Rest) → expr d p ts ≡ operand (inner d) d p ts >>= climb (inner d) d d p

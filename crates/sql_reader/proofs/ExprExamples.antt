@@ -1,9 +1,9 @@
 -- Worked expressions.
-use Rattle.std.proofs.Common.{◌≡◌, ℕ, ◌<◌, ◌≤◌, ◌∷◌, List, [], Ok, Err, Some, None, codes, refl, sym, ap, ◌∙◌, arith}
+use Rattle.std.proofs.Common.{◌≡◌, ℕ, ◌≤◌, ◌∷◌, List, [], Ok, Err, Some, codes, refl, arith}
 use Rattle.tokens.specs.Lexeme.{Lexeme}
 use Rattle.tokens.specs.declared.keyword.Keyword.TheVariants as k
 use Rattle.tokens.specs.declared.sign.Sign.TheVariants as s
-use Rattle.sql_reader.specs.ExprExamples.{Examples, IsNothing, number, word, sign, keyword, a, b}
+use Rattle.sql_reader.specs.ExprExamples.{Examples, IsNothing, number, word, sign, keyword, a}
 use Rattle.sql_reader.specs.ExprGrammar.{
   Joins,
   Precedes,

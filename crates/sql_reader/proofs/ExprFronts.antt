@@ -1,32 +1,11 @@
 -- What stands at the front of the tokens of an expression, as the grammar says it.
-use Rattle.std.proofs.Common.{◌≡◌, Bool, true, false, ℕ, List, [], ◌∷◌, Option, Some, None, Ok, Err, cond, refl, sym, ap, ◌∙◌}
+use Rattle.std.proofs.Common.{◌≡◌, Bool, true, false, ◌∷◌, Option, Some, None, Ok, refl, ap}
 use Rattle.tokens.specs.Lexeme.{Lexeme}
-use Rattle.tokens.specs.declared.keyword.Keyword.{Keyword}
 use Rattle.tokens.specs.declared.keyword.Keyword.TheVariants as k
-use Rattle.tokens.specs.declared.sign.Sign.{Sign}
 use Rattle.tokens.specs.declared.sign.Sign.TheVariants as s
 use Rattle.tokens.specs.declared.token.Quoting.{Quoting}
 use Rattle.sql_reader.specs.ExprGrammar.{Joins, Precedes, Follows, MaybeNot, IsLiteral}
-use Rattle.sql_reader.specs.ExprReading.{
-  Refusal,
-  Outcome,
-  ◌>>=◌,
-  needed,
-  kept_if,
-  Opening,
-  opening,
-  Joint,
-  joint,
-  Following,
-  following,
-  Inside,
-  inside,
-  after_and,
-  after_when,
-  after_then,
-  after_else,
-  after_end,
-}
+use Rattle.sql_reader.specs.ExprReading.{needed, kept_if, Opening, opening, Joint, joint, Following, following, Inside, inside, after_and, after_when, after_then, after_else, after_end}
 use Rattle.sql_reader.specs.ExprTree.{ExprTree}
 use Rattle.sql_reader.specs.Reading.{Rest, name, after_close, after_comma, after_open}
 use Rattle.sql_reader.specs.Tree.{Name}

@@ -1,5 +1,5 @@
 -- Tokens spell at most one expression, and the reader finds it.
-use Rattle.std.proofs.Common.{◌≡◌, ℕ, ◌<◌, ◌≤◌, max, List, [], Ok, Err, refl, sym, ap, ◌∙◌, arith}
+use Rattle.std.proofs.Common.{◌≡◌, ℕ, max, List, [], Ok, sym, ap, ◌∙◌, arith}
 use Rattle.tokens.specs.Lexeme.{Lexeme}
 use Rattle.sql_reader.specs.ExprGrammar.{Expresses}
 use Rattle.sql_reader.specs.ExprReading.{Read, read, inner, expr}

@@ -1,40 +1,9 @@
 -- What each phrase of an expression has.
-use Rattle.std.proofs.Common.{
-  ◌≡◌,
-  ◌≢◌,
-  ◌⊎◌,
-  Bool,
-  true,
-  false,
-  ℕ,
-  zero,
-  suc,
-  ◌+◌,
-  ◌-◌,
-  ◌<◌,
-  ◌≤◌,
-  max,
-  List,
-  [],
-  ◌∷◌,
-  length,
-  Option,
-  Some,
-  None,
-  refl,
-  sym,
-  ap,
-  ◌∙◌,
-  arith,
-  subst,
-  zero-add,
-  suc-add,
-}
+use Rattle.std.proofs.Common.{◌≡◌, ◌≢◌, ◌⊎◌, Bool, ℕ, zero, suc, ◌+◌, ◌-◌, ◌<◌, ◌≤◌, List, [], ◌∷◌, length, None, refl, ap, arith, subst, zero-add, suc-add}
 use mathlib.Core.Logic.{inl, inr}
 use Rattle.tokens.specs.Lexeme.{Lexeme}
 use Rattle.tokens.specs.declared.keyword.Keyword.{Keyword}
 use Rattle.tokens.specs.declared.keyword.Keyword.TheVariants as k
-use Rattle.tokens.specs.declared.sign.Sign.{Sign}
 use Rattle.tokens.specs.declared.sign.Sign.TheVariants as s
 use Rattle.sql_reader.specs.ExprGrammar.{
   level_of,
@@ -51,21 +20,7 @@ use Rattle.sql_reader.specs.ExprGrammar.{
   ExpressesArms,
   ExpressesElse,
 }
-use Rattle.sql_reader.specs.ExprReading.{
-  Opening,
-  opening,
-  Joint,
-  joint,
-  joint_after_is,
-  level_of_joint,
-  binds,
-  Following,
-  following,
-  Inside,
-  inside,
-  after_when,
-  after_else,
-}
+use Rattle.sql_reader.specs.ExprReading.{Opening, opening, Joint, joint, joint_after_is, level_of_joint, binds, Following, following, Inside, inside, after_when}
 use Rattle.sql_reader.specs.ExprTree.{ExprTree, ExprTrees, MaybeExpr, ArmTrees, trees_of, arms_of, count}
 use Rattle.sql_reader.specs.Reading.{Rest, after_close}
 use Rattle.sql_reader.specs.declared.expr.BinaryOperator.{BinaryOperator}

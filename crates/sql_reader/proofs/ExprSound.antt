@@ -1,37 +1,5 @@
 -- What is read as an expression is one by the grammar.
-use Rattle.std.proofs.Common.{
-  ◌≡◌,
-  ◌≢◌,
-  ◌⊎◌,
-  Bool,
-  true,
-  false,
-  ℕ,
-  zero,
-  suc,
-  ◌+◌,
-  ◌<◌,
-  ◌≤◌,
-  max,
-  List,
-  [],
-  ◌∷◌,
-  length,
-  Option,
-  Some,
-  None,
-  Ok,
-  Err,
-  cond,
-  leb,
-  ltb,
-  refl,
-  sym,
-  ap,
-  ◌∙◌,
-  arith,
-  subst,
-}
+use Rattle.std.proofs.Common.{◌≡◌, ◌⊎◌, Bool, true, false, ℕ, zero, suc, ◌<◌, ◌≤◌, max, List, [], ◌∷◌, length, Option, Some, None, Ok, Err, leb, ltb, refl, sym, ap, ◌∙◌, arith, subst}
 use mathlib.Core.Logic.{inl, inr}
 use Rattle.std.proofs.lemmas.Bool.{cases_lt, le-leb, lt-leb, lt-ltb, le-ltb, cond-true, cond-false}
 use Rattle.tokens.specs.Lexeme.{Lexeme}
@@ -39,101 +7,16 @@ use Rattle.tokens.specs.declared.keyword.Keyword.TheVariants as k
 use Rattle.tokens.specs.declared.sign.Sign.TheVariants as s
 use Rattle.tokens.specs.declared.token.Quoting.{Quoting}
 use Rattle.tokens.specs.declared.token.Quoting.TheVariants as q
-use Rattle.sql_reader.specs.ExprGrammar.{
-  level_of,
-  level_of_prefix,
-  nowhere,
-  Joins,
-  MaybeNot,
-  IsLiteral,
-  Expresses,
-  ExpressesAll,
-  ExpressesItem,
-  ExpressesOperand,
-  ExpressesArms,
-  ExpressesElse,
-}
-use Rattle.sql_reader.specs.ExprReading.{
-  Refusal,
-  Outcome,
-  ◌>>=◌,
-  needed,
-  kept_if,
-  Read,
-  read,
-  Opening,
-  opening,
-  Joint,
-  joint,
-  level_of_joint,
-  binds,
-  Following,
-  following,
-  Inside,
-  inside,
-  after_and,
-  after_when,
-  after_then,
-  after_else,
-  after_end,
-  loosely,
-  alone,
-  Inner,
-  item,
-  others,
-  put,
-  series,
-  list,
-  arm,
-  arms,
-  operand_of_case,
-  otherwise,
-  choice,
-  bare_call,
-  starred,
-  arguments,
-  called,
-  function_at,
-  named,
-  operand_at,
-  operand,
-  members,
-  extended_at,
-  extended,
-  climb,
-  expr_by,
-  raised,
-  inner,
-  expr,
-}
-use Rattle.sql_reader.specs.ExprTree.{ExprTree, ExprTrees, MaybeExpr, ArmTrees, trees_of, arms_of, count}
+use Rattle.sql_reader.specs.ExprGrammar.{level_of, level_of_prefix, nowhere, MaybeNot, IsLiteral, Expresses, ExpressesAll, ExpressesItem, ExpressesOperand, ExpressesArms, ExpressesElse}
+use Rattle.sql_reader.specs.ExprReading.{Refusal, Outcome, ◌>>=◌, needed, kept_if, Read, read, Opening, opening, Joint, joint, level_of_joint, binds, Following, following, Inside, inside, after_and, after_when, after_then, after_else, after_end, loosely, alone, Inner, item, others, put, series, list, arm, arms, operand_of_case, otherwise, choice, bare_call, starred, arguments, called, named, operand_at, operand, members, extended_at, extended, climb, inner, expr}
+use Rattle.sql_reader.specs.ExprTree.{ExprTree, ExprTrees, MaybeExpr, ArmTrees, trees_of, arms_of}
 use Rattle.sql_reader.specs.Functions.{function_of, takes, takes_number}
 use Rattle.sql_reader.specs.Reading.{Rest, name, after_close, after_comma, after_open}
 use Rattle.sql_reader.specs.Tree.{Name}
 use Rattle.sql_reader.specs.declared.expr.Function.{Function}
 use Rattle.sql_reader.specs.declared.expr.Function.TheVariants as f
 use Rattle.sql_reader.proofs.ExprComplete.{complete, expr_is}
-use Rattle.sql_reader.proofs.ExprFronts.{
-  Opens,
-  opens,
-  Continues,
-  continues,
-  IsFollowed,
-  followed,
-  Holds,
-  holds,
-  needed_some,
-  kept,
-  closes,
-  opened,
-  ands,
-  thens,
-  whens,
-  ends,
-  elses,
-  commas,
-  names,
-}
+use Rattle.sql_reader.proofs.ExprFronts.{Opens, opens, Continues, continues, IsFollowed, followed, Holds, holds, kept, closes, opened, ands, thens, whens, ends, elses, commas, names}
 use Rattle.sql_reader.proofs.ExprShape.{count_trees, level_small, loose, prefix_large}
 use Rattle.sql_reader.proofs.ExprSteps.{bind_ok, ok_inj, fits, fits_in}
 use Rattle.sql_reader.proofs.ExprTurns.{climb_stops, extended_full, extended_room}

@@ -1,24 +1,5 @@
 -- Steps that may fail, one after another.
-use Rattle.std.proofs.Common.{
-  ◌≡◌,
-  ℕ,
-  suc,
-  ◌<◌,
-  ◌≤◌,
-  max,
-  true,
-  false,
-  Result,
-  Ok,
-  Err,
-  cond,
-  leb,
-  refl,
-  sym,
-  ap,
-  ◌∙◌,
-  arith,
-}
+use Rattle.std.proofs.Common.{◌≡◌, ℕ, suc, ◌<◌, ◌≤◌, max, true, false, Ok, Err, cond, leb, refl, sym, ap, ◌∙◌, arith}
 use Rattle.std.proofs.lemmas.Bool.{le-leb, lt-leb, cond-true, cond-false, cases_lt}
 use mathlib.Core.Logic.{inl, inr}
 use Rattle.sql_reader.specs.ExprReading.{Refusal, Outcome, ◌>>=◌}

@@ -1,28 +1,5 @@
 -- The number that bounds the turns of a loop over an expression is always enough.
-use Rattle.std.proofs.Common.{
-  ◌≡◌,
-  Bool,
-  Option,
-  ℕ,
-  zero,
-  suc,
-  ◌+◌,
-  ◌<◌,
-  ◌≤◌,
-  max,
-  length,
-  Some,
-  None,
-  Ok,
-  Err,
-  cond,
-  leb,
-  refl,
-  sym,
-  ap,
-  ◌∙◌,
-  arith,
-}
+use Rattle.std.proofs.Common.{◌≡◌, Bool, Option, ℕ, zero, suc, ◌+◌, ◌<◌, ◌≤◌, max, length, Some, None, Ok, Err, cond, leb, sym, ap, ◌∙◌, arith}
 use Rattle.std.proofs.lemmas.Bool.{le-leb, lt-leb, le-ltb, lt-ltb, cond-true, cond-false, cases_lt}
 use mathlib.Core.Logic.{inl, inr}
 use Rattle.sql_reader.specs.ExprGrammar.{level_of, nowhere}

@@ -1,6 +1,5 @@
 pub mod ListLemmas
 pub mod PhraseLemmas
-pub mod SelectLemmas
 pub mod CreateLemmas
 pub mod ColumnLemmas
 pub mod StatementLemmas
@@ -13,4 +12,7 @@ pub mod ExprSound
 pub mod ExprLoops
 pub mod ExprLemmas
 pub mod ExprExamples
-pub mod ExprTextLemmas
+pub mod SelectLemmas
+pub mod SelectLoops
+pub mod SelectSource
+pub mod SelectTextLemmas

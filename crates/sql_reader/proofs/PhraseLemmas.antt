@@ -3,20 +3,8 @@ use Rattle.std.proofs.Common.{◌≡◌, ℕ, zero, suc, ◌<◌, ◌≤◌, Lis
 use Rattle.tokens.specs.Lexeme.{Lexeme}
 use Rattle.tokens.specs.declared.sign.Sign.TheVariants as s
 use Rattle.sql_reader.proofs.ListLemmas.{Shortens, many_end, many_next}
-use Rattle.sql_reader.specs.Phrases.{Named, Many, AfterComma, Listed}
-use Rattle.sql_reader.specs.Reading.{
-  Rest,
-  Found,
-  cons_found,
-  first_and,
-  turn,
-  many_within,
-  many,
-  after_comma,
-  listed,
-  name,
-}
-use Rattle.sql_reader.specs.Tree.{Name}
+use Rattle.sql_reader.specs.Phrases.{Many, AfterComma, Listed}
+use Rattle.sql_reader.specs.Reading.{Rest, Found, cons_found, first_and, turn, many_within, many, after_comma, listed}
 
 abbrev pub Phrase : Type 0 → Type 1
 Phrase A = A → Rest → Rest → Type 0
@@ -151,22 +139,3 @@ pub many_length : {A : Type 0} (Item : Phrase A)
 many_length Item h Many.none = omega arith
 many_length Item h (Many.more {x = x} {from = from} {mid = mid} i m) =
     let k = h x from mid i in let l = many_length Item h m in omega (arith, k, l)
-
--- Names
-
-pub name_takes_one : TakesOne name
-name_takes_one (Lexeme.Name q n ∷ ts) r h =
-    let e = some_inj _ r h in subst (λ x. length x.1 < suc (length ts)) e (omega arith)
-name_takes_one _ r h = absurd cc
-
-pub name_shortens : Shortens after_comma name
-name_shortens = shortens_after_comma name name_takes_one
-
-pub name_complete : (x : Name) (from mid : Rest) → Named x from mid
-    → (let r : Name × Rest = (x, mid) in name from ≡ Some r)
-name_complete x _ mid Named.name = refl
-
-pub name_sound : (ts : Rest) (r : Name × Rest) → name ts ≡ Some r → At Named ts r
-name_sound (Lexeme.Name q n ∷ ts) r h =
-    subst (At Named (Lexeme.Name q n ∷ ts)) (some_inj _ r h) Named.name
-name_sound _ r h = absurd cc

@@ -4,31 +4,16 @@ use Rattle.values.specs.declared.fault.Fault.{Fault}
 use Rattle.values.specs.declared.fault.Fault.TheVariants as f
 use Rattle.tokens.proofs.ReadLemmas as read
 use Rattle.tokens.specs.Content.{placed_of}
-use Rattle.tokens.specs.Lexeme.{Lexeme}
 use Rattle.tokens.specs.Tokens as tokens
 use Rattle.tokens.specs.Tokens.{Placed, Tokens}
 use Rattle.tokens.specs.declared.keyword.Grammar.{Grammar}
 use Rattle.tokens.specs.declared.keyword.Grammar.TheVariants as g
-use Rattle.tokens.specs.declared.keyword.Keyword.TheVariants as k
 use Rattle.tokens.specs.declared.token.Token.{Token}
 use Rattle.sql_reader.proofs.CreateLemmas.{create_complete, create_sound}
-use Rattle.sql_reader.proofs.SelectLemmas.{select_complete, select_sound}
 use Rattle.sql_reader.specs.CreateGrammar.{Creates, SpellsCreate}
-use Rattle.sql_reader.specs.Reading.{
-  Rest,
-  IsSyntax,
-  IsMissing,
-  after_select,
-  after_from,
-  results,
-  source,
-  source_of,
-  select,
-  create,
-}
-use Rattle.sql_reader.specs.SelectGrammar.{Selects, SpellsSelect}
+use Rattle.sql_reader.specs.Reading.{Rest, IsMissing, create}
 use Rattle.sql_reader.specs.Texts.{Spells, IsRefused, lexemes}
-use Rattle.sql_reader.specs.Tree.{Columns, SelectTree, TableTree, columns_of_select, columns_of_table}
+use Rattle.sql_reader.specs.Tree.{TableTree, columns_of_table}
 use Rattle.sql_reader.specs.View.{lexemes_of}
 
 -- Any grammar
@@ -83,47 +68,6 @@ one_tree grammar Statement find r text a b x y =
     let i = ap find e in
     let j = r.complete (lexemes x.tokens) a x.statement in
     let k = r.complete (lexemes y.tokens) b y.statement in cc
-
--- SELECT
-
-reads_select : IsReader Selects select
-reads_select = record { sound = select_sound; complete = λ ts tree s. select_complete s }
-
-missing : (e : Fault) (o : Option SelectTree) → IsSyntax e → o ≡ None → IsMissing e o
-missing (f.Syntax place) o s h = h
-missing _ o s h = absurd s
-
-select_step : (ts rest : Rest) → after_select ts ≡ Some rest → select ts ≡ source_of (results rest)
-select_step (Lexeme.Reserved k.Select ∷ ts) rest h = ap (λ xs. source_of (results xs)) (let e : ts ≡ rest = cc in e)
-select_step _ rest h = absurd cc
-
-no_source : (columns : Columns) (after : Rest) → after_from after ≡ None → source columns after ≡ None
-no_source columns (Lexeme.Reserved k.From ∷ Lexeme.Name q table ∷ ts) h = absurd cc
-no_source columns _ h = refl
-
-abbrev found : Columns → Rest → Option (Columns × Rest)
-found columns rest = Some (columns, rest)
-
--- no FROM stands behind what the SELECT gives
-pub no_from : (e : Fault) (ts rest after : Rest) (columns : Columns) → IsSyntax e → after_select ts ≡ Some rest
-    → results rest ≡ found columns after → after_from after ≡ None → IsMissing e (select ts)
-no_from e ts rest after columns s a r n =
-    missing e (select ts) s (select_step ts rest a ∙ (ap source_of r ∙ no_source columns after n))
-
-pub select_spelt : (text : List ℕ) (items : List Token) (tree : SelectTree)
-    → Tokens g.Select text (map placed_of items) → select (lexemes_of items) ≡ Some tree → SpellsSelect text tree
-select_spelt = spelt_by g.Select Selects select reads_select
-
-pub select_refused : (text : List ℕ) (items : List Token) (e : Fault) → Tokens g.Select text (map placed_of items)
-    → IsMissing e (select (lexemes_of items)) → IsRefused SpellsSelect columns_of_select text e
-select_refused = refused g.Select Selects select columns_of_select reads_select
-
-pub select_tokens_refused : (text : List ℕ) (e : Fault) → tokens.IsRefused g.Select text e
-    → IsRefused SpellsSelect columns_of_select text e
-select_tokens_refused = tokens_refused g.Select Selects columns_of_select
-
-pub one_select : (text : List ℕ) (a b : SelectTree) → SpellsSelect text a → SpellsSelect text b → a ≡ b
-one_select = one_tree g.Select Selects select reads_select
 
 -- CREATE TABLE
 

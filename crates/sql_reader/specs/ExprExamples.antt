@@ -1,5 +1,5 @@
 -- Worked expressions: their tokens, their tree, and their levels.
-use Rattle.std.specs.Prelude.{Bool, true, false, ℕ, ℤ, pos, List, [], ◌∷◌, Some, None, codes}
+use Rattle.std.specs.Prelude.{true, false, ℕ, pos, List, [], ◌∷◌, Some, None, codes}
 use Rattle.tokens.specs.Lexeme.{Lexeme}
 use Rattle.tokens.specs.declared.keyword.Keyword.{Keyword}
 use Rattle.tokens.specs.declared.keyword.Keyword.TheVariants as k

@@ -3,7 +3,7 @@
 -- token of them stands in so many operators, calls, CASEs and parentheses, and none in more.
 -- The levels of the grammar, from the loosest: 1 OR, 2 AND, 3 NOT, 4 equality, IS, LIKE, BETWEEN, IN, ISNULL, NOTNULL,
 -- 5 order, 6 `&` and `|`, 7 sums, 8 products, 9 `||`, 10 a sign, 11 what stands alone.
-use Rattle.std.specs.Prelude.{◌≡◌, Bool, true, false, ℕ, suc, max, ℤ, List, [], ◌∷◌, Option, Some, None}
+use Rattle.std.specs.Prelude.{◌≡◌, Bool, true, false, ℕ, suc, max, ℤ, List, ◌∷◌, Some, None}
 use Rattle.tokens.specs.Lexeme.{Lexeme}
 use Rattle.tokens.specs.declared.keyword.Keyword.{Keyword}
 use Rattle.tokens.specs.declared.keyword.Keyword.TheVariants as k

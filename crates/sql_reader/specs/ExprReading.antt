@@ -403,18 +403,3 @@ inner (suc d) p ts = raised (expr_by (inner d) d p ts)
 -- an expression of at least the level p and of at most d levels
 abbrev pub expr : ℕ → ℕ → Rest → Outcome (Read ExprTree)
 expr d p ts = expr_by (inner d) d p ts
-
-abbrev pub ended : ExprTree → Rest → Outcome ExprTree
-ended e [] = Ok e
-ended e (t ∷ ts) = Err Refusal.Syntax
-
--- Nothing may stand behind an expression; where there are too few tokens for the levels, a limit is met by nothing that
--- is spelt
-abbrev pub settled : ℕ → ℕ → Outcome (Read ExprTree) → Outcome ExprTree
-settled d n (Ok x) = ended x.tree x.rest
-settled d n (Err Refusal.Limit) = if nat_le n d then Err Refusal.Syntax else Err Refusal.Limit
-settled d n (Err Refusal.Syntax) = Err Refusal.Syntax
-
--- an expression of all the tokens, of at most d levels
-abbrev pub whole : ℕ → Rest → Outcome ExprTree
-whole d ts = settled d (length ts) (expr d 1 ts)

@@ -1,6 +1,6 @@
 -- The functions that a call may name: how each is spelt, and the number and form of its arguments. (Built-In Scalar SQL
 -- Functions; Built-in Aggregate Functions; Window Functions)
-use Rattle.std.specs.Prelude.{ℕ, Bool, true, false, ◌&&◌, List, [], ◌∷◌, Option, codes, find, nat_eq, nat_le}
+use Rattle.std.specs.Prelude.{ℕ, Bool, false, ◌&&◌, List, [], ◌∷◌, Option, codes, find, nat_eq, nat_le}
 use Rattle.std.specs.Str.{str_eq_ignore_ascii_case}
 use Rattle.sql_reader.specs.Tree.{Name}
 use Rattle.sql_reader.specs.declared.expr.Function.{Function}

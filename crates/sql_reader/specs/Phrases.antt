@@ -3,12 +3,6 @@
 use Rattle.std.specs.Prelude.{List, [], ◌∷◌}
 use Rattle.tokens.specs.Lexeme.{Lexeme}
 use Rattle.tokens.specs.declared.sign.Sign.TheVariants as s
-use Rattle.tokens.specs.declared.token.Quoting.{Quoting}
-use Rattle.sql_reader.specs.Tree.{Name}
-
--- name
-pub data Named : Name → List Lexeme → List Lexeme → Type 0 where
-  name : {q : Quoting} {name : Name} {after : List Lexeme} → Named name (Lexeme.Name q name ∷ after) after
 
 -- {item}
 pub data Many {A : Type 0} (Item : A → List Lexeme → List Lexeme → Type 0) : List A → List Lexeme → List Lexeme

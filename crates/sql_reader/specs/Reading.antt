@@ -28,7 +28,7 @@ use Rattle.tokens.specs.Content.{is_bare_word}
 use Rattle.tokens.specs.Lexeme.{Lexeme}
 use Rattle.tokens.specs.declared.keyword.Keyword.TheVariants as k
 use Rattle.tokens.specs.declared.sign.Sign.TheVariants as s
-use Rattle.sql_reader.specs.Tree.{Name, Columns, SelectTree, TypeTree, ConstraintTree, ColumnTree, TableTree}
+use Rattle.sql_reader.specs.Tree.{Name, TypeTree, ConstraintTree, ColumnTree, TableTree}
 
 -- a result and what was to be found: at Ok it is this, and a syntax error comes only where nothing was
 abbrev pub IsMissing : {B : Type 0} → Fault → Option B → Type 0
@@ -102,35 +102,10 @@ abbrev pub after_from : Rest → Option Rest
 after_from (Lexeme.Reserved k.From ∷ ts) = Some ts
 after_from _ = None
 
-abbrev pub after_star : Rest → Option Rest
-after_star (Lexeme.Punctuation s.Star ∷ ts) = Some ts
-after_star _ = None
-
 abbrev pub ends : Rest → Bool
 ends [] = true
 ends (Lexeme.Punctuation s.Semicolon ∷ []) = true
 ends _ = false
-
-abbrev pub named : Found Name → Option (Columns × Rest)
-named None = None
-named (Some r) = Some (Columns.Named r.0, r.1)
-
-abbrev pub results : Rest → Option (Columns × Rest)
-results (Lexeme.Punctuation s.Star ∷ ts) = Some (Columns.All, ts)
-results ts = named (listed name ts)
-
-abbrev pub source : Columns → Rest → Option SelectTree
-source columns (Lexeme.Reserved k.From ∷ Lexeme.Name q table ∷ ts) =
-    if ends ts then Some (record { columns = columns; table = table }) else None
-source columns _ = None
-
-abbrev pub source_of : Option (Columns × Rest) → Option SelectTree
-source_of None = None
-source_of (Some r) = source r.0 r.1
-
-abbrev pub select : Rest → Option SelectTree
-select (Lexeme.Reserved k.Select ∷ ts) = source_of (results ts)
-select _ = None
 
 -- CREATE TABLE
 

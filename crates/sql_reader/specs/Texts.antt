@@ -24,6 +24,10 @@ max_text = 65536
 abbrev pub max_columns : ℕ
 max_columns = 100
 
+-- the most levels that stand around a token: SELECTs, operators, calls, CASEs and parentheses
+abbrev pub max_levels : ℕ
+max_levels = 100
+
 -- the text and its tree, which has so many columns, are within the limits
 abbrev pub IsWithin : {T : Type 0} → (T → ℕ) → List ℕ → T → Type 0
 IsWithin columns text tree = (length text ≤ max_text) × (columns tree ≤ max_columns)

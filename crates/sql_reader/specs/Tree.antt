@@ -4,14 +4,6 @@ use Rattle.std.specs.Prelude.{ℕ, List, length}
 abbrev pub Name : Type 0
 Name = List ℕ
 
-pub data Columns : Type 0 where
-  All : Columns
-  Named : List Name → Columns
-
-pub record SelectTree : Type 0 where
-  pub columns : Columns
-  pub table : Name
-
 pub data TypeTree : Type 0 where
   Int : TypeTree
   Integer : TypeTree
@@ -31,14 +23,6 @@ pub record ColumnTree : Type 0 where
 pub record TableTree : Type 0 where
   pub name : Name
   pub columns : List ColumnTree
-
--- how many columns are written; `*` is one
-abbrev pub count_of : Columns → ℕ
-count_of Columns.All = 1
-count_of (Columns.Named ns) = length ns
-
-abbrev pub columns_of_select : SelectTree → ℕ
-columns_of_select tree = count_of tree.columns
 
 abbrev pub columns_of_table : TableTree → ℕ
 columns_of_table tree = length tree.columns

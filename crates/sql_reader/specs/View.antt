@@ -3,26 +3,16 @@ use Rattle.std.specs.Prelude.{List, map, string_bytes}
 use Rattle.tokens.specs.Content.{lexeme_of}
 use Rattle.tokens.specs.Lexeme.{Lexeme}
 use Rattle.tokens.specs.declared.token.Token.{Token}
-use Rattle.sql_reader.specs.Tree.{Columns, SelectTree, TypeTree, ConstraintTree, ColumnTree, TableTree}
+use Rattle.sql_reader.specs.Tree.{TypeTree, ConstraintTree, ColumnTree, TableTree}
 use Rattle.sql_reader.specs.declared.tree.Column.{Column}
 use Rattle.sql_reader.specs.declared.tree.ColumnConstraint.{ColumnConstraint}
 use Rattle.sql_reader.specs.declared.tree.ColumnConstraint.TheVariants as c
 use Rattle.sql_reader.specs.declared.tree.ColumnType.{ColumnType}
 use Rattle.sql_reader.specs.declared.tree.ColumnType.TheVariants as t
 use Rattle.sql_reader.specs.declared.tree.CreateTable.{CreateTable}
-use Rattle.sql_reader.specs.declared.tree.ResultColumns.{ResultColumns}
-use Rattle.sql_reader.specs.declared.tree.ResultColumns.TheVariants as r
-use Rattle.sql_reader.specs.declared.tree.Select.{Select}
 
 abbrev pub lexemes_of : List Token → List Lexeme
 lexemes_of = map (λ t. lexeme_of t.kind)
-
-abbrev pub columns_of : ResultColumns → Columns
-columns_of r.All = Columns.All
-columns_of (r.Named names) = Columns.Named (map (λ name. string_bytes name) names.items)
-
-abbrev pub select_of : Select → SelectTree
-select_of s = record { columns = columns_of s.columns; table = string_bytes s.table }
 
 abbrev pub type_of : ColumnType → TypeTree
 type_of t.Int = TypeTree.Int

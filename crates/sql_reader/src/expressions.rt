@@ -73,7 +73,7 @@ pub(crate) fn place_of(tokens: &[Token<'_>], end: usize) -> usize {
 }
 
 /// What was found, which these tokens have to begin with.
-fn needed<'t>(
+pub(crate) fn needed<'t>(
     found: Option<&'t [Token<'t>]>,
     tokens: &'t [Token<'t>],
     end: usize,
@@ -121,13 +121,14 @@ fn alone<'t>(tokens: &'t [Token<'t>], end: usize) -> Result<&'t [Token<'t>], Fau
 
 /// The name at the front, and what is behind it.
 #[tactic(auto, using(crate::proofs::ExprLoops::gives_yields))]
-fn needed_name<'t>(
+pub(crate) fn needed_name<'t>(
     alloc: Global,
     tokens: &'t [Token<'t>],
     end: usize,
 ) -> Result<(String, &'t [Token<'t>]), Fault>
-    ensures { Yields (λ r. (string_bytes r.0, lexemes_of r.1.now)) result
+    ensures value { Yields (λ r. (string_bytes r.0, lexemes_of r.1.now)) result
         (spec.needed (steps.name (lexemes_of tokens.now))) }
+    ensures shorter { IfOk result (λ r. length r.1.now < length tokens.now) }
 {
     name(alloc, tokens, end)
 }

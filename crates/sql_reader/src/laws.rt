@@ -5,13 +5,14 @@ ghost use Rattle.sql_reader.specs.CreateGrammar.{SpellsCreate};
 ghost use Rattle.sql_reader.specs.ExprExamples.{Examples};
 ghost use Rattle.sql_reader.specs.ExprGrammar.{Expresses};
 ghost use Rattle.sql_reader.specs.ExprTree.{ExprTree};
-ghost use Rattle.sql_reader.specs.SelectGrammar.{SpellsSelect};
-ghost use Rattle.sql_reader.specs.Tree.{SelectTree, TableTree};
+ghost use Rattle.sql_reader.specs.SelectTexts.{SpellsWithin};
+ghost use Rattle.sql_reader.specs.SelectTrees.{SelectTree};
+ghost use Rattle.sql_reader.specs.Tree.{TableTree};
 
-/// A text spells at most one SELECT.
+/// A text spells at most one SELECT, whatever levels it has.
 pub fn one_select()
-    ensures { (text : List ℕ) (first second : SelectTree) → SpellsSelect text first → SpellsSelect text second
-        → first ≡ second }
+    ensures { (text : List ℕ) (levels others : ℕ) (first second : SelectTree) → SpellsWithin levels text first
+        → SpellsWithin others text second → first ≡ second }
 {}
 
 /// A text spells at most one CREATE TABLE.

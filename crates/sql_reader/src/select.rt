@@ -1,89 +1,105 @@
 //! SELECT texts.
-ghost use Rattle.std.specs.Prelude.{◌≡◌, IfErr, IfOk, map, string_bytes};
-ghost use Rattle.sql_reader.specs.Reading as spec;
-ghost use Rattle.sql_reader.specs.Reading.{Gives};
-ghost use Rattle.sql_reader.specs.SelectGrammar.{SpellsSelect};
-ghost use Rattle.sql_reader.specs.Texts.{IsRefused, IsWithin};
-ghost use Rattle.sql_reader.specs.Tree.{columns_of_select};
-ghost use Rattle.sql_reader.specs.View.{columns_of, lexemes_of, select_of};
+ghost use Rattle.std.specs.Prelude.{◌≡◌, ◌-◌, IfErr, IfOk, option_map, string_bytes};
+ghost use Rattle.sql_reader.specs.ExprReading.{Yields};
+ghost use Rattle.sql_reader.specs.ExprView.{expr_of};
+ghost use Rattle.sql_reader.specs.SelectReading as spec;
+ghost use Rattle.sql_reader.specs.SelectTexts.{AreCut, IsRefusedSelect, SpellsSelect, source_of};
+ghost use Rattle.sql_reader.specs.SelectTrees.{columns_of_select};
+ghost use Rattle.sql_reader.specs.SelectView.{select_of};
+ghost use Rattle.sql_reader.specs.Texts.{IsWithin, max_levels};
+ghost use Rattle.sql_reader.specs.View.{lexemes_of};
 
-use crate::limits::{MAX_COLUMNS, MAX_TEXT};
-use crate::steps::{
-    after_comma, after_from, after_select, after_semicolon, after_star, ends, name, syntax_at,
-};
-use crate::{ResultColumns, Select};
+use crate::expressions::{expr, needed, needed_name, place_of};
+use crate::limits::{EXPR_LEVELS, MAX_COLUMNS, MAX_LEVELS, MAX_TEXT};
+use crate::results::results;
+use crate::steps::{after_from, after_select, after_semicolon, after_where, ends};
+use crate::{Expr, Select};
 use std::alloc::Global;
 use tokens::{Grammar, Token, read_tokens};
 use values::Fault;
 
-/// Names with commas between them, and what is behind them.
-fn names<'t>(
+/// The table behind FROM, if that stands here, and what is behind it.
+fn table<'t>(
     alloc: Global,
     tokens: &'t [Token<'t>],
     end: usize,
-) -> Result<(Vec<String>, &'t [Token<'t>]), Fault>
-    ensures { Gives (λ r. (map (λ name. string_bytes name) r.0.items, lexemes_of r.1.now)) result
-        (spec.listed spec.name (lexemes_of tokens.now)) }
+) -> Result<(Option<String>, &'t [Token<'t>]), Fault>
+    ensures { Yields (λ r. (option_map (λ name. string_bytes name) r.0, lexemes_of r.1.now)) result
+        (spec.table (lexemes_of tokens.now)) }
 {
-    let mut names = Vec::new(alloc);
-    let (first, mut rest) = name(alloc, tokens, end)?;
-    names.push(first)?;
-    while let Some(more) = after_comma(rest) {
-        let (next, after) = name(alloc, more, end)?;
-        names.push(next)?;
-        rest = after;
-    }
-    Ok((names, rest))
+    let Some(source) = after_from(tokens) else {
+        return Ok((None, tokens));
+    };
+    let (name, rest) = needed_name(alloc, source, end)?;
+    Ok((Some(name), rest))
 }
 
-/// What a SELECT gives, and what is behind it.
-fn results<'t>(
+/// The condition behind WHERE, if that stands here, and what is behind it.
+fn condition<'t>(
     alloc: Global,
     tokens: &'t [Token<'t>],
     end: usize,
-) -> Result<(ResultColumns, &'t [Token<'t>]), Fault>
-    ensures { Gives (λ r. (columns_of r.0, lexemes_of r.1.now)) result (spec.results (lexemes_of tokens.now)) }
+) -> Result<(Option<Expr>, &'t [Token<'t>]), Fault>
+    ensures { Yields (λ r. (option_map expr_of r.0, lexemes_of r.1.now)) result
+        (spec.condition (max_levels - 1) (lexemes_of tokens.now)) }
 {
-    if let Some(after) = after_star(tokens) {
-        return Ok((ResultColumns::All, after));
-    }
-    let (names, after) = names(alloc, tokens, end)?;
-    Ok((ResultColumns::Named(names), after))
+    let Some(start) = after_where(tokens) else {
+        return Ok((None, tokens));
+    };
+    let read = expr(alloc, EXPR_LEVELS, 1, start, end)?;
+    Ok((Some(read.tree), read.rest))
 }
 
 /// A statement, which is all of the tokens.
-fn statement(alloc: Global, tokens: &[Token<'_>], end: usize) -> Result<Select, Fault>
-    ensures { Gives select_of result (spec.select (lexemes_of tokens.now)) }
+#[tactic(auto, unfolding(crate::specs::SelectReading::select))]
+fn statement(alloc: Global, text: &str, tokens: &[Token<'_>]) -> Result<Select, Fault>
+    requires { AreCut text.now tokens.now }
+    ensures { Yields select_of result
+        (spec.select (source_of text.now tokens.now) (max_levels - 1) (lexemes_of tokens.now)) }
 {
-    let Some(rest) = after_select(tokens) else {
-        return Err(syntax_at(tokens, end));
-    };
-    let (columns, rest) = results(alloc, rest, end)?;
-    let Some(source) = after_from(rest) else {
-        return Err(syntax_at(rest, end));
-    };
-    let (table, rest) = name(alloc, source, end)?;
+    let end = text.len();
+    let rest = needed(after_select(tokens), tokens, end)?;
+    let (columns, rest) = results(alloc, text, tokens, rest)?;
+    let (table, rest) = table(alloc, rest, end)?;
+    let (condition, rest) = condition(alloc, rest, end)?;
     if !ends(rest) {
-        return Err(syntax_at(after_semicolon(rest), end));
+        return Err(Fault::Syntax(place_of(after_semicolon(rest), end)));
     }
-    Ok(Select { columns, table })
+    Ok(Select {
+        columns,
+        table,
+        condition,
+    })
+}
+
+/// The same. Where there are no more tokens than levels, a limit is met by nothing that is spelt.
+fn settled(alloc: Global, text: &str, tokens: &[Token<'_>]) -> Result<Select, Fault>
+    requires { AreCut text.now tokens.now }
+    ensures { Yields select_of result
+        (spec.whole (source_of text.now tokens.now) (max_levels - 1) (lexemes_of tokens.now)) }
+{
+    match statement(alloc, text, tokens) {
+        Err(Fault::Limit) if tokens.len() <= MAX_LEVELS => Err(Fault::Syntax(text.len())),
+        read => read,
+    }
 }
 
 /// The SELECT that a text spells. (SELECT) The fault is `Syntax` where the text spells none, with the place where it
-/// stops being tokens, or else of the first token that no SELECT goes on with; `Limit` where the text is longer than
-/// 65,536 bytes or spells more than 100 columns; or `NoMemory`.
-#[tactic(auto, using(crate::proofs::StatementLemmas::select_spelt, crate::proofs::StatementLemmas::select_refused, crate::proofs::StatementLemmas::select_tokens_refused))]
+/// stops being tokens, or else of the token at which the reader stopped; `Limit` where the text is longer than 65,536
+/// bytes, spells more than 100 columns, or has more than 100 tokens and spells nothing but SELECTs of more than 100
+/// levels; or `NoMemory`.
+#[tactic(auto, using(crate::proofs::SelectTextLemmas::select_spelt, crate::proofs::SelectTextLemmas::select_refused, crate::proofs::SelectTextLemmas::select_tokens_refused))]
 pub fn read_select(alloc: Global, text: &str) -> Result<Select, Fault>
     ensures spelt { IfOk result (λ select. SpellsSelect text.now (select_of select)) }
     ensures within { IfOk result (λ select. IsWithin columns_of_select text.now (select_of select)) }
-    ensures refused { IfErr result (λ fault. IsRefused SpellsSelect columns_of_select text.now fault) }
+    ensures refused { IfErr result (IsRefusedSelect text.now) }
 {
     if text.len() > MAX_TEXT {
         return Err(Fault::Limit);
     }
     let tokens = read_tokens(alloc, Grammar::Select, text)?;
-    let select = statement(alloc, tokens.as_slice(), text.len())?;
-    if select.columns.count() > MAX_COLUMNS {
+    let select = settled(alloc, text, tokens.as_slice())?;
+    if select.columns.len() > MAX_COLUMNS {
         return Err(Fault::Limit);
     }
     Ok(select)

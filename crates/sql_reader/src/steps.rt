@@ -3,6 +3,7 @@ ghost use Rattle.std.specs.Prelude.{◌≡◌, ◌<◌, length, option_map, stri
 ghost use Rattle.sql_reader.specs.ExprReading as expr_spec;
 ghost use Rattle.sql_reader.specs.Reading as spec;
 ghost use Rattle.sql_reader.specs.Reading.{Gives, IsSyntax};
+ghost use Rattle.sql_reader.specs.SelectReading as select_spec;
 ghost use Rattle.sql_reader.specs.View.{lexemes_of};
 
 use std::alloc::Global;
@@ -10,7 +11,8 @@ use tokens::{Keyword, Sign, Token, TokenKind, name_content};
 use values::Fault;
 
 pub(crate) fn after_select<'t>(tokens: &'t [Token<'t>]) -> Option<&'t [Token<'t>]>
-    ensures { option_map (λ r. lexemes_of r.now) result ≡ spec.after_select (lexemes_of tokens.now) }
+    ensures found { option_map (λ r. lexemes_of r.now) result ≡ spec.after_select (lexemes_of tokens.now) }
+    ensures shorter { IfSome result (λ r. length r.now < length tokens.now) }
 {
     match tokens {
         [
@@ -55,13 +57,43 @@ pub(crate) fn after_from<'t>(tokens: &'t [Token<'t>]) -> Option<&'t [Token<'t>]>
     }
 }
 
+pub(crate) fn after_dot<'t>(tokens: &'t [Token<'t>]) -> Option<&'t [Token<'t>]>
+    ensures { option_map (λ r. lexemes_of r.now) result ≡ select_spec.after_dot (lexemes_of tokens.now) }
+{
+    match tokens {
+        [
+            Token {
+                kind: TokenKind::Sign(Sign::Dot),
+                ..
+            },
+            rest @ ..,
+        ] => Some(rest),
+        _ => None,
+    }
+}
+
 pub(crate) fn after_star<'t>(tokens: &'t [Token<'t>]) -> Option<&'t [Token<'t>]>
-    ensures { option_map (λ r. lexemes_of r.now) result ≡ spec.after_star (lexemes_of tokens.now) }
+    ensures { option_map (λ r. lexemes_of r.now) result ≡ select_spec.after_star (lexemes_of tokens.now) }
 {
     match tokens {
         [
             Token {
                 kind: TokenKind::Sign(Sign::Star),
+                ..
+            },
+            rest @ ..,
+        ] => Some(rest),
+        _ => None,
+    }
+}
+
+pub(crate) fn after_where<'t>(tokens: &'t [Token<'t>]) -> Option<&'t [Token<'t>]>
+    ensures { option_map (λ r. lexemes_of r.now) result ≡ select_spec.after_where (lexemes_of tokens.now) }
+{
+    match tokens {
+        [
+            Token {
+                kind: TokenKind::Keyword(Keyword::Where),
                 ..
             },
             rest @ ..,

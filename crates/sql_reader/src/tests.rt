@@ -1,6 +1,7 @@
 //! Worked texts.
 use crate::{
-    Column, ColumnConstraint, ColumnType, CreateTable, ResultColumns, read_create, read_select,
+    Column, ColumnConstraint, ColumnType, CreateTable, Expr, ResultColumn, Select, read_create,
+    read_select,
 };
 use std::alloc::Global;
 use std::process::Abort;
@@ -15,6 +16,22 @@ fn expect_syntax(rt: &impl Abort, alloc: Global, text: &str, place: usize) {
     }
 }
 
+/// A SELECT is from this table.
+fn is_from(select: &Select, expected: &str) -> bool {
+    match &select.table {
+        Some(table) => table.as_str() == expected,
+        None => false,
+    }
+}
+
+/// A result column is that of this name alone.
+fn is_column(column: &ResultColumn, expected: &str) -> bool {
+    match column {
+        ResultColumn::Value(Expr::Column(None, name), _) => name.as_str() == expected,
+        _ => false,
+    }
+}
+
 /// A text spells a SELECT of one column, from a table.
 fn expect_column(
     rt: &impl Abort,
@@ -24,33 +41,23 @@ fn expect_column(
     table: &str,
 ) -> Result<(), Fail> {
     let select = read_select(alloc, text)?;
-    assert!(rt; select.table.as_str() == table, "in {text}");
-    match &select.columns {
-        ResultColumns::Named(names) => {
-            assert_eq!(rt; names.len(), 1, "in {text}");
-            assert!(rt; names[0].as_str() == column, "in {text}");
-        }
-        ResultColumns::All => assert!(rt; false, "all columns in {text}"),
-    }
+    assert!(rt; is_from(&select, table), "in {text}");
+    assert_eq!(rt; select.columns.len(), 1, "in {text}");
+    assert!(rt; is_column(&select.columns[0], column), "in {text}");
     Ok(())
 }
 
 #[test]
 fn selects(rt: HostRuntime) -> Result<(), Fail> {
     let all = read_select(rt.alloc(), "select * from [my items];")?;
-    assert!(rt; all.table.as_str() == "my items");
-    assert!(rt; matches!(all.columns, ResultColumns::All));
+    assert!(rt; is_from(&all, "my items"));
+    assert_eq!(rt; all.columns.len(), 1);
+    assert!(rt; matches!(all.columns[0], ResultColumn::All));
     let named = read_select(rt.alloc(), "SELECT id,\"a\"\"b\"/**/FROM item")?;
-    assert!(rt; named.table.as_str() == "item");
-    assert_eq!(rt; named.columns.count(), 2);
-    match &named.columns {
-        ResultColumns::Named(names) => {
-            assert_eq!(rt; names.len(), 2);
-            assert!(rt; names[0].as_str() == "id");
-            assert!(rt; names[1].as_str() == "a\"b");
-        }
-        ResultColumns::All => assert!(rt; false),
-    }
+    assert!(rt; is_from(&named, "item"));
+    assert_eq!(rt; named.columns.len(), 2);
+    assert!(rt; is_column(&named.columns[0], "id"));
+    assert!(rt; is_column(&named.columns[1], "a\"b"));
     expect_column(&rt, rt.alloc(), "SELECT name FROM item", "name", "item")?;
     expect_column(
         &rt,
@@ -69,15 +76,15 @@ fn refusals(rt: HostRuntime) {
     expect_syntax(&rt, alloc, "SELEC name", 0);
     expect_syntax(&rt, alloc, "SELECT 'a", 7);
     expect_syntax(&rt, alloc, "SELECT a, FROM t", 10);
-    expect_syntax(&rt, alloc, "SELECT a b FROM t", 9);
+    expect_syntax(&rt, alloc, "SELECT a b c FROM t", 11);
     expect_syntax(&rt, alloc, "SELECT * FROM", 13);
     expect_syntax(&rt, alloc, "SELECT * FROM select", 14);
     expect_syntax(&rt, alloc, "SELECT * FROM t; ;", 17);
 }
 
 /// A SELECT whose column is this one character: names begin with a letter of ASCII, an underscore or a character from
-/// U+0080, and are not quoted; what stands between tokens is a tab, a line feed, a form feed, a carriage return or a
-/// space.
+/// U+0080, and are not quoted; a digit is a number; what stands between tokens is a tab, a line feed, a form feed, a
+/// carriage return or a space; and four signs stand before an operand.
 fn expect_character(rt: &impl Abort, alloc: Global, character: char) -> Result<(), Fail> {
     let mut text = String::from_str(alloc, "SELECT ")?;
     text.push(character)?;
@@ -91,9 +98,13 @@ fn expect_character(rt: &impl Abort, alloc: Global, character: char) -> Result<(
         }
         '*' => {
             let select = read_select(alloc, text)?;
-            assert!(rt; matches!(select.columns, ResultColumns::All));
+            assert!(rt;
+                select.columns.len() == 1 && matches!(select.columns[0], ResultColumn::All)
+            );
         }
+        '0'..='9' => assert_eq!(rt; read_select(alloc, text)?.columns.len(), 1),
         '\t' | '\n' | '\u{c}' | '\r' | ' ' => expect_syntax(rt, alloc, text, 9),
+        '(' | '+' | '-' | '~' => expect_syntax(rt, alloc, text, 9),
         _ => expect_syntax(rt, alloc, text, 7),
     }
     Ok(())
@@ -130,7 +141,7 @@ fn select_of(alloc: Global, count: usize) -> Result<String, Fail> {
 fn limits(rt: HostRuntime) -> Result<(), Fail> {
     let alloc = rt.alloc();
     let most = select_of(alloc, 100)?;
-    assert_eq!(rt; read_select(alloc, most.as_str())?.columns.count(), 100);
+    assert_eq!(rt; read_select(alloc, most.as_str())?.columns.len(), 100);
     let more = select_of(alloc, 101)?;
     match read_select(alloc, more.as_str()) {
         Ok(_) => assert!(rt; false),

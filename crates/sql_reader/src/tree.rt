@@ -1,19 +1,34 @@
 //! What texts spell.
 
-/// What a SELECT gives.
+use crate::Expr;
+
+/// What a result column is called. (SELECT, "Generation of the set of result rows")
 #[derive(Debug, Drop)]
-pub enum ResultColumns {
-    /// `*`
-    All,
-    /// These columns of its table.
-    Named(Vec<String>),
+pub enum ResultName {
+    /// What is written behind it, with AS or without.
+    Alias(String),
+    /// Nothing is written: the text of its expression, from the first token to the last.
+    SourceText(String),
 }
 
-/// A SELECT from one table. (SELECT)
-#[derive(Debug, Drop)]
+/// What stands between two commas of a SELECT. (SELECT)
+#[derive(Drop)]
+pub enum ResultColumn {
+    /// `*`
+    All,
+    /// `t.*`
+    AllOf(String),
+    Value(Expr, ResultName),
+}
+
+/// A SELECT. (SELECT)
+#[derive(Drop)]
 pub struct Select {
-    pub columns: ResultColumns,
-    pub table: String,
+    pub columns: Vec<ResultColumn>,
+    /// The table behind FROM, if there is one.
+    pub table: Option<String>,
+    /// What stands behind WHERE, if it is there.
+    pub condition: Option<Expr>,
 }
 
 /// The type of a column. (STRICT Tables)
@@ -45,20 +60,4 @@ pub struct Column {
 pub struct CreateTable {
     pub name: String,
     pub columns: Vec<Column>,
-}
-
-impl ResultColumns {
-    ghost use Rattle.std.specs.Prelude.{◌≡◌};
-    ghost use Rattle.sql_reader.specs.Tree.{count_of};
-    ghost use Rattle.sql_reader.specs.View.{columns_of};
-
-    /// How many columns are written; `*` is one.
-    pub fn count(&self) -> usize
-        ensures { result ≡ count_of (columns_of self.now) }
-    {
-        match self {
-            ResultColumns::All => 1,
-            ResultColumns::Named(names) => names.len(),
-        }
-    }
 }

@@ -2,17 +2,12 @@ use Rattle.std.proofs.Common.{refl, rules}
 use Rattle.std.proofs.lemmas.List.{length-map}
 use Rattle.std.proofs.lemmas.Result.{err_from_is_err_and}
 use Rattle.meaning.specs.Query.{column}
-use Rattle.sql_reader.specs.View.{select_of}
+use Rattle.sql_reader.specs.SelectView.{select_of}
+use Rattle.resolver.specs.PlainView.{columns_of}
 use Rattle.resolver.specs.Resolved.{column_names}
 use Rattle.resolver.proofs.ColumnLemmas.{zip_map_left}
-use Rattle.resolver.proofs.ResolvedLemmas.{columns_refused, places_within, resolved_is_typed, source_at, source_within, table_refused, terms_within}
+use Rattle.resolver.proofs.ResolvedLemmas.{columns_refused, places_within, resolved_is_typed, source_at, source_within, terms_within}
 use Rattle.resolver.proofs.resolved.resolve.Goals as goal
-
-pub returns-in_err-source-clause-refused : goal.returns-in_err-source-clause-refused
-returns-in_err-source-clause-refused c =
-    let p = err_from_is_err_and c.from_residual.result c.from_residual.ensures.1 in
-    rw (p.1, p.2) (table_refused c.args.tables.now (select_of c.args.select.now) _
-    (rw c.as_str.ensures.value at c.in_err-source.ensures.refused))
 
 pub bounds-tables-source : goal.bounds-tables-source
 bounds-tables-source c = source_within c.args.tables.now _ c.in_ok-source.source c.in_ok-source.ensures.place
@@ -21,26 +16,28 @@ pub offset_bounds-tables-source : goal.offset_bounds-tables-source
 offset_bounds-tables-source c =
     let less = source_within c.args.tables.now _ c.in_ok-source.source c.in_ok-source.ensures.place in search rules
 
-pub returns-in_err-columns-clause-refused : goal.returns-in_err-columns-clause-refused
-returns-in_err-columns-clause-refused c =
-    let source = source_at c.args.tables.now (select_of c.args.select.now) c.in_ok-source.source c.index-tables-source.result _
-    c.as_str.ensures.value c.in_ok-source.ensures.place c.index-tables-source.is in
-    let p = err_from_is_err_and c.from_residual-in_err-columns.result c.from_residual-in_err-columns.ensures.1 in
-    rw (p.1, p.2) (columns_refused c.args.tables.now (select_of c.args.select.now) c.in_ok-source.source c.index-tables-source.result _ source
-    (rw c.columns-declared.ensures at c.in_err-columns.ensures.refused))
-
 pub names_at-requires : goal.names_at-requires
 names_at-requires c =
     let terms = terms_within (column_names c.columns-declared.result.now) _ _ c.in_ok-columns.ensures.places in
     let all = places_within _ c.in_ok-columns.columns.items terms in
     rw c.as_slice.ensures.value (rw length-map at all)
 
+pub returns-in_err-columns-clause-refused : goal.returns-in_err-columns-clause-refused
+returns-in_err-columns-clause-refused c =
+    let plain = rw c.in-Some.is at c.in_ok-plain.ensures in
+    let source = source_at c.args.tables.now _ c.in_ok-source.source c.index-tables-source.result c.in_ok-source.ensures.place c.index-tables-source.is in
+    let p = err_from_is_err_and c.from_residual-in_err-columns.result c.from_residual-in_err-columns.ensures.1 in
+    rw (p.1, p.2) (columns_refused c.args.tables.now (select_of c.args.select.now) _ _ c.in_ok-source.source c.index-tables-source.result _ plain source
+    (rw c.columns-declared.ensures at c.in_err-columns.ensures.refused))
+
 pub returns-clause-means : goal.returns-clause-means
 returns-clause-means c = record {
+  columns = columns_of c.in-Some.plain.columns;
+  name = c.in-Some.plain.table.now;
+  plain = rw c.in-Some.is at c.in_ok-plain.ensures;
   at = c.in_ok-source.source;
   table = c.index-tables-source.result;
-  source = source_at c.args.tables.now (select_of c.args.select.now) c.in_ok-source.source c.index-tables-source.result _
-      c.as_str.ensures.value c.in_ok-source.ensures.place c.index-tables-source.is;
+  source = source_at c.args.tables.now _ c.in_ok-source.source c.index-tables-source.result c.in_ok-source.ensures.place c.index-tables-source.is;
   source_is = refl;
   columns_are = rw c.columns-declared.ensures at c.in_ok-columns.ensures.places;
   within = rw length-map c.in_ok-columns.ensures.within;

@@ -1,4 +1,4 @@
-use Rattle.std.proofs.Common.{◌≡◌, ◌<◌, ◌≤◌, ℕ, suc, max, length, List, [], ◌∷◌, Ok, refl, sym, ap, ◌∙◌, arith, subst}
+use Rattle.std.proofs.Common.{◌≡◌, suc, length, Ok, sym, ap, ◌∙◌, arith, subst}
 use Rattle.std.proofs.lemmas.Result.{err_from_is_err_and}
 use Rattle.sql_reader.proofs.ExprLoops.{arm_shorter, arms_shrinks, first_ok, item_shorter, list_shrinks, next_err, next_ok}
 use Rattle.sql_reader.proofs.ExprFronts.{commas, whens}

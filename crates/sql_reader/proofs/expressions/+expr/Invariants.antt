@@ -1,4 +1,4 @@
-use Rattle.std.proofs.Common.{◌≡◌, ◌<◌, ◌≤◌, ◌+◌, length, suc, ◌-◌, ◌*◌}
+use Rattle.std.proofs.Common.{◌≡◌, ◌≤◌, ◌+◌, length, suc, ◌-◌, ◌*◌}
 use Rattle.sql_reader.proofs.ExprLoops.{GoesOn}
 use Rattle.sql_reader.specs.ExprReading.{after_when, arm, arms, climb, expr, inner, item, list}
 use Rattle.sql_reader.specs.ExprView.{arm_of, expr_of, numbers_of, seen}
