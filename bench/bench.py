@@ -1,0 +1,239 @@
+#!/usr/bin/env python3
+"""Measures the program beside the `sqlite3` program, on files of growing tables, and writes RESULTS.md.
+
+Each command is run five times, all of them in turn, and the least of each is taken: the time on the clock, and the time of
+the processor (user and system). Both write to /dev/null then. The peak of memory is taken in one run more, whose output is
+read: what `wait4` tells of it begins with what the script itself has, so that the kernel's count for the running process is
+read with each piece of its output. Run it on a machine that is else idle.
+"""
+
+from __future__ import annotations
+
+import argparse
+import os
+import re
+import shutil
+import subprocess
+import sys
+import tempfile
+import textwrap
+import time
+from dataclasses import dataclass
+from pathlib import Path
+
+FOLDER = Path(__file__).resolve().parent
+TOP = FOLDER.parent
+sys.path.insert(0, str(TOP / "compare"))
+
+from program import PROGRAM, build, give_up  # noqa: E402
+from reading import reading_lines  # noqa: E402
+
+ROWS = 1_000_000
+RUNS = 5
+PAGE, CACHE = 4096, 256
+TEXT = 40
+# The longest payload of the table: a header, two numbers and the text.
+PAYLOAD = 5 + 2 * 8 + TEXT
+
+# The targets: parts of the time that sqlite3's SELECT takes alone; bytes; and how much more than its part of the rows a
+# longer table may take.
+ALL_TARGET, ONE_TARGET = 0.6, 0.8
+MEMORY_TARGET = (16 << 20) + CACHE * PAGE + 2 * PAYLOAD
+GROWTH_TARGET = 1.25
+
+
+@dataclass(frozen=True)
+class Cost:
+    """The least of what some runs took: seconds on the clock and of the processor."""
+
+    clock: float = float("inf")
+    processor: float = float("inf")
+
+    def least(self, other: Cost) -> Cost:
+        """The less of each."""
+        return Cost(min(self.clock, other.clock), min(self.processor, other.processor))
+
+
+@dataclass(frozen=True)
+class Command:
+    """A command that is measured, and the status that it has to end with."""
+
+    name: str
+    words: list[str]
+    status: int = 0
+
+
+def make_table(path: Path, rows: int) -> None:
+    """Has sqlite3 make a table of a key, two numbers and a text of 40 bytes."""
+    script = f"""PRAGMA page_size = {PAGE};
+        CREATE TABLE item(id INTEGER PRIMARY KEY, a INT NOT NULL, b INT NOT NULL, name TEXT NOT NULL) STRICT;
+        WITH RECURSIVE n(i) AS (SELECT 1 UNION ALL SELECT i + 1 FROM n WHERE i < {rows})
+        INSERT INTO item SELECT i, i * 7919 % 1000003, i * i * 31,
+            substr(printf('the name of item %d, filled with letters up to forty', i), 1, {TEXT}) FROM n;"""
+    subprocess.run(["sqlite3", "-bail", str(path)], input=script.encode(), check=True)
+
+
+def measure(command: Command) -> Cost:
+    """Runs a command once."""
+    with open(os.devnull, "r+b") as nothing:
+        began = time.perf_counter()
+        child = subprocess.Popen(command.words, stdin=nothing, stdout=nothing, stderr=nothing)
+        _, status, usage = os.wait4(child.pid, 0)
+        clock = time.perf_counter() - began
+        child.returncode = os.waitstatus_to_exitcode(status)
+    if child.returncode != command.status:
+        give_up(f"{command.words} ended with status {child.returncode}")
+    return Cost(clock, usage.ru_utime + usage.ru_stime)
+
+
+def peak_of(command: Command) -> int:
+    """The most bytes of memory that a command had when it wrote its output, of which a pipe holds back a page."""
+    peak = 0
+    with subprocess.Popen(command.words, stdin=subprocess.DEVNULL, stdout=subprocess.PIPE, pipesize=4096) as child:
+        while child.stdout.read1():
+            told = re.search(r"VmHWM:\s+([0-9]+) kB", Path(f"/proc/{child.pid}/status").read_text())
+            peak = max(peak, int(told[1]) * 1024 if told else 0)
+    return peak
+
+
+def measure_all(commands: list[Command], runs: int) -> dict[str, Cost]:
+    """Runs all commands in turn, so often, and answers the least cost of each."""
+    costs = {command.name: Cost() for command in commands}
+    for _ in range(runs):
+        for command in commands:
+            costs[command.name] = costs[command.name].least(measure(command))
+    return costs
+
+
+def commands_for(path: Path) -> list[Command]:
+    """What is measured on one file."""
+
+    def sqlite(*texts: str) -> list[str]:
+        return ["sqlite3", "-batch", "-readonly", "-quote", str(path), *texts]
+
+    def seleq(text: str) -> list[str]:
+        return [str(PROGRAM), "--cache", str(CACHE), str(path), text]
+
+    one, everything, check = "SELECT name FROM item", "SELECT * FROM item", "PRAGMA integrity_check"
+    return [
+        Command("open", seleq("SELECT * FROM nowhere"), 1),
+        Command("one", seleq(one)),
+        Command("all", seleq(everything)),
+        Command("sqlite check", sqlite(check)),
+        Command("sqlite one", sqlite(one)),
+        Command("sqlite check one", sqlite(check, one)),
+        Command("sqlite all", sqlite(everything)),
+        Command("sqlite check all", sqlite(check, everything)),
+    ]
+
+
+def unexamined() -> str:
+    """The conditions of an image that docs/FAULTS.md marks as answered by no layer yet."""
+    rows = re.findall(r"\| ([0-9]+)\* \| ([A-Za-z]+)", (TOP / "docs" / "FAULTS.md").read_text())
+    return ", ".join(f"{number} {name}" for number, name in rows if 11 <= int(number) <= 25)
+
+
+def met(holds: bool) -> str:
+    """Whether a target is met, as a word."""
+    return "met" if holds else "missed"
+
+
+def time_rows(costs: dict[str, Cost]) -> list[str]:
+    """The lines of the table of times."""
+    lines = ["| What | Beside | seleq, s | sqlite3, s | Ratio | Ratio by the clock | Target |", "|" + "---|" * 7]
+    for what, own, beside, other, target in (
+        ("opening", "open", "the check", "sqlite check", None),
+        ("opening, one column", "one", "the check and the SELECT", "sqlite check one", None),
+        ("opening, one column", "one", "the SELECT alone", "sqlite one", ONE_TARGET),
+        ("opening, all columns", "all", "the check and the SELECT", "sqlite check all", None),
+        ("opening, all columns", "all", "the SELECT alone", "sqlite all", ALL_TARGET),
+    ):
+        ratio = costs[own].processor / max(costs[other].processor, 1e-6)
+        clock = costs[own].clock / costs[other].clock
+        wanted = "" if target is None else f"at most {target}: {met(ratio <= target)}"
+        times = f"{costs[own].processor:.3f} | {costs[other].processor:.3f}"
+        lines.append(f"| {what} | {beside} | {times} | {ratio:.2f} | {clock:.2f} | {wanted} |")
+    return lines
+
+
+def memory_lines(path: Path) -> list[str]:
+    """The lines that tell the peaks of memory on one file."""
+    wanted = ("one", "all", "sqlite all")
+    peaks = {command.name: peak_of(command) for command in commands_for(path) if command.name in wanted}
+    own = max(peaks["one"], peaks["all"])
+    return [
+        f"seleq has at most {own / 2**20:.1f} MB, sqlite3 {peaks['sqlite all'] / 2**20:.1f} MB. The target is 16 MB, the cache",
+        f"and twice the longest payload, {MEMORY_TARGET / 2**20:.1f} MB: {met(own <= MEMORY_TARGET)}.",
+    ]
+
+
+def growth_lines(sizes: list[int], all_costs: list[dict[str, Cost]]) -> list[str]:
+    """The lines of the table of growth, and whether it is linear between the shortest table and the others."""
+    lines = ["| Rows | opening, s | one column, s | all columns, s | sqlite3, all columns, s |", "|---|---|---|---|---|"]
+    for rows, costs in zip(sizes, all_costs):
+        times = " | ".join(f"{costs[name].processor:.4f}" for name in ("open", "one", "all", "sqlite all"))
+        lines.append(f"| {rows} | {times} |")
+    first, second, last = (costs["all"].processor for costs in all_costs)
+    by_rows = (sizes[2] - sizes[0]) / (sizes[1] - sizes[0])
+    growth = (last - first) / max(second - first, 1e-6)
+    linear = met(growth <= GROWTH_TARGET * by_rows)
+    return [
+        *lines,
+        "",
+        f"From the first table to the third all columns take {growth:.1f} times as much more as from the first to the",
+        f"second, with {by_rows:.1f} times as many more rows; the target is at most {GROWTH_TARGET} times that: {linear}.",
+    ]
+
+
+def report(sizes: list[int], all_costs: list[dict[str, Cost]], memory: list[str], runs: int) -> str:
+    """The text of RESULTS.md."""
+    version = subprocess.run(["sqlite3", "--version"], capture_output=True, check=True).stdout.decode().split()[0]
+    how = f"""Written by `bench/bench.py`. The table has an integer key, two integers and a text of {TEXT} bytes, in pages of
+        {PAGE} bytes. Each time is the least of {runs} runs, all commands in turn; both programs write to /dev/null. seleq
+        keeps {CACHE} pages; `sqlite3` {version} answers in `.mode quote`. Seconds are those of the processor, user and
+        system."""
+    lacks = f"""Each run of seleq opens the file, which checks it, before it answers. **What opening doesn't examine yet:**
+        {unexamined()}; and what it answers by 29 NotYet: indexes, views, triggers, tables without rowids or not STRICT, and a
+        schema of more than one page. `PRAGMA integrity_check` examines the use of each page and the freelist as well."""
+    parts = [
+        "# Time and memory beside `sqlite3`",
+        *(textwrap.fill(" ".join(text.split()), 120, break_on_hyphens=False) for text in (how, lacks)),
+        f"## {sizes[-1]} rows",
+        "\n".join(time_rows(all_costs[-1])),
+        "## The peak of memory",
+        "\n".join(memory),
+        "## Growth",
+        "\n".join(growth_lines(sizes, all_costs)),
+        "## Reading a text",
+        "Instructions for each byte of a text, those for a short one taken off, as `valgrind` counts them.",
+        "\n".join(reading_lines()),
+    ]
+    return "\n\n".join(parts) + "\n"
+
+
+def main() -> int:
+    """Measures, and writes the results."""
+    parser = argparse.ArgumentParser(description="Measures the program seleq beside sqlite3.")
+    parser.add_argument("--rows", type=int, default=ROWS, help=f"rows of the longest table ({ROWS})")
+    parser.add_argument("--runs", type=int, default=RUNS, help=f"runs of each command ({RUNS})")
+    parser.add_argument("--out", type=Path, default=FOLDER / "RESULTS.md", help="the file of the results")
+    parser.add_argument("--built", action="store_true", help="take the program as it was built last")
+    words = parser.parse_args()
+    if shutil.which("sqlite3") is None:
+        give_up("the program sqlite3 is not on the PATH")
+    if not words.built:
+        build()
+    sizes = [max(1, words.rows // 100), max(2, words.rows // 10), words.rows]
+    with tempfile.TemporaryDirectory() as folder:
+        all_costs = []
+        for rows in sizes:
+            path = Path(folder) / f"{rows}.db"
+            make_table(path, rows)
+            all_costs.append(measure_all(commands_for(path), words.runs))
+        memory = memory_lines(path)
+    words.out.write_text(report(sizes, all_costs, memory, words.runs))
+    return 0
+
+
+if __name__ == "__main__":
+    sys.exit(main())

@@ -1,0 +1,59 @@
+"""How the reading of a text grows with its length: counts the instructions that the program takes, by `valgrind`."""
+
+from __future__ import annotations
+
+import os
+import re
+import shutil
+import subprocess
+from pathlib import Path
+
+from program import PROGRAM, TOP, give_up
+
+IMAGE = TOP / "crates" / "seleq" / "data" / "shop.db"
+# Bytes of a text, up to the most that may be.
+LENGTHS = [1 << 13, 1 << 14, 1 << 15, 1 << 16]
+# How many times as many instructions a byte of one length may take as of another.
+LINEAR_TARGET = 1.25
+
+COUNT = re.compile(rb"Collected : ([0-9]+)")
+
+
+def padded(front: str, item: str, behind: str, length: int) -> str:
+    """A text of so many bytes with as many items in its middle as there is room for."""
+    room = length - len(front) - len(behind)
+    return front + item * (room // len(item)) + " " * (room % len(item)) + behind
+
+
+# What is read: a list in a condition, result columns of which there are too many, a sum that is too deep, parentheses alone.
+FORMS = {
+    "a condition with a list": ("SELECT id FROM item WHERE id IN (1", ",1", ")"),
+    "result columns": ("SELECT id", ",id", " FROM item"),
+    "texts with quotes": ("SELECT id FROM item WHERE id IN ('a'", ",'it''s'", ")"),
+    "comments": ("SELECT id", "/* a */", " FROM item"),
+    "names and functions": ("SELECT id FROM item WHERE id IN (1", ",abs(item.id)", ")"),
+}
+
+
+def instructions(text: str) -> int:
+    """How many instructions the program takes for a text, opening a small image included."""
+    words = ["valgrind", "--tool=callgrind", f"--callgrind-out-file={os.devnull}", str(PROGRAM), str(IMAGE), text]
+    run = subprocess.run(words, stdin=subprocess.DEVNULL, capture_output=True, check=False)
+    found = COUNT.search(run.stderr)
+    if found is None or run.returncode not in (0, 1):
+        give_up(f"valgrind counted nothing: {run.stderr[-300:]!r}")
+    return int(found[1])
+
+
+def reading_lines() -> list[str]:
+    """The lines of a table: instructions for each byte of texts of growing length, without those of a short one."""
+    if shutil.which("valgrind") is None:
+        return ["Not measured: the program valgrind isn't there."]
+    least = instructions("SELECT id FROM item")
+    lines = [f"| Text of | {' | '.join(f'{length} bytes' for length in LENGTHS)} | Target |", "|---" * (len(LENGTHS) + 2) + "|"]
+    for what, (front, item, behind) in FORMS.items():
+        each = [(instructions(padded(front, item, behind, length)) - least) / length for length in LENGTHS]
+        linear = "met" if max(each) <= LINEAR_TARGET * min(each) else "missed"
+        numbers = " | ".join(f"{number:.0f}" for number in each)
+        lines.append(f"| {what} | {numbers} | within {LINEAR_TARGET} times: {linear} |")
+    return lines

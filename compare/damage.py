@@ -1,0 +1,268 @@
+"""Damaged files: the program answers what SQLite reads of them, or refuses them in one line, within time and memory."""
+
+from __future__ import annotations
+
+import sqlite3
+from collections.abc import Callable
+from pathlib import Path
+from random import Random
+
+from oracle import Reader
+from pages import (
+    cell_place, cell_places, interior_pages, page_count, page_start, pointer_places, set_number, size_of_page, tree_pages,
+)
+from program import Run, Tally, fault_line, refusal_problem, rows_of, run
+from recipes import fill, make_file, random_text
+from sound import answer_problem
+
+# A damage changes the bytes, and tells what it did.
+Damage = Callable[[bytearray, Random], str]
+
+# What opening and preparing may answer of a file whose header is sound.
+OPENING_FAULTS = {*range(11, 27), 29, 31, 32}
+# Faults of trees and values that `PRAGMA integrity_check` finds too. It counts no values and reads no characters.
+SEEN_BY_SQLITE = {11, 12, 15, 16, 18, 23}
+# Where SQLite can't read a damaged file. A message with bytes of the damage may be none that Python can read.
+UNREADABLE = (sqlite3.Error, UnicodeDecodeError, MemoryError)
+
+
+def random_page(image: bytearray, rng: Random) -> int:
+    """The number of some page, often of the first ones."""
+    return rng.randint(1, max(1, rng.choice((4, page_count(image))) if page_count(image) > 4 else page_count(image)))
+
+
+def odd_page(image: bytearray, own: int, rng: Random) -> int:
+    """A number that a child or a chain shouldn't have."""
+    pages = page_count(image)
+    return rng.choice((0, 1, 2, own, pages, pages + 1, 2**31, 2**32 - 1, rng.randint(1, pages), rng.randint(1, pages)))
+
+
+def flip_bit(image: bytearray, rng: Random) -> str:
+    place = rng.randrange(len(image))
+    image[place] ^= 1 << rng.randrange(8)
+    return f"a bit of byte {place} flipped"
+
+
+def set_header_byte(image: bytearray, rng: Random) -> str:
+    place = rng.randrange(100)
+    image[place] = rng.choice((0, 1, 2, 255, rng.randrange(256)))
+    return f"byte {place} set to {image[place]}"
+
+
+def set_page_header(image: bytearray, rng: Random) -> str:
+    place = page_start(image, random_page(image, rng)) + rng.randrange(12)
+    image[place] = rng.choice((0, 2, 5, 10, 13, 255, rng.randrange(256)))
+    return f"byte {place} of a page's header set to {image[place]}"
+
+
+def fill_page(image: bytearray, rng: Random) -> str:
+    size, page = size_of_page(image), random_page(image, rng)
+    bytes_ = rng.choice((bytes(size), b"\xff" * size, rng.randbytes(size)))
+    image[(page - 1) * size : page * size] = bytes_
+    return f"page {page} filled from {bytes_[:4].hex()} on"
+
+
+def copy_page(image: bytearray, rng: Random) -> str:
+    size, source, target = size_of_page(image), rng.randint(1, page_count(image)), rng.randint(1, page_count(image))
+    image[(target - 1) * size : target * size] = image[(source - 1) * size : source * size]
+    return f"page {source} copied over page {target}"
+
+
+def swap_pages(image: bytearray, rng: Random) -> str:
+    size, pages = size_of_page(image), tree_pages(image)
+    first, second = (rng.choice(pages) for _ in range(2))
+    held = image[(first - 1) * size : first * size]
+    image[(first - 1) * size : first * size] = image[(second - 1) * size : second * size]
+    image[(second - 1) * size : second * size] = held
+    return f"pages {first} and {second} swapped"
+
+
+def cut_file(image: bytearray, rng: Random) -> str:
+    del image[rng.randrange(len(image)) :]
+    return f"cut to {len(image)} bytes"
+
+
+def cut_pages(image: bytearray, rng: Random) -> str:
+    pages = rng.randint(1, page_count(image))
+    del image[pages * size_of_page(image) :]
+    set_number(image, 28, 4, pages)
+    return f"cut to {pages} pages, as the header then says"
+
+
+def cross_child(image: bytearray, rng: Random) -> str:
+    page = rng.choice(interior_pages(image) or [1])
+    place = rng.choice(pointer_places(image, page))
+    set_number(image, place, 4, odd_page(image, page, rng))
+    return f"the child at byte {place} of page {page} is {int.from_bytes(image[place : place + 4], 'big')}"
+
+
+def swap_children(image: bytearray, rng: Random) -> str:
+    places = [place for page in interior_pages(image) for place in pointer_places(image, page)]
+    if not places:
+        return "no children to swap"
+    first, second = (rng.choice(places) for _ in range(2))
+    image[first : first + 4], image[second : second + 4] = image[second : second + 4], image[first : first + 4]
+    return f"the children at bytes {first} and {second} swapped"
+
+
+def cross_chain(image: bytearray, rng: Random) -> str:
+    size, page = size_of_page(image), random_page(image, rng)
+    set_number(image, (page - 1) * size, 4, odd_page(image, page, rng))
+    return f"page {page} begins with {image[(page - 1) * size : (page - 1) * size + 4].hex()}"
+
+
+def swap_cells(image: bytearray, rng: Random) -> str:
+    page = rng.choice(tree_pages(image))
+    places = cell_places(image, page)
+    if not places:
+        return "no cells to swap"
+    first, second = (rng.choice(places) for _ in range(2))
+    image[first : first + 2], image[second : second + 2] = image[second : second + 2], image[first : first + 2]
+    return f"two cells of page {page} swapped"
+
+
+def move_cell(image: bytearray, rng: Random) -> str:
+    page = rng.choice(tree_pages(image))
+    places = cell_places(image, page)
+    if not places:
+        return "no cell to move"
+    place = rng.choice(places)
+    old = int.from_bytes(image[place : place + 2], "big")
+    set_number(image, place, 2, rng.choice((0, 65535, (old + rng.randint(-4, 4)) % 65536, rng.randrange(65536))))
+    return f"a cell of page {page} moved to {image[place : place + 2].hex()}"
+
+
+def spoil_cell(image: bytearray, rng: Random) -> str:
+    page = rng.choice(tree_pages(image))
+    places = cell_places(image, page)
+    if not places:
+        return "no cell to spoil"
+    start = cell_place(image, page, rng.choice(places)) + rng.randrange(12)
+    patch = rng.choice((b"\0", b"\x7f", b"\x81\x00", b"\xff" * 9, rng.randbytes(1), rng.randbytes(3)))[: len(image) - start]
+    image[start : start + len(patch)] = patch
+    return f"byte {start} and on of a cell of page {page} are {patch.hex()}"
+
+
+def set_count(image: bytearray, rng: Random) -> str:
+    page = rng.choice(tree_pages(image))
+    place = page_start(image, page) + 3
+    old = int.from_bytes(image[place : place + 2], "big")
+    set_number(image, place, 2, rng.choice((0, max(0, old - 1), min(old + 1, 65535), 65535, rng.randrange(65536))))
+    return f"page {page} says {image[place : place + 2].hex()} cells"
+
+
+def respell(image: bytearray, rng: Random) -> str:
+    places = [place for place in range(size_of_page(image)) if image.startswith(b"CREATE", place)]
+    if not places:
+        return "no text to respell"
+    place = rng.choice(places) + rng.randrange(80)
+    image[place] = rng.choice(b" ,()'\"[]`/*-;xTNI0_\n\xc3\0")
+    return f"byte {place} of the schema is {bytes(image[place : place + 1])!r}"
+
+
+DAMAGES: list[Damage] = [
+    flip_bit, flip_bit, set_header_byte, set_page_header, fill_page, copy_page, swap_pages, cut_file, cut_pages, cross_child,
+    cross_child, swap_children, cross_chain, swap_cells, move_cell, spoil_cell, spoil_cell, set_count, respell,
+]  # fmt: skip
+
+
+def header_fault(image: bytes) -> int:
+    """The first condition of the header that is broken, as docs/FAULTS.md has them; 0 where none is."""
+    if len(image) < 100:
+        return 1
+    size = size_of_page(image)
+
+    def word(place: int) -> int:
+        return int.from_bytes(image[place : place + 4], "big")
+
+    sound = {
+        2: image[:16] == b"SQLite format 3\0",
+        3: size in (512 << power for power in range(8)) and size - image[20] >= 480,
+        4: image[18] in (1, 2) and image[19] in (1, 2) and image[21:24] == b"\x40\x20\x20",
+        5: image[18] != 2 and image[19] != 2,
+        6: word(56) == 1,
+        7: word(52) == 0 and word(64) == 0,
+        8: word(44) == 4,
+        9: word(28) != 0 and word(24) == word(92) and word(28) * size == len(image),
+        10: len(image) <= 1 << 30,
+    }
+    return next((number for number, holds in sound.items() if not holds), 0)
+
+
+def refused_problem(path: Path, answer: Run) -> str:
+    """What is wrong with a refusal of a damaged file whose header is sound."""
+    number = answer.fault()
+    if number not in OPENING_FAULTS or answer.out:
+        return f"{answer}; wanted whole rows or one fault of opening or preparing, and nothing else"
+    try:
+        with Reader(path) as reader:
+            found = number not in SEEN_BY_SQLITE or not reader.is_sound()
+    except UNREADABLE:
+        found = True
+    return "" if found else f"{answer}; SQLite's own check finds nothing"
+
+
+def damaged_problem(path: Path, table: str, answer: Run) -> str:
+    """What is wrong with an answer over a damaged file. Where the program and SQLite both answer, they answer the same."""
+    wanted = header_fault(path.read_bytes())
+    if wanted:
+        return refusal_problem(answer, fault_line(wanted))
+    if answer.status != 0:
+        return refused_problem(path, answer)
+    try:
+        with Reader(path) as reader:
+            rows = reader.lines(table, reader.columns(table))
+    except UNREADABLE:
+        whole = rows_of(answer.out) is not None and answer.err == b""
+        return "" if whole else f"{answer}; wanted whole rows and nothing else"
+    return answer_problem(answer, rows)
+
+
+def two_tables(connection: sqlite3.Connection, rng: Random) -> None:
+    """Two tables of one shape, of three levels and of two, with keys of nine bytes."""
+    for table, rows in (("item", 700), ("other", 40)):
+        connection.execute(f"CREATE TABLE {table}(id INTEGER PRIMARY KEY, a INT, b TEXT NOT NULL) STRICT")
+        keys = rng.sample(range(2**60), rows)
+        fill(connection, table, ((key, key >> rng.randint(0, 60), random_text(rng, 60)) for key in keys))
+
+
+def with_chains(connection: sqlite3.Connection, rng: Random) -> None:
+    """A table whose texts and blobs go on in overflow pages, and a freelist."""
+    connection.execute("CREATE TABLE item(a TEXT, b BLOB, c INTEGER) STRICT")
+    fill(connection, "item", ((random_text(rng, 2000), rng.randbytes(rng.choice((0, 3000))), row) for row in range(40)))
+    connection.execute("DELETE FROM item WHERE c % 5 = 0")
+
+
+def one_leaf(connection: sqlite3.Connection, rng: Random) -> None:
+    """A few rows, so that most damages meet the schema or one leaf."""
+    connection.execute("CREATE TABLE item(id INTEGER PRIMARY KEY, a TEXT, b BLOB, c INT NOT NULL) STRICT")
+    fill(connection, "item", ((row, random_text(rng, 8), rng.randbytes(3), row * row) for row in range(6)))
+
+
+BASES = [(two_tables, 512), (with_chains, 512), (one_leaf, 512), (two_tables, 1024), (with_chains, 4096), (one_leaf, 65536)]
+
+
+def damaged(images: list[bytes], seed: str) -> tuple[bytes, str]:
+    """A damaged image, and how it came about."""
+    rng = Random(seed)
+    base = rng.randrange(len(images))
+    image = bytearray(images[base])
+    done = []
+    for _ in range(rng.choice((1, 1, 1, 2, 4))):
+        if header_fault(image) == 0:
+            done.append(rng.choice(DAMAGES)(image, rng))
+    return bytes(image), f"{BASES[base][0].__name__}, page size {BASES[base][1]}: {'; '.join(done)}"
+
+
+def try_damage(tally: Tally, folder: Path, seed: int, rounds: range) -> None:
+    """Tries so many damaged files, each by a seed of its own."""
+    path = folder / "damaged.db"
+    images = []
+    for make, size in BASES:
+        make_file(path, make, size, Random(f"{seed}/{make.__name__}/{size}"))
+        images.append(path.read_bytes())
+    for number in rounds:
+        image, how = damaged(images, f"{seed}/damage/{number}")
+        path.write_bytes(image)
+        answer = run(*(["--cache", "1"] if number % 3 == 0 else []), path, "SELECT * FROM item")
+        tally.add(f"--seed {seed} --damage {number}, {how}", damaged_problem(path, "item", answer))
