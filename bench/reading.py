@@ -25,7 +25,7 @@ def padded(front: str, item: str, behind: str, length: int) -> str:
     return front + item * (room // len(item)) + " " * (room % len(item)) + behind
 
 
-# What is read: a list in a condition, result columns of which there are too many, a sum that is too deep, parentheses alone.
+# What is read: a front, a middle that is repeated as often as there is room, and an end. There are too many result columns.
 FORMS = {
     "a condition with a list": ("SELECT id FROM item WHERE id IN (1", ",1", ")"),
     "result columns": ("SELECT id", ",id", " FROM item"),
