@@ -124,9 +124,9 @@ fn other_operators(rt: HostRuntime) -> Result<(), Fail> {
     Ok(())
 }
 
-/// Two operators: the one that is applied last, and the one on its left side or its right.
+/// Two operators: the one that is applied last, and the one on its left side.
 #[test]
-fn order_of_operators(rt: HostRuntime) -> Result<(), Fail> {
+fn operators_on_the_left(rt: HostRuntime) -> Result<(), Fail> {
     let lefts = [
         (
             "7 - 2 - 1",
@@ -156,6 +156,12 @@ fn order_of_operators(rt: HostRuntime) -> Result<(), Fail> {
             _ => assert!(rt; false, "{text}"),
         }
     }
+    Ok(())
+}
+
+/// Two operators: the one that is applied last, and the one on its right side.
+#[test]
+fn operators_on_the_right(rt: HostRuntime) -> Result<(), Fail> {
     let rights = [
         (
             "7 - (2 - 1)",
