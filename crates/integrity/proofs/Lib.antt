@@ -11,3 +11,4 @@ pub mod SchemaLemmas
 pub mod CheckedLemmas
 pub mod UnbrokenLemmas
 pub mod DenotesLemmas
+pub mod ReadingLemmas

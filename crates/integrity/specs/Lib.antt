@@ -1,4 +1,5 @@
 pub mod Stored
+pub mod Reading
 pub mod Denotes
 pub mod RowFaults
 pub mod Keys

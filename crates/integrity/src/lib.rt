@@ -4,17 +4,19 @@
 //! have; and that a fault's condition is broken. `NotYet` comes only where the schema has more than one page, or says what
 //! isn't served.
 //!
-//! The modules, in the order in which data passes them: `keys` (the keys of one page), `rows` (a record as a row, and the rows
-//! of a leaf), `walk` (a table's tree, from its root down), `trees` (those of all tables, and the schema's rows) and `checked`
+//! The modules, in the order in which data passes them: `keys` (the keys of one page), `row_reader`
+//! (single values of a row), `rows` (a record as a row, and the rows of a leaf), `walk` (a table's tree, from its root down), `trees` (those of all tables, and the schema's rows) and `checked`
 //! (the whole image).
 #![tactic(auto)]
 
 mod checked;
 mod keys;
+mod row_reader;
 mod rows;
 mod trees;
 mod walk;
 
 pub use checked::{Checked, check};
-pub use rows::{RowView, row_of};
+pub use row_reader::RowReader;
+pub use rows::row_of;
 pub use walk::TreeCounts;

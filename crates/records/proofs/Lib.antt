@@ -5,3 +5,4 @@ pub mod HeaderLemmas
 pub mod BodyLemmas
 pub mod RecordLemmas
 pub mod Examples
+pub mod UnreadLemmas

@@ -1,3 +1,4 @@
 pub mod Varint
 pub mod Serial
 pub mod Record
+pub mod Fields

@@ -1,13 +1,14 @@
 //! The record format of a SQLite database file. It promises that a view's fields are exactly the values of the record
 //! that the bytes are, that every record is read unless memory runs out, and that a fault comes only where the bytes
-//! have the condition that it names.
+//! have the condition that it names; and that a reader of single fields gives the same values.
 //!
 //! The modules, in the order in which data passes them: `varints` (the numbers of a header), `serials` (what a field's
 //! type and body stand for), `reading` (a header's types, then the fields behind it), `view` (a record read in place),
-//! `fault` (why bytes are no record), and `laws`.
+//! `fields` (its fields one after the other), `fault` (why bytes are no record), and `laws`.
 #![tactic(auto)]
 
 mod fault;
+mod fields;
 pub mod laws;
 mod reading;
 mod serials;
@@ -15,6 +16,7 @@ mod varints;
 mod view;
 
 pub use fault::RecordFault;
+pub use fields::FieldReader;
 pub use varints::varint;
 pub use view::RecordView;
 

@@ -9,7 +9,7 @@ use values::ValueRef;
 
 /// How many bytes the body of a type takes; none where the type is reserved.
 #[inline]
-fn len_of(serial: i64) -> usize
+pub(crate) fn len_of(serial: i64) -> usize
     ensures { result ≡ body_len serial }
 {
     match serial {

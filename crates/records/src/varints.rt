@@ -2,13 +2,9 @@
 ghost use Rattle.std.specs.Prelude.{◌≡◌, ◌↔◌, ℕ, ℤ, Some, IsNone, IfSome};
 ghost use Rattle.records.specs.Varint.{BeginsVarint, EndsInside};
 
-/// The value of the varint with which the bytes begin, and its length, 1 to 9; `None` where the bytes end inside it. One
-/// that is longer than its value needs is read too. (Database File Format, section 1.6)
-#[inline]
-pub fn varint(bytes: &[u8]) -> Option<(i64, usize)>
-    // What is read is a front of the bytes.
+/// The value of the varint with which the bytes begin, and its length, byte by byte.
+fn varint_by_bytes(bytes: &[u8]) -> Option<(i64, usize)>
     ensures found { IfSome result (λ found. BeginsVarint bytes.now found.0 found.1) }
-    // A front of the bytes that is a varint is read.
     ensures only { (value : ℤ) (len : ℕ) → BeginsVarint bytes.now value len → result ≡ Some (value, len) }
     ensures none { IsNone result ↔ EndsInside bytes.now }
 {
@@ -24,4 +20,21 @@ pub fn varint(bytes: &[u8]) -> Option<(i64, usize)>
         }
     }
     None
+}
+
+/// The value of the varint with which the bytes begin, and its length, 1 to 9; `None` where the bytes end inside it. One
+/// that is longer than its value needs is read too. (Database File Format, section 1.6)
+#[inline]
+pub fn varint(bytes: &[u8]) -> Option<(i64, usize)>
+    // What is read is a front of the bytes.
+    ensures found { IfSome result (λ found. BeginsVarint bytes.now found.0 found.1) }
+    // A front of the bytes that is a varint is read.
+    ensures only { (value : ℤ) (len : ℕ) → BeginsVarint bytes.now value len → result ≡ Some (value, len) }
+    ensures none { IsNone result ↔ EndsInside bytes.now }
+{
+    // Most are of one byte.
+    match bytes {
+        [byte, ..] if *byte < 128 => Some((i64::from(*byte), 1)),
+        _ => varint_by_bytes(bytes),
+    }
 }

@@ -18,25 +18,13 @@ ghost use Rattle.shell.specs.Stream.{IsUnchained, Streams, StreamsUntil, cells_o
 
 use btree::{Cell, Cursor, payload};
 use explain::row_text;
-use integrity::RowView;
+use integrity::RowReader;
 use pager::{Pager, Source};
-use records::RecordFault;
 use schema::Table;
 use smallvec::SmallVec;
 use std::alloc::Global;
 use std::borrow::CowSlice;
 use values::{Fault, Sink, ValueRef};
-
-/// A record's fault, as a run answers it: a record that was sound and is not has changed.
-fn record_fault(fault: RecordFault) -> Fault
-    ensures only { (result ≡ Fault.NoMemory) ⊎ (result ≡ Fault.Changed) }
-    ensures memory { fault ≡ RecordFault.NoMemory → result ≡ Fault.NoMemory }
-{
-    match fault {
-        RecordFault::NoMemory => Fault::NoMemory,
-        RecordFault::Bad | RecordFault::Float | RecordFault::Text => Fault::Changed,
-    }
-}
 
 /// The payload of a cell. Its faults are `ReadFailed`, `NoMemory`, and `Changed` where its overflow pages are no chain.
 fn payload_of<'p, S: Source>(
@@ -55,37 +43,29 @@ fn payload_of<'p, S: Source>(
     payload(alloc, pager, cell)?.ok_or(Fault::Changed)
 }
 
-/// The row of a table that the bytes of a payload are. Its faults are `NoMemory`, and `Changed` where they are none.
-fn row_of<'p>(
+/// The values of these columns of the row that the bytes of a payload are. Its faults are `NoMemory`, and `Changed` where
+/// they are none.
+fn shown_values<'p>(
     alloc: Global,
     table: &Table,
     rowid: Option<i64>,
     payload: &'p [u8],
-) -> Result<RowView<'p>, Fault>
-    ensures found { (row : Row) → IsRowRecord table.now rowid payload.now row
-        → MatchResult result (λ found. found ≡ row) (λ e. e ≡ Fault.NoMemory) }
-    ensures wide { IfOk result (λ row. length row ≡ length table.now.columns) }
-    ensures only { IfErr result (λ e. (e ≡ Fault.NoMemory) ⊎ (e ≡ Fault.Changed)) }
-{
-    match RowView::read(alloc, table, rowid, payload) {
-        Ok(row) => Ok(row),
-        Err(fault) => Err(record_fault(fault)),
-    }
-}
-
-/// The values of these columns.
-fn shown_values<'p>(
-    alloc: Global,
-    row: &RowView<'p>,
     columns: &[usize],
 ) -> Result<SmallVec<ValueRef<'p>, 8>, Fault>
-    requires { All (λ at. at < length row.now) columns.now }
-    ensures shown { IfOk result (λ values. map datum_of_ref values.items ≡ shown columns.now row.now) }
-    ensures only { IfErr result (λ e. e ≡ Fault.NoMemory) }
+    requires { All (λ at. at < length table.now.columns) columns.now }
+    ensures shown { (row : Row) → IsRowRecord table.now rowid payload.now row
+        → MatchResult result (λ values. map datum_of_ref values.items ≡ shown columns.now row) (λ e. e ≡ Fault.NoMemory) }
+    ensures only { IfErr result (λ e. (e ≡ Fault.NoMemory) ⊎ (e ≡ Fault.Changed)) }
 {
     let mut values = SmallVec::new(alloc);
+    let Some(mut reader) = RowReader::new(table, rowid, payload) else {
+        return Err(Fault::Changed);
+    };
     for column in columns {
-        values.push(row.value(*column))?;
+        let Some(value) = reader.value(*column) else {
+            return Err(Fault::Changed);
+        };
+        values.push(value)?;
     }
     Ok(values)
 }
@@ -112,8 +92,7 @@ fn write_cell<S: Source, W: Sink>(
     ensures chained { IsChained pager.old.state pager.new.state }
 {
     let bytes = payload_of(alloc, pager, cell)?;
-    let row = row_of(alloc, table, cell.rowid, bytes.as_slice())?;
-    let values = shown_values(alloc, &row, columns)?;
+    let values = shown_values(alloc, table, cell.rowid, bytes.as_slice(), columns)?;
     row_text(values.as_slice(), out)
 }
 

@@ -6,7 +6,7 @@ use Rattle.std.proofs.lemmas.Grind.{pow_more}
 use Rattle.std.proofs.Math.Nat.{pow-le-pow_right}
 use Rattle.records.proofs.VarintLemmas.{one_front, none_inside_front, ends_short, ends_long, seven_bits-push}
 use Rattle.records.specs.Varint.{seven_bits, GoesOn, EndsInside}
-use Rattle.records.proofs.varints.varint.Goals as goal
+use Rattle.records.proofs.varints.varint_by_bytes.Goals as goal
 
 pub returns-then-read-eq8-clause-found : goal.returns-then-read-eq8-clause-found
 returns-then-read-eq8-clause-found c =
