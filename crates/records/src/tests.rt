@@ -1,6 +1,7 @@
 //! Rows of the format, as the public functions read them. (Database File Format, sections 1.6 and 2.1)
 use super::*;
 use std::alloc::Global;
+use std::test::Fail;
 use values::ValueRef;
 
 #[test]
@@ -109,4 +110,36 @@ fn bytes_that_are_no_record(rt: HostRuntime) {
             "row {row}"
         );
     }
+}
+
+#[test]
+fn fields_one_after_the_other(rt: HostRuntime) -> Result<(), Fail> {
+    // A number, a text of three bytes, 0 and NULL.
+    let bytes = [0x05, 0x01, 0x13, 0x08, 0x00, 0x2a, 0x61, 0x62, 0x63];
+    let mut reader = FieldReader::new(&bytes).ok_or("no header")?;
+    assert_eq!(rt; reader.read(), Some(ValueRef::Int(42)));
+    assert_eq!(rt; reader.read(), Some(ValueRef::Text("abc")));
+    assert!(rt; !reader.is_done());
+    assert!(rt; reader.skip(1));
+    assert_eq!(rt; reader.read(), Some(ValueRef::Null));
+    assert!(rt; reader.is_done());
+    assert_eq!(rt; reader.read(), None);
+    assert!(rt; reader.skip(0) && !reader.skip(1));
+    Ok(())
+}
+
+#[test]
+fn fields_that_are_passed(rt: HostRuntime) -> Result<(), Fail> {
+    let bytes = [0x04, 0x02, 0x0f, 0x01, 0x01, 0x00, 0xff, 0x07];
+    let mut reader = FieldReader::new(&bytes).ok_or("no header")?;
+    // The second is a text that isn't UTF-8, which only a look at it shows.
+    assert!(rt; reader.skip(2));
+    assert_eq!(rt; reader.read(), Some(ValueRef::Int(7)));
+    let mut reader = FieldReader::new(&bytes).ok_or("no header")?;
+    assert!(rt; reader.skip(1));
+    assert_eq!(rt; reader.read(), None);
+    let mut reader = FieldReader::new(&bytes).ok_or("no header")?;
+    assert!(rt; !reader.skip(4));
+    assert!(rt; FieldReader::new(&[0x02]).is_none());
+    Ok(())
 }
