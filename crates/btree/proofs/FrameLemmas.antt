@@ -1,6 +1,7 @@
 -- What a frame knows of its page.
 use Rattle.std.proofs.Common.{◌≡◌, ℕ, Option, None, Some, ◌+◌, ◌<◌, ◌≤◌, length, take, drop, refl, sym, ◌∙◌, ap, subst, arith, length-drop, length-take}
-use Rattle.std.specs.Prelude.{IfNone, IsSome}
+use Rattle.std.specs.Prelude.{IfNone, IsFalse, IsSome}
+use Rattle.std.specs.Option.{is_some}
 use Rattle.image.specs.declared.kind.TreeKind.TheVariants.{Table}
 use Rattle.image.specs.declared.kind.Level.{Level}
 use Rattle.image.specs.declared.kind.Level.TheVariants.{Leaf, Interior}
@@ -18,6 +19,10 @@ use Rattle.btree.proofs.PageLemmas.{flag_of-same}
 pub IsSome-unless : {T : Type 0} {P : Type 0} (r : Option T) → IfNone r P → (P → ⊥) → IsSome r
 IsSome-unless None p refused = absurd (refused p)
 IsSome-unless (Some x) p refused = refl
+
+pub none_unless : {T : Type 0} {P : Type 0} (r : Option T) → IfNone r P → IsFalse (is_some r) → P
+none_unless None p is = p
+none_unless (Some x) p is = absurd (cc)
 
 module _ (image : Pages) (frame : Frame) (usable : ℕ) (holds : Holds image frame) (same : image.usable ≡ usable) where
   pub used : take usable frame.page ≡ image.page frame.number

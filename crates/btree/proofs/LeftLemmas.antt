@@ -66,11 +66,20 @@ left_next frames all now frame is now_is within =
     omega arith in
     omega (arith, here, whole, less, one, two)
 
+lt-past : (a b : ℕ) → b ≤ a → nat_lt a b ≡ false
+lt-past a b h = grind arith
+
 -- a cursor that stands at a row
 pub some_left : (frames : List Frame) (leaf : Frame) → leaf.at < leaf.count → 0 < all_left frames (Some leaf)
 some_left frames leaf within =
     let e : all_left frames (Some leaf) ≡ frames_left 20 frames + frame_left leaf = cond-true _ _ _ (lt-ltb leaf.at leaf.count within) in
     omega (arith, e)
+
+pub left_some : (frames : List Frame) (leaf : Frame) → 0 < all_left frames (Some leaf) → leaf.at < leaf.count
+left_some frames leaf some = ⊎_elim
+    (λ (within : leaf.at < leaf.count). within)
+    (λ (end : leaf.count ≤ leaf.at). let e : all_left frames (Some leaf) ≡ 0 = cond-false _ _ _ (lt-past leaf.at leaf.count end) in absurd (omega (arith, e, some)))
+    (cases_lt leaf.at leaf.count)
 
 pub less_left : (old new : List Frame) (leaf next : Frame)
     → (leaf.at < leaf.count → frames_left 20 new + frame_left next < frames_left 20 old + frame_left leaf)
@@ -81,10 +90,7 @@ less_left old new leaf next less some = ⊎_elim
     let falls = less within in
     ⊎_elim
     (λ (more : next.at < next.count). let f : all_left new (Some next) ≡ frames_left 20 new + frame_left next = cond-true _ _ _ (lt-ltb next.at next.count more) in omega (arith, e, f, falls))
-    (λ (last : next.count ≤ next.at). let f : all_left new (Some next) ≡ 0 = cond-false _ _ _ (past next.at next.count last) in omega (arith, f, some))
+    (λ (last : next.count ≤ next.at). let f : all_left new (Some next) ≡ 0 = cond-false _ _ _ (lt-past next.at next.count last) in omega (arith, f, some))
     (cases_lt next.at next.count))
-    (λ (end : leaf.count ≤ leaf.at). let e : all_left old (Some leaf) ≡ 0 = cond-false _ _ _ (past leaf.at leaf.count end) in absurd (omega (arith, e, some)))
+    (λ (end : leaf.count ≤ leaf.at). let e : all_left old (Some leaf) ≡ 0 = cond-false _ _ _ (lt-past leaf.at leaf.count end) in absurd (omega (arith, e, some)))
     (cases_lt leaf.at leaf.count)
-  where
-    past : (a b : ℕ) → b ≤ a → nat_lt a b ≡ false
-    past a b h = grind arith

@@ -6,3 +6,4 @@ pub mod RestLemmas
 pub mod SeenLemmas
 pub mod LeftLemmas
 pub mod ChainLemmas
+pub mod HeldLemmas

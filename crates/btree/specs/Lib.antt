@@ -4,3 +4,4 @@ pub mod Views
 pub mod Listing
 pub mod Rest
 pub mod Left
+pub mod Held

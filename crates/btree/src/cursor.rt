@@ -1,8 +1,9 @@
 //! A cursor over a table's rows.
-ghost use Rattle.std.specs.Prelude.{◌≡◌, ◌⊎◌, ◌+◌, ◌-◌, ◌<◌, ◌≤◌, ℕ, List, drop, length, option_map, take, IfErr, IfNone, IfOk, IfSome, IsSome, IsTrue, Some};
+ghost use Rattle.std.specs.Prelude.{◌≡◌, ◌⊎◌, ◌+◌, ◌-◌, ◌<◌, ◌≤◌, ℕ, List, drop, length, option_map, take, All, Err, IfErr, IfNone, IfOk, IfSome, IsFalse, IsSome, IsTrue, [], Some};
 ghost use Rattle.image.specs.declared.kind.TreeKind.TheVariants.{Table};
 ghost use Rattle.image.specs.declared.kind.Level.{Level};
 ghost use Rattle.image.specs.declared.kind.Level.TheVariants.{Leaf, Interior};
+ghost use Rattle.image.specs.Cell.{CellData};
 ghost use Rattle.image.specs.Layout.{header_at};
 ghost use Rattle.image.specs.Pages.{Pages, IsNumber};
 ghost use Rattle.image.specs.Shape.{HasShape, place_at, places_under, size_under};
@@ -10,6 +11,7 @@ ghost use Rattle.image.specs.Tree.{Place, HasHeader, IsPageOf, IsRowAt, child_at
 ghost use Rattle.pager.specs.PagerState.{IsPageNumber, IsUsed, Stays};
 ghost use Rattle.values.specs.Fault.{Counts};
 ghost use Rattle.btree.specs.Bytes.{HasHeaderAt};
+ghost use Rattle.btree.specs.Held.{GoesDown, HasRow, HoldsRow, IsLast, IsPassed, TakesNext};
 ghost use Rattle.btree.specs.Left.{IsLess, frame_left, frames_left, steps_left, worth};
 ghost use Rattle.btree.specs.Listing.{IsAt, IsEnded, IsEntry, IsStepFault};
 ghost use Rattle.btree.specs.Rest.{AreReadable, GoesOn, Holds, IsCursorFault, IsHeading, IsLeft, IsStanding, pages_seen};
@@ -44,7 +46,7 @@ fn read_frame<S: Source>(pager: &mut Pager<S>, number: u32) -> Result<(Frame, Le
     ensures header { IsTrue pager.old.state.source.steady → IfOk result (λ read. HasHeader (pages_seen pager.old.state) Table read.1 number) }
     ensures sound { IsTrue pager.old.state.source.steady → (level : Level) → HasHeader (pages_seen pager.old.state) Table level number
         → IfErr result (λ e. (e ≡ Fault.ReadFailed) ⊎ (e ≡ Fault.NoMemory)) }
-    ensures only { IfErr result IsCursorFault }
+    ensures only { IfErr result (λ e. (e ≡ Fault.ReadFailed) ⊎ (e ≡ Fault.NoMemory) ⊎ (e ≡ Fault.BadPage number)) }
     ensures failures { Counts Fault.ReadFailed result pager.old.state.source.failures pager.new.state.source.failures }
     ensures used { IsUsed pager.old.state pager.new.state 1 0 }
 {
@@ -90,6 +92,8 @@ fn row_of(frame: &Frame, usable: usize, most: u64) -> Option<Cell<'_>>
     ensures sure { (image : Pages) → Holds image frame.now → AreReadable image → image.usable ≡ usable → image.size ≡ most
         → IsPageOf image Table Leaf frame.now.number → frame.now.at < frame.now.count → IsSome result }
     ensures past { frame.now.count ≤ frame.now.at → IfSome result (λ cell. ⊥) }
+    ensures held { IfSome result (λ cell. HoldsRow usable most frame.now (cell_data cell)) }
+    ensures none { IfNone result (frame.now.at < frame.now.count → (cell : CellData) → ¬ HoldsRow usable most frame.now cell) }
 {
     if frame.at >= frame.count {
         return None;
@@ -116,7 +120,10 @@ fn descend<S: Source>(
         → IsHeading (pages_seen pager.old.state) frames.old.items n places pager.old.state.asked budget
         → IfErr result (λ e. (e ≡ Fault.ReadFailed) ⊎ (e ≡ Fault.NoMemory)) }
     ensures left { IfOk result (λ leaf. frames_left 20 frames.new.items + frame_left leaf < frames_left 20 frames.old.items + worth (21 - length frames.old.items)) }
+    ensures down { IfOk result (GoesDown frames.old.items frames.new.items) }
     ensures only { IfErr result IsCursorFault }
+    ensures page { IfErr result (λ e. (m : ℕ) → e ≡ Fault.BadPage m → length frames.new.items < 20) }
+    ensures depth { IfErr result (λ e. (m : ℕ) → e ≡ Fault.BadDepth m → (m ≡ root) × (20 ≤ length frames.new.items)) }
     ensures failures { Counts Fault.ReadFailed result pager.old.state.source.failures pager.new.state.source.failures }
     ensures unchained { pager.new.state.chained ≡ pager.old.state.chained }
     ensures stays { Stays pager.old.state pager.new.state }
@@ -157,7 +164,11 @@ fn next_leaf<S: Source>(
         → IsLeft (pages_seen pager.old.state) 0 frames.old.items rest pager.old.state.asked budget
         → IfErr result (λ e. (e ≡ Fault.ReadFailed) ⊎ (e ≡ Fault.NoMemory)) }
     ensures left { IfOk result (IsLess frames.old.items frames.new.items) }
+    ensures next { IfOk result (λ found. IfSome found (λ leaf. TakesNext frames.old.items frames.new.items)) }
+    ensures filled { IfOk result (λ found. IfSome found (λ leaf. (leaf.at ≡ 0) × (0 < leaf.count))) }
+    ensures passed { IfOk result (λ found. IfNone found (All IsPassed frames.old.items × (frames.new.items ≡ []))) }
     ensures only { IfErr result IsCursorFault }
+    ensures depth { IfErr result (λ e. (m : ℕ) → e ≡ Fault.BadDepth m → m ≡ root) }
     ensures failures { Counts Fault.ReadFailed result pager.old.state.source.failures pager.new.state.source.failures }
     ensures unchained { pager.new.state.chained ≡ pager.old.state.chained }
     ensures stays { Stays pager.old.state pager.new.state }
@@ -193,7 +204,9 @@ fn step<S: Source>(
         → IfErr result (λ e. (e ≡ Fault.ReadFailed) ⊎ (e ≡ Fault.NoMemory)) }
     ensures left { IfOk result (λ next. leaf.at < leaf.count
         → frames_left 20 frames.new.items + frame_left next < frames_left 20 frames.old.items + frame_left leaf) }
+    ensures end { IfOk result (λ next. leaf.at < leaf.count → next.count ≤ next.at → IsLast frames.old.items leaf) }
     ensures only { IfErr result IsCursorFault }
+    ensures depth { IfErr result (λ e. (m : ℕ) → e ≡ Fault.BadDepth m → m ≡ root) }
     ensures failures { Counts Fault.ReadFailed result pager.old.state.source.failures pager.new.state.source.failures }
     ensures unchained { pager.new.state.chained ≡ pager.old.state.chained }
     ensures stays { Stays pager.old.state pager.new.state }
@@ -218,6 +231,8 @@ fn step<S: Source>(
 fn has_row(leaf: &Frame, usable: usize, most: u64) -> bool
     ensures sure { (image : Pages) → Holds image leaf.now → AreReadable image → image.usable ≡ usable → image.size ≡ most
         → IsPageOf image Table Leaf leaf.now.number → IsTrue result }
+    ensures row { IsTrue result → leaf.now.at < leaf.now.count → (cell : CellData) × HoldsRow usable most leaf.now cell }
+    ensures none { IsFalse result → (leaf.now.at < leaf.now.count) × ((cell : CellData) → ¬ HoldsRow usable most leaf.now cell) }
 {
     leaf.at >= leaf.count || row_of(leaf, usable, most).is_some()
 }
@@ -243,7 +258,11 @@ impl Cursor {
         ensures sound { IsTrue pager.old.state.source.steady → (levels : ℕ) → levels < 20 → IsNumber (pages_seen pager.old.state) root
             → HasShape (pages_seen pager.old.state) Table levels root
             → IfErr result (λ e. (e ≡ Fault.ReadFailed) ⊎ (e ≡ Fault.NoMemory)) }
+        ensures row { IfOk result HasRow }
+        ensures end { IfOk result (λ cursor. steps_left cursor ≡ 0 → cursor.frames.items ≡ []) }
         ensures only { IfErr result IsCursorFault }
+        ensures depth { IfErr result (λ e. (m : ℕ) → e ≡ Fault.BadDepth m → m ≡ root) }
+        ensures outside { ¬ IsNumber (pages_seen pager.old.state) root → result ≡ Err (Fault.BadPage root) }
         ensures failures { Counts Fault.ReadFailed result pager.old.state.source.failures pager.new.state.source.failures }
         ensures unchained { pager.new.state.chained ≡ pager.old.state.chained }
         ensures stays { Stays pager.old.state pager.new.state }
@@ -276,10 +295,13 @@ impl Cursor {
         ensures sound { IsTrue pager.old.state.source.steady → (places : List Place) (budget : ℕ)
             → IsAt (pages_seen pager.old.state) self.old places pager.old.state.asked budget
             → IfErr result (λ e. (e ≡ Fault.ReadFailed) ⊎ (e ≡ Fault.NoMemory)) }
+        ensures row { IfOk result (λ _. HasRow self.new) }
         ensures left { IfOk result (λ _. 0 < steps_left self.old → steps_left self.new < steps_left self.old) }
+        ensures end { IfOk result (λ _. 0 < steps_left self.old → steps_left self.new ≡ 0 → (leaf : Frame) → self.old.leaf ≡ Some leaf → IsLast self.old.frames.items leaf) }
         ensures finished { IsEnded self.old → IfErr result (λ e. e ≡ Fault.Finished) × IfOk result (λ _. ⊥) }
         ensures ends { IfErr result (λ e. IsEnded self.new) }
         ensures only { IfErr result IsStepFault }
+        ensures depth { IfErr result (λ e. (m : ℕ) → e ≡ Fault.BadDepth m → m ≡ self.old.root) }
         ensures failures { Counts Fault.ReadFailed result pager.old.state.source.failures pager.new.state.source.failures }
         ensures unchained { pager.new.state.chained ≡ pager.old.state.chained }
         ensures stays { Stays pager.old.state pager.new.state }
@@ -299,6 +321,8 @@ impl Cursor {
     pub fn entry(&self) -> Option<Cell<'_>>
         ensures entry { (image : Pages) (places : List Place) (asked budget : ℕ) → IsAt image self.now places asked budget
             → IsEntry image places (option_map cell_data result) }
+        ensures row { HasRow self.now → 0 < steps_left self.now → IsSome result }
+        ensures held { IfSome result (λ cell. (leaf : Frame) → self.now.leaf ≡ Some leaf → HoldsRow self.now.usable self.now.most leaf (cell_data cell)) }
         ensures left { IfSome result (λ cell. 0 < steps_left self.now) }
         ensures ended { IsEnded self.now → IfSome result (λ cell. ⊥) }
     {

@@ -215,6 +215,7 @@ impl<'p> PageView<'p> {
 pub fn view_of(page: &Page, number: u32, usable: usize) -> Option<PageView<'_>>
     ensures found { IfSome result (λ view. view ≡ record { at = header_at number; kind = Table; level = view.level; page = take usable page.now }) }
     ensures header { IfSome result (λ view. HasHeaderAt (header_at number) Table view.level (take usable page.now)) }
+    ensures long { IfSome result (λ view. usable ≤ length page.now) }
     ensures none { 480 ≤ usable → usable ≤ 65536 → usable ≤ length page.now
         → IfNone result ((level : Level) → ¬ HasHeaderAt (header_at number) Table level (take usable page.now)) }
 {

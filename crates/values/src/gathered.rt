@@ -54,6 +54,8 @@ impl<S: Sink> Gathered<S> {
     }
 
     /// Hands on what is held. Where that fails, what the inner sink did not take is still held.
+    #[cold]
+    #[inline(never)]
     fn hand_on(&mut self) -> Result<(), SinkFault>
         ensures keeps { Appends (gathered_facts self.old).written (gathered_facts self.new).written [] }
         ensures failures { MatchResult result (λ _. self.new.inner.failures ≡ self.old.inner.failures) (λ _. self.new.inner.failures ≢ self.old.inner.failures) }
@@ -80,6 +82,7 @@ impl<S: Sink> Sink for Gathered<S> {
 
     ghost facts = { gathered_facts };
 
+    #[inline]
     fn write(&mut self, piece: &[u8]) -> Result<usize, SinkFault> {
         if piece.len() > HELD_MOST - self.held.len() {
             self.hand_on()?;

@@ -29,6 +29,7 @@ impl<S: Sink> Sink for &mut S {
 }
 
 /// Writes until the text is whole or the sink fails, and tells how many bytes were written.
+#[inline]
 pub(crate) fn write_front<S: Sink>(out: &mut S, text: &[u8]) -> (usize, Result<(), SinkFault>)
     ensures within { result.0 ≤ length text.now }
     ensures whole { OnOk result.1 (result.0 ≡ length text.now) }
@@ -45,6 +46,7 @@ pub(crate) fn write_front<S: Sink>(out: &mut S, text: &[u8]) -> (usize, Result<(
 }
 
 /// Writes the whole text. Its one fault is `WriteFailed`, after a beginning of the text.
+#[inline]
 pub fn write_all<S: Sink>(out: &mut S, text: &[u8]) -> Result<(), Fault>
     ensures only { IfErr result (λ e. e ≡ Fault.WriteFailed) }
     ensures writes { Writes text.now result (S.facts out.old) (S.facts out.new) }

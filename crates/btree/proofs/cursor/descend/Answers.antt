@@ -1,5 +1,6 @@
 use Rattle.std.proofs.Common.{◌≡◌, ◌≢◌, ◌<◌, ◌≤◌, [], length, vec_len, arith, sym, ◌∙◌, ap, subst, Some}
 use Rattle.std.proofs.lemmas.Bool.Decides.{nat_tests}
+use Rattle.std.proofs.lemmas.List.{nil_from_length}
 use Rattle.std.proofs.lemmas.Result.{err_from_is_err_and}
 use Rattle.pager.specs.declared.header.Header.{Header}
 use Rattle.pager.specs.PagerState.{IsSound}
@@ -8,10 +9,12 @@ use Rattle.image.specs.declared.kind.TreeKind.TheVariants.{Table}
 use Rattle.image.specs.Pages.{Pages}
 use Rattle.image.specs.Tree.{HasHeader, child_at}
 use Rattle.btree.specs.Rest.{pages_seen}
+use Rattle.btree.proofs.HeldLemmas.{down_more}
 use Rattle.btree.proofs.LeftLemmas.{left_down, left_leaf}
 use Rattle.btree.proofs.RestLemmas.{heading_short}
 use Rattle.btree.proofs.SeenLemmas.{still_steady, same_pages, heading_header, readable, leaf_filled, leaf_stands, interior_page, first_child, goes_down}
 use Rattle.btree.proofs.cursor.descend.Goals as goal
+use Rattle.btree.proofs.cursor.descend.Goals.{else-frame-eq0-via-then-frame-eq0+else-not-is_empty, else-frame-eq0-via-else-frame-eq0}
 
 pub returns-in_err-frame-clause-sound : goal.returns-in_err-frame-clause-sound
 returns-in_err-frame-clause-sound g c = λ steady places budget h.
@@ -80,6 +83,7 @@ loop-pager-preserved g c =
           let child : c.in-Some.child ≡ child_at seen c.in_ok-frame.frame.number 0 = cc in
           goes_down _ _ (same_pages _ _ inv.stays) _ _ c.in_ok-frame.frame c.in_ok-frame.ensures.number _ _ _ _ (inv.heads steady places budget h) holds c.read_frame.ensures.used.asked_most header
           c.in-Some.child child c.push.new.self.items c.in_ok-push-in-Interior.ensures.items c.in_ok-frame.ensures.at;
+      down = down_more c.args.frames.now.items c.loop-pager.frames.items c.push.new.self.items c.in_ok-frame.frame inv.down c.in_ok-push-in-Interior.ensures.items c.in_ok-frame.ensures.at;
       left =
           let short : length c.loop-pager.frames.items < 20 = omega (arith, c.loop-pager.frames.ok.0) in
           let down = left_down c.loop-pager.frames.items c.push.new.self.items c.in_ok-frame.frame c.in_ok-push-in-Interior.ensures.items short c.in_ok-frame.ensures.small in
@@ -90,3 +94,19 @@ pub returns-clause-sound : goal.returns-clause-sound
 returns-clause-sound g c = λ steady places budget h.
     let short : length c.loop-pager.frames.items < 20 = heading_short _ _ _ _ _ _ (c.loop-pager.invariant.heads steady places budget h) in
     absurd (omega (arith, c.loop-pager.frames.ok.0))
+
+pub returns-in-Leaf-clause-down : goal.returns-in-Leaf-clause-down
+returns-in-Leaf-clause-down g c =
+    let down = c.loop-pager.invariant.down in
+    record {
+      below = down.0;
+      new_is = down.1.0;
+      firsts = down.1.1;
+      first = c.in_ok-frame.ensures.at;
+      filled = λ none. elim c.else-frame-eq0.branch [
+        | else-frame-eq0-via-then-frame-eq0+else-not-is_empty w ↦
+            (let e : vec_len c.loop-pager.frames ≡ 0 = grind (arith, nat_tests, w.is_empty.ensures, w.if-not-is_empty.false) in
+            nil_from_length c.loop-pager.frames.items (omega (arith, c.loop-pager.frames.ok.0)))
+        | else-frame-eq0-via-else-frame-eq0 w ↦ absurd (grind (arith, nat_tests, none, w.if-frame-eq0.false))
+      ];
+    }

@@ -3,6 +3,7 @@ use Rattle.pager.specs.PagerState.{IsPageNumber, Stays}
 use Rattle.image.specs.Tree.{Place}
 use Rattle.btree.specs.Left.{frames_left, worth}
 use Rattle.btree.specs.Rest.{IsHeading, pages_seen}
+use Rattle.btree.proofs.HeldLemmas.{IsDown}
 use Rattle.btree.proofs.cursor.descend.Given as goal
 
 abbrev pub invariant-loop-pager : goal.invariant-loop-pager
@@ -15,6 +16,7 @@ invariant-loop-pager g l = record {
       → IsHeading (pages_seen l.fn.pager.state) l.fn.frames.items l.n places l.fn.pager.state.asked budget
       → IsHeading (pages_seen l.fn.pager.state) l.frames.items l.number places l.pager.state.asked budget;
   left : frames_left 20 l.frames.items + worth (21 - length l.frames.items) ≤ frames_left 20 l.fn.frames.items + worth (21 - length l.fn.frames.items);
+  down : IsDown l.fn.frames.items l.frames.items;
 }
 
 abbrev pub decreases-loop-pager : goal.decreases-loop-pager

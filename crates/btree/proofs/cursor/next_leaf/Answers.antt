@@ -6,6 +6,7 @@ use Rattle.pager.specs.declared.header.Header.{Header}
 use Rattle.pager.specs.PagerState.{IsSound}
 use Rattle.image.specs.Tree.{child_at}
 use Rattle.btree.specs.Rest.{pages_seen}
+use Rattle.btree.proofs.HeldLemmas.{takes_next, up_end, up_more}
 use Rattle.btree.proofs.LeftLemmas.{left_next, left_up}
 use Rattle.btree.proofs.RestLemmas.{left_end, left_within}
 use Rattle.btree.proofs.SeenLemmas.{readable, last_step, last_end, next_within, next_number, next_heads}
@@ -65,6 +66,7 @@ loop-frame-preserved g c = record {
   less =
       let up = left_up c.pop.new.self.items c.loop-frame.frames.items c.in-Some.frame c.in-Some.ensures.items in
       omega (arith, up, c.loop-frame.invariant.less);
+  up = up_more c.args.frames.now.items c.loop-frame.frames.items c.pop.new.self.items c.in-Some.frame c.loop-frame.invariant.up c.in-Some.ensures.items c.if-frame.false;
 }
 
 pub returns-clause-goes : goal.returns-clause-goes
@@ -74,3 +76,15 @@ returns-clause-goes g c = rw (sym c.loop-frame.invariant.same) (λ steady rest b
     let none : c.loop-frame.frames.items ≡ [] = nil_from_length c.loop-frame.frames.items (omega (arith, c.loop-frame.frames.ok.0)) in
     let kept : c.loop-frame.frames.items ≡ c.pop.new.self.items ++ [] = c.in_default.ensures.items in
     (left_end _ left.0 c.loop-frame.frames.items _ _ _ left.1 none, (sym (append-nil c.pop.new.self.items) ∙ sym kept ∙ none, left_within _ left.0 c.loop-frame.frames.items _ _ _ left.1)))
+
+pub returns-then-frame-clause-next : goal.returns-then-frame-clause-next
+returns-then-frame-clause-next g c =
+    takes_next c.args.frames.now.items c.loop-frame.frames.items c.pop.new.self.items c.push.new.self.items c.descend.new.frames.items c.in-Some.frame c.in_ok-leaf.leaf
+    c.loop-frame.invariant.up c.in-Some.ensures.items c.if-frame.true c.in_ok-push.ensures.items c.in_ok-leaf.ensures.down
+
+pub returns-clause-passed : goal.returns-clause-passed
+returns-clause-passed g c =
+    let e : vec_len c.loop-frame.frames ≡ 0 = grind (arith, nat_tests, c.in_default.ensures.variant) in
+    let none : c.loop-frame.frames.items ≡ [] = nil_from_length c.loop-frame.frames.items (omega (arith, c.loop-frame.frames.ok.0)) in
+    let kept : c.loop-frame.frames.items ≡ c.pop.new.self.items ++ [] = c.in_default.ensures.items in
+    (up_end c.args.frames.now.items c.loop-frame.frames.items c.loop-frame.invariant.up none, sym (append-nil c.pop.new.self.items) ∙ sym kept ∙ none)

@@ -2,6 +2,7 @@ use Rattle.std.proofs.Common.{◌≡◌, ℕ, ◌≤◌, List, vec_len, IsTrue}
 use Rattle.image.specs.Tree.{Place}
 use Rattle.btree.specs.Left.{frames_left}
 use Rattle.btree.specs.Rest.{IsLeft, pages_seen}
+use Rattle.btree.proofs.HeldLemmas.{IsUp}
 use Rattle.btree.proofs.cursor.next_leaf.Given as goal
 
 abbrev pub invariant-loop-frame : goal.invariant-loop-frame
@@ -11,6 +12,7 @@ invariant-loop-frame g l = record {
       → IsLeft (pages_seen l.pager.state) 0 l.fn.frames.items rest l.pager.state.asked budget
       → (levels : ℕ) × IsLeft (pages_seen l.pager.state) levels l.frames.items rest l.pager.state.asked budget;
   less : frames_left 20 l.frames.items ≤ frames_left 20 l.fn.frames.items;
+  up : IsUp l.fn.frames.items l.frames.items;
 }
 
 abbrev pub decreases-loop-frame : goal.decreases-loop-frame
