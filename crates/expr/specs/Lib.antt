@@ -5,6 +5,7 @@ pub mod Term
 pub mod View
 pub mod Meaning
 pub mod Contract
+pub mod Faults
 pub mod Conjuncts
 pub mod Laws
 pub mod Reaches

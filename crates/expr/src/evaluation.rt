@@ -28,8 +28,7 @@ pub fn eval(alloc: Global, expr: &Expr, row: &[Value]) -> Result<Value, Fault>
 {
     match (Evaluator { alloc, row }).compute(expr) {
         Ok(value) => Ok(value),
-        Err(Stop::Overflow) => Err(Fault::Overflow),
-        Err(Stop::NoMemory) => Err(Fault::NoMemory),
+        Err(stop) => Err(Fault::from(stop)),
     }
 }
 

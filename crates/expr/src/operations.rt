@@ -8,7 +8,7 @@ ghost use Rattle.expr.specs.Contract.{Gives};
 use crate::{Arithmetic, Comparison};
 use std::alloc::AllocError;
 use std::cmp::Ordering;
-use values::{Value, compare};
+use values::{Fault, Value, compare};
 
 /// Why an expression has no value.
 #[derive(Clone, Copy, Debug, PartialEq, Eq)]
@@ -25,6 +25,20 @@ impl From<AllocError> for Stop {
 
     fn from(_: AllocError) -> Stop {
         Stop::NoMemory
+    }
+}
+
+impl From<Stop> for Fault {
+    ghost use Rattle.std.specs.Prelude.{◌≡◌};
+    ghost use Rattle.expr.specs.Faults.{fault_of};
+
+    ghost from_gives = { λ stop fault. fault ≡ fault_of stop };
+
+    fn from(stop: Stop) -> Fault {
+        match stop {
+            Stop::Overflow => Fault::Overflow,
+            Stop::NoMemory => Fault::NoMemory,
+        }
     }
 }
 

@@ -1,5 +1,5 @@
 //! The columns that a SELECT gives of its table.
-ghost use Rattle.std.specs.Prelude.{◌≡◌, ◌<◌, ◌≤◌, All, IfErr, IfOk, length, map, slice_get, Some, string_bytes};
+ghost use Rattle.std.specs.Prelude.{◌≡◌, ◌<◌, ◌≤◌, All, Err, IfErr, IfOk, length, map, slice_get, Some, string_bytes};
 ghost use Rattle.std.specs.List.{AllZip, range_with_len};
 ghost use Rattle.meaning.specs.Query.{column};
 ghost use Rattle.sql_reader.specs.Texts.{max_columns};
@@ -69,6 +69,7 @@ pub(crate) fn places_given(
         GivesColumns (column_names columns.now) (columns_of given.now) (map column places.items)) }
     ensures within { IfOk result (λ places. length places.items ≤ max_columns) }
     ensures refused { IfErr result (AreColumnsRefused (column_names columns.now) (columns_of given.now)) }
+    ensures wide { max_columns < width_of (column_names columns.now) (columns_of given.now) → result ≡ Err Fault.Limit }
 {
     if width(columns, given) > MAX_COLUMNS {
         return Err(Fault::Limit);

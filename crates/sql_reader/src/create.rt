@@ -1,9 +1,9 @@
 //! CREATE texts.
-ghost use Rattle.std.specs.Prelude.{◌≡◌, ◌<◌, IfErr, IfOk, length, map, option_map, string_bytes};
+ghost use Rattle.std.specs.Prelude.{◌≡◌, ◌<◌, Err, IfErr, IfOk, length, map, option_map, string_bytes};
 ghost use Rattle.sql_reader.specs.CreateGrammar.{SpellsCreate};
 ghost use Rattle.sql_reader.specs.Reading as spec;
 ghost use Rattle.sql_reader.specs.Reading.{Gives};
-ghost use Rattle.sql_reader.specs.Texts.{IsRefused, IsWithin};
+ghost use Rattle.sql_reader.specs.Texts.{IsRefused, IsWithin, max_text};
 ghost use Rattle.sql_reader.specs.Tree.{columns_of_table};
 ghost use Rattle.tokens.specs.Content.{lexeme_of};
 ghost use Rattle.sql_reader.specs.View.{column_of, constraint_of, lexemes_of, table_of, type_of};
@@ -192,6 +192,7 @@ pub fn read_create(alloc: Global, text: &str) -> Result<CreateTable, Fault>
     ensures spelt { IfOk result (λ table. SpellsCreate text.now (table_of table)) }
     ensures within { IfOk result (λ table. IsWithin columns_of_table text.now (table_of table)) }
     ensures refused { IfErr result (λ fault. IsRefused SpellsCreate columns_of_table text.now fault) }
+    ensures long { max_text < length text.now → result ≡ Err Fault.Limit }
 {
     if text.len() > MAX_TEXT {
         return Err(Fault::Limit);

@@ -1,12 +1,12 @@
 //! SELECT texts.
-ghost use Rattle.std.specs.Prelude.{◌≡◌, ◌-◌, IfErr, IfOk, option_map, string_bytes};
+ghost use Rattle.std.specs.Prelude.{◌≡◌, ◌<◌, ◌-◌, Err, IfErr, IfOk, length, option_map, string_bytes};
 ghost use Rattle.sql_reader.specs.ExprReading.{Yields};
 ghost use Rattle.sql_reader.specs.ExprView.{expr_of};
 ghost use Rattle.sql_reader.specs.SelectReading as spec;
 ghost use Rattle.sql_reader.specs.SelectTexts.{AreCut, IsRefusedSelect, SpellsSelect, source_of};
 ghost use Rattle.sql_reader.specs.SelectTrees.{columns_of_select};
 ghost use Rattle.sql_reader.specs.SelectView.{select_of};
-ghost use Rattle.sql_reader.specs.Texts.{IsWithin, max_levels};
+ghost use Rattle.sql_reader.specs.Texts.{IsWithin, max_levels, max_text};
 ghost use Rattle.sql_reader.specs.View.{lexemes_of};
 
 use crate::expressions::{expr, needed, needed_name, place_of};
@@ -93,6 +93,7 @@ pub fn read_select(alloc: Global, text: &str) -> Result<Select, Fault>
     ensures spelt { IfOk result (λ select. SpellsSelect text.now (select_of select)) }
     ensures within { IfOk result (λ select. IsWithin columns_of_select text.now (select_of select)) }
     ensures refused { IfErr result (IsRefusedSelect text.now) }
+    ensures long { max_text < length text.now → result ≡ Err Fault.Limit }
 {
     if text.len() > MAX_TEXT {
         return Err(Fault::Limit);
