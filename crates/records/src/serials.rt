@@ -8,7 +8,7 @@ use byteorder::{BigEndian, ByteOrder};
 use values::ValueRef;
 
 /// How many bytes the body of a type takes; none where the type is reserved.
-#[inline]
+#[inline(always)]
 pub(crate) fn len_of(serial: i64) -> usize
     ensures { result ≡ body_len serial }
 {
@@ -22,7 +22,7 @@ pub(crate) fn len_of(serial: i64) -> usize
 }
 
 /// The value that a body of this type is.
-#[inline]
+#[inline(always)]
 fn field(serial: i64, body: &[u8]) -> Result<ValueRef<'_>, RecordFault>
     requires { length body.now ≡ body_len serial }
     ensures found { IfOk result (λ value. IsField serial body.now (datum_of_ref value)) }
@@ -44,7 +44,7 @@ fn field(serial: i64, body: &[u8]) -> Result<ValueRef<'_>, RecordFault>
 }
 
 /// The value of this type whose body is at the front of the bytes, and the bytes after it.
-#[inline]
+#[inline(always)]
 pub(crate) fn first_field(serial: i64, bytes: &[u8]) -> Result<(ValueRef<'_>, &[u8]), RecordFault>
     ensures found { IfOk result (λ first. BeginsField serial bytes.now (datum_of_ref first.0) first.1.now) }
     ensures fault { IfErr result (λ fault. BreaksFront fault serial bytes.now) }

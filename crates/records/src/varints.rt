@@ -3,6 +3,7 @@ ghost use Rattle.std.specs.Prelude.{◌≡◌, ◌↔◌, ℕ, ℤ, Some, IsNone
 ghost use Rattle.records.specs.Varint.{BeginsVarint, EndsInside};
 
 /// The value of the varint with which the bytes begin, and its length, byte by byte.
+#[inline(never)]
 fn varint_by_bytes(bytes: &[u8]) -> Option<(i64, usize)>
     ensures found { IfSome result (λ found. BeginsVarint bytes.now found.0 found.1) }
     ensures only { (value : ℤ) (len : ℕ) → BeginsVarint bytes.now value len → result ≡ Some (value, len) }
@@ -24,7 +25,7 @@ fn varint_by_bytes(bytes: &[u8]) -> Option<(i64, usize)>
 
 /// The value of the varint with which the bytes begin, and its length, 1 to 9; `None` where the bytes end inside it. One
 /// that is longer than its value needs is read too. (Database File Format, section 1.6)
-#[inline]
+#[inline(always)]
 pub fn varint(bytes: &[u8]) -> Option<(i64, usize)>
     // What is read is a front of the bytes.
     ensures found { IfSome result (λ found. BeginsVarint bytes.now found.0 found.1) }
