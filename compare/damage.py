@@ -37,6 +37,13 @@ def odd_page(image: bytearray, own: int, rng: Random) -> int:
     return rng.choice((0, 1, 2, own, pages, pages + 1, 2**31, 2**32 - 1, rng.randint(1, pages), rng.randint(1, pages)))
 
 
+def swap(image: bytearray, first: int, second: int, size: int) -> None:
+    """Exchanges so many bytes at two places."""
+    held = image[first : first + size]
+    image[first : first + size] = image[second : second + size]
+    image[second : second + size] = held
+
+
 def flip_bit(image: bytearray, rng: Random) -> str:
     place = rng.randrange(len(image))
     image[place] ^= 1 << rng.randrange(8)
@@ -71,9 +78,7 @@ def copy_page(image: bytearray, rng: Random) -> str:
 def swap_pages(image: bytearray, rng: Random) -> str:
     size, pages = size_of_page(image), tree_pages(image)
     first, second = (rng.choice(pages) for _ in range(2))
-    held = image[(first - 1) * size : first * size]
-    image[(first - 1) * size : first * size] = image[(second - 1) * size : second * size]
-    image[(second - 1) * size : second * size] = held
+    swap(image, (first - 1) * size, (second - 1) * size, size)
     return f"pages {first} and {second} swapped"
 
 
@@ -101,7 +106,7 @@ def swap_children(image: bytearray, rng: Random) -> str:
     if not places:
         return "no children to swap"
     first, second = (rng.choice(places) for _ in range(2))
-    image[first : first + 4], image[second : second + 4] = image[second : second + 4], image[first : first + 4]
+    swap(image, first, second, 4)
     return f"the children at bytes {first} and {second} swapped"
 
 
@@ -117,7 +122,7 @@ def swap_cells(image: bytearray, rng: Random) -> str:
     if not places:
         return "no cells to swap"
     first, second = (rng.choice(places) for _ in range(2))
-    image[first : first + 2], image[second : second + 2] = image[second : second + 2], image[first : first + 2]
+    swap(image, first, second, 2)
     return f"two cells of page {page} swapped"
 
 
