@@ -17,6 +17,24 @@ struct Listing {
     further: Option<Fault>,
 }
 
+/// Adds the rows that a cursor has to give, and tells the fault that ends them.
+fn push_rows<S: Source>(
+    rowids: &mut Vec<i64>,
+    cursor: &mut Cursor,
+    pager: &mut Pager<S>,
+) -> Result<Option<Fault>, AllocError> {
+    loop {
+        match cursor.entry() {
+            Ok(Some(cell)) => rowids.push(cell.rowid.unwrap_or(i64::MIN))?,
+            Ok(None) => return Ok(None),
+            Err(found) => return Ok(Some(found)),
+        }
+        if let Err(found) = cursor.next(pager) {
+            return Ok(Some(found));
+        }
+    }
+}
+
 /// Lists the rows of the table with this root.
 fn list_rows<S: Source>(
     alloc: Global,
@@ -34,14 +52,7 @@ fn list_rows<S: Source>(
             });
         }
     };
-    let mut fault = None;
-    while let Some(cell) = cursor.entry() {
-        rowids.push(cell.rowid.unwrap_or(i64::MIN))?;
-        if let Err(found) = cursor.next(pager) {
-            fault = Some(found);
-            break;
-        }
-    }
+    let fault = push_rows(&mut rowids, &mut cursor, pager)?;
     let further = cursor.next(pager).err();
     Ok(Listing {
         rowids,

@@ -4,6 +4,8 @@ use Rattle.image.specs.declared.kind.TreeKind.TheVariants.{Table}
 use Rattle.image.specs.declared.kind.Level.TheVariants.{Leaf}
 use Rattle.image.specs.Layout.{cell_count, header_at}
 use Rattle.image.specs.Cell.{CellData}
+use Rattle.values.specs.declared.fault.Fault.{Fault}
+use Rattle.values.specs.declared.fault.Fault.TheVariants.{BadPage}
 use Rattle.btree.specs.Bytes.{HasHeaderAt, IsRowOf}
 use Rattle.btree.specs.declared.cursor.Cursor.{Cursor}
 use Rattle.btree.specs.declared.cursor.Frame.{Frame}
@@ -17,9 +19,10 @@ pub record HoldsRow (usable most : ℕ) (frame : Frame) (cell : CellData) : Type
   pub within : frame.at < cell_count (header_at frame.number) (take usable frame.page)
   pub row : IsRowOf (header_at frame.number) most (take usable frame.page) frame.at cell
 
--- a cursor stands past the last cell of its leaf, or at a cell
-abbrev pub HasRow : Cursor → Type 0
-HasRow cursor = (leaf : Frame) → cursor.leaf ≡ Some leaf → leaf.at < leaf.count → (cell : CellData) × HoldsRow cursor.usable cursor.most leaf cell
+-- why a cursor has no row where it stands: its leaf tells of a cell there, and has none
+abbrev pub LacksRow : Cursor → Fault → Type 0
+LacksRow cursor fault = (leaf : Frame) × (cursor.leaf ≡ Some leaf) × (fault ≡ BadPage leaf.number) × (leaf.at < leaf.count)
+    × ((cell : CellData) → ¬ HoldsRow cursor.usable cursor.most leaf cell)
 
 -- no child or cell is left behind the one that the frame has taken
 abbrev pub IsPassed : Frame → Type 0

@@ -1,5 +1,5 @@
 //! A cursor over a table's rows.
-ghost use Rattle.std.specs.Prelude.{◌≡◌, ◌⊎◌, ◌+◌, ◌-◌, ◌<◌, ◌≤◌, ℕ, List, drop, length, option_map, take, All, Err, IfErr, IfNone, IfOk, IfSome, IsFalse, IsSome, IsTrue, [], Some};
+ghost use Rattle.std.specs.Prelude.{◌≡◌, ◌⊎◌, ◌+◌, ◌-◌, ◌<◌, ◌≤◌, ℕ, List, drop, length, option_map, take, All, Err, IfErr, IfNone, IfOk, IfSome, IsSome, IsTrue, [], MatchResult, None, Ok, Some};
 ghost use Rattle.image.specs.declared.kind.TreeKind.TheVariants.{Table};
 ghost use Rattle.image.specs.declared.kind.Level.{Level};
 ghost use Rattle.image.specs.declared.kind.Level.TheVariants.{Leaf, Interior};
@@ -11,7 +11,7 @@ ghost use Rattle.image.specs.Tree.{Place, HasHeader, IsPageOf, IsRowAt, child_at
 ghost use Rattle.pager.specs.PagerState.{IsPageNumber, IsUsed, Stays};
 ghost use Rattle.values.specs.Fault.{Counts};
 ghost use Rattle.btree.specs.Bytes.{HasHeaderAt};
-ghost use Rattle.btree.specs.Held.{GoesDown, HasRow, HoldsRow, IsLast, IsPassed, TakesNext};
+ghost use Rattle.btree.specs.Held.{GoesDown, HoldsRow, LacksRow, IsLast, IsPassed, TakesNext};
 ghost use Rattle.btree.specs.Left.{IsLess, frame_left, frames_left, steps_left, worth};
 ghost use Rattle.btree.specs.Listing.{IsAt, IsEnded, IsEntry, IsStepFault};
 ghost use Rattle.btree.specs.Rest.{AreReadable, GoesOn, Holds, IsCursorFault, IsHeading, IsLeft, IsStanding, pages_seen};
@@ -91,13 +91,9 @@ fn row_of(frame: &Frame, usable: usize, most: u64) -> Option<Cell<'_>>
         → IfSome result (λ cell. IsRowAt image (place_at frame.now.number frame.now.at) (cell_data cell)) }
     ensures sure { (image : Pages) → Holds image frame.now → AreReadable image → image.usable ≡ usable → image.size ≡ most
         → IsPageOf image Table Leaf frame.now.number → frame.now.at < frame.now.count → IsSome result }
-    ensures past { frame.now.count ≤ frame.now.at → IfSome result (λ cell. ⊥) }
     ensures held { IfSome result (λ cell. HoldsRow usable most frame.now (cell_data cell)) }
-    ensures none { IfNone result (frame.now.at < frame.now.count → (cell : CellData) → ¬ HoldsRow usable most frame.now cell) }
+    ensures none { IfNone result ((cell : CellData) → ¬ HoldsRow usable most frame.now cell) }
 {
-    if frame.at >= frame.count {
-        return None;
-    }
     let view = view_of(&frame.page, frame.number, usable)?;
     if view.level() != Level::Leaf || frame.at >= view.count() {
         return None;
@@ -227,16 +223,6 @@ fn step<S: Source>(
     }
 }
 
-/// Whether the leaf has a row where the cursor stands, or the cursor stands past its last.
-fn has_row(leaf: &Frame, usable: usize, most: u64) -> bool
-    ensures sure { (image : Pages) → Holds image leaf.now → AreReadable image → image.usable ≡ usable → image.size ≡ most
-        → IsPageOf image Table Leaf leaf.now.number → IsTrue result }
-    ensures row { IsTrue result → leaf.now.at < leaf.now.count → (cell : CellData) × HoldsRow usable most leaf.now cell }
-    ensures none { IsFalse result → (leaf.now.at < leaf.now.count) × ((cell : CellData) → ¬ HoldsRow usable most leaf.now cell) }
-{
-    leaf.at >= leaf.count || row_of(leaf, usable, most).is_some()
-}
-
 /// A cursor over the rows of a table, in the order of their rowids.
 #[derive(Drop)]
 pub struct Cursor {
@@ -258,7 +244,6 @@ impl Cursor {
         ensures sound { IsTrue pager.old.state.source.steady → (levels : ℕ) → levels < 20 → IsNumber (pages_seen pager.old.state) root
             → HasShape (pages_seen pager.old.state) Table levels root
             → IfErr result (λ e. (e ≡ Fault.ReadFailed) ⊎ (e ≡ Fault.NoMemory)) }
-        ensures row { IfOk result HasRow }
         ensures end { IfOk result (λ cursor. steps_left cursor ≡ 0 → cursor.frames.items ≡ []) }
         ensures only { IfErr result IsCursorFault }
         ensures depth { IfErr result (λ e. (m : ℕ) → e ≡ Fault.BadDepth m → m ≡ root) }
@@ -275,9 +260,6 @@ impl Cursor {
         let most = header.pages as u64 * header.page_size as u64;
         let mut frames = Vec::new(alloc);
         let leaf = descend(root, &mut frames, pager, root)?;
-        if !has_row(&leaf, usable, most) {
-            return Err(Fault::BadPage(leaf.number));
-        }
         Ok(Cursor {
             root,
             frames,
@@ -295,7 +277,6 @@ impl Cursor {
         ensures sound { IsTrue pager.old.state.source.steady → (places : List Place) (budget : ℕ)
             → IsAt (pages_seen pager.old.state) self.old places pager.old.state.asked budget
             → IfErr result (λ e. (e ≡ Fault.ReadFailed) ⊎ (e ≡ Fault.NoMemory)) }
-        ensures row { IfOk result (λ _. HasRow self.new) }
         ensures left { IfOk result (λ _. 0 < steps_left self.old → steps_left self.new < steps_left self.old) }
         ensures end { IfOk result (λ _. 0 < steps_left self.old → steps_left self.new ≡ 0 → (leaf : Frame) → self.old.leaf ≡ Some leaf → IsLast self.old.frames.items leaf) }
         ensures finished { IsEnded self.old → IfErr result (λ e. e ≡ Fault.Finished) × IfOk result (λ _. ⊥) }
@@ -310,22 +291,31 @@ impl Cursor {
             return Err(Fault::Finished);
         };
         let leaf = step(self.root, &mut self.frames, pager, leaf)?;
-        if !has_row(&leaf, self.usable, self.most) {
-            return Err(Fault::BadPage(leaf.number));
-        }
         self.leaf = Some(leaf);
         Ok(())
     }
 
-    /// The row that the cursor stands at, or none past the last and after a fault.
-    pub fn entry(&self) -> Option<Cell<'_>>
+    /// The row that the cursor stands at, or none past the last and after a fault. Its fault is `BadPage`, where the leaf
+    /// has no cell there, which no sound tree gives.
+    pub fn entry(&self) -> Result<Option<Cell<'_>>, Fault>
         ensures entry { (image : Pages) (places : List Place) (asked budget : ℕ) → IsAt image self.now places asked budget
-            → IsEntry image places (option_map cell_data result) }
-        ensures row { HasRow self.now → 0 < steps_left self.now → IsSome result }
-        ensures held { IfSome result (λ cell. (leaf : Frame) → self.now.leaf ≡ Some leaf → HoldsRow self.now.usable self.now.most leaf (cell_data cell)) }
-        ensures left { IfSome result (λ cell. 0 < steps_left self.now) }
-        ensures ended { IsEnded self.now → IfSome result (λ cell. ⊥) }
+            → MatchResult result (λ found. IsEntry image places (option_map cell_data found)) (λ e. ⊥) }
+        ensures row { IfOk result (λ found. IfNone found (steps_left self.now ≡ 0)) }
+        ensures held { IfOk result (λ found. IfSome found (λ cell. (leaf : Frame) → self.now.leaf ≡ Some leaf
+            → HoldsRow self.now.usable self.now.most leaf (cell_data cell))) }
+        ensures left { IfOk result (λ found. IfSome found (λ cell. 0 < steps_left self.now)) }
+        ensures lacks { IfErr result (LacksRow self.now) }
+        ensures ended { IsEnded self.now → result ≡ Ok None }
     {
-        row_of(self.leaf.as_ref()?, self.usable, self.most)
+        let Some(leaf) = &self.leaf else {
+            return Ok(None);
+        };
+        if leaf.at >= leaf.count {
+            return Ok(None);
+        }
+        let Some(cell) = row_of(leaf, self.usable, self.most) else {
+            return Err(Fault::BadPage(leaf.number));
+        };
+        Ok(Some(cell))
     }
 }

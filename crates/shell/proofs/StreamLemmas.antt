@@ -280,6 +280,10 @@ module _ (start now : PagerState) (table : TableData) (columns : List ℕ) (curs
         Given-all _ _ _ _ _ _ _ _ _ _ _ now_given
         (no_cell (pages_seen start) table now_given.places now_given.rest now_given.stored (entry _ _ _ _ now_given.at))
 
+    -- the cursor has a cell or an end
+    pub Streaming-never : ((pages : Pages) (places : List Place) (asked budget : ℕ) → IsAt pages cursor places asked budget → ⊥) → ⊥
+    Streaming-never never = never _ _ _ _ now_given.at
+
     pub asked_most : now.asked ≤ start.asked + size_of (pages_seen start) table levels
     asked_most = let asks = now_given.at.stands.left.asks in omega arith
 

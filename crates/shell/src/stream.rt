@@ -1,14 +1,15 @@
 //! The rows of a table, written one by one as they are read.
-ghost use Rattle.std.specs.Prelude.{◌≡◌, ◌≢◌, ◌⊎◌, ◌+◌, ◌<◌, ◌≤◌, ◌∷◌, [], drop, ℕ, All, IfErr, IfOk, IsTrue, List, MatchResult, None, length, map};
+ghost use Rattle.std.specs.Prelude.{◌≡◌, ◌≢◌, ◌⊎◌, ◌+◌, ◌<◌, ◌≤◌, ◌∷◌, [], drop, ℕ, All, IfErr, IfOk, IfSome, IsTrue, List, MatchResult, None, length, map, option_map};
 ghost use Rattle.std.specs.Io.KnownBytes.{Appends};
 ghost use Rattle.values.specs.Datum.{datum_of_ref};
 ghost use Rattle.values.specs.Fault.{Counts};
 ghost use Rattle.std.specs.Cow.{cow_slice_items};
 ghost use Rattle.pager.specs.PagerState.{IsChained, IsPageNumber, Stays};
 ghost use Rattle.image.specs.Chain.{HasBytes};
+ghost use Rattle.image.specs.Pages.{Pages};
 ghost use Rattle.image.specs.Tree.{Place};
 ghost use Rattle.btree.specs.Left.{steps_left};
-ghost use Rattle.btree.specs.Listing.{IsAt};
+ghost use Rattle.btree.specs.Listing.{IsAt, IsEntry};
 ghost use Rattle.btree.specs.Rest.{pages_seen};
 ghost use Rattle.btree.specs.Views.{cell_data, payload_data};
 ghost use Rattle.meaning.specs.Body.{Row};
@@ -148,6 +149,19 @@ fn next_row<S: Source>(cursor: &mut Cursor, pager: &mut Pager<S>) -> Result<(), 
     Ok(())
 }
 
+/// The row that a cursor stands at, if there is one. Its fault is `Changed`, where the leaf has no cell there.
+fn row_at(cursor: &Cursor) -> Result<Option<Cell<'_>>, Fault>
+    ensures entry { (image : Pages) (places : List Place) (asked budget : ℕ) → IsAt image cursor.now places asked budget
+        → MatchResult result (λ found. IsEntry image places (option_map cell_data found)) (λ e. ⊥) }
+    ensures left { IfOk result (λ found. IfSome found (λ cell. 0 < steps_left cursor.now)) }
+    ensures only { IfErr result (λ e. e ≡ Fault.Changed) }
+{
+    let Ok(found) = cursor.entry() else {
+        return Err(Fault::Changed);
+    };
+    Ok(found)
+}
+
 /// Writes the rows of a table as lines, each showing these columns, and counts them. Its faults are `ReadFailed`,
 /// `NoMemory`, `WriteFailed`, and `Changed`, which no table gives that is stored as it was checked.
 pub(crate) fn write_rows<S: Source, W: Sink>(
@@ -177,7 +191,7 @@ pub(crate) fn write_rows<S: Source, W: Sink>(
 {
     let mut cursor = first_row(alloc, pager, table)?;
     let mut count = 0u64;
-    while let Some(cell) = cursor.entry() {
+    while let Some(cell) = row_at(&cursor)? {
         write_cell(alloc, pager, table, &cell, columns, out)?;
         next_row(&mut cursor, pager)?;
         count = count.saturating_add(1);

@@ -33,7 +33,7 @@ pub fn write_rows<S: Source, O: Sink>(
     out: &mut O,
 ) -> Result<(), Fault> {
     let mut cursor = Cursor::first(alloc, pager, root)?;
-    while let Some(cell) = cursor.entry() {
+    while let Some(cell) = cursor.entry()? {
         write_row(alloc, &cell, out)?;
         cursor.next(pager)?;
     }

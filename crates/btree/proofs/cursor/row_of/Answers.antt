@@ -20,7 +20,7 @@ returns-clause-sure c = λ image holds readable usable size page within.
     (has_row image c.args.frame.now c.args.usable holds usable c.args.most c.args.frame.now.at size page (omega arith))
 
 pub returns-in_err-view-clause-none : goal.returns-in_err-view-clause-none
-returns-in_err-view-clause-none c = IfNone-always c.from_residual.result (λ within cell h.
+returns-in_err-view-clause-none c = IfNone-always c.from_residual.result (λ cell h.
     c.in_err-view.ensures.none h.least h.greatest h.long Leaf h.header)
 
 pub returns-clause-none : goal.returns-clause-none
@@ -28,4 +28,4 @@ returns-clause-none c =
     let view = c.in_ok-view.ensures.found in
     let at : c.in_ok-view.view.at ≡ header_at c.args.frame.now.number = ap (λ v. v.at) view in
     let bytes : c.in_ok-view.view.page ≡ take c.args.usable c.args.frame.now.page = ap (λ v. v.page) view in
-    IfNone-weaker c.row.result (λ none within cell h. none cell h.row) (rw (at, bytes) at c.row.ensures.none)
+    IfNone-weaker c.row.result (λ none cell h. none cell h.row) (rw (at, bytes) at c.row.ensures.none)

@@ -2,9 +2,9 @@ use Rattle.btree.specs.Left.{steps_left}
 use Rattle.shell.proofs.StreamLemmas.{Streaming}
 use Rattle.shell.proofs.stream.write_rows.Given as goal
 
-abbrev pub invariant-loop-cell : goal.invariant-loop-cell
-invariant-loop-cell g l =
+abbrev pub invariant-loop-cursor : goal.invariant-loop-cursor
+invariant-loop-cursor g l =
     Streaming l.fn.pager.state l.pager.state l.fn.table l.fn.columns l.cursor l.count (g.W.Sink.facts l.fn.out) (g.W.Sink.facts l.out)
 
-abbrev pub decreases-loop-cell : goal.decreases-loop-cell
-decreases-loop-cell g l = steps_left l.cursor
+abbrev pub decreases-loop-cursor : goal.decreases-loop-cursor
+decreases-loop-cursor g l = steps_left l.cursor

@@ -1,8 +1,8 @@
 use Rattle.btree.specs.Left.{steps_left}
 use Rattle.table_rows.proofs.rows.write_rows.Given as goal
 
-abbrev pub invariant-loop-cell : goal.invariant-loop-cell
-invariant-loop-cell g l = Unit {0}
+abbrev pub invariant-loop-cursor : goal.invariant-loop-cursor
+invariant-loop-cursor g l = Unit {0}
 
-abbrev pub decreases-loop-cell : goal.decreases-loop-cell
-decreases-loop-cell g l = steps_left l.cursor
+abbrev pub decreases-loop-cursor : goal.decreases-loop-cursor
+decreases-loop-cursor g l = steps_left l.cursor

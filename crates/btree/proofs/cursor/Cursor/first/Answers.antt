@@ -13,15 +13,6 @@ returns-in_err-leaf-clause-sound g c = λ steady levels shallow number shape.
     rw (p.1, p.2)
     (c.in_err-leaf.ensures.sound steady _ _ (heading_first (pages_seen c.args.pager.now.state) levels c.args.root c.new-frames.result.items c.args.pager.now.state.asked shallow shape number c.new-frames.ensures.items))
 
-pub returns-then-not-has_row-clause-sound : goal.returns-then-not-has_row-clause-sound
-returns-then-not-has_row-clause-sound g c = λ steady levels shallow number shape.
-    let seen = pages_seen c.args.pager.now.state in
-    let header : c.header-header.result ≡ c.args.pager.now.state.header = c.header-header.ensures.value in
-    let stands = c.in_ok-leaf.ensures.stands steady _ _ (heading_first seen levels c.args.root c.new-frames.result.items c.args.pager.now.state.asked shallow shape number c.new-frames.ensures.items) in
-    let sure = c.has_row.ensures.sure seen stands.holds (readable _ _ (subst (λ (x : Header). IsSound x) header c.header-header.ensures.sound)) (ap (λ (x : Header). x.usable) (sym header))
-    (ap (λ (x : Header). x.pages * x.page_size) (sym header)) stands.page in
-    let not = c.if-not-has_row.true in absurd (cc)
-
 pub returns-clause-lists : goal.returns-clause-lists
 returns-clause-lists g c = λ steady levels shallow number shape.
     let seen = pages_seen c.args.pager.now.state in

@@ -15,16 +15,6 @@ returns-in_err-leaf-clause-sound g c = λ steady places budget at.
     (c.in_err-leaf.ensures.sound steady places budget
     (subst (λ (x : Frame). IsStanding (pages_seen c.args.pager.now.state) c.args.self.now.frames.items x places c.args.pager.now.state.asked budget) same at.stands))
 
-pub returns-then-not-has_row-clause-sound : goal.returns-then-not-has_row-clause-sound
-returns-then-not-has_row-clause-sound g c = λ steady places budget at.
-    let v = c.in-Some.ensures.value in
-    let l = at.leaf_is in
-    let same : at.leaf ≡ c.in-Some.leaf = cc in
-    let stands = c.in_ok-leaf.ensures.stands steady places budget
-    (subst (λ (x : Frame). IsStanding (pages_seen c.args.pager.now.state) c.args.self.now.frames.items x places c.args.pager.now.state.asked budget) same at.stands) in
-    let sure = c.has_row.ensures.sure (pages_seen c.args.pager.now.state) stands.holds at.readable at.usable at.most stands.page in
-    let not = c.if-not-has_row.true in absurd (cc)
-
 pub returns-clause-left : goal.returns-clause-left
 returns-clause-left g c =
     let v = c.in-Some.ensures.value in

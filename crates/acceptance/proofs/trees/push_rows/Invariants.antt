@@ -1,5 +1,5 @@
 use Rattle.btree.specs.Left.{steps_left}
-use Rattle.acceptance.proofs.trees.list_rows.Given as goal
+use Rattle.acceptance.proofs.trees.push_rows.Given as goal
 
 abbrev pub invariant-loop-cell : goal.invariant-loop-cell
 invariant-loop-cell g l = Unit {0}
