@@ -1,16 +1,26 @@
 -- The faults of cells, and the rows of a leaf.
-use Rattle.std.proofs.Common.{◌≡◌, ◌⊎◌, ℕ, List, subst, inl, inr, refl}
+use Rattle.std.proofs.Common.{◌≡◌, ◌⊎◌, ℕ, List, Option, None, Some, subst, inl, inr, refl}
+use Rattle.std.specs.Prelude.{IfSome}
 use Rattle.values.specs.declared.fault.Fault.{Fault}
 use Rattle.values.specs.declared.fault.Fault.TheVariants.{BadChain, NoMemory}
 use Rattle.records.specs.declared.fault.RecordFault.{RecordFault}
 use Rattle.records.specs.declared.fault.RecordFault.TheVariants as r
 use Rattle.image.specs.Cell.{CellData}
-use Rattle.image.specs.Chain.{HasBytes}
+use Rattle.image.specs.Chain.{HasBytes, local}
 use Rattle.image.specs.Pages.{Pages}
 use Rattle.schema.specs.TableData.{TableData}
 use Rattle.meaning.specs.Body.{Row}
 use Rattle.integrity.specs.Stored.{IsRowOf, IsRowRecord}
 use Rattle.integrity.specs.RowFaults.{HasRecordFault, IsCellFault, IsRecordFault, IsRowFault, fault_of}
+
+pub IfSome-always : {T : Type 0} {P : Type 0} (r : Option T) → P → IfSome r (λ v. P)
+IfSome-always None p = tt
+IfSome-always (Some v) p = p
+
+-- a row whose record is a payload that stands in its cell whole, whatever the pages are
+pub local_row_is : (pages : Pages) (table : TableData) (cell : CellData) (row : Row) → cell.payload.overflow ≡ None
+    → IsRowRecord table cell.rowid cell.payload.local row → IsRowOf pages table cell row
+local_row_is pages table cell row whole is = record { bytes = cell.payload.local; whole = local whole refl; is = is }
 
 module _ (pages : Pages) (table : TableData) (n : ℕ) (cell : CellData) where
   -- a row whose record was read from a payload's bytes

@@ -28,7 +28,7 @@ fn is_at_most(high: Option<i64>, key: i64) -> bool
 }
 
 /// Whether a key keeps the bounds that there may be.
-fn is_within(low: Option<i64>, high: Option<i64>, key: i64) -> bool
+pub(crate) fn is_within(low: Option<i64>, high: Option<i64>, key: i64) -> bool
     ensures { IsTrue result ↔ (IsAbove low key × IsAtMost high key) }
 {
     is_above(low, key) && is_at_most(high, key)

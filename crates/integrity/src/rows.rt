@@ -225,7 +225,7 @@ fn value_in<'p>(
 }
 
 /// Whether a payload is the record of a row of a table, whose values are of its columns. `false` says nothing of it.
-fn is_row(table: &Table, rowid: Option<i64>, payload: &[u8]) -> bool
+pub(crate) fn is_row(table: &Table, rowid: Option<i64>, payload: &[u8]) -> bool
     ensures { IsTrue result → (row : List Datum) × IsRowRecord table.now rowid payload.now row × Fits table.now row }
 {
     let Some(mut fields) = FieldReader::new(payload) else {

@@ -15,6 +15,7 @@ ghost use Rattle.integrity.specs.Stored.{HoldsRow};
 ghost use Rattle.integrity.specs.Walked.{AreCounts, IsMet, IsTree, IsWalkFault, counted};
 
 use crate::keys::read_head;
+use crate::leaf::is_leaf_of_rows;
 use crate::rows::check_rows;
 use btree::{PageView, view_of};
 use image::Level;
@@ -144,6 +145,10 @@ fn walk<S: Source>(
         return Err(Fault::BadPage(n));
     };
     let most = header.pages as u64 * header.page_size as u64;
+    if is_leaf_of_rows(&view, most, table, n, low, high) {
+        return Ok(counts_of_page(u64::from(view.count())));
+    }
+    // An interior page, a leaf with overflow pages, or one with a fault, which a second reading finds.
     let level = read_head(&view, most, table, n, low, high)?;
     if level == Level::Leaf {
         check_rows(alloc, pager, table, &view, most, n)?;

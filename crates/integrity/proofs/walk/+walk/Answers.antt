@@ -12,7 +12,7 @@ use Rattle.image.specs.Broken.{IsBroken}
 use Rattle.image.specs.Shape.{places_under}
 use Rattle.values.specs.declared.fault.Fault.TheVariants.{BadDepth}
 use Rattle.integrity.specs.declared.walk.TreeCounts.{TreeCounts}
-use Rattle.integrity.specs.Keys.{HasCells}
+use Rattle.integrity.specs.Keys.{HasCells, IsHead}
 use Rattle.integrity.specs.RowFaults.{AreRowsIn, IsLeafFault}
 use Rattle.integrity.specs.Stored.{HoldsRow}
 use Rattle.integrity.proofs.HeldLemmas.{held_leaf, held_more, held_under, leaf_fault}
@@ -29,6 +29,32 @@ returns-in_default-clause-fault g t c = λ steady.
     inr (inr (inl (broken_header c.args.pager.now.state c.header-header.result c.header-header.ensures.value c.header-header.ensures.sound c.args.n c.in_ok-page.page
     (c.in_ok-page.ensures.page steady) c.in_ok-page.ensures.long c.args.table.now.root c.args.depth c.args.low c.args.high (c.requires.met steady) c.in_default.ensures.none)))
 
+pub returns-then-is_leaf_of_rows-clause-tree : goal.returns-then-is_leaf_of_rows-clause-tree
+returns-then-is_leaf_of_rows-clause-tree g t c = λ steady.
+    let leaf = c.is_leaf_of_rows.ensures.leaf c.if-is_leaf_of_rows.true in
+    let head = subst (λ (l : Level). IsHead c.in-Some.view.at (c.header-header.result.pages * c.header-header.result.page_size) c.in-Some.view.page l c.args.table.now.root c.args.n c.args.low c.args.high) (sym leaf)
+    (c.is_leaf_of_rows.ensures.head c.if-is_leaf_of_rows.true) in
+    subst (λ (counts : TreeCounts). IsTree (pages_seen c.args.pager.now.state) c.args.table.now.root counts.levels c.args.low c.args.high c.args.n) (sym c.counts_of_page.ensures)
+    (leaf_tree c.args.pager.now.state c.header-header.result c.header-header.ensures.value c.header-header.ensures.sound c.args.n c.in_ok-page.page
+    (c.in_ok-page.ensures.page steady) c.in_ok-page.ensures.long c.args.table.now.root c.args.depth c.args.low c.args.high (c.requires.met steady)
+    c.in-Some.view c.in-Some.ensures.found c.in-Some.ensures.header head leaf)
+
+pub returns-then-is_leaf_of_rows-clause-counts : goal.returns-then-is_leaf_of_rows-clause-counts
+returns-then-is_leaf_of_rows-clause-counts g t c = λ steady.
+    subst (λ (counts : TreeCounts). AreCounts (pages_seen c.args.pager.now.state) counts.levels c.args.n counts.rows counts.pages) (sym c.counts_of_page.ensures)
+    (leaf_counts c.args.pager.now.state c.header-header.result c.header-header.ensures.value c.header-header.ensures.sound c.args.n c.in_ok-page.page
+    (c.in_ok-page.ensures.page steady) c.in_ok-page.ensures.long c.args.table.now.root c.args.depth c.args.low c.args.high (c.requires.met steady)
+    c.in-Some.view c.in-Some.ensures.found c.in-Some.ensures.header c.from.result (search rules) (search rules))
+
+pub returns-then-is_leaf_of_rows-clause-rows : goal.returns-then-is_leaf_of_rows-clause-rows
+returns-then-is_leaf_of_rows-clause-rows g t c = λ steady.
+    let seen = see c.args.pager.now.state c.header-header.result c.header-header.ensures.value c.header-header.ensures.sound c.args.n c.in_ok-page.page
+    (c.in_ok-page.ensures.page steady) c.in_ok-page.ensures.long c.args.table.now.root c.args.depth c.args.low c.args.high (c.requires.met steady)
+    c.in-Some.view c.in-Some.ensures.found c.in-Some.ensures.header in
+    let rows = c.is_leaf_of_rows.ensures.rows c.if-is_leaf_of_rows.true (pages_seen c.args.pager.now.state) in
+    subst (λ (counts : TreeCounts). All (HoldsRow (pages_seen c.args.pager.now.state) c.args.table.now) (places_under (pages_seen c.args.pager.now.state) Table counts.levels c.args.n)) (sym c.counts_of_page.ensures)
+    (held_leaf (pages_seen c.args.pager.now.state) c.args.table.now c.args.n _ _ _ seen rows)
+
 pub returns-in_err-level-clause-fault : goal.returns-in_err-level-clause-fault
 returns-in_err-level-clause-fault g t c = λ steady.
     let p = err_from_is_err_and c.from_residual-in_err-level.result c.from_residual-in_err-level.ensures.1 in
@@ -40,17 +66,17 @@ returns-in_err-level-clause-fault g t c = λ steady.
 pub returns-then-eq-clause-tree : goal.returns-then-eq-clause-tree
 returns-then-eq-clause-tree g t c = λ steady.
     let leaf : c.in-Some.view.level ≡ Leaf = sym c.in_ok-level.ensures.level ∙ search rules in
-    subst (λ (counts : TreeCounts). IsTree (pages_seen c.args.pager.now.state) c.args.table.now.root counts.levels c.args.low c.args.high c.args.n) (sym c.counts_of_page.ensures)
+    subst (λ (counts : TreeCounts). IsTree (pages_seen c.args.pager.now.state) c.args.table.now.root counts.levels c.args.low c.args.high c.args.n) (sym c.counts_of_page-then-eq.ensures)
     (leaf_tree c.args.pager.now.state c.header-header.result c.header-header.ensures.value c.header-header.ensures.sound c.args.n c.in_ok-page.page
     (c.in_ok-page.ensures.page steady) c.in_ok-page.ensures.long c.args.table.now.root c.args.depth c.args.low c.args.high (c.requires.met steady)
     c.in-Some.view c.in-Some.ensures.found c.in-Some.ensures.header c.in_ok-level.ensures.head leaf)
 
 pub returns-then-eq-clause-counts : goal.returns-then-eq-clause-counts
 returns-then-eq-clause-counts g t c = λ steady.
-    subst (λ (counts : TreeCounts). AreCounts (pages_seen c.args.pager.now.state) counts.levels c.args.n counts.rows counts.pages) (sym c.counts_of_page.ensures)
+    subst (λ (counts : TreeCounts). AreCounts (pages_seen c.args.pager.now.state) counts.levels c.args.n counts.rows counts.pages) (sym c.counts_of_page-then-eq.ensures)
     (leaf_counts c.args.pager.now.state c.header-header.result c.header-header.ensures.value c.header-header.ensures.sound c.args.n c.in_ok-page.page
     (c.in_ok-page.ensures.page steady) c.in_ok-page.ensures.long c.args.table.now.root c.args.depth c.args.low c.args.high (c.requires.met steady)
-    c.in-Some.view c.in-Some.ensures.found c.in-Some.ensures.header c.from.result (search rules) (search rules))
+    c.in-Some.view c.in-Some.ensures.found c.in-Some.ensures.header c.from-then-eq.result (search rules) (search rules))
 
 pub returns-in_default-child_within-clause-fault : goal.returns-in_default-child_within-clause-fault
 returns-in_default-child_within-clause-fault g t c = λ steady.
@@ -227,7 +253,7 @@ returns-then-eq-clause-rows g t c = λ steady.
     c.in-Some.view c.in-Some.ensures.found c.in-Some.ensures.header in
     let rows = subst (λ (p : Pages). AreRowsIn p c.args.table.now c.in-Some.view.at (c.header-header.result.pages * c.header-header.result.page_size) c.in-Some.view.page) (same_pages _ _ read)
     (c.in_ok-check_rows.ensures.rows (still_steady _ _ read steady)) in
-    subst (λ (counts : TreeCounts). All (HoldsRow (pages_seen c.args.pager.now.state) c.args.table.now) (places_under (pages_seen c.args.pager.now.state) Table counts.levels c.args.n)) (sym c.counts_of_page.ensures)
+    subst (λ (counts : TreeCounts). All (HoldsRow (pages_seen c.args.pager.now.state) c.args.table.now) (places_under (pages_seen c.args.pager.now.state) Table counts.levels c.args.n)) (sym c.counts_of_page-then-eq.ensures)
     (held_leaf (pages_seen c.args.pager.now.state) c.args.table.now c.args.n _ _ _ seen rows)
 
 pub returns-clause-rows : goal.returns-clause-rows
