@@ -1,7 +1,7 @@
 //! Serial types: how long a field's body is, and the value that it stands for. (Database File Format, section 2.1)
-ghost use Rattle.std.specs.Prelude.{◌≡◌, length, IfOk, IfErr};
+ghost use Rattle.std.specs.Prelude.{◌≡◌, ◌≤◌, length, IfOk, IfErr};
 ghost use Rattle.values.specs.Datum.{datum_of_ref};
-ghost use Rattle.records.specs.Serial.{body_len, IsField, BreaksField, BeginsField, BreaksFront};
+ghost use Rattle.records.specs.Serial.{big_endian, body_len, IsField, BreaksField, BeginsField, BreaksFront};
 
 use crate::fault::RecordFault;
 use byteorder::{BigEndian, ByteOrder};
@@ -21,6 +21,25 @@ pub(crate) fn len_of(serial: i64) -> usize
     }
 }
 
+/// The number that a body is, the most significant byte first, in two's complement. Each length stands apart, so that it
+/// is a constant where the bytes are read.
+#[inline(always)]
+fn number(body: &[u8]) -> i64
+    requires low { 1 ≤ length body.now }
+    requires high { length body.now ≤ 8 }
+    ensures { result ≡ big_endian body.now }
+{
+    match body.len() {
+        1 => BigEndian::read_int(body, 1),
+        2 => BigEndian::read_int(body, 2),
+        3 => BigEndian::read_int(body, 3),
+        4 => BigEndian::read_int(body, 4),
+        6 => BigEndian::read_int(body, 6),
+        8 => BigEndian::read_int(body, 8),
+        len => BigEndian::read_int(body, len),
+    }
+}
+
 /// The value that a body of this type is.
 #[inline(always)]
 fn field(serial: i64, body: &[u8]) -> Result<ValueRef<'_>, RecordFault>
@@ -30,7 +49,7 @@ fn field(serial: i64, body: &[u8]) -> Result<ValueRef<'_>, RecordFault>
 {
     match serial {
         0 => Ok(ValueRef::Null),
-        1..=6 => Ok(ValueRef::Int(BigEndian::read_int(body, body.len()))),
+        1..=6 => Ok(ValueRef::Int(number(body))),
         7 => Err(RecordFault::Float),
         8 => Ok(ValueRef::Int(0)),
         9 => Ok(ValueRef::Int(1)),

@@ -1,5 +1,5 @@
 -- Writes one after another.
-use Rattle.std.proofs.Common.{refl, ◌≡◌, ℕ, zero, suc, ◌+◌, List, [], ◌∷◌, ◌++◌, take, drop, Option, Some, None, ap, append_assoc, append-nil, suc-add, zero-add, Result, Ok, Err, sym, ◌∙◌, ◌<◌, get_or, length, ◌-◌, arith}
+use Rattle.std.proofs.Common.{refl, ◌≡◌, ℕ, zero, suc, ◌+◌, List, [], ◌∷◌, ◌++◌, take, drop, Option, Some, None, ap, append_assoc, append-nil, suc-add, zero-add, Result, Ok, Err, sym, ◌∙◌, subst, ◌<◌, get_or, length, ◌-◌, arith}
 use Rattle.std.proofs.lemmas.Grind.{common_steps}
 use Rattle.std.proofs.lemmas.List.{take_rest, take-append-drop}
 use Rattle.std.proofs.Math.Seq.{take-nil}
@@ -59,6 +59,13 @@ module _ {T : Type 0} where
     };
     failures = λ is same. second.failures is (same ∙ sym first.failures);
   }
+
+  -- what is left of a text goes behind a piece that was taken
+  pub Writes-more : (text : List ℕ) (n : ℕ) (r : Result T Fault) (a b c : SinkFacts) → Appends a.written b.written (take n text)
+      → b.failures ≡ a.failures → Writes (take (length text - n) (drop n text)) r b c → Writes text r a c
+  Writes-more text n r a b c piece same rest =
+      subst (λ (t : List ℕ). Writes t r a c) (take-append-drop n text)
+      (Writes-then {U = Unit {0}} tt r (take n text) (drop n text) a b c (record { written = piece; failures = same }) (rw (take_rest text n) at rest))
 
   -- a failure within the first is one within both
   pub Writes-cut : {U : Type 0} (e : Fault) (xs ys : List ℕ) (a b : SinkFacts)

@@ -82,7 +82,7 @@ impl<S: Sink> Sink for Gathered<S> {
 
     ghost facts = { gathered_facts };
 
-    #[inline]
+    #[inline(always)]
     fn write(&mut self, piece: &[u8]) -> Result<usize, SinkFault> {
         if piece.len() > HELD_MOST - self.held.len() {
             self.hand_on()?;

@@ -45,14 +45,29 @@ pub(crate) fn write_front<S: Sink>(out: &mut S, text: &[u8]) -> (usize, Result<(
     (done, Ok(()))
 }
 
-/// Writes the whole text. Its one fault is `WriteFailed`, after a beginning of the text.
-#[inline]
-pub fn write_all<S: Sink>(out: &mut S, text: &[u8]) -> Result<(), Fault>
+/// Writes the whole text piece by piece.
+#[cold]
+#[inline(never)]
+fn write_pieces<S: Sink>(out: &mut S, text: &[u8]) -> Result<(), Fault>
     ensures only { IfErr result (λ e. e ≡ Fault.WriteFailed) }
     ensures writes { Writes text.now result (S.facts out.old) (S.facts out.new) }
 {
     match write_front(out, text) {
         (_, Ok(())) => Ok(()),
         (_, Err(_)) => Err(Fault::WriteFailed),
+    }
+}
+
+/// Writes the whole text. Its one fault is `WriteFailed`, after a beginning of the text.
+#[inline(always)]
+pub fn write_all<S: Sink>(out: &mut S, text: &[u8]) -> Result<(), Fault>
+    ensures only { IfErr result (λ e. e ≡ Fault.WriteFailed) }
+    ensures writes { Writes text.now result (S.facts out.old) (S.facts out.new) }
+{
+    // Most sinks take most texts at once.
+    match out.write(text) {
+        Ok(taken) if taken == text.len() => Ok(()),
+        Ok(taken) => write_pieces(out, &text[taken..]),
+        Err(_) => Err(Fault::WriteFailed),
     }
 }

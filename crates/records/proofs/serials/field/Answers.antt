@@ -6,5 +6,5 @@ use Rattle.records.proofs.serials.field.Goals as goal
 
 pub returns-in-1-to-6-clause-found : goal.returns-in-1-to-6-clause-found
 returns-in-1-to-6-clause-found c =
-    let f : SFits w64 c.read_int.result = search rules in
-    is_int (omega (arith, ints)) (omega (arith, ints)) c.requires (rw (to_z-of_z w64 c.read_int.result f) (ap int c.read_int.ensures))
+    let f : SFits w64 c.number.result = search rules in
+    is_int (omega (arith, ints)) (omega (arith, ints)) c.requires (rw (to_z-of_z w64 c.number.result f) (ap int c.number.ensures))

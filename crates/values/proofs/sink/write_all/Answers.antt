@@ -1,8 +1,6 @@
-use Rattle.values.proofs.SinkLemmas.{Writes-front}
+use Rattle.values.proofs.SinkLemmas.{Writes-more}
 use Rattle.values.proofs.sink.write_all.Goals as goal
 
-pub returns-in_default-Err-clause-writes : goal.returns-in_default-Err-clause-writes
-returns-in_default-Err-clause-writes g c = record {
-  written = Writes-front _ _ _ _ c.write_front.ensures.writes.written;
-  failures = λ _. rw c.in_default-Err.is-1 at c.write_front.ensures.writes.failures;
-}
+pub returns-in-Ok-2-clause-writes : goal.returns-in-Ok-2-clause-writes
+returns-in-Ok-2-clause-writes g c =
+    Writes-more c.args.text.now c.in-Ok.taken _ _ _ _ c.in-Ok.ensures.takes.0 c.in-Ok.ensures.takes.1 c.write_pieces.ensures.writes
