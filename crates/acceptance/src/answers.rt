@@ -69,6 +69,10 @@ fn answers(rt: HostRuntime) -> Result<(), Fail> {
             "1,'bolt',40\n2,'nut',NULL\n3,'cap',7\n4,'nut',7\n",
         ),
         ("SELECT ID, Id FROM \"Item\"", "1,1\n2,2\n3,3\n4,4\n"),
+        (
+            "SELECT qty, name, qty, id FROM item",
+            "40,'bolt',40,1\nNULL,'nut',NULL,2\n7,'cap',7,3\n7,'nut',7,4\n",
+        ),
         ("SELECT n, item FROM sale", "5,1\n2,3\n9,3\n1,9\n"),
         ("SELECT item FROM gift", ""),
     ];
@@ -100,6 +104,7 @@ fn headers(rt: HostRuntime) -> Result<(), Fail> {
             "SELECT * FROM item",
             "'id','name','qty'\n1,'bolt',40\n2,'nut',NULL\n3,'cap',7\n4,'nut',7\n",
         ),
+        ("SELECT (Id) FROM item", "'id'\n1\n2\n3\n4\n"),
         ("SELECT ITEM FROM gift", "'item'\n"),
     ];
     for (sql, text) in rows {
@@ -121,7 +126,15 @@ fn statements_that_are_refused(rt: HostRuntime) -> Result<(), Fail> {
         ("SELECT price FROM item", "fault 32: UnknownColumn\n"),
         ("SELECT name, n FROM sale", "fault 32: UnknownColumn\n"),
         ("SELECT name FROM sqlite_schema", "fault 29: NotYet\n"),
+        ("SELECT price AS p FROM other", "fault 29: NotYet\n"),
+        ("SELECT 1", "fault 29: NotYet\n"),
         ("SELECT 1 FROM item", "fault 29: NotYet\n"),
+        ("SELECT name AS id FROM item", "fault 29: NotYet\n"),
+        ("SELECT item.name FROM item", "fault 29: NotYet\n"),
+        ("SELECT item.* FROM item", "fault 29: NotYet\n"),
+        ("SELECT *, name FROM item", "fault 29: NotYet\n"),
+        ("SELECT qty + 1 FROM item", "fault 29: NotYet\n"),
+        ("SELECT qty FROM item WHERE qty = 7", "fault 29: NotYet\n"),
         ("SELECT name FROM item, sale", "fault 29: NotYet\n"),
         ("", "fault 29: NotYet\n"),
     ];

@@ -1,5 +1,5 @@
 //! The rows of a table, written one by one as they are read.
-ghost use Rattle.std.specs.Prelude.{◌≡◌, ◌≢◌, ◌⊎◌, ◌+◌, ◌<◌, ◌≤◌, ◌∷◌, [], drop, ℕ, All, IfErr, IfOk, IfSome, IsTrue, List, MatchResult, None, length, map, option_map};
+ghost use Rattle.std.specs.Prelude.{◌≡◌, ◌≢◌, ◌⊎◌, ◌+◌, ◌<◌, ◌≤◌, ◌∷◌, [], drop, ℕ, All, IfErr, IfNone, IfOk, IfSome, IsTrue, List, MatchResult, None, length, map, option_map};
 ghost use Rattle.std.specs.Io.KnownBytes.{Appends};
 ghost use Rattle.values.specs.Datum.{datum_of_ref};
 ghost use Rattle.values.specs.Fault.{Counts};
@@ -154,6 +154,7 @@ fn row_at(cursor: &Cursor) -> Result<Option<Cell<'_>>, Fault>
     ensures entry { (image : Pages) (places : List Place) (asked budget : ℕ) → IsAt image cursor.now places asked budget
         → MatchResult result (λ found. IsEntry image places (option_map cell_data found)) (λ e. ⊥) }
     ensures left { IfOk result (λ found. IfSome found (λ cell. 0 < steps_left cursor.now)) }
+    ensures end { IfOk result (λ found. IfNone found (steps_left cursor.now ≡ 0)) }
     ensures only { IfErr result (λ e. e ≡ Fault.Changed) }
 {
     let Ok(found) = cursor.entry() else {
