@@ -1,5 +1,5 @@
 -- What a cursor gives.
-use Rattle.std.proofs.Common.{◌≡◌, ◌<◌, ◌≤◌, ℕ, List, None, Some, refl, sym, subst}
+use Rattle.std.proofs.Common.{◌<◌, ◌≤◌, ℕ, List, None, Some, refl, sym, subst}
 use Rattle.image.specs.Cell.{CellData}
 use Rattle.image.specs.Pages.{Pages}
 use Rattle.image.specs.Shape.{place_at}

@@ -1,10 +1,9 @@
 -- Fields that are still to be read: those of a record, and what one step leaves of them.
-use Rattle.std.proofs.Common.{◌≡◌, ◌≢◌, ℕ, ◌+◌, ◌<◌, ◌≤◌, ℤ, pos, List, [], ◌∷◌, ◌++◌, length, take, drop, refl, sym, ap, subst, ◌∙◌, arith}
+use Rattle.std.proofs.Common.{◌≡◌, ℕ, ◌<◌, ◌≤◌, ℤ, List, [], ◌∷◌, ◌++◌, length, take, drop, refl, sym, ap, subst, ◌∙◌, arith}
 use Rattle.std.specs.Prelude.{◌↔◌}
 use Rattle.std.proofs.lemmas.List.{length-append, length-take, take-append-drop}
 use Rattle.values.specs.Datum.{Datum}
 use Rattle.records.specs.declared.fault.RecordFault.{RecordFault}
-use Rattle.records.specs.declared.fault.RecordFault.TheVariants.{Bad, Float, Text, NoMemory}
 use Rattle.records.specs.Varint.{BeginsVarint, EndsInside}
 use Rattle.records.specs.Serial.{IsField, BeginsField, BreaksFront, body_len}
 use Rattle.records.specs.Record.{AreBodies, AreTypes, IsRecord, SplitsHeader}

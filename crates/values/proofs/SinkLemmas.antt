@@ -1,6 +1,5 @@
 -- Writes one after another.
 use Rattle.std.proofs.Common.{refl, ◌≡◌, ℕ, zero, suc, ◌+◌, List, [], ◌∷◌, ◌++◌, take, drop, Option, Some, None, ap, append_assoc, append-nil, suc-add, zero-add, Result, Ok, Err, sym, ◌∙◌, subst, ◌<◌, get_or, length, ◌-◌, arith}
-use Rattle.std.proofs.lemmas.Grind.{common_steps}
 use Rattle.std.proofs.lemmas.List.{take_rest, take-append-drop}
 use Rattle.std.proofs.Math.Seq.{take-nil}
 use Rattle.std.specs.List.{flat_map}

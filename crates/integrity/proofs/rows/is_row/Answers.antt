@@ -1,5 +1,4 @@
-use Rattle.std.proofs.Common.{◌<◌, ◌≡◌, length, refl, subst, rules, arith}
-use Rattle.integrity.specs.Stored.{FitsColumn}
+use Rattle.std.proofs.Common.{◌<◌, ◌≡◌, length, refl, subst, rules}
 use Rattle.integrity.proofs.RowLemmas.{get_at}
 use Rattle.integrity.proofs.ReadingLemmas.{all_read, none_read, one_more, FirstFit}
 use Rattle.integrity.proofs.rows.is_row.Goals as goal

@@ -1,4 +1,3 @@
-use Rattle.integrity.specs.Reading.{IsReading}
 use Rattle.integrity.proofs.row_reader.RowReader.go_back.Goals as goal
 
 pub returns-in_default-clause-none : goal.returns-in_default-clause-none

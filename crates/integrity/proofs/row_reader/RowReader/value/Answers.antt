@@ -1,6 +1,6 @@
-use Rattle.std.proofs.Common.{◌≡◌, ◌≤◌, ◌<◌, ◌+◌, ◌-◌, ◌∙◌, ap, arith, refl, rules, sym, None, Some}
+use Rattle.std.proofs.Common.{◌≤◌, ◌<◌, ◌-◌, ◌∙◌, ap, arith, refl, rules, sym}
 use Rattle.values.specs.Datum.{datum_of_ref}
-use Rattle.integrity.specs.Reading.{IsReading, Reading}
+use Rattle.integrity.specs.Reading.{Reading}
 use Rattle.integrity.proofs.ReadingLemmas.{IsStoredAt, not_passed, not_read, value_read}
 use Rattle.integrity.proofs.row_reader.RowReader.value.Goals as goal
 

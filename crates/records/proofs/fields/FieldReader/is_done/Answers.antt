@@ -1,5 +1,4 @@
-use Rattle.std.proofs.Common.{◌≡◌, Bool, eqb, length, refl, subst, sym, ◌∙◌, ap}
-use Rattle.std.specs.Prelude.{IsTrue}
+use Rattle.std.proofs.Common.{refl}
 use Rattle.records.proofs.ListLemmas.{empty}
 use Rattle.records.proofs.UnreadLemmas.{all_read, none_unread}
 use Rattle.records.proofs.fields.FieldReader.is_done.Goals as goal

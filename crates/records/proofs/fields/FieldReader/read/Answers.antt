@@ -1,4 +1,4 @@
-use Rattle.std.proofs.Common.{ℤ, sym, subst, rules, refl, w64, SFits}
+use Rattle.std.proofs.Common.{ℤ, subst, rules, refl, w64, SFits}
 use Rattle.std.proofs.lemmas.Int.{to_z-of_z}
 use Rattle.std.proofs.lemmas.List.{take_rest}
 use Rattle.values.specs.Datum.{datum_of_ref}

@@ -1,6 +1,5 @@
-use Rattle.std.proofs.Common.{◌≡◌, ◌+◌, ◌≤◌, ◌<◌, drop, length, refl, subst, arith, ap}
+use Rattle.std.proofs.Common.{drop, length, refl, arith, ap}
 use Rattle.std.proofs.lemmas.List.{drop-drop, length-drop}
-use Rattle.records.specs.Fields.{AreUnread}
 use Rattle.records.proofs.fields.FieldReader.skip.Goals as goal
 
 pub returns-then-not-skip_one-clause-none : goal.returns-then-not-skip_one-clause-none
