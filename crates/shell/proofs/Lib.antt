@@ -2,3 +2,4 @@ pub mod RowLemmas
 pub mod StreamLemmas
 pub mod RunLemmas
 pub mod NameLemmas
+pub mod ServedLemmas

@@ -3,3 +3,4 @@ pub mod Stream
 pub mod State
 pub mod Answer
 pub mod Prepared
+pub mod Served

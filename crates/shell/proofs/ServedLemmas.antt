@@ -1,0 +1,37 @@
+-- What is written behind the line of names, and what a gathering sink hands on.
+use Rattle.std.proofs.Common.{◌∙◌, ◌++◌, ℕ, Bool, List, [], Option, None, Some, Ok, ap, append-nil, option_map}
+use Rattle.std.specs.Io.KnownBytes.{Appends}
+use Rattle.values.specs.Gathered.{Gathering, gathered_facts}
+use Rattle.values.specs.Sink.{SinkFacts, Writes}
+use Rattle.values.proofs.SinkLemmas.{Appends-then}
+use Rattle.schema.specs.TableData.{TableData}
+use Rattle.resolver.specs.Resolved.{ResolvedData}
+use Rattle.shell.specs.Answer.{Answers}
+use Rattle.shell.specs.Served.{HasLines, header_text}
+
+module _ (image : List ℕ) (tables : List TableData) (prepared : ResolvedData) (header : Bool) where
+  -- the rows go behind the line of names
+  pub lines_are : (u : Unit {0}) (counted : ℕ) (old mid new : SinkFacts) → Writes (header_text header prepared.names) (Ok u) old mid
+      → Answers image tables prepared.query counted mid new → HasLines image tables prepared header old new
+  lines_are u counted old mid new names answers = record {
+    rows = answers.rows;
+    permitted = answers.permitted;
+    written = Appends-then _ _ _ _ _ names.written answers.prints.written;
+  }
+
+  handed_on : (a b c : Option (List ℕ)) (held text : List ℕ) → Appends (option_map (λ bytes. bytes ++ []) a) (option_map (λ bytes. bytes ++ held) b) text
+      → Appends b c held → Appends a c text
+  handed_on None b c held text wrote handed = tt
+  handed_on (Some a) None c held text wrote handed = absurd wrote
+  handed_on (Some a) (Some b) None held text wrote handed = absurd handed
+  handed_on (Some a) (Some b) (Some c) held text wrote handed = handed ∙ wrote ∙ ap (λ t. t ++ text) (append-nil a)
+
+  -- what was gathered is handed on
+  pub lines_handed : (old new : SinkFacts) (gathered : Gathering)
+      → HasLines image tables prepared header (gathered_facts (record { inner = old; held = [] })) (gathered_facts gathered)
+      → Appends gathered.inner.written new.written gathered.held → HasLines image tables prepared header old new
+  lines_handed old new gathered lines handed = record {
+    rows = lines.rows;
+    permitted = lines.permitted;
+    written = handed_on _ _ _ gathered.held _ lines.written handed;
+  }
