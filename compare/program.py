@@ -2,6 +2,7 @@
 
 from __future__ import annotations
 
+import os
 import re
 import resource
 import subprocess
@@ -91,8 +92,10 @@ def rows_of(output: bytes) -> list[bytes] | None:
 
 
 def build() -> None:
-    """Proves and builds the program and runs it once. Where that fails, nothing is compared."""
-    words = ["rt", "run", "--", "data/shop.db", "SELECT name FROM item"]
+    """Proves and builds the program, unless BUILT tells that this was just done, and runs it once. Where that fails, nothing
+    is compared."""
+    command = [str(PROGRAM)] if os.environ.get("BUILT") else ["rt", "run", "--"]
+    words = [*command, "data/shop.db", "SELECT name FROM item"]
     built = subprocess.run(words, cwd=CRATE, stdin=subprocess.DEVNULL, capture_output=True, check=False)
     if built.returncode != 0:
         sys.stdout.write(built.stdout.decode(errors="replace") + built.stderr.decode(errors="replace"))
