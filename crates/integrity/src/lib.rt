@@ -4,10 +4,10 @@
 //! have; and that a fault's condition is broken. `NotYet` comes only where the schema has more than one page, or says what
 //! isn't served.
 //!
-//! The modules, in the order in which data passes them: `keys` (the keys of one page), `row_reader`
-//! (single values of a row), `rows` (a record as a row, and the rows of a leaf), `leaf` (a whole leaf, each cell of which is
-//! read once), `walk` (a table's tree, from its root down), `trees` (those of all tables, and the schema's rows) and
-//! `checked` (the whole image).
+//! The modules, in the order in which data passes them: `keys` (the keys of one page), `row_reader` (single values of a
+//! row), `rows` (a record as a row, and the rows of a leaf), `leaf` (a whole leaf, each cell of which is read once), `walk`
+//! (a table's tree, from its root down), `trees` (those of all tables, and the schema's rows) and `checked` (the whole
+//! image).
 #![tactic(auto)]
 
 mod checked;
