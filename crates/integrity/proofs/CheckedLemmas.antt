@@ -10,7 +10,7 @@ use Rattle.image.specs.Shape.{places_under}
 use Rattle.image.specs.Sound.{AreRowsOf}
 use Rattle.image.specs.Tree.{IsPlaceOf, Place}
 use Rattle.image.proofs.TableLemmas.{rows_of}
-use Rattle.meaning.specs.Body.{Row}
+use Rattle.values.specs.Row.{Row}
 use Rattle.schema.specs.Rows.{AreTables, SaysTable}
 use Rattle.schema.specs.TableData.{TableData, schema_table}
 use Rattle.integrity.specs.declared.walk.TreeCounts.{TreeCounts}

@@ -17,7 +17,7 @@ use Rattle.image.specs.Tree.{IsPageOf, Place, top, count_at}
 use Rattle.image.proofs.ShapeLemmas.{not_both}
 use Rattle.image.proofs.TableLemmas.{rows_of}
 use Rattle.btree.specs.Bytes as bytes
-use Rattle.meaning.specs.Body.{Row}
+use Rattle.values.specs.Row.{Row}
 use Rattle.schema.specs.TableData.{schema_table}
 use Rattle.integrity.specs.Checked.{HasCause, IsBeyond, IsCheckedTree, levels, schema}
 use Rattle.integrity.specs.RowFaults.{AreLeafRows, IsRowsFault, LacksCell}

@@ -9,7 +9,7 @@ use Rattle.image.specs.Pages.{Pages}
 use Rattle.image.specs.Shape.{HasShape, places_under}
 use Rattle.image.specs.Sound.{IsSoundTable}
 use Rattle.image.specs.Tree.{Place, IsPageOf, IsPlaceOf}
-use Rattle.meaning.specs.Body.{Row}
+use Rattle.values.specs.Row.{Row}
 use Rattle.schema.specs.Rows.{AreTables, SaysTable}
 use Rattle.schema.specs.TableData.{TableData, schema_table}
 use Rattle.integrity.specs.declared.walk.TreeCounts.{TreeCounts}

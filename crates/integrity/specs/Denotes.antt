@@ -2,7 +2,8 @@
 use Rattle.std.specs.Prelude.{ℕ, ◌<◌, All, List}
 use Rattle.std.specs.List.{AllZip}
 use Rattle.image.specs.Pages.{pages_of, Pages}
-use Rattle.meaning.specs.Body.{Row, Database}
+use Rattle.values.specs.Row.{Row}
+use Rattle.values.specs.Database.{Database}
 use Rattle.schema.specs.Rows.{AreTables}
 use Rattle.schema.specs.TableData.{TableData, schema_table}
 use Rattle.integrity.specs.Stored.{Fits, HoldsRows, IsStored}

@@ -14,7 +14,7 @@ use Rattle.image.specs.Layout.{cell_count}
 use Rattle.image.specs.Pages.{Pages}
 use Rattle.image.specs.Tree.{Place, IsPlaceOf, IsRowAt}
 use Rattle.btree.specs.Bytes as bytes
-use Rattle.meaning.specs.Body.{Row}
+use Rattle.values.specs.Row.{Row}
 use Rattle.schema.specs.TableData.{TableData}
 use Rattle.integrity.specs.Stored.{Fits, IsRowOf}
 

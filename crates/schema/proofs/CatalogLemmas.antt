@@ -5,7 +5,7 @@ use Rattle.std.proofs.lemmas.List.{map_push, take_all, take_more}
 use Rattle.std.specs.List.{AllZip, Any}
 use Rattle.values.specs.declared.fault.Fault.{Fault}
 use Rattle.values.specs.declared.fault.Fault.TheVariants as f
-use Rattle.meaning.specs.Body.{Row}
+use Rattle.values.specs.Row.{Row}
 use Rattle.sql_reader.proofs.StatementLemmas.{one_create}
 use Rattle.sql_reader.specs.CreateGrammar.{SpellsCreate}
 use Rattle.sql_reader.specs.Texts.{IsRefused, IsWithin, max_columns}

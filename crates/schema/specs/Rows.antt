@@ -2,7 +2,7 @@
 use Rattle.std.specs.Prelude.{◌≡◌, ℕ, ℤ, pos, ◌≤◌, List, [], ◌∷◌, codes, map}
 use Rattle.std.specs.List.{AllZip}
 use Rattle.values.specs.Datum.{int, text}
-use Rattle.meaning.specs.Body.{Row}
+use Rattle.values.specs.Row.{Row}
 use Rattle.sql_reader.specs.CreateGrammar.{SpellsCreate}
 use Rattle.sql_reader.specs.Texts.{IsWithin}
 use Rattle.sql_reader.specs.Tree.{Name, TableTree, columns_of_table}

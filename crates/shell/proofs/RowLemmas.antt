@@ -12,7 +12,8 @@ use Rattle.image.specs.Cell.{PayloadData}
 use Rattle.image.specs.Chain.{HasBytes}
 use Rattle.image.specs.Pages.{Pages}
 use Rattle.image.proofs.ChainLemmas.{one_payload}
-use Rattle.meaning.specs.Body.{Row, value_at}
+use Rattle.values.specs.Row.{Row}
+use Rattle.meaning.specs.Body.{value_at}
 use Rattle.shell.specs.Stream.{shown}
 
 -- one column more

@@ -16,7 +16,8 @@ use Rattle.pager.specs.Source.{SourceFacts}
 use Rattle.image.specs.Pages.{pages_in, pages_of}
 use Rattle.btree.specs.Rest.{pages_seen}
 use Rattle.meaning.specs.Query.{IsTermOf, IsTyped, column}
-use Rattle.meaning.specs.Body.{Row, term_values, value_at}
+use Rattle.values.specs.Row.{Row}
+use Rattle.meaning.specs.Body.{term_values, value_at}
 use Rattle.meaning.specs.Answer.{Begins, Permits}
 use Rattle.meaning.proofs.AnswerLemmas.{Begins-scan, scan_permitted}
 use Rattle.schema.specs.TableData.{TableData}

@@ -16,7 +16,7 @@ use Rattle.image.specs.Tree.{IsRowAt, Place}
 use Rattle.btree.specs.declared.cursor.Cursor.{Cursor}
 use Rattle.btree.specs.Listing.{IsAt, IsEntry}
 use Rattle.btree.specs.Rest.{pages_seen}
-use Rattle.meaning.specs.Body.{Row}
+use Rattle.values.specs.Row.{Row}
 use Rattle.schema.specs.TableData.{TableData}
 use Rattle.integrity.specs.Stored.{IsRowOf, IsStored, StoresRow}
 use Rattle.explain.specs.Text.{row_text, rows_text}

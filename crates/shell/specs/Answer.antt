@@ -5,7 +5,8 @@ use Rattle.values.specs.Sink.{SinkFacts}
 use Rattle.values.specs.declared.fault.Fault.{Fault}
 use Rattle.values.specs.declared.fault.Fault.TheVariants.{Changed, Overflow}
 use Rattle.meaning.specs.Query.{QueryData, column, table}
-use Rattle.meaning.specs.Body.{Database, Row}
+use Rattle.values.specs.Row.{Row}
+use Rattle.values.specs.Database.{Database}
 use Rattle.meaning.specs.Answer.{Begins, Hits, IsStandIn, Permits}
 use Rattle.schema.specs.TableData.{TableData}
 use Rattle.integrity.specs.Denotes.{Denotes}

@@ -12,7 +12,7 @@ ghost use Rattle.integrity.specs.Denotes.{HasTables};
 ghost use Rattle.shell.specs.Prepared.{IsUnserved, Means, Refuses};
 ghost use Rattle.values.specs.Fault.{Counts};
 ghost use Rattle.image.specs.Pages.{pages_of};
-ghost use Rattle.meaning.specs.Body.{Row};
+ghost use Rattle.values.specs.Row.{Row};
 ghost use Rattle.meaning.specs.Query.{table};
 ghost use Rattle.schema.specs.TableData.{TableData};
 ghost use Rattle.integrity.specs.Stored.{IsStored};

@@ -3,7 +3,7 @@ ghost use Rattle.std.specs.Prelude.{◌≡◌, ◌⊎◌, ◌-◌, ◌<◌, ◌�
 ghost use Rattle.values.specs.Fault.{Counts};
 ghost use Rattle.pager.specs.PagerState.{Stays};
 ghost use Rattle.image.specs.Pages.{pages_of};
-ghost use Rattle.meaning.specs.Body.{Row};
+ghost use Rattle.values.specs.Row.{Row};
 ghost use Rattle.meaning.specs.Query.{IsTyped};
 ghost use Rattle.schema.specs.TableData.{TableData};
 ghost use Rattle.integrity.specs.Stored.{IsStored};

@@ -12,7 +12,7 @@ ghost use Rattle.btree.specs.Left.{steps_left};
 ghost use Rattle.btree.specs.Listing.{IsAt, IsEntry};
 ghost use Rattle.btree.specs.Rest.{pages_seen};
 ghost use Rattle.btree.specs.Views.{cell_data, payload_data};
-ghost use Rattle.meaning.specs.Body.{Row};
+ghost use Rattle.values.specs.Row.{Row};
 ghost use Rattle.explain.specs.Text.{row_text};
 ghost use Rattle.integrity.specs.Stored.{IsRowOf, IsRowRecord, IsStored};
 ghost use Rattle.shell.specs.Stream.{IsUnchained, Streams, StreamsUntil, cells_of, shown, size_of};

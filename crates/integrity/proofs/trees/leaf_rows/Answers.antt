@@ -10,7 +10,7 @@ use Rattle.btree.specs.Bytes as bytes
 use Rattle.btree.specs.Rest.{pages_seen}
 use Rattle.btree.specs.Views.{cell_data}
 use Rattle.btree.proofs.SeenLemmas.{same_pages, still_steady}
-use Rattle.meaning.specs.Body.{Row}
+use Rattle.values.specs.Row.{Row}
 use Rattle.integrity.specs.RowFaults.{IsCellFault, IsRowFault}
 use Rattle.integrity.specs.Stored.{IsRowOf}
 use Rattle.integrity.specs.Walked.{IsWalkFault}

@@ -3,7 +3,7 @@ use Rattle.image.specs.Cell.{CellData}
 use Rattle.pager.specs.PagerState.{Stays}
 use Rattle.btree.specs.Bytes as bytes
 use Rattle.btree.specs.Rest.{pages_seen}
-use Rattle.meaning.specs.Body.{Row}
+use Rattle.values.specs.Row.{Row}
 use Rattle.integrity.specs.Stored.{IsRowOf}
 use Rattle.integrity.proofs.trees.leaf_rows.Given as goal
 
