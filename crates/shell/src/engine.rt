@@ -4,9 +4,9 @@ ghost use Rattle.std.specs.NonZero.{non_zero_usize_get};
 ghost use Rattle.pager.specs.Header.{IsLeastBroken, KeepsAll};
 ghost use Rattle.pager.specs.Source.{ChangesCount};
 ghost use Rattle.sql_reader.specs.SelectTexts.{SpellsSelect};
-ghost use Rattle.sql_reader.specs.SelectTrees.{columns_of_select};
-ghost use Rattle.sql_reader.specs.SelectView.{select_of};
-ghost use Rattle.sql_reader.specs.Texts.{IsWithin};
+ghost use Rattle.syntax.specs.SelectTrees.{columns_of_select};
+ghost use Rattle.syntax.specs.SelectView.{select_of};
+ghost use Rattle.phrases.specs.Texts.{IsWithin};
 ghost use Rattle.integrity.specs.Checked.{HasCause, IsBrokenImage};
 ghost use Rattle.integrity.specs.Denotes.{HasTables};
 ghost use Rattle.shell.specs.Prepared.{IsUnserved, Means, Refuses};
@@ -25,10 +25,11 @@ use crate::{Prepared, Report};
 use integrity::{Checked, check};
 use pager::{Pager, Source};
 use resolver::resolve;
-use sql_reader::{Select, read_select};
+use sql_reader::read_select;
 use std::alloc::Global;
 use std::marker::Model;
 use std::num::NonZeroUsize;
+use syntax::Select;
 use values::{Fault, Sink};
 
 /// An image that was checked whole, and its tables.
