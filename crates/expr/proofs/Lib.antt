@@ -6,3 +6,6 @@ pub mod LikeLemmas
 pub mod ColumnLemmas
 pub mod SameLemmas
 pub mod TypeLemmas
+pub mod TermTypeLemmas
+pub mod BagLemmas
+pub mod FilledLemmas

@@ -1,10 +1,10 @@
 -- The value of a typed expression has its type.
-use Rattle.std.proofs.Common.{◌≡◌, ℕ, zero, suc, if◌then◌else◌, ℤ, Bool, true, false, List, [], ◌∷◌, Option, Some, None, option_map, refl, subst, slice_get, slice_index_or, unwrap_or}
-use Rattle.std.specs.List.{All, AllZip}
+use Rattle.std.proofs.Common.{◌≡◌, ℕ, zero, suc, if◌then◌else◌, ℤ, Bool, true, false, List, [], ◌∷◌, Option, Some, None, option_map, refl, subst, inl, inr, slice_get, slice_index_or, unwrap_or}
+use Rattle.std.specs.List.{AllZip}
 use Rattle.std.proofs.lemmas.List.Elements.{All-append, All-cons, All-nil}
 use Rattle.std.specs.Option.{IfSome, option_and_then}
 use Rattle.values.specs.declared.value.Ty.{Ty}
-use Rattle.values.specs.declared.value.Ty.TheVariants.{Int, Text}
+use Rattle.values.specs.declared.value.Ty.TheVariants.{Int, Text, Blob, Null}
 use Rattle.values.specs.Datum.{Datum, null, int, text, blob}
 use Rattle.expr.specs.declared.tree.Arithmetic.{Arithmetic}
 use Rattle.expr.specs.declared.tree.Arithmetic.TheVariants.{Add, Sub, Mul, Div, Rem, BitAnd, BitOr}
@@ -14,12 +14,12 @@ use Rattle.expr.specs.declared.tree.Function.TheVariants.{Neg, BitNot, Not, Abs,
 use Rattle.expr.specs.Operations.{settle, fits_64, is_zero, of_integers, arithmetic_of, condition, comparison, concat_of, is_null, unless_true, null_if_equal}
 use Rattle.expr.specs.Functions.{of_int, of_text, length_of, hex_of, call_of}
 use Rattle.expr.specs.Like.{like_of}
-use Rattle.expr.specs.Meaning.{both, and_then, or_else, first_value, chosen, or_otherwise, holds, run, run_first, run_arms}
-use Rattle.expr.specs.Term.{Term, Terms, Arms, literal, column, call, arithmetic, concat, compare, is, and, or, between, among, coalesce, choice, choice_of, null_if, like, none, more, no_arms, arm}
+use Rattle.expr.specs.Meaning.{both, and_then, or_else, first_value, chosen, or_otherwise, holds, eval, run, run_first, run_arms}
+use Rattle.expr.specs.Term.{Term, Terms, Arms, literal, column, call, arithmetic, concat, compare, is, and, or, between, among, coalesce, choice, choice_of, null_if, like, none, answer, more, no_arms, arm}
 use Rattle.expr.specs.Conjuncts.{conjuncts}
-use Rattle.expr.specs.Types.{IsOfType, gives, HasType, HaveType, ArmsHaveTypes, ValuesHaveTypes, EvalHasType, ConjunctsAreTyped, TypesOfExamples}
+use Rattle.expr.specs.Types.{IsOfType, FitsType, FitsAt, gives, HasType, HaveType, ArmsHaveTypes, ValuesHaveTypes, EvalHasType, ConjunctsAreTyped, TypesOfExamples}
 
-abbrev Good : Ty → Option Datum → Type 0
+abbrev pub Good : Ty → Option Datum → Type 0
 Good ty m = IfSome m (IsOfType ty)
 
 good_if : (ty : Ty) (b : Bool) (x y : Option Datum) → Good ty x → Good ty y → Good ty (if b then x else y)
@@ -116,15 +116,36 @@ good_null_if ty (Some x) (Some y) p = unless_keeps ty (comparison _ x y) x p
 
 -- ---- columns
 
-good_column : (columns : List Ty) (row : List Datum) (i : ℕ) (ty : Ty) → AllZip IsOfType columns row → slice_get columns i ≡ Some ty → IsOfType ty (slice_index_or row i null)
-good_column [] row i ty all e = cc
-good_column (c ∷ columns) [] i ty all e = absurd all
-good_column (c ∷ columns) (v ∷ row) zero ty all e = let same : c ≡ ty = cc in subst (λ k. IsOfType k v) same all.0
-good_column (c ∷ columns) (v ∷ row) (suc i) ty all e = good_column columns row i ty all.1 e
+value_of_column : (columns : List Ty) (row : List Datum) (i : ℕ) (ty : Ty) → AllZip IsOfType columns row → slice_get columns i ≡ Some ty → IsOfType ty (slice_index_or row i null)
+value_of_column [] row i ty all e = cc
+value_of_column (c ∷ columns) [] i ty all e = absurd all
+value_of_column (c ∷ columns) (v ∷ row) zero ty all e = let same : c ≡ ty = cc in subst (λ k. IsOfType k v) same all.0
+value_of_column (c ∷ columns) (v ∷ row) (suc i) ty all e = value_of_column columns row i ty all.1 e
+
+null_alone : (ty : Ty) (v : Datum) → IsOfType Null v → IsOfType ty v
+null_alone ty null has = tt
+null_alone ty (int x) has = let differ : Int ≡ Null = has in cc
+null_alone ty (text s) has = let differ : Text ≡ Null = has in cc
+null_alone ty (blob b) has = let differ : Blob ≡ Null = has in cc
+
+-- a value of a type is one of each type where it may stand
+pub fits_type : (of ty : Ty) (v : Datum) → FitsType of ty → IsOfType of v → IsOfType ty v
+fits_type of ty v (inl e) has = null_alone ty v (subst (λ k. IsOfType k v) e has)
+fits_type of ty v (inr e) has = subst (λ k. IsOfType k v) e has
+
+-- the value at the place of each column has its type; so it has on the empty row, whose values are all NULL
+abbrev pub ColumnsFit : List Ty → List Datum → Type 0
+ColumnsFit columns row = (i : ℕ) (ty : Ty) → slice_get columns i ≡ Some ty → IsOfType ty (slice_index_or row i null)
+
+pub columns_fit : (columns : List Ty) (row : List Datum) → AllZip IsOfType columns row → ColumnsFit columns row
+columns_fit columns row all i ty e = value_of_column columns row i ty all e
+
+good_column : (columns : List Ty) (row : List Datum) (i : ℕ) (ty : Ty) → ColumnsFit columns row → FitsAt columns i ty → IsOfType ty (slice_index_or row i null)
+good_column columns row i ty fits at = fits_type at.0 ty _ at.2 (fits i at.0 at.1)
 
 -- what stands for a result out of range
 module _ (o : Option Datum) (stand_in : Good Int o) where
-  good_settle : (z : ℤ) → Good Int (settle o z)
+  pub good_settle : (z : ℤ) → Good Int (settle o z)
   unfolding settle
   good_settle z = good_if Int (fits_64 z) (Some (int z)) o refl stand_in
 
@@ -186,9 +207,9 @@ module _ (o : Option Datum) (stand_in : Good Int o) where
   good_call Hex a = hex_is_text a
   good_call TypeOf a = refl
 
-  module _ (columns : List Ty) (row : List Datum) (fits : AllZip IsOfType columns row) where
+  module _ (columns answers : List Ty) (row : List Datum) (fits : ColumnsFit columns row) where
     mutual
-      pub typed : (t : Term) (ty : Ty) → HasType columns t ty → Good ty (run o row t)
+      pub typed : (t : Term) (ty : Ty) → HasType columns answers t ty → Good ty (run o row t)
       typed (literal v) ty h = h
       typed (column i) ty h = good_column columns row i ty fits h
       typed (call f a) ty h = rw h.3 (good_bind (gives f) (call_of o f) (good_call f) (run o row a))
@@ -212,38 +233,53 @@ module _ (o : Option Datum) (stand_in : Good Int o) where
       typed (null_if a b) ty h = good_null_if ty (run o row a) (run o row b) (typed a ty h.0)
       typed (like a b) ty h = rw h.2 (good_both Int _ like_is_int (run o row a) (run o row b))
 
-      typed_first : (ts : Terms) (ty : Ty) → HaveType columns ts ty → Good ty (run_first o row ts)
+      typed_first : (ts : Terms) (ty : Ty) → HaveType columns answers ts ty → Good ty (run_first o row ts)
       typed_first none ty h = tt
+      typed_first (answer k) ty h = tt
       typed_first (more t ts) ty h = good_first ty (run o row t) (run_first o row ts) (typed t ty h.0) (typed_first ts ty h.1)
 
-      typed_arms : (x : Option Datum) (rest : Arms) (of ty : Ty) → ArmsHaveTypes columns rest of ty → GoodArm ty (run_arms o row x rest)
+      typed_arms : (x : Option Datum) (rest : Arms) (of ty : Ty) → ArmsHaveTypes columns answers rest of ty → GoodArm ty (run_arms o row x rest)
       typed_arms x no_arms of ty h = tt
       typed_arms x (arm c e rest) of ty h =
           good_chosen ty (option_map (holds x) (run o row c)) (run o row e) (run_arms o row x rest) (typed e ty h.1) (typed_arms x rest of ty h.2)
 
 pub values_have_types : ValuesHaveTypes
-values_have_types o columns row t ty stand_in fits h = typed o stand_in columns row fits t ty h
+values_have_types o columns answers row t ty stand_in fits h = typed o stand_in columns answers row (columns_fit columns row fits) t ty h
 
-value_or_null : (ty : Ty) (m : Option Datum) → Good ty m → IsOfType ty (unwrap_or m null)
+pub value_or_null : (ty : Ty) (m : Option Datum) → Good ty m → IsOfType ty (unwrap_or m null)
 value_or_null ty None p = tt
 value_or_null ty (Some v) p = p
 
+-- the value on a row whose values have the types of the columns at their places
+pub eval_fits : (w : Datum) (columns answers : List Ty) (row : List Datum) (t : Term) (ty : Ty) → IsOfType Int w → ColumnsFit columns row
+    → HasType columns answers t ty → IsOfType ty (eval w t row)
+eval_fits w columns answers row t ty stand_in fits h = value_or_null ty (run (Some w) row t) (typed (Some w) stand_in columns answers row fits t ty h)
+
 pub eval_has_type : EvalHasType
-eval_has_type w columns row t ty stand_in fits h = value_or_null ty (run (Some w) row t) (values_have_types (Some w) columns row t ty stand_in fits h)
+eval_has_type w columns answers row t ty stand_in fits h =
+    value_or_null ty (run (Some w) row t) (values_have_types (Some w) columns answers row t ty stand_in fits h)
 
 pub conjuncts_are_typed : ConjunctsAreTyped
-conjuncts_are_typed columns (and a b) h =
-    All-append (λ c. HasType columns c Int) (conjuncts a) (conjuncts b) (conjuncts_are_typed columns a h.0) (conjuncts_are_typed columns b h.1)
-conjuncts_are_typed columns (between x a b) h =
-    let above : HasType columns (compare Ge x a) Int = (h.0, h.1, h.2, refl) in
-    let below : HasType columns (compare Le x b) Int = (h.0, h.1, h.3, refl) in
+conjuncts_are_typed columns answers (and a b) h =
+    All-append (λ c. HasType columns answers c Int) (conjuncts a) (conjuncts b) (conjuncts_are_typed columns answers a h.0) (conjuncts_are_typed columns answers b h.1)
+conjuncts_are_typed columns answers (between x a b) h =
+    let above : HasType columns answers (compare Ge x a) Int = (h.0, h.1, h.2, refl) in
+    let below : HasType columns answers (compare Le x b) Int = (h.0, h.1, h.3, refl) in
     All-cons
-    (λ c. HasType columns c Int)
+    (λ c. HasType columns answers c Int)
     (compare Ge x a)
     (compare Le x b ∷ [])
     above
-    (All-cons (λ c. HasType columns c Int) (compare Le x b) [] below (All-nil (λ c. HasType columns c Int)))
-conjuncts_are_typed columns t h = All-cons (λ c. HasType columns c Int) t [] h (All-nil (λ c. HasType columns c Int))
+    (All-cons (λ c. HasType columns answers c Int) (compare Le x b) [] below (All-nil (λ c. HasType columns answers c Int)))
+conjuncts_are_typed columns answers t h = All-cons (λ c. HasType columns answers c Int) t [] h (All-nil (λ c. HasType columns answers c Int))
 
 pub types_of_examples : TypesOfExamples
-types_of_examples = ((Int, refl, (refl, (refl, refl, refl), tt), tt), (λ ty h. let differ : Some Text ≡ Some Int = h.1 in cc))
+types_of_examples = (
+  (Int, (Int, refl, inr refl), (refl, ((Text, refl, inr refl), refl, refl), tt), tt),
+  (λ ty h. text_is_no_number h.1.0 h.1.1 h.1.2),
+  ((Null, refl, inl refl), refl, refl),
+)
+  where
+    text_is_no_number : (of : Ty) → Some Text ≡ Some of → FitsType of Int → ⊥
+    text_is_no_number of e (inl p) = let differ : Text ≡ Null = cc in cc
+    text_is_no_number of e (inr p) = let differ : Text ≡ Int = cc in cc

@@ -11,3 +11,5 @@ pub mod Laws
 pub mod Reaches
 pub mod Columns
 pub mod Types
+pub mod TermType
+pub mod Filled

@@ -1,8 +1,10 @@
 //! What holds of every expression and row.
 ghost use Rattle.expr.specs.Columns.{DependsOnColumns};
 ghost use Rattle.expr.specs.Laws.{ConjunctsAreLeaves, StandsForAll, IsTotal, KeepsConjuncts, AddsNoOverflow};
+ghost use Rattle.expr.specs.Filled.{AnswersAreBags, FilledHasType, FillsConjuncts};
 ghost use Rattle.expr.specs.Like.{TestIsRelation};
 ghost use Rattle.expr.specs.Reaches.{ReachedIsNone};
+ghost use Rattle.expr.specs.TermType.{TypesAreFound};
 ghost use Rattle.expr.specs.Types.{ConjunctsAreTyped, EvalHasType, TypesOfExamples, ValuesHaveTypes};
 
 /// A value with nothing out of range is the value, whatever stands for results out of range.
@@ -57,8 +59,21 @@ pub fn conjuncts_are_typed()
     ensures { ConjunctsAreTyped }
 {}
 
-/// The types of two expressions over a column of whole numbers and one of texts: a CASE that is a text, and a sum that
-/// is of no type.
+/// The types of three expressions: a CASE that is a text, a sum of a number and a text that is of no type, and a sum over
+/// a column that is NULL alone.
 pub fn types_of_examples()
     ensures { TypesOfExamples }
+{}
+
+/// An expression has the types that its computed type may stand for, and no others.
+pub fn types_are_found()
+    ensures { TypesAreFound }
+{}
+
+/// An inner query's values take its place conjunct by conjunct, their order makes no difference, and what was typed over
+/// the types of the answers stays so.
+pub fn answers_are_filled_in()
+    ensures conjuncts { FillsConjuncts }
+    ensures bags { AnswersAreBags }
+    ensures types { FilledHasType }
 {}
