@@ -60,10 +60,13 @@ module _ (pages : Pages) where
   stored_tables (table ∷ tables) (counts ∷ trees) all =
       All-cons (IsStoredTable pages) table tables (stored_table table counts all.0) (stored_tables tables trees all.1)
 
-  pub has_tables : (rows : List Row) (tables : List TableData) (trees : List TreeCounts) → HoldsRows pages schema_table rows
+  pub has_tables : (rows : List Row) (tables : List TableData) (trees : List TreeCounts) → HoldsRows pages schema_table rows → All (Fits schema_table) rows
       → AreTables pages.count rows tables → AllZip (IsCheckedTree pages) tables trees → HasTables pages tables
-  has_tables rows tables trees stored are checked =
-      record { catalog = record { rows = rows; stored = stored; tables_are = are }; stored = stored_tables tables trees checked }
+  has_tables rows tables trees stored fit are checked = record {
+    schema = rows;
+    catalog = record { stored = stored; fit = fit; tables_are = are };
+    stored = stored_tables tables trees checked;
+  }
 
   -- each table that the rows say is one of the image
   tables_of : (places : List Place) (rows : List Row) (tables : List TableData) → All (IsPlaceOf pages Table schema_table.root) places

@@ -21,10 +21,10 @@ pub record IsStoredAs (pages : Pages) (table : TableData) (rows : List Row) : Ty
 pub record HasDatabase (image : List ℕ) (tables : List TableData) : Type 0 where
   pub db : Database
   pub denotes : Denotes image tables db
-  pub stored : AllZip (IsStoredAs (pages_of image)) tables db
+  pub stored : AllZip (IsStoredAs (pages_of image)) tables db.tables
 
 module _ (pages : Pages) where
-  rows_of : (tables : List TableData) → All (IsStoredTable pages) tables → Database
+  rows_of : (tables : List TableData) → All (IsStoredTable pages) tables → List (List Row)
   rows_of [] all = []
   rows_of (table ∷ tables) all =
       (All-head (IsStoredTable pages) table tables all).rows ∷ rows_of tables (All-tail (IsStoredTable pages) table tables all)
@@ -42,7 +42,7 @@ pub database_of : (image : List ℕ) (tables : List TableData) → HasTables (pa
 database_of image tables has =
     let pages = pages_of image in
     record {
-      db = rows_of pages tables has.stored;
+      db = record { schema = has.schema; tables = rows_of pages tables has.stored };
       denotes = record {
         catalog = has.catalog;
         rows = each pages (HoldsRows pages)

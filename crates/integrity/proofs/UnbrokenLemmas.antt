@@ -1,5 +1,6 @@
 -- Nothing is broken of tables that were checked.
-use Rattle.std.proofs.Common.{◌≡◌, ℕ, ℤ, zero, suc, Option, refl, ◌<◌, ◌∙◌, List, [], ◌∷◌, length, slice_index_or, sym, ap, arith, subst, inl, inr}
+use Rattle.std.proofs.Common.{◌≡◌, All, ℕ, ℤ, zero, suc, Option, refl, ◌<◌, ◌∙◌, List, [], ◌∷◌, length, slice_index_or, sym, ap, arith, subst, inl, inr}
+use Rattle.std.proofs.lemmas.List.Elements.{All-cons, All-nil}
 use Rattle.std.specs.List.{AllZip}
 use Rattle.values.specs.Datum.{Datum}
 use Rattle.values.specs.declared.fault.Fault.{Fault}
@@ -93,6 +94,28 @@ module _ (pages : Pages) where
   one_stored table place a b one other =
       let same = one_cell pages place one.cell other.cell one.at other.at in
       one_row pages table other.cell a b (subst (λ (c : CellData). IsRowOf pages table c a) same one.is) other.is
+
+  -- the rows at places where rows are whose values are of the columns
+  held_fit : (table : TableData) (places : List Place) (rows : List Row) → ((place : Place) (k : ℕ) → k < length places → slice_index_or places k place ≡ place → HoldsRow pages table place)
+      → AllZip (StoresRow pages table) places rows → All (Fits table) rows
+  held_fit table [] [] held stored = All-nil (Fits table)
+  held_fit table [] (row ∷ rows) held stored = absurd stored
+  held_fit table (place ∷ places) [] held stored = absurd stored
+  held_fit table (place ∷ places) (row ∷ rows) held stored =
+      let here = held place 0 (omega arith) refl in
+      All-cons (Fits table) row rows
+      (subst (λ (x : Row). Fits table x) (one_stored table place here.row row here.stores stored.0) here.fits)
+      (held_fit table places rows (λ other k within at. held other (suc k) (omega arith) at) stored.1)
+
+  -- the rows of a tree that was checked have values of its table's columns
+  pub rows_fit : (table : TableData) (counts : TreeCounts) (rows : List Row) → IsCheckedTree pages table counts → HoldsRows pages table rows → All (Fits table) rows
+  rows_fit table counts rows tree stored =
+      let cells = table_laws.rows_of pages table.root counts.levels tree.shape tree.sound.order in
+      held_fit table stored.places rows
+      (λ place k within at.
+      let found = cells.cells.complete place (stored.cells.cells.sound place (k, within, at)) in
+      subst (λ (p : Place). HoldsRow pages table p) found.2 (tree.rows found.0 place found.1))
+      stored.rows_are
 
   -- what is said of a row at a place of the schema's tree is a table that was checked
   checked_said : (places : List Place) (rows : List Row) (tables : List TableData) (trees : List TreeCounts) (table : TableData) (place : Place) (row : Row)

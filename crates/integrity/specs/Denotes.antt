@@ -8,17 +8,17 @@ use Rattle.schema.specs.Rows.{AreTables}
 use Rattle.schema.specs.TableData.{TableData, schema_table}
 use Rattle.integrity.specs.Stored.{Fits, HoldsRows, IsStored}
 
--- these are the tables of the pages, each said by a row of the schema, in its order
-pub record IsCatalog (pages : Pages) (tables : List TableData) : Type 0 where
-  pub rows : List Row
+-- the schema's own table has these rows, whose values are of its columns, and they say these tables, in their order
+pub record IsCatalog (pages : Pages) (rows : List Row) (tables : List TableData) : Type 0 where
   pub stored : HoldsRows pages schema_table rows
+  pub fit : All (Fits schema_table) rows
   pub tables_are : AreTables pages.count rows tables
 
 -- the image has these tables, and each of them these rows, whose values are of their columns
 pub record Denotes (image : List ℕ) (tables : List TableData) (db : Database) : Type 0 where
-  pub catalog : IsCatalog (pages_of image) tables
-  pub rows : AllZip (HoldsRows (pages_of image)) tables db
-  pub fit : AllZip (λ table. All (Fits table)) tables db
+  pub catalog : IsCatalog (pages_of image) db.schema tables
+  pub rows : AllZip (HoldsRows (pages_of image)) tables db.tables
+  pub fit : AllZip (λ table. All (Fits table)) tables db.tables
 
 -- the table is stored in a tree of fewer than 20 levels below its root
 pub record IsStoredTable (pages : Pages) (table : TableData) : Type 0 where
@@ -29,5 +29,6 @@ pub record IsStoredTable (pages : Pages) (table : TableData) : Type 0 where
 
 -- the tables of the pages, each with its rows
 pub record HasTables (pages : Pages) (tables : List TableData) : Type 0 where
-  pub catalog : IsCatalog pages tables
+  pub schema : List Row
+  pub catalog : IsCatalog pages schema tables
   pub stored : All (IsStoredTable pages) tables

@@ -1,3 +1,17 @@
+pub mod CountLemmas
 pub mod OrderLemmas
+pub mod TimesLemmas
+pub mod KeyLemmas
+pub mod JoinLemmas
+pub mod GroupLemmas
+pub mod BodyLemmas
 pub mod AnswerLemmas
 pub mod ExampleLemmas
+pub mod ScanLemmas
+pub mod MoveLemmas
+pub mod ElementLemmas
+pub mod HitLemmas
+pub mod TypedLemmas
+pub mod WidthLemmas
+pub mod OneTableLemmas
+pub mod RunLemmas

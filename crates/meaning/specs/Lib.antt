@@ -1,4 +1,15 @@
 pub mod Query
+pub mod Sequence
+pub mod Times
+pub mod Valuation
+pub mod Joins
+pub mod Groups
+pub mod Windows
 pub mod Body
 pub mod Answer
 pub mod Examples
+pub mod Typed
+pub mod Hits
+pub mod HitLaws
+pub mod OneTable
+pub mod Runs

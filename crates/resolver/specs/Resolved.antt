@@ -3,7 +3,7 @@ use Rattle.std.specs.Prelude.{◌≡◌, ◌<◌, ◌≤◌, ◌⊎◌, ℕ, Lis
 use Rattle.std.specs.List.{AllZip, range_with_len}
 use Rattle.values.specs.declared.fault.Fault.{Fault}
 use Rattle.values.specs.declared.fault.Fault.TheVariants as f
-use Rattle.meaning.specs.Query.{Source, Term, column, QueryData}
+use Rattle.meaning.specs.Query.{QueryData, columns_of_table}
 use Rattle.phrases.specs.Texts.{max_columns}
 use Rattle.syntax.specs.SelectTrees.{SelectTree}
 use Rattle.syntax.specs.Tree.{Name}
@@ -12,10 +12,16 @@ use Rattle.schema.specs.Names.{IsSameName}
 use Rattle.resolver.specs.Named.{IsPlaceOf, IsNowhere, IsTwice}
 use Rattle.resolver.specs.Plain.{Columns, IsNotPlain, IsPlain, IsPlainWith}
 
--- a query, and the names of its result columns
+-- What a SELECT is: columns of one table, which stands at a place of the catalog and has so many columns; and the names of
+-- the result columns.
 pub record ResolvedData : Type 0 where
-  pub query : QueryData
+  pub table : ℕ
+  pub width : ℕ
+  pub columns : List ℕ
   pub names : List Name
+
+abbrev pub query_of : ResolvedData → QueryData
+query_of resolved = columns_of_table resolved.table resolved.width resolved.columns
 
 abbrev pub table_names : List TableData → List Name
 table_names tables = map (λ t. t.name) tables
@@ -28,17 +34,14 @@ pub record IsSource (tables : List TableData) (name : Name) (at : ℕ) (table : 
   pub place : IsPlaceOf (table_names tables) name at
   pub found : slice_get tables at ≡ Some table
 
-abbrev pub IsColumnOf : List Name → Name → Term → Type 0
-IsColumnOf declared name (column at) = IsPlaceOf declared name at
-
 -- `*` gives every column, in the order in which they were declared; names give their columns, in the order written
-abbrev pub GivesColumns : List Name → Columns → List Term → Type 0
-GivesColumns declared Columns.All terms = terms ≡ map column (range_with_len 0 (length declared))
-GivesColumns declared (Columns.Named written) terms = AllZip (IsColumnOf declared) written terms
+abbrev pub GivesColumns : List Name → Columns → List ℕ → Type 0
+GivesColumns declared Columns.All places = places ≡ range_with_len 0 (length declared)
+GivesColumns declared (Columns.Named written) places = AllZip (IsPlaceOf declared) written places
 
 -- a column's name, as it was declared
-abbrev pub IsNameOf : List Name → Term → Name → Type 0
-IsNameOf declared (column at) name = slice_get declared at ≡ Some name
+abbrev pub IsNameAt : List Name → ℕ → Name → Type 0
+IsNameAt declared at name = slice_get declared at ≡ Some name
 
 -- The SELECT is this query over tables of this catalog, and its result columns have these names.
 pub record Resolves (tables : List TableData) (tree : SelectTree) (query : QueryData) (names : List Name)
@@ -49,11 +52,11 @@ pub record Resolves (tables : List TableData) (tree : SelectTree) (query : Query
   pub at : ℕ
   pub table : TableData
   pub source : IsSource tables name at table
-  pub source_is : query.source ≡ Source.table at
-  pub columns_are : GivesColumns (column_names table.columns) columns query.columns
-  pub within : length query.columns ≤ max_columns
-  pub unordered : query.order ≡ []
-  pub named : AllZip (IsNameOf (column_names table.columns)) query.columns names
+  pub places : List ℕ
+  pub columns_are : GivesColumns (column_names table.columns) columns places
+  pub query_is : query ≡ columns_of_table at (length table.columns) places
+  pub within : length places ≤ max_columns
+  pub named : AllZip (IsNameAt (column_names table.columns)) places names
 
 -- the names of the table that has a row for each object of the schema (The Schema Table)
 abbrev pub IsSchemaTable : Name → Type 0

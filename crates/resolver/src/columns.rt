@@ -1,7 +1,6 @@
 //! The columns that a SELECT gives of its table.
 ghost use Rattle.std.specs.Prelude.{◌≡◌, ◌<◌, ◌≤◌, All, Err, IfErr, IfOk, length, map, slice_get, Some, string_bytes};
 ghost use Rattle.std.specs.List.{AllZip, range_with_len};
-ghost use Rattle.meaning.specs.Query.{column};
 ghost use Rattle.phrases.specs.Texts.{max_columns};
 ghost use Rattle.resolver.specs.Lookups.{AreColumnsRefused, AreNamesRefused, IsColumnRefused};
 ghost use Rattle.resolver.specs.Named.{IsPlaceOf};
@@ -66,7 +65,7 @@ pub(crate) fn places_given(
     given: &Given<'_>,
 ) -> Result<Vec<usize>, Fault>
     ensures places { IfOk result (λ places.
-        GivesColumns (column_names columns.now) (columns_of given.now) (map column places.items)) }
+        GivesColumns (column_names columns.now) (columns_of given.now) places.items) }
     ensures within { IfOk result (λ places. length places.items ≤ max_columns) }
     ensures refused { IfErr result (AreColumnsRefused (column_names columns.now) (columns_of given.now)) }
     ensures wide { max_columns < width_of (column_names columns.now) (columns_of given.now) → result ≡ Err Fault.Limit }

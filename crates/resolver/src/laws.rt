@@ -1,8 +1,10 @@
 //! What holds of the definitions alone.
-ghost use Rattle.std.specs.Prelude.{◌≡◌, ◌≢◌, length, List, map};
+ghost use Rattle.std.specs.Prelude.{◌≡◌, ◌≢◌, List};
 ghost use Rattle.values.specs.declared.fault.Fault.{Fault};
 ghost use Rattle.values.specs.declared.fault.Fault.TheVariants.{NoMemory};
-ghost use Rattle.meaning.specs.Query.{IsTyped, QueryData};
+ghost use Rattle.meaning.specs.Query.{QueryData};
+ghost use Rattle.meaning.specs.Typed.{IsTyped};
+ghost use Rattle.schema.specs.ColumnTypes.{column_types};
 ghost use Rattle.schema.specs.TableData.{TableData};
 ghost use Rattle.syntax.specs.SelectTrees.{SelectTree};
 ghost use Rattle.syntax.specs.Tree.{Name};
@@ -15,10 +17,10 @@ pub fn one_query()
         → (first ≡ second) × (names ≡ others) }
 {}
 
-/// Each place of a resolved query is one of the catalog.
+/// A resolved query is typed over the types of the catalog's columns.
 pub fn resolved_is_typed()
     ensures { (tables : List TableData) (tree : SelectTree) (query : QueryData) (names : List Name)
-        → Resolves tables tree query names → IsTyped (map (λ t. length t.columns) tables) query }
+        → Resolves tables tree query names → IsTyped (column_types tables) query }
 {}
 
 /// A SELECT that is refused for another reason than want of memory resolves to no query.

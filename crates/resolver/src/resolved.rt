@@ -1,8 +1,9 @@
 //! SELECTs whose names are resolved.
-ghost use Rattle.std.specs.Prelude.{◌≡◌, [], IfErr, IfOk, length, map, string_bytes};
-ghost use Rattle.meaning.specs.Query.{column, IsTyped, table};
+ghost use Rattle.std.specs.Prelude.{◌≡◌, IfErr, IfOk, map, string_bytes};
+ghost use Rattle.meaning.specs.Typed.{IsTyped};
+ghost use Rattle.schema.specs.ColumnTypes.{column_types};
 ghost use Rattle.syntax.specs.SelectView.{select_of};
-ghost use Rattle.resolver.specs.Resolved.{IsRefused, Resolves};
+ghost use Rattle.resolver.specs.Resolved.{IsRefused, Resolves, query_of};
 
 use crate::columns::{names_at, places_given};
 use crate::plain::plain_select;
@@ -17,19 +18,21 @@ use values::Fault;
 #[derive(Debug, Drop)]
 pub struct Query {
     source: usize,
+    width: usize,
     columns: Vec<usize>,
     names: Vec<String>,
 }
 
 impl Model for Query {
-    ghost use Rattle.std.specs.Prelude.{[], map, string_bytes};
-    ghost use Rattle.meaning.specs.Query.{column, table};
+    ghost use Rattle.std.specs.Prelude.{map, string_bytes};
     ghost use Rattle.resolver.specs.Resolved.{ResolvedData};
 
     ghost Value = { ResolvedData };
 
     ghost view = { λ q. record {
-      query = record { source = table q.source; columns = map column q.columns.items; order = [] };
+      table = q.source;
+      width = q.width;
+      columns = q.columns.items;
       names = map (λ name. string_bytes name) q.names.items;
     } };
 }
@@ -37,15 +40,14 @@ impl Model for Query {
 impl Query {
     /// The place of the table whose rows are read, among the tables of the catalog.
     pub fn source(&self) -> usize
-        ensures { self.now.query.source ≡ table result }
+        ensures { self.now.table ≡ result }
     {
         self.source
     }
 
     /// The places of the result columns, among the columns of that table.
     pub fn columns(&self) -> &[usize]
-        ensures same { self.now.query.columns ≡ map column result.now }
-        ensures unordered { self.now.query.order ≡ [] }
+        ensures { self.now.columns ≡ result.now }
     {
         self.columns.as_slice()
     }
@@ -64,8 +66,8 @@ impl Query {
 /// `NoMemory`.
 pub fn resolve(alloc: Global, tables: &[Table], select: &Select) -> Result<Query, Fault>
     ensures means { IfOk result (λ resolved.
-        Resolves tables.now (select_of select.now) resolved.query resolved.names) }
-    ensures typed { IfOk result (λ resolved. IsTyped (map (λ t. length t.columns) tables.now) resolved.query) }
+        Resolves tables.now (select_of select.now) (query_of resolved) resolved.names) }
+    ensures typed { IfOk result (λ resolved. IsTyped (column_types tables.now) (query_of resolved)) }
     ensures refused { IfErr result (IsRefused tables.now (select_of select.now)) }
 {
     let Some(plain) = plain_select(alloc, select)? else {
@@ -77,6 +79,7 @@ pub fn resolve(alloc: Global, tables: &[Table], select: &Select) -> Result<Query
     let names = names_at(alloc, declared, columns.as_slice())?;
     Ok(Query {
         source,
+        width: declared.len(),
         columns,
         names,
     })

@@ -3,3 +3,4 @@ pub mod Names
 pub mod Created
 pub mod Rows
 pub mod Refused
+pub mod ColumnTypes

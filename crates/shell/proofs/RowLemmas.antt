@@ -13,7 +13,7 @@ use Rattle.image.specs.Chain.{HasBytes}
 use Rattle.image.specs.Pages.{Pages}
 use Rattle.image.proofs.ChainLemmas.{one_payload}
 use Rattle.values.specs.Row.{Row}
-use Rattle.meaning.specs.Body.{value_at}
+use Rattle.meaning.specs.Sequence.{value_at}
 use Rattle.shell.specs.Stream.{shown}
 
 -- one column more

@@ -1,11 +1,12 @@
 -- From the rows of one table to the answer of a query over the image.
-use Rattle.std.proofs.Common.{◌≡◌, ◌≢◌, ◌∙◌, ◌⊎◌, inl, inr, ◌<◌, arith, ℕ, zero, suc, IsTrue, All, List, [], ◌∷◌, length, map, get_or, slice_get, slice_index_or, Some, refl, sym, ap, subst}
+use Rattle.std.proofs.Common.{◌≡◌, ◌≢◌, ◌∙◌, ◌⊎◌, inl, inr, ◌<◌, arith, ℕ, zero, suc, IsTrue, All, List, [], ◌∷◌, length, map, get_or, slice_get, slice_index_or, Some, sym, ap, subst}
 use Rattle.std.specs.List.{AllZip}
 use Rattle.std.specs.Option.{option_map}
-use Rattle.std.proofs.lemmas.List.{length-map}
-use Rattle.std.proofs.lemmas.Option.{get_or_from_slice_get, slice_get-map}
-use Rattle.std.proofs.Math.ListN.{get_or-map}
-use Rattle.values.specs.Datum.{Datum}
+use Rattle.std.proofs.lemmas.List.{length-map, map-append}
+use Rattle.std.proofs.lemmas.List.Elements.{All-weaker}
+use Rattle.std.proofs.lemmas.Option.{slice_get-map, slice_get_within}
+use Rattle.values.specs.Database.{Database}
+use Rattle.values.specs.Datum.{Datum, null, int, text, blob}
 use Rattle.values.specs.Sink.{SinkFacts}
 use Rattle.values.specs.declared.fault.Fault.{Fault}
 use Rattle.values.specs.declared.fault.Fault.TheVariants.{Changed, NoMemory, Overflow, ReadFailed, WriteFailed}
@@ -15,16 +16,20 @@ use Rattle.pager.specs.PagerState.{PagerState, opened}
 use Rattle.pager.specs.Source.{SourceFacts}
 use Rattle.image.specs.Pages.{pages_in, pages_of}
 use Rattle.btree.specs.Rest.{pages_seen}
-use Rattle.meaning.specs.Query.{IsTermOf, IsTyped, column}
+use Rattle.expr.specs.Types.{IsOfType}
+use Rattle.meaning.specs.Typed.{FitTypes, IsTyped}
+use Rattle.meaning.specs.Typed as meant
 use Rattle.values.specs.Row.{Row}
-use Rattle.meaning.specs.Body.{term_values, value_at}
-use Rattle.meaning.specs.Answer.{Begins, Permits}
-use Rattle.meaning.proofs.AnswerLemmas.{Begins-scan, scan_permitted}
-use Rattle.schema.specs.TableData.{TableData}
-use Rattle.integrity.specs.Stored.{IsStored}
+use Rattle.meaning.proofs.OneTableLemmas.{scan_begins, scan_is_permitted, scan_names_columns}
+use Rattle.meaning.proofs.TypedLemmas.{Permits-typed}
+use Rattle.schema.specs.ColumnTypes.{column_types, types_of}
+use Rattle.schema.specs.TableData.{ColumnData, TableData, schema_table}
+use Rattle.integrity.specs.Denotes.{Denotes}
+use Rattle.integrity.specs.Stored.{Fits, FitsColumn, IsStored}
 use Rattle.integrity.proofs.DenotesLemmas.{HasDatabase, IsStoredAs, database_of}
-use Rattle.shell.specs.Answer.{Answers, Stops, scan_query}
-use Rattle.shell.specs.State.{IsReady, widths}
+use Rattle.resolver.specs.Resolved.{ResolvedData, query_of}
+use Rattle.shell.specs.Answer.{Answers, Stops}
+use Rattle.shell.specs.State.{IsReady}
 use Rattle.shell.specs.Stream.{Streams, StreamsUntil, shown}
 
 pub some_one : {X : Type 0} (x y : X) → Some x ≡ Some y → x ≡ y
@@ -38,28 +43,47 @@ at_place R (first ∷ xs) [] i x e all at = absurd all
 at_place {X} {Y} R (first ∷ xs) (y ∷ ys) zero x e all at = subst (λ (z : X). R z y) (some_one first x at) all.0
 at_place R (first ∷ xs) (y ∷ ys) (suc i) x e all at = at_place R xs ys i x e all.1 at
 
--- the columns of a typed query are the table's
-pub columns_within : (tables : List TableData) (source : ℕ) (columns : List ℕ) (table : TableData)
-    → IsTyped (widths tables) (scan_query source columns) → slice_get tables source ≡ Some table
-    → All (λ place. place < length table.columns) columns
-columns_within tables source columns table typed at = λ k d within.
-    let width_of : TableData → ℕ = λ t. length t.columns in
-    let width : slice_index_or (widths tables) source 0 ≡ length table.columns =
-    get_or_from_slice_get (widths tables) source (length table.columns) 0 (slice_get-map width_of tables source ∙ ap (option_map width_of) at) in
-    let term : IsTermOf (slice_index_or (widths tables) source 0) (get_or (map column columns) k (column d)) =
-    typed.columns k (column d) (omega (arith, within, length-map columns column)) in
-    let place : IsTermOf (slice_index_or (widths tables) source 0) (column (get_or columns k d)) =
-    subst (IsTermOf (slice_index_or (widths tables) source 0)) (get_or-map column columns k d) term in
-    omega (arith, place, width)
+-- the table of a typed query is one of the catalog, and the columns are the table's
+pub source_within : (tables : List TableData) (query : ResolvedData) → IsTyped (column_types tables) (query_of query) → query.table < length tables
+source_within tables query (types, typed) =
+    let long : length (column_types tables) ≡ length tables = length-map tables types_of in
+    let within = slice_get_within (column_types tables) query.table typed.body.3.1 typed.body.3.3.0 in omega (arith, long, within)
 
--- what a scan shows of a row is what the query computes of it
-shown_row : (w : Datum) (columns : List ℕ) (row : Row) → shown columns row ≡ term_values w (map column columns) row
-shown_row w [] row = refl
-shown_row w (place ∷ columns) row = ap (λ t. value_at row place ∷ t) (shown_row w columns row)
+pub columns_within : (tables : List TableData) (query : ResolvedData) (table : TableData) → IsTyped (column_types tables) (query_of query)
+    → slice_get tables query.table ≡ Some table → All (λ place. place < length table.columns) query.columns
+columns_within tables query table typed at =
+    let row : slice_get (column_types tables) query.table ≡ Some (types_of table) = slice_get-map types_of tables query.table ∙ ap (option_map types_of) at in
+    let named = scan_names_columns (column_types tables) query.table query.width (types_of table) query.columns typed row in
+    subst (λ n. All (λ place. place < n) query.columns) (length-map table.columns (λ c. c.ty)) named.1
 
-shown_rows : (w : Datum) (columns : List ℕ) (rows : List Row) → map (shown columns) rows ≡ map (term_values w (map column columns)) rows
-shown_rows w columns [] = refl
-shown_rows w columns (row ∷ rows) = λ k. shown_row w columns row k ∷ shown_rows w columns rows k
+-- ---- the values of the tables have the types of their columns
+
+fits_column : (column : ColumnData) (value : Datum) → FitsColumn column value → IsOfType column.ty value
+fits_column column null fits = tt
+fits_column column (int z) fits = sym fits
+fits_column column (text s) fits = sym fits
+fits_column column (blob b) fits = sym fits
+
+row_typed : (columns : List ColumnData) (row : Row) → AllZip FitsColumn columns row → AllZip IsOfType (map (λ c. c.ty) columns) row
+row_typed [] [] fits = tt
+row_typed [] (value ∷ row) fits = absurd fits
+row_typed (column ∷ columns) [] fits = absurd fits
+row_typed (column ∷ columns) (value ∷ row) fits = (fits_column column value fits.0, row_typed columns row fits.1)
+
+rows_typed : (table : TableData) (rows : List Row) → All (Fits table) rows → FitTypes (types_of table) rows
+rows_typed table rows fits = All-weaker (Fits table) (λ row. AllZip IsOfType (types_of table) row) (λ row is. row_typed table.columns row is) rows fits
+
+tables_typed : (tables : List TableData) (rows : List (List Row)) → AllZip (λ table. All (Fits table)) tables rows → AllZip FitTypes (column_types tables) rows
+tables_typed [] [] fits = tt
+tables_typed [] (first ∷ rows) fits = absurd fits
+tables_typed (table ∷ tables) [] fits = absurd fits
+tables_typed (table ∷ tables) (first ∷ rows) fits = (rows_typed table first fits.0, tables_typed tables rows fits.1)
+
+denoted_fits : (image : List ℕ) (tables : List TableData) (db : Database) → Denotes image tables db → meant.Fits (column_types tables) db
+denoted_fits image tables db denotes = record {
+  schema = rows_typed schema_table db.schema denotes.catalog.fit;
+  tables = tables_typed tables db.tables denotes.fit;
+}
 
 not_overflow : (e : Fault) → (e ≡ ReadFailed) ⊎ (e ≡ NoMemory) ⊎ (e ≡ Changed) ⊎ (e ≡ WriteFailed) → e ≢ Overflow
 not_overflow e (inl is) same = cc
@@ -67,16 +91,16 @@ not_overflow e (inr (inl is)) same = cc
 not_overflow e (inr (inr (inl is))) same = cc
 not_overflow e (inr (inr (inr is))) same = cc
 
-module _ (pager : PagerState) (tables : List TableData) (source : ℕ) (columns : List ℕ) (table : TableData) (ready : IsReady pager tables)
-    (at : slice_get tables source ≡ Some table) (steady : IsTrue pager.source.steady) where
+module _ (pager : PagerState) (tables : List TableData) (query : ResolvedData) (table : TableData) (ready : IsReady pager tables)
+    (at : slice_get tables query.table ≡ Some table) (steady : IsTrue pager.source.steady) where
   has : HasDatabase pager.source.bytes tables
   has = database_of pager.source.bytes tables (ready.stored steady)
 
   abbrev rows : List Row
-  rows = slice_index_or has.db source []
+  rows = slice_index_or has.db.tables query.table []
 
   stored : IsStoredAs (pages_of pager.source.bytes) table rows
-  stored = at_place (IsStoredAs (pages_of pager.source.bytes)) tables has.db source table [] has.stored at
+  stored = at_place (IsStoredAs (pages_of pager.source.bytes)) tables has.db.tables query.table table [] has.stored at
 
   stored_seen : IsStored (pages_seen pager) table stored.levels rows
   stored_seen =
@@ -85,33 +109,34 @@ module _ (pager : PagerState) (tables : List TableData) (source : ℕ) (columns 
 
   -- a scan that writes all rows answers the query
   pub answers : (n : ℕ) (old new : SinkFacts)
-      → ((levels : ℕ) (all : List Row) → IsStored (pages_seen pager) table levels all → levels < 20 → Streams columns all n old new)
-      → Answers pager.source.bytes tables (scan_query source columns) n old new
+      → ((levels : ℕ) (all : List Row) → IsStored (pages_seen pager) table levels all → levels < 20 → Streams query.columns all n old new)
+      → Answers pager.source.bytes tables (query_of query) n old new
   answers n old new streams = record {
-    rows = map (shown columns) rows;
+    rows = map (shown query.columns) rows;
     permitted = λ w is. record {
       db = has.db;
       denotes = has.denotes;
-      permits = subst (Permits w has.db (scan_query source columns)) (sym (shown_rows w columns rows))
-          (scan_permitted w has.db (scan_query source columns) refl);
+      permits = scan_is_permitted w has.db query.table query.width query.columns;
+      typed = λ types typed. Permits-typed w has.db (column_types tables) (query_of query) types (map (shown query.columns) rows) is
+          (denoted_fits pager.source.bytes tables has.db has.denotes) typed (scan_is_permitted w has.db query.table query.width query.columns);
     };
     prints = streams stored.levels rows stored_seen stored.few;
   }
 
   -- one that stops has written what an answer begins with
   pub stops : (e : Fault) (old new : SinkFacts)
-      → ((levels : ℕ) (all : List Row) → IsStored (pages_seen pager) table levels all → levels < 20 → StreamsUntil e columns all old new)
+      → ((levels : ℕ) (all : List Row) → IsStored (pages_seen pager) table levels all → levels < 20 → StreamsUntil e query.columns all old new)
       → (e ≡ ReadFailed) ⊎ (e ≡ NoMemory) ⊎ (e ≡ Changed) ⊎ (e ≡ WriteFailed)
-      → Stops e pager.source.bytes tables (scan_query source columns) old new
+      → Stops e pager.source.bytes tables (query_of query) old new
   stops e old new streams only =
       let until = streams stored.levels rows stored_seen stored.few in
       record {
-        given = map (shown columns) until.given;
+        given = map (shown query.columns) until.given;
         begins = λ w is. record {
           db = has.db;
           denotes = has.denotes;
-          begins = subst (Begins w has.db (scan_query source columns)) (sym (shown_rows w columns until.given))
-              (Begins-scan w has.db (scan_query source columns) until.given until.rest refl (sym until.whole));
+          begins = scan_begins w has.db query.table query.width query.columns (map (shown query.columns) until.given) (map (shown query.columns) until.rest)
+              (ap (map (shown query.columns)) (sym until.whole) ∙ map-append (shown query.columns) until.given until.rest);
         };
         prints = until.prints;
         same_image = until.same_image;

@@ -5,14 +5,14 @@ use Rattle.values.specs.Gathered.{Gathering, gathered_facts}
 use Rattle.values.specs.Sink.{SinkFacts, Writes}
 use Rattle.values.proofs.SinkLemmas.{Appends-then}
 use Rattle.schema.specs.TableData.{TableData}
-use Rattle.resolver.specs.Resolved.{ResolvedData}
+use Rattle.resolver.specs.Resolved.{ResolvedData, query_of}
 use Rattle.shell.specs.Answer.{Answers}
 use Rattle.shell.specs.Served.{HasLines, header_text}
 
 module _ (image : List ℕ) (tables : List TableData) (prepared : ResolvedData) (header : Bool) where
   -- the rows go behind the line of names
   pub lines_are : (u : Unit {0}) (counted : ℕ) (old mid new : SinkFacts) → Writes (header_text header prepared.names) (Ok u) old mid
-      → Answers image tables prepared.query counted mid new → HasLines image tables prepared header old new
+      → Answers image tables (query_of prepared) counted mid new → HasLines image tables prepared header old new
   lines_are u counted old mid new names answers = record {
     rows = answers.rows;
     permitted = answers.permitted;

@@ -1,26 +1,28 @@
 -- What a run answers, of a query over the tables that an image denotes. (SELECT)
-use Rattle.std.specs.Prelude.{◌≡◌, ◌≢◌, ℕ, List, [], map}
+use Rattle.std.specs.Prelude.{◌≡◌, ◌≢◌, ℕ, List}
 use Rattle.values.specs.Datum.{Datum}
 use Rattle.values.specs.Sink.{SinkFacts}
+use Rattle.values.specs.declared.value.Ty.{Ty}
 use Rattle.values.specs.declared.fault.Fault.{Fault}
 use Rattle.values.specs.declared.fault.Fault.TheVariants.{Changed, Overflow}
-use Rattle.meaning.specs.Query.{QueryData, column, table}
+use Rattle.meaning.specs.Query.{QueryData}
 use Rattle.values.specs.Row.{Row}
 use Rattle.values.specs.Database.{Database}
-use Rattle.meaning.specs.Answer.{Begins, Hits, IsStandIn, Permits}
+use Rattle.meaning.specs.Answer.{Begins, IsStandIn, Permits}
+use Rattle.meaning.specs.Hits.{Hits}
+use Rattle.meaning.specs.Typed.{FitTypes, HasTypes}
+use Rattle.schema.specs.ColumnTypes.{column_types}
 use Rattle.schema.specs.TableData.{TableData}
 use Rattle.integrity.specs.Denotes.{Denotes}
 use Rattle.shell.specs.Printed.{Prints, PrintsUntil}
 
--- these columns of the table at a place of the catalog, without an order
-abbrev pub scan_query : ℕ → List ℕ → QueryData
-scan_query source columns = record { source = table source; columns = map column columns; order = [] }
-
--- over the tables that the image denotes, the query permits these rows
+-- Over the tables that the image denotes, the query permits these rows, whose values have the types of the query's columns
+-- or are NULL.
 pub record Permitted (w : Datum) (image : List ℕ) (tables : List TableData) (query : QueryData) (rows : List Row) : Type 0 where
   pub db : Database
   pub denotes : Denotes image tables db
   pub permits : Permits w db query rows
+  pub typed : (types : List Ty) → HasTypes (column_types tables) query types → FitTypes types rows
 
 -- over these tables, an answer may begin with these rows
 pub record BeginsOver (w : Datum) (image : List ℕ) (tables : List TableData) (query : QueryData) (given : List Row) : Type 0 where

@@ -2,7 +2,7 @@
 use Rattle.std.specs.Prelude.{◌⊎◌, ℕ, List}
 use Rattle.values.specs.declared.fault.Fault.{Fault}
 use Rattle.values.specs.declared.fault.Fault.TheVariants as f
-use Rattle.resolver.specs.Resolved.{IsRefused, ResolvedData, Resolves}
+use Rattle.resolver.specs.Resolved.{IsRefused, ResolvedData, Resolves, query_of}
 use Rattle.schema.specs.TableData.{TableData}
 use Rattle.sql_reader.specs.SelectTexts.{IsRefusedSelect, SpellsSelect, SpellsWithin}
 use Rattle.syntax.specs.SelectTrees.{SelectTree, columns_of_select}
@@ -13,7 +13,7 @@ pub record Means (tables : List TableData) (text : List ℕ) (prepared : Resolve
   pub tree : SelectTree
   pub spelt : SpellsSelect text tree
   pub within : IsWithin columns_of_select text tree
-  pub resolves : Resolves tables tree prepared.query prepared.names
+  pub resolves : Resolves tables tree (query_of prepared) prepared.names
 
 -- Why a text gives no SELECT. A text that spells none, of any number of levels, isn't called a wrong one: it may be one that
 -- isn't served yet.

@@ -9,7 +9,7 @@ use Rattle.values.specs.Row.{Row}
 use Rattle.explain.specs.Text.{row_text, rows_text}
 use Rattle.schema.specs.TableData.{TableData}
 use Rattle.integrity.specs.Denotes.{HasTables}
-use Rattle.resolver.specs.Resolved.{ResolvedData}
+use Rattle.resolver.specs.Resolved.{ResolvedData, query_of}
 use Rattle.shell.specs.Answer.{Permitted}
 use Rattle.shell.specs.Prepared.{Means}
 
@@ -21,7 +21,7 @@ header_text wanted names = if wanted then row_text (map text names) else []
 -- image denotes, whatever value stands for results out of range.
 pub record HasLines (image : List ℕ) (tables : List TableData) (prepared : ResolvedData) (header : Bool) (old new : SinkFacts) : Type 0 where
   pub rows : List Row
-  pub permitted : (w : Datum) → IsStandIn w → Permitted w image tables prepared.query rows
+  pub permitted : (w : Datum) → IsStandIn w → Permitted w image tables (query_of prepared) rows
   pub written : Appends old.written new.written (header_text header prepared.names ++ rows_text rows)
 
 -- the image has these tables, the text is this query over them, and its whole answer was written

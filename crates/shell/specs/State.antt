@@ -1,12 +1,13 @@
 -- What contracts see of an engine.
-use Rattle.std.specs.Prelude.{◌≡◌, ℕ, All, IsTrue, List, length, map}
+use Rattle.std.specs.Prelude.{◌≡◌, All, IsTrue, List}
 use Rattle.pager.specs.Header.{header_of}
 use Rattle.pager.specs.PagerState.{IsPageNumber, PagerState, Stays}
 use Rattle.image.specs.Pages.{pages_of}
-use Rattle.meaning.specs.Query.{IsTyped}
+use Rattle.meaning.specs.Typed.{IsTyped}
+use Rattle.schema.specs.ColumnTypes.{column_types}
 use Rattle.schema.specs.TableData.{TableData}
 use Rattle.integrity.specs.Denotes.{HasTables}
-use Rattle.resolver.specs.Resolved.{ResolvedData}
+use Rattle.resolver.specs.Resolved.{ResolvedData, query_of}
 
 pub record EngineState : Type 0 where
   pub pager : PagerState
@@ -23,10 +24,6 @@ pub record Keeps (old new : EngineState) : Type 0 where
   pub pager : Stays old.pager new.pager
   pub tables : new.tables ≡ old.tables
 
--- how many columns each table has
-abbrev pub widths : List TableData → List ℕ
-widths tables = map (λ table. length table.columns) tables
-
--- each place that the query names is one of these tables
+-- the query is typed over the columns of these tables
 abbrev pub IsPreparedFor : List TableData → ResolvedData → Type 0
-IsPreparedFor tables prepared = IsTyped (widths tables) prepared.query
+IsPreparedFor tables prepared = IsTyped (column_types tables) (query_of prepared)

@@ -10,12 +10,8 @@ use Rattle.image.specs.Cell.{CellData}
 use Rattle.image.specs.Tree.{Place, IsRowAt}
 use Rattle.schema.specs.TableData.{TableData}
 use Rattle.values.specs.Row.{Row}
-use Rattle.meaning.specs.Body.{value_at}
+pub use Rattle.meaning.specs.OneTable.{shown}
 use Rattle.shell.specs.Printed.{Prints, PrintsUntil}
-
--- these columns of a row
-abbrev pub shown : List ℕ → Row → Row
-shown columns row = map (value_at row) columns
 
 -- these columns of all the rows
 abbrev pub Streams : List ℕ → List Row → ℕ → SinkFacts → SinkFacts → Type 0

@@ -9,11 +9,11 @@ ghost use Rattle.syntax.specs.SelectView.{select_of};
 ghost use Rattle.phrases.specs.Texts.{IsWithin};
 ghost use Rattle.integrity.specs.Checked.{HasCause, IsBrokenImage};
 ghost use Rattle.integrity.specs.Denotes.{HasTables};
+ghost use Rattle.resolver.specs.Resolved.{query_of};
 ghost use Rattle.shell.specs.Prepared.{IsUnserved, Means, Refuses};
 ghost use Rattle.values.specs.Fault.{Counts};
 ghost use Rattle.image.specs.Pages.{pages_of};
 ghost use Rattle.values.specs.Row.{Row};
-ghost use Rattle.meaning.specs.Query.{table};
 ghost use Rattle.schema.specs.TableData.{TableData};
 ghost use Rattle.integrity.specs.Stored.{IsStored};
 ghost use Rattle.shell.specs.Answer.{Answers, Stops};
@@ -119,17 +119,17 @@ impl<S: Source> Engine<S> {
     pub fn run<W: Sink>(&mut self, prepared: &Prepared, out: &mut W) -> Result<Report, Fault>
         requires { IsPreparedFor self.old.tables prepared.now }
         ensures answer { IsTrue self.old.pager.source.steady
-            → IfOk result (λ report. Answers self.old.pager.source.bytes self.old.tables prepared.now.query report.rows
+            → IfOk result (λ report. Answers self.old.pager.source.bytes self.old.tables (query_of prepared.now) report.rows
             (W.facts out.old) (W.facts out.new)) }
         ensures stops { IsTrue self.old.pager.source.steady
-            → IfErr result (λ e. Stops e self.old.pager.source.bytes self.old.tables prepared.now.query
+            → IfErr result (λ e. Stops e self.old.pager.source.bytes self.old.tables (query_of prepared.now)
             (W.facts out.old) (W.facts out.new)) }
-        ensures pages { IsTrue self.old.pager.source.steady → (place : ℕ) (stored : TableData) (levels : ℕ) (rows : List Row)
-            → prepared.now.query.source ≡ table place → slice_get self.old.tables place ≡ Some stored
+        ensures pages { IsTrue self.old.pager.source.steady → (stored : TableData) (levels : ℕ) (rows : List Row)
+            → slice_get self.old.tables prepared.now.table ≡ Some stored
             → IsStored (pages_of self.old.pager.source.bytes) stored levels rows → levels < 20
             → IfOk result (λ report. report.asked ≤ size_of (pages_of self.old.pager.source.bytes) stored levels) }
-        ensures unchained { IsTrue self.old.pager.source.steady → (place : ℕ) (stored : TableData) (levels : ℕ) (rows : List Row)
-            → prepared.now.query.source ≡ table place → slice_get self.old.tables place ≡ Some stored
+        ensures unchained { IsTrue self.old.pager.source.steady → (stored : TableData) (levels : ℕ) (rows : List Row)
+            → slice_get self.old.tables prepared.now.table ≡ Some stored
             → IsStored (pages_of self.old.pager.source.bytes) stored levels rows → levels < 20
             → IsUnchained (pages_of self.old.pager.source.bytes) stored levels → IfOk result (λ report. report.chained ≡ 0) }
         ensures only { IfErr result (λ e. (e ≡ Fault.ReadFailed) ⊎ (e ≡ Fault.NoMemory) ⊎ (e ≡ Fault.Changed) ⊎ (e ≡ Fault.WriteFailed)) }
@@ -143,8 +143,7 @@ impl<S: Source> Engine<S> {
             self.alloc,
             &mut self.pager,
             self.checked.tables(),
-            prepared.query.source(),
-            prepared.query.columns(),
+            &prepared.query,
             out,
         )
     }

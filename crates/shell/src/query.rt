@@ -4,15 +4,18 @@ ghost use Rattle.values.specs.Fault.{Counts};
 ghost use Rattle.pager.specs.PagerState.{Stays};
 ghost use Rattle.image.specs.Pages.{pages_of};
 ghost use Rattle.values.specs.Row.{Row};
-ghost use Rattle.meaning.specs.Query.{IsTyped};
+ghost use Rattle.meaning.specs.Typed.{IsTyped};
+ghost use Rattle.schema.specs.ColumnTypes.{column_types};
 ghost use Rattle.schema.specs.TableData.{TableData};
 ghost use Rattle.integrity.specs.Stored.{IsStored};
-ghost use Rattle.shell.specs.Answer.{Answers, Stops, scan_query};
-ghost use Rattle.shell.specs.State.{IsReady, widths};
+ghost use Rattle.resolver.specs.Resolved.{query_of};
+ghost use Rattle.shell.specs.Answer.{Answers, Stops};
+ghost use Rattle.shell.specs.State.{IsReady};
 ghost use Rattle.shell.specs.Stream.{IsUnchained, size_of};
 
 use crate::stream::write_rows;
 use pager::{Pager, Source};
+use resolver::Query;
 use schema::Table;
 use std::alloc::Global;
 use values::{Fault, Sink};
@@ -37,29 +40,28 @@ fn table_of(tables: &[Table], source: usize) -> &Table
     &tables[source]
 }
 
-/// Writes these columns of the table at a place of the catalog. Its faults are `ReadFailed`, `NoMemory`, `WriteFailed`,
+/// Writes the answer of a query over these tables. Its faults are `ReadFailed`, `NoMemory`, `WriteFailed`,
 /// and `Changed`, which comes only over a source that isn't steady.
 pub(crate) fn run_query<S: Source, W: Sink>(
     alloc: Global,
     pager: &mut Pager<S>,
     tables: &[Table],
-    source: usize,
-    columns: &[usize],
+    query: &Query,
     out: &mut W,
 ) -> Result<Report, Fault>
     requires ready { IsReady pager.old.state tables.now }
-    requires typed { IsTyped (widths tables.now) (scan_query source columns.now) }
+    requires typed { IsTyped (column_types tables.now) (query_of query.now) }
     ensures answer { IsTrue pager.old.state.source.steady
-        → IfOk result (λ report. Answers pager.old.state.source.bytes tables.now (scan_query source columns.now) report.rows
+        → IfOk result (λ report. Answers pager.old.state.source.bytes tables.now (query_of query.now) report.rows
         (W.facts out.old) (W.facts out.new)) }
     ensures stops { IsTrue pager.old.state.source.steady
-        → IfErr result (λ e. Stops e pager.old.state.source.bytes tables.now (scan_query source columns.now)
+        → IfErr result (λ e. Stops e pager.old.state.source.bytes tables.now (query_of query.now)
         (W.facts out.old) (W.facts out.new)) }
     ensures pages { IsTrue pager.old.state.source.steady → (table : TableData) (levels : ℕ) (rows : List Row)
-        → slice_get tables.now source ≡ Some table → IsStored (pages_of pager.old.state.source.bytes) table levels rows → levels < 20
+        → slice_get tables.now query.now.table ≡ Some table → IsStored (pages_of pager.old.state.source.bytes) table levels rows → levels < 20
         → IfOk result (λ report. report.asked ≤ size_of (pages_of pager.old.state.source.bytes) table levels) }
     ensures unchained { IsTrue pager.old.state.source.steady → (table : TableData) (levels : ℕ) (rows : List Row)
-        → slice_get tables.now source ≡ Some table → IsStored (pages_of pager.old.state.source.bytes) table levels rows → levels < 20
+        → slice_get tables.now query.now.table ≡ Some table → IsStored (pages_of pager.old.state.source.bytes) table levels rows → levels < 20
         → IsUnchained (pages_of pager.old.state.source.bytes) table levels → IfOk result (λ report. report.chained ≡ 0) }
     ensures only { IfErr result (λ e. (e ≡ Fault.ReadFailed) ⊎ (e ≡ Fault.NoMemory) ⊎ (e ≡ Fault.Changed) ⊎ (e ≡ Fault.WriteFailed)) }
     ensures reads { Counts Fault.ReadFailed result pager.old.state.source.failures pager.new.state.source.failures }
@@ -69,7 +71,8 @@ pub(crate) fn run_query<S: Source, W: Sink>(
     ensures stays { Stays pager.old.state pager.new.state }
 {
     let (asked, chained) = (pager.asked(), pager.chained());
-    let rows = write_rows(alloc, pager, table_of(tables, source), columns, out)?;
+    let table = table_of(tables, query.source());
+    let rows = write_rows(alloc, pager, table, query.columns(), out)?;
     Ok(Report {
         rows,
         asked: pager.asked() - asked,

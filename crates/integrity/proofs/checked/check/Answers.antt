@@ -5,11 +5,11 @@ use Rattle.pager.specs.declared.header.Header.{Header}
 use Rattle.image.specs.Pages.{Pages}
 use Rattle.btree.specs.Rest.{pages_seen}
 use Rattle.btree.proofs.SeenLemmas.{still_steady, same_pages}
-use Rattle.schema.specs.TableData.{TableData}
+use Rattle.schema.specs.TableData.{TableData, schema_table}
 use Rattle.integrity.specs.Checked.{IsCheckedTree}
 use Rattle.integrity.specs.RowFaults.{IsBrokenTable}
 use Rattle.integrity.proofs.CheckedLemmas.{broken_table, has_tables, said_here, unsaid_rows}
-use Rattle.integrity.proofs.UnbrokenLemmas.{unbroken_image}
+use Rattle.integrity.proofs.UnbrokenLemmas.{rows_fit, unbroken_image}
 use Rattle.integrity.proofs.checked.check.Goals as goal
 
 pub returns-in_err-catalog-clause-cause : goal.returns-in_err-catalog-clause-cause
@@ -47,7 +47,9 @@ returns-clause-tables g c = λ steady.
     let count : c.header.result.pages ≡ (pages_seen c.args.pager.now.state).count = ap (λ (h : Header). h.pages) (c.header.ensures.value ∙ stays.header) in
     let said = said_here _ _ _ _ c.in_ok-catalog.catalog count c.as_slice.ensures.value c.in_ok-catalog.ensures.tables in
     let trees = subst (λ (q : Pages). AllZip (IsCheckedTree q) c.tables.result.now c.in_ok-trees.trees.items) (same_pages _ _ stays) (c.in_ok-trees.ensures.checked now) in
-    has_tables (pages_seen c.args.pager.now.state) c.in_ok-rows.rows.items c.in_ok-catalog.catalog c.in_ok-trees.trees.items (c.in_ok-rows.ensures.rows steady) said
+    let first = c.in_ok-rows.ensures.checked steady in
+    has_tables (pages_seen c.args.pager.now.state) c.in_ok-rows.rows.items c.in_ok-catalog.catalog c.in_ok-trees.trees.items (c.in_ok-rows.ensures.rows steady)
+    (rows_fit (pages_seen c.args.pager.now.state) schema_table first.0 c.in_ok-rows.rows.items first.1 (c.in_ok-rows.ensures.rows steady)) said
     (subst (λ (ts : List TableData). AllZip (IsCheckedTree (pages_seen c.args.pager.now.state)) ts c.in_ok-trees.trees.items) c.tables.ensures trees)
 
 pub returns-clause-unbroken : goal.returns-clause-unbroken

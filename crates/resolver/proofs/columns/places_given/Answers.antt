@@ -3,8 +3,6 @@ use Rattle.std.proofs.lemmas.List.{length-map}
 use Rattle.std.proofs.lemmas.List.FromFn.{length-range_with_len}
 use Rattle.std.proofs.lemmas.Result.{IfErr-weaker, IfOk-weaker}
 use Rattle.std.proofs.lemmas.Slice.Zip.{AllZip-long}
-use Rattle.meaning.specs.Query.{column}
-use Rattle.resolver.proofs.ColumnLemmas.{zip_map_right}
 use Rattle.resolver.proofs.ResolvedLemmas.{names_refused}
 use Rattle.resolver.specs.Plain.{Columns}
 use Rattle.resolver.proofs.columns.places_given.Goals as goal
@@ -17,9 +15,7 @@ returns-in_ok-all_places-in-All-clause-within c =
     omega arith
 
 pub returns-in-Named-clause-places : goal.returns-in-Named-clause-places
-returns-in-Named-clause-places c = rw c.in-Named.is (IfOk-weaker c.places_of_names.result _ _
-    (λ places z. zip_map_right _ column (map (λ name. name.now) c.in-Named.names.items) places.items z)
-    (rw c.as_slice.ensures.value at c.places_of_names.ensures.places))
+returns-in-Named-clause-places c = rw c.in-Named.is (rw c.as_slice.ensures.value at c.places_of_names.ensures.places)
 
 pub returns-in-Named-clause-within : goal.returns-in-Named-clause-within
 returns-in-Named-clause-within c =

@@ -1,12 +1,10 @@
 use Rattle.std.proofs.Common.{refl, rules}
 use Rattle.std.proofs.lemmas.List.{length-map}
 use Rattle.std.proofs.lemmas.Result.{err_from_is_err_and}
-use Rattle.meaning.specs.Query.{column}
 use Rattle.syntax.specs.SelectView.{select_of}
 use Rattle.resolver.specs.PlainView.{columns_of}
 use Rattle.resolver.specs.Resolved.{column_names}
-use Rattle.resolver.proofs.ColumnLemmas.{zip_map_left}
-use Rattle.resolver.proofs.ResolvedLemmas.{columns_refused, places_within, resolved_is_typed, source_at, source_within, terms_within}
+use Rattle.resolver.proofs.ResolvedLemmas.{columns_refused, places_within, resolved_is_typed, source_at, source_within}
 use Rattle.resolver.proofs.resolved.resolve.Goals as goal
 
 pub bounds-tables-source : goal.bounds-tables-source
@@ -18,8 +16,7 @@ offset_bounds-tables-source c =
 
 pub names_at-requires : goal.names_at-requires
 names_at-requires c =
-    let terms = terms_within (column_names c.columns-declared.result.now) _ _ c.in_ok-columns.ensures.places in
-    let all = places_within _ c.in_ok-columns.columns.items terms in
+    let all = places_within (column_names c.columns-declared.result.now) _ _ c.in_ok-columns.ensures.places in
     rw c.as_slice.ensures.value (rw length-map at all)
 
 pub returns-in_err-columns-clause-refused : goal.returns-in_err-columns-clause-refused
@@ -38,12 +35,11 @@ returns-clause-means c = record {
   at = c.in_ok-source.source;
   table = c.index-tables-source.result;
   source = source_at c.args.tables.now _ c.in_ok-source.source c.index-tables-source.result c.in_ok-source.ensures.place c.index-tables-source.is;
-  source_is = refl;
+  places = c.in_ok-columns.columns.items;
   columns_are = rw c.columns-declared.ensures at c.in_ok-columns.ensures.places;
-  within = rw length-map c.in_ok-columns.ensures.within;
-  unordered = refl;
-  named = zip_map_left _ column c.in_ok-columns.columns.items _
-      (rw (c.columns-declared.ensures, c.as_slice.ensures.value) at c.in_ok-names.ensures.names);
+  query_is = rw c.columns-declared.ensures refl;
+  within = c.in_ok-columns.ensures.within;
+  named = rw (c.columns-declared.ensures, c.as_slice.ensures.value) at c.in_ok-names.ensures.names;
 }
 
 pub returns-clause-typed : goal.returns-clause-typed

@@ -1,26 +1,22 @@
-use Rattle.std.proofs.Common.{◌≡◌, ◌∙◌, sym, ap, ℕ, IsTrue}
-use Rattle.meaning.specs.Query.{table}
+use Rattle.std.proofs.Common.{◌∙◌, ap, IsTrue}
 use Rattle.resolver.specs.Resolved.{ResolvedData}
 use Rattle.shell.specs.State.{EngineState}
 use Rattle.shell.proofs.engine.Engine.run.Goals as goal
 
-one_place : (source place : ℕ) → table source ≡ table place → source ≡ place
-one_place source place same = cc
-
 pub returns-clause-pages : goal.returns-clause-pages
-returns-clause-pages g c = λ steady place stored levels rows is found held few.
+returns-clause-pages g c = λ steady stored levels rows found held few.
     let self = c.self.view_is in
     let bytes = ap (λ (e : EngineState). e.pager.source.bytes) self in
     let seen : IsTrue c.self.inside.pager.state.source.steady = rw (ap (λ (e : EngineState). e.pager.source.steady) self) steady in
     let tables = c.tables.ensures ∙ ap (λ (e : EngineState). e.tables) self in
-    let source = one_place _ place (sym c.source.ensures ∙ ap (λ (p : ResolvedData). p.query.source) c.prepared.view_is ∙ is) in
+    let source = ap (λ (p : ResolvedData). p.table) c.prepared.view_is in
     rw (← bytes) (c.run_query.ensures.pages seen stored levels rows (rw (tables, source) found) (rw bytes held) few)
 
 pub returns-clause-unchained : goal.returns-clause-unchained
-returns-clause-unchained g c = λ steady place stored levels rows is found held few every.
+returns-clause-unchained g c = λ steady stored levels rows found held few every.
     let self = c.self.view_is in
     let bytes = ap (λ (e : EngineState). e.pager.source.bytes) self in
     let seen : IsTrue c.self.inside.pager.state.source.steady = rw (ap (λ (e : EngineState). e.pager.source.steady) self) steady in
     let tables = c.tables.ensures ∙ ap (λ (e : EngineState). e.tables) self in
-    let source = one_place _ place (sym c.source.ensures ∙ ap (λ (p : ResolvedData). p.query.source) c.prepared.view_is ∙ is) in
+    let source = ap (λ (p : ResolvedData). p.table) c.prepared.view_is in
     c.run_query.ensures.unchained seen stored levels rows (rw (tables, source) found) (rw bytes held) few (rw bytes every)
