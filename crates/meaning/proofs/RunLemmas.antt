@@ -1,5 +1,5 @@
 -- Runs of inner joins, in any order.
-use Rattle.std.proofs.Common.{◌≡◌, ℕ, Bool, true, false, cond, ◌&&◌, List, [], ◌∷◌, ◌++◌, All, map, refl, sym, ap, ◌∙◌, arith, append_assoc, append-nil, IsPermutation}
+use Rattle.std.proofs.Common.{◌≡◌, Bool, true, false, cond, List, [], ◌∷◌, ◌++◌, All, map, refl, sym, ap, ◌∙◌, append_assoc, append-nil, IsPermutation}
 use Rattle.std.specs.List.{filter, flat_map}
 use Rattle.std.specs.Cmp.{IsTotalOrder}
 use Rattle.std.specs.FinMap.{IsAntisymmetric, nat_cmp-IsAntisymmetric}
@@ -7,14 +7,13 @@ use Rattle.std.specs.Ordering.{nat_cmp, ordering_then}
 use Rattle.std.specs.declared.cmp.Ordering.{Ordering}
 use Rattle.std.specs.declared.cmp.Ordering.TheVariants.{Less, Equal, Greater}
 use Rattle.std.proofs.lemmas.Cmp.{nat_cmp_total, on_total, then_total}
-use Rattle.std.proofs.lemmas.List.Elements.{All-append, All-cons, All-filter, All-head, All-map, All-nil, All-tail, All-weaker, filter-append, filter_agree}
+use Rattle.std.proofs.lemmas.List.Elements.{All-filter, All-head, All-map, All-tail, All-weaker, filter-append}
 use Rattle.std.proofs.lemmas.List.Sorted.{IsPermutation-append_right, IsPermutation-cons, IsPermutation-middle, IsPermutation-refl, IsPermutation-trans}
 use Rattle.values.specs.Order.{row_cmp}
 use Rattle.values.specs.OrderLaws.{row_cmp-IsAntisymmetric, row_cmp_total}
 use Rattle.values.specs.Row.{Row}
 use Rattle.expr.proofs.BagLemmas.{along_permutation, flat_map_both, IsPermutation-flat_map_each}
 use Rattle.meaning.specs.Joins.{pairs}
-use Rattle.meaning.specs.Sequence.{sorted}
 use Rattle.meaning.specs.Runs.{Joined, JoinedInAnyOrder, Placed, RunIsFilter, SpeakInTurn, SpeaksOf, all_hold, beside, choices, joined_rows, placed_cmp, put_back}
 use Rattle.meaning.proofs.ElementLemmas.{All-flat_map}
 use Rattle.meaning.proofs.KeyLemmas.{sorted-one}

@@ -335,7 +335,36 @@ nulls_last = record {
   offset = pos 1;
 }
 
+-- SELECT DISTINCT qty FROM item ORDER BY qty
+abbrev pub each_qty : QueryData
+each_qty = in_order (select (only item) (record (of_columns (column 2 ∷ [])) { distinct = true })) (by_column 0 ∷ [])
+
+-- SELECT id FROM item ORDER BY id DESC LIMIT 2
+abbrev pub last_two : QueryData
+last_two = record {
+  body = plain (only item) always (column 0 ∷ []);
+  order = record { by = KeyTerm.result 0; direction = record { descending = true; nulls_first = false } } ∷ [];
+  limit = Some (pos 2);
+  offset = pos 0;
+}
+
 -- ---- more windows
+
+-- SELECT name, count(*), rank() OVER (ORDER BY count(*) DESC) FROM item GROUP BY name ORDER BY name
+abbrev pub ranked_groups : QueryData
+ranked_groups = in_order
+    (select (only item) (record (of_columns (column 0 ∷ column 1 ∷ column 2 ∷ [])) {
+      grouping = Some (record { by = column 1 ∷ []; aggregates = count_rows ∷ []; having = always });
+      windows = record {
+        window = record { partition = []; order = record { term = column 1; direction = down } ∷ []; frame = default_frame };
+        function = WindowFunction.rank;
+      } ∷ [];
+    }))
+    (by_column 0 ∷ [])
+
+abbrev pub ranked_groups_rows : List Row
+ranked_groups_rows =
+    (text (codes "bolt") ∷ whole 1 ∷ whole 2 ∷ []) ∷ (text (codes "cap") ∷ whole 1 ∷ whole 2 ∷ []) ∷ (text (codes "nut") ∷ whole 2 ∷ whole 1 ∷ []) ∷ []
 
 -- SELECT n, sum(n) OVER (ORDER BY n DESC RANGE 3 PRECEDING) FROM sale ORDER BY n
 abbrev pub down_by_three : QueryData
@@ -405,6 +434,14 @@ three_inner = in_order
     (among (literal (whole 1)) (answer 0) ∷ among (literal (whole 5)) (answer 1) ∷ among (literal null) (answer 2) ∷ []))
     []
 
+-- SELECT item.id, sale.n FROM item JOIN sale ON item.id = sale.item AND sale.n IN (SELECT id FROM item)
+abbrev pub on_inner : QueryData
+on_inner = in_order
+    (plain
+    (with_inner (joined (only item) inner sale (and id_is_item (among (column 4) (answer 0)))) (values_of (plain (only item) always (column 0 ∷ []))))
+    always (column 0 ∷ column 4 ∷ []))
+    []
+
 -- SELECT id FROM item ORDER BY id IN (SELECT item FROM sale), id DESC
 abbrev pub unsold_first : QueryData
 unsold_first = in_order
@@ -431,17 +468,18 @@ abbrev pub window_examples : Examples
 window_examples =
     (running_sum, running_sum_rows) ∷ (without_ties, without_ties_rows) ∷ (buckets, buckets_rows) ∷ (near_greatest, near_greatest_rows)
     ∷ (within_distance, within_distance_rows) ∷ (equal_rows, equal_rows_shown) ∷ (down_by_three, down_by_three_rows)
-    ∷ (name_before, name_before_rows) ∷ (ranks, ranks_rows) ∷ []
+    ∷ (name_before, name_before_rows) ∷ (ranks, ranks_rows) ∷ (ranked_groups, ranked_groups_rows) ∷ []
 
 abbrev pub compound_examples : Examples
 compound_examples =
     (all_but_cap None (pos 0), (text (codes "bolt") ∷ []) ∷ (text (codes "nut") ∷ []) ∷ []) ∷ (all_but_cap (Some (negsuc 0)) (pos 9), [])
-    ∷ (ones, (whole 1 ∷ []) ∷ (whole 1 ∷ []) ∷ []) ∷ (nulls_last, (whole 40 ∷ []) ∷ (null ∷ []) ∷ []) ∷ []
+    ∷ (ones, (whole 1 ∷ []) ∷ (whole 1 ∷ []) ∷ []) ∷ (nulls_last, (whole 40 ∷ []) ∷ (null ∷ []) ∷ [])
+    ∷ (each_qty, (null ∷ []) ∷ (whole 7 ∷ []) ∷ (whole 40 ∷ []) ∷ []) ∷ (last_two, (whole 4 ∷ []) ∷ (whole 3 ∷ []) ∷ []) ∷ []
 
 abbrev pub inner_examples : Examples
 inner_examples =
     (sold, (whole 1 ∷ []) ∷ (whole 3 ∷ []) ∷ []) ∷ (not_in_qty, []) ∷ (three_inner, (whole 1 ∷ whole 0 ∷ whole 0 ∷ []) ∷ [])
-    ∷ (unsold_first, (whole 4 ∷ []) ∷ (whole 2 ∷ []) ∷ (whole 3 ∷ []) ∷ (whole 1 ∷ []) ∷ []) ∷ []
+    ∷ (unsold_first, (whole 4 ∷ []) ∷ (whole 2 ∷ []) ∷ (whole 3 ∷ []) ∷ (whole 1 ∷ []) ∷ []) ∷ (on_inner, (whole 3 ∷ whole 2 ∷ []) ∷ []) ∷ []
 
 -- whatever stands for results out of range, each query permits the rows beside it
 abbrev pub Show : Datum → Examples → Type 0

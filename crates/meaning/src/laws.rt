@@ -1,5 +1,6 @@
 //! What holds of the definitions alone, and examples of them.
 ghost use Rattle.std.specs.Prelude.{ℕ, ◌≡◌, ◌&&◌, ◌++◌, All, Bool, IsPermutation, List, [], ◌∷◌, filter, length, map};
+ghost use Rattle.std.specs.List.{AllZip};
 ghost use Rattle.values.specs.Database.{Database};
 ghost use Rattle.values.specs.Datum.{Datum};
 ghost use Rattle.values.specs.Row.{Row};
@@ -12,9 +13,9 @@ ghost use Rattle.meaning.specs.Valuation.{Valuation, term_values, with_answers};
 ghost use Rattle.meaning.specs.Joins.{join, pairs};
 ghost use Rattle.meaning.specs.Times.{BagsAreTimes, RulesAreTimes};
 ghost use Rattle.meaning.specs.Windows.{SequenceIsOne};
-ghost use Rattle.meaning.specs.Body.{SameTables, body, body_rows, from_rows, source_rows};
+ghost use Rattle.meaning.specs.Body.{SameTables, answers_in, body, body_rows, from_rows, source_rows};
 ghost use Rattle.meaning.specs.Answer.{Begins, IsStandIn, Permits, slice};
-ghost use Rattle.meaning.specs.Typed.{BodyHasTypes, FitTypes, Fits, FromHasTypes, HasTypes};
+ghost use Rattle.meaning.specs.Typed.{AnswersHaveTypes, BodyHasTypes, FitTypes, Fits, FromHasTypes, HasTypes};
 ghost use Rattle.meaning.specs.Runs.{JoinedInAnyOrder, RunIsFilter};
 ghost use Rattle.meaning.specs.OneTable.{ScanBegins, ScanIsPermitted, ScanIsTyped, ScanNamesColumns};
 ghost use Rattle.meaning.specs.Hits.{IsChoice};
@@ -26,10 +27,15 @@ pub fn some_list_is_permitted()
     ensures { (w : Datum) (db : Database) (query : QueryData) → (rows : List Row) × Permits w db query rows }
 {}
 
-/// Tables are bags: over the same rows in other orders a query permits the same lists.
+/// Tables are bags: over the same rows in other orders a query permits the same lists, its body is the same bag, and so is
+/// each answer of an inner query.
 pub fn tables_are_bags()
-    ensures { (w : Datum) (db other : Database) (query : QueryData) (rows : List Row) → SameTables db other
+    ensures permitted { (w : Datum) (db other : Database) (query : QueryData) (rows : List Row) → SameTables db other
         → Permits w db query rows → Permits w other query rows }
+    ensures body { (w : Datum) (db other : Database) (body : Body) → SameTables db other
+        → IsPermutation (body_rows w db body) (body_rows w other body) }
+    ensures answers { (w : Datum) (db other : Database) (from : From) → SameTables db other
+        → AllZip IsPermutation (answers_in w db from) (answers_in w other from) }
 {}
 
 /// Two bags are equal exactly where they hold each row as often, and an operator's rule says how often its bag does.
@@ -53,7 +59,7 @@ pub fn permitted_size()
 {}
 
 /// The values of the rows that a typed query permits have its types, over tables whose values have theirs; so have those of
-/// FROM, which are as wide as its sources together.
+/// FROM, which are as wide as its sources together, and the answers of inner queries.
 pub fn values_have_types()
     ensures permitted { (w : Datum) (db : Database) (catalog : List (List Ty)) (query : QueryData) (types : List Ty) (rows : List Row) → IsStandIn w
         → Fits catalog db → HasTypes catalog query types → Permits w db query rows → FitTypes types rows }
@@ -62,6 +68,8 @@ pub fn values_have_types()
     ensures from { (w : Datum) (db : Database) (catalog : List (List Ty)) (value : Valuation) (answers : List Ty) (from : From) (types : List Ty)
         → IsOfType Int w → Fits catalog db → FromHasTypes catalog answers from types
         → (from_width from ≡ length types) × FitTypes types (from_rows w db value from) }
+    ensures answers { (w : Datum) (db : Database) (catalog : List (List Ty)) (from : From) (types : List Ty) → IsOfType Int w
+        → Fits catalog db → AnswersHaveTypes catalog from types → AllZip (λ of answer. All (IsOfType of) answer) types (answers_in w db from) }
 {}
 
 /// Without ORDER BY every order of the result rows is permitted.

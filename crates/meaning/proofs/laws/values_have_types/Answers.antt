@@ -1,4 +1,4 @@
-use Rattle.meaning.proofs.TypedLemmas.{Permits-typed, body_typed, from_typed, from_width-is}
+use Rattle.meaning.proofs.TypedLemmas.{Permits-typed, answers_typed, body_typed, from_typed, from_width-is}
 use Rattle.meaning.proofs.laws.values_have_types.Goals as goal
 
 pub returns-clause-permitted : goal.returns-clause-permitted
@@ -10,3 +10,6 @@ returns-clause-body c = λ w db catalog body types stand_in fits has. body_typed
 pub returns-clause-from : goal.returns-clause-from
 returns-clause-from c = λ w db catalog value answers from types stand_in fits has.
     (from_width-is w stand_in db catalog fits answers from types has, from_typed w stand_in db catalog fits value answers from types has)
+
+pub returns-clause-answers : goal.returns-clause-answers
+returns-clause-answers c = λ w db catalog from types stand_in fits has. answers_typed w stand_in db catalog fits from types has
