@@ -168,106 +168,106 @@ some_place None ty h = absurd h
 some_place (Some of) ty h = (of, refl, h)
 
 module _ (columns answers : List Ty) where
-  abbrev T : Term → Option Ty
-  T = type_of_term columns answers
+  abbrev of_term : Term → Option Ty
+  of_term = type_of_term columns answers
 
   mutual
-    complete : (t : Term) (ty : Ty) → HasType columns answers t ty → Finds (T t) ty
+    complete : (t : Term) (ty : Ty) → HasType columns answers t ty → Finds (of_term t) ty
     complete (literal v) ty h = value_found v ty h
     complete (column i) ty h = place_found columns i ty h
-    complete (call f a) ty h = rw h.3 (call_found f (T a) h.0 h.2 (complete a h.0 h.1))
-    complete (arithmetic op a b) ty h = rw h.2 (is_wanted _ Int (joined (T a) (T b) Int (complete a Int h.0) (complete b Int h.1)))
-    complete (concat a b) ty h = rw h.2 (is_wanted _ Text (joined (T a) (T b) Text (complete a Text h.0) (complete b Text h.1)))
-    complete (compare op a b) ty h = rw h.3 (some_type _ Int h.0 (joined (T a) (T b) h.0 (complete a h.0 h.1) (complete b h.0 h.2)))
-    complete (is a b) ty h = rw h.3 (some_type _ Int h.0 (joined (T a) (T b) h.0 (complete a h.0 h.1) (complete b h.0 h.2)))
-    complete (and a b) ty h = rw h.2 (is_wanted _ Int (joined (T a) (T b) Int (complete a Int h.0) (complete b Int h.1)))
-    complete (or a b) ty h = rw h.2 (is_wanted _ Int (joined (T a) (T b) Int (complete a Int h.0) (complete b Int h.1)))
-    complete (between x a b) ty h = rw h.4 (some_type _ Int h.0 (joined (T x) _ h.0 (complete x h.0 h.1) (joined (T a) (T b) h.0 (complete a h.0 h.2) (complete b h.0 h.3))))
-    complete (among x items) ty h = rw h.3 (some_type _ Int h.0 (joined (T x) _ h.0 (complete x h.0 h.1) (complete_all items h.0 h.2)))
+    complete (call f a) ty h = rw h.3 (call_found f (of_term a) h.0 h.2 (complete a h.0 h.1))
+    complete (arithmetic op a b) ty h = rw h.2 (is_wanted _ Int (joined (of_term a) (of_term b) Int (complete a Int h.0) (complete b Int h.1)))
+    complete (concat a b) ty h = rw h.2 (is_wanted _ Text (joined (of_term a) (of_term b) Text (complete a Text h.0) (complete b Text h.1)))
+    complete (compare op a b) ty h = rw h.3 (some_type _ Int h.0 (joined (of_term a) (of_term b) h.0 (complete a h.0 h.1) (complete b h.0 h.2)))
+    complete (is a b) ty h = rw h.3 (some_type _ Int h.0 (joined (of_term a) (of_term b) h.0 (complete a h.0 h.1) (complete b h.0 h.2)))
+    complete (and a b) ty h = rw h.2 (is_wanted _ Int (joined (of_term a) (of_term b) Int (complete a Int h.0) (complete b Int h.1)))
+    complete (or a b) ty h = rw h.2 (is_wanted _ Int (joined (of_term a) (of_term b) Int (complete a Int h.0) (complete b Int h.1)))
+    complete (between x a b) ty h = rw h.4 (some_type _ Int h.0 (joined (of_term x) _ h.0 (complete x h.0 h.1) (joined (of_term a) (of_term b) h.0 (complete a h.0 h.2) (complete b h.0 h.3))))
+    complete (among x items) ty h = rw h.3 (some_type _ Int h.0 (joined (of_term x) _ h.0 (complete x h.0 h.1) (complete_all items h.0 h.2)))
     complete (coalesce items) ty h = complete_all items ty h
     complete (choice rest e) ty h =
         let arms = complete_arms rest Int ty h.0 in
-        behind_found _ _ Int ty (is_wanted _ Int arms.0) (joined _ (T e) ty arms.1 (complete e ty h.1))
+        behind_found _ _ Int ty (is_wanted _ Int arms.0) (joined _ (of_term e) ty arms.1 (complete e ty h.1))
     complete (choice_of x rest e) ty h =
         let arms = complete_arms rest h.0 ty h.2 in
-        behind_found _ _ h.0 ty (joined (T x) _ h.0 (complete x h.0 h.1) arms.0) (joined _ (T e) ty arms.1 (complete e ty h.3))
-    complete (null_if a b) ty h = joined (T a) (T b) ty (complete a ty h.0) (complete b ty h.1)
+        behind_found _ _ h.0 ty (joined (of_term x) _ h.0 (complete x h.0 h.1) arms.0) (joined _ (of_term e) ty arms.1 (complete e ty h.3))
+    complete (null_if a b) ty h = joined (of_term a) (of_term b) ty (complete a ty h.0) (complete b ty h.1)
     complete (like a b) ty h =
-        rw h.2 (some_type _ Int Text (is_wanted _ Text (joined (T a) (T b) Text (complete a Text h.0) (complete b Text h.1))))
+        rw h.2 (some_type _ Int Text (is_wanted _ Text (joined (of_term a) (of_term b) Text (complete a Text h.0) (complete b Text h.1))))
 
     complete_all : (ts : Terms) (ty : Ty) → HaveType columns answers ts ty → Finds (type_of_terms columns answers ts) ty
     complete_all none ty h = inl refl
     complete_all (answer k) ty h = place_found answers k ty h
-    complete_all (more t ts) ty h = joined (T t) _ ty (complete t ty h.0) (complete_all ts ty h.1)
+    complete_all (more t ts) ty h = joined (of_term t) _ ty (complete t ty h.0) (complete_all ts ty h.1)
 
     complete_arms : (rest : Arms) (of ty : Ty) → ArmsHaveTypes columns answers rest of ty
         → Finds (type_of_whens columns answers rest) of × Finds (type_of_thens columns answers rest) ty
     complete_arms no_arms of ty h = (inl refl, inl refl)
     complete_arms (arm c e rest) of ty h =
         let others = complete_arms rest of ty h.2 in
-        (joined (T c) _ of (complete c of h.0) others.0, joined (T e) _ ty (complete e ty h.1) others.1)
+        (joined (of_term c) _ of (complete c of h.0) others.0, joined (of_term e) _ ty (complete e ty h.1) others.1)
 
   mutual
-    sound : (t : Term) (ty : Ty) → Finds (T t) ty → HasType columns answers t ty
+    sound : (t : Term) (ty : Ty) → Finds (of_term t) ty → HasType columns answers t ty
     sound (literal v) ty h = value_has v ty h
     sound (column i) ty h = some_place (slice_get columns i) ty h
-    sound (call f a) ty h = let parts = call_takes f (T a) ty h in (parts.0, sound a parts.0 parts.1, parts.2, parts.3)
+    sound (call f a) ty h = let parts = call_takes f (of_term a) ty h in (parts.0, sound a parts.0 parts.1, parts.2, parts.3)
     sound (arithmetic op a b) ty h =
         let whole = wanted_type _ Int ty int_differs h in
-        let parts = parted (T a) (T b) Int whole.0 in (sound a Int parts.0, sound b Int parts.1, whole.1)
+        let parts = parted (of_term a) (of_term b) Int whole.0 in (sound a Int parts.0, sound b Int parts.1, whole.1)
     sound (concat a b) ty h =
         let whole = wanted_type _ Text ty text_differs h in
-        let parts = parted (T a) (T b) Text whole.0 in (sound a Text parts.0, sound b Text parts.1, whole.1)
+        let parts = parted (of_term a) (of_term b) Text whole.0 in (sound a Text parts.0, sound b Text parts.1, whole.1)
     sound (compare op a b) ty h =
         let some = found_type _ Int ty h in
-        let parts = parted (T a) (T b) some.0 some.1 in (some.0, sound a some.0 parts.0, sound b some.0 parts.1, given_type _ Int ty int_differs h)
+        let parts = parted (of_term a) (of_term b) some.0 some.1 in (some.0, sound a some.0 parts.0, sound b some.0 parts.1, given_type _ Int ty int_differs h)
     sound (is a b) ty h =
         let some = found_type _ Int ty h in
-        let parts = parted (T a) (T b) some.0 some.1 in (some.0, sound a some.0 parts.0, sound b some.0 parts.1, given_type _ Int ty int_differs h)
+        let parts = parted (of_term a) (of_term b) some.0 some.1 in (some.0, sound a some.0 parts.0, sound b some.0 parts.1, given_type _ Int ty int_differs h)
     sound (and a b) ty h =
         let whole = wanted_type _ Int ty int_differs h in
-        let parts = parted (T a) (T b) Int whole.0 in (sound a Int parts.0, sound b Int parts.1, whole.1)
+        let parts = parted (of_term a) (of_term b) Int whole.0 in (sound a Int parts.0, sound b Int parts.1, whole.1)
     sound (or a b) ty h =
         let whole = wanted_type _ Int ty int_differs h in
-        let parts = parted (T a) (T b) Int whole.0 in (sound a Int parts.0, sound b Int parts.1, whole.1)
+        let parts = parted (of_term a) (of_term b) Int whole.0 in (sound a Int parts.0, sound b Int parts.1, whole.1)
     sound (between x a b) ty h =
         let some = found_type _ Int ty h in
-        let parts = parted (T x) (one_of (T a) (T b)) some.0 some.1 in
-        let bounds = parted (T a) (T b) some.0 parts.1 in
+        let parts = parted (of_term x) (one_of (of_term a) (of_term b)) some.0 some.1 in
+        let bounds = parted (of_term a) (of_term b) some.0 parts.1 in
         (some.0, sound x some.0 parts.0, sound a some.0 bounds.0, sound b some.0 bounds.1, given_type _ Int ty int_differs h)
     sound (among x items) ty h =
         let some = found_type _ Int ty h in
-        let parts = parted (T x) _ some.0 some.1 in
+        let parts = parted (of_term x) _ some.0 some.1 in
         (some.0, sound x some.0 parts.0, sound_all items some.0 parts.1, given_type _ Int ty int_differs h)
     sound (coalesce items) ty h = sound_all items ty h
     sound (choice rest e) ty h =
         let parts = behind_both (wanted Int (type_of_whens columns answers rest)) _ ty h in
         let whens = wanted_type (type_of_whens columns answers rest) Int parts.0.0 int_differs parts.0.1 in
-        let thens = parted (type_of_thens columns answers rest) (T e) ty parts.1 in
+        let thens = parted (type_of_thens columns answers rest) (of_term e) ty parts.1 in
         (sound_arms rest Int ty whens.0 thens.0, sound e ty thens.1)
     sound (choice_of x rest e) ty h =
-        let parts = behind_both (one_of (T x) (type_of_whens columns answers rest)) _ ty h in
-        let whens = parted (T x) (type_of_whens columns answers rest) parts.0.0 parts.0.1 in
-        let thens = parted (type_of_thens columns answers rest) (T e) ty parts.1 in
+        let parts = behind_both (one_of (of_term x) (type_of_whens columns answers rest)) _ ty h in
+        let whens = parted (of_term x) (type_of_whens columns answers rest) parts.0.0 parts.0.1 in
+        let thens = parted (type_of_thens columns answers rest) (of_term e) ty parts.1 in
         (parts.0.0, sound x parts.0.0 whens.0, sound_arms rest parts.0.0 ty whens.1 thens.0, sound e ty thens.1)
-    sound (null_if a b) ty h = let parts = parted (T a) (T b) ty h in (sound a ty parts.0, sound b ty parts.1)
+    sound (null_if a b) ty h = let parts = parted (of_term a) (of_term b) ty h in (sound a ty parts.0, sound b ty parts.1)
     sound (like a b) ty h =
-        let some = found_type (wanted Text (one_of (T a) (T b))) Int ty h in
-        let whole = wanted_type (one_of (T a) (T b)) Text some.0 text_differs some.1 in
-        let parts = parted (T a) (T b) Text whole.0 in
-        (sound a Text parts.0, sound b Text parts.1, given_type (wanted Text (one_of (T a) (T b))) Int ty int_differs h)
+        let some = found_type (wanted Text (one_of (of_term a) (of_term b))) Int ty h in
+        let whole = wanted_type (one_of (of_term a) (of_term b)) Text some.0 text_differs some.1 in
+        let parts = parted (of_term a) (of_term b) Text whole.0 in
+        (sound a Text parts.0, sound b Text parts.1, given_type (wanted Text (one_of (of_term a) (of_term b))) Int ty int_differs h)
 
     sound_all : (ts : Terms) (ty : Ty) → Finds (type_of_terms columns answers ts) ty → HaveType columns answers ts ty
     sound_all none ty h = tt
     sound_all (answer k) ty h = some_place (slice_get answers k) ty h
-    sound_all (more t ts) ty h = let parts = parted (T t) _ ty h in (sound t ty parts.0, sound_all ts ty parts.1)
+    sound_all (more t ts) ty h = let parts = parted (of_term t) _ ty h in (sound t ty parts.0, sound_all ts ty parts.1)
 
     sound_arms : (rest : Arms) (of ty : Ty) → Finds (type_of_whens columns answers rest) of → Finds (type_of_thens columns answers rest) ty
         → ArmsHaveTypes columns answers rest of ty
     sound_arms no_arms of ty p q = tt
     sound_arms (arm c e rest) of ty p q =
-        let whens = parted (T c) _ of p in
-        let thens = parted (T e) _ ty q in
+        let whens = parted (of_term c) _ of p in
+        let thens = parted (of_term e) _ ty q in
         (sound c of whens.0, sound e ty thens.0, sound_arms rest of ty whens.1 thens.1)
 
 pub types_are_found : TypesAreFound
