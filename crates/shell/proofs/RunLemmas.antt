@@ -13,8 +13,7 @@ use Rattle.pager.specs.declared.header.Header.{Header}
 use Rattle.pager.specs.Header.{header_of}
 use Rattle.pager.specs.PagerState.{PagerState, opened}
 use Rattle.pager.specs.Source.{SourceFacts}
-use Rattle.image.specs.Pages.{pages_in, pages_of}
-use Rattle.btree.specs.Rest.{pages_seen}
+use Rattle.image.specs.Pages.{pages_seen, pages_in, pages_of}
 use Rattle.meaning.specs.Query.{IsTermOf, IsTyped, column}
 use Rattle.meaning.specs.Body.{Row, term_values, value_at}
 use Rattle.meaning.specs.Answer.{Begins, Permits}

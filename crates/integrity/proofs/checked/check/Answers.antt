@@ -2,8 +2,7 @@ use Rattle.std.proofs.Common.{◌≡◌, Contains, List, sym, ◌∙◌, ap, sub
 use Rattle.std.specs.List.{AllZip}
 use Rattle.std.proofs.lemmas.Result.{err_from_is_err_and}
 use Rattle.pager.specs.declared.header.Header.{Header}
-use Rattle.image.specs.Pages.{Pages}
-use Rattle.btree.specs.Rest.{pages_seen}
+use Rattle.image.specs.Pages.{pages_seen, Pages}
 use Rattle.btree.proofs.SeenLemmas.{still_steady, same_pages}
 use Rattle.schema.specs.TableData.{TableData}
 use Rattle.integrity.specs.Checked.{IsCheckedTree}
@@ -14,8 +13,8 @@ use Rattle.integrity.proofs.checked.check.Goals as goal
 
 pub returns-in_err-catalog-clause-cause : goal.returns-in_err-catalog-clause-cause
 returns-in_err-catalog-clause-cause g c = λ steady.
-    let stays = c.read_schema.ensures.stays in
-    let count : c.header.result.pages ≡ (pages_seen c.args.pager.now.state).count = ap (λ (h : Header). h.pages) (c.header.ensures.value ∙ stays.header) in
+    let stays = c.read_schema.ensures.reads.image in
+    let count : c.header.result.pages ≡ (pages_seen c.args.pager.now.state).count = ap (λ (h : Header). h.pages) (c.header.ensures.is ∙ stays.header) in
     let p = err_from_is_err_and c.from_residual-in_err-catalog.result c.from_residual-in_err-catalog.ensures.1 in
     rw (p.1, p.2)
     (unsaid_rows (pages_seen c.args.pager.now.state) c.in_ok-rows.rows.items _ (c.in_ok-rows.ensures.rows steady)
@@ -27,9 +26,9 @@ returns-in_err-catalog-clause-cause g c = λ steady.
 
 pub returns-in_err-trees-clause-cause : goal.returns-in_err-trees-clause-cause
 returns-in_err-trees-clause-cause g c = λ steady.
-    let stays = c.read_schema.ensures.stays in
+    let stays = c.read_schema.ensures.reads.image in
     let now = still_steady _ _ stays steady in
-    let count : c.header.result.pages ≡ (pages_seen c.args.pager.now.state).count = ap (λ (h : Header). h.pages) (c.header.ensures.value ∙ stays.header) in
+    let count : c.header.result.pages ≡ (pages_seen c.args.pager.now.state).count = ap (λ (h : Header). h.pages) (c.header.ensures.is ∙ stays.header) in
     let said = said_here _ _ _ _ c.in_ok-catalog.catalog count c.as_slice.ensures.value c.in_ok-catalog.ensures.tables in
     let p = err_from_is_err_and c.from_residual-in_err-trees.result c.from_residual-in_err-trees.ensures.1 in
     rw (p.1, p.2)
@@ -42,9 +41,9 @@ returns-in_err-trees-clause-cause g c = λ steady.
 
 pub returns-clause-tables : goal.returns-clause-tables
 returns-clause-tables g c = λ steady.
-    let stays = c.read_schema.ensures.stays in
+    let stays = c.read_schema.ensures.reads.image in
     let now = still_steady _ _ stays steady in
-    let count : c.header.result.pages ≡ (pages_seen c.args.pager.now.state).count = ap (λ (h : Header). h.pages) (c.header.ensures.value ∙ stays.header) in
+    let count : c.header.result.pages ≡ (pages_seen c.args.pager.now.state).count = ap (λ (h : Header). h.pages) (c.header.ensures.is ∙ stays.header) in
     let said = said_here _ _ _ _ c.in_ok-catalog.catalog count c.as_slice.ensures.value c.in_ok-catalog.ensures.tables in
     let trees = subst (λ (q : Pages). AllZip (IsCheckedTree q) c.tables.result.now c.in_ok-trees.trees.items) (same_pages _ _ stays) (c.in_ok-trees.ensures.checked now) in
     has_tables (pages_seen c.args.pager.now.state) c.in_ok-rows.rows.items c.in_ok-catalog.catalog c.in_ok-trees.trees.items (c.in_ok-rows.ensures.rows steady) said
@@ -52,9 +51,9 @@ returns-clause-tables g c = λ steady.
 
 pub returns-clause-unbroken : goal.returns-clause-unbroken
 returns-clause-unbroken g c = λ steady.
-    let stays = c.read_schema.ensures.stays in
+    let stays = c.read_schema.ensures.reads.image in
     let now = still_steady _ _ stays steady in
-    let count : c.header.result.pages ≡ (pages_seen c.args.pager.now.state).count = ap (λ (h : Header). h.pages) (c.header.ensures.value ∙ stays.header) in
+    let count : c.header.result.pages ≡ (pages_seen c.args.pager.now.state).count = ap (λ (h : Header). h.pages) (c.header.ensures.is ∙ stays.header) in
     let said = said_here _ _ _ _ c.in_ok-catalog.catalog count c.as_slice.ensures.value c.in_ok-catalog.ensures.tables in
     let trees = subst (λ (q : Pages). AllZip (IsCheckedTree q) c.tables.result.now c.in_ok-trees.trees.items) (same_pages _ _ stays) (c.in_ok-trees.ensures.checked now) in
     let first = c.in_ok-rows.ensures.checked steady in

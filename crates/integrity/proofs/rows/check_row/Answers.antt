@@ -1,7 +1,7 @@
+use Rattle.image.specs.Pages.{pages_seen}
 use Rattle.std.proofs.Common.{rules, inr}
 use Rattle.std.specs.Cow.{cow_slice_items}
 use Rattle.std.proofs.lemmas.Result.{err_from_is_err_and}
-use Rattle.btree.specs.Rest.{pages_seen}
 use Rattle.btree.specs.Views.{cell_data}
 use Rattle.integrity.proofs.CellLemmas.{record_breaks, row_is}
 use Rattle.integrity.proofs.rows.check_row.Goals as goal

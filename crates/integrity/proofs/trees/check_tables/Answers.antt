@@ -1,8 +1,7 @@
 use Rattle.std.proofs.Common.{◌<◌, length, rules, ◌∙◌, subst, inl, inr, ⊎_elim}
 use Rattle.std.proofs.lemmas.Result.{err_from_is_err_and}
-use Rattle.pager.proofs.StaysLemmas.{Stays-trans}
-use Rattle.image.specs.Pages.{Pages}
-use Rattle.btree.specs.Rest.{pages_seen}
+use Rattle.pager.proofs.CallLemmas.{SameImage-trans}
+use Rattle.image.specs.Pages.{pages_seen, Pages}
 use Rattle.btree.proofs.SeenLemmas.{still_steady, same_pages}
 use Rattle.integrity.specs.Checked.{IsCheckedTree}
 use Rattle.integrity.specs.RowFaults.{IsBrokenTable}
@@ -25,8 +24,8 @@ loop-table-preserved g c =
     let within : c.loop-table.table-index < length c.args.tables.now = search rules in
     let here = get_at c.args.tables.now c.loop-table.table-index c.table-item.result within (search rules) in
     record {
-      stays = Stays-trans _ _ _ inv.stays c.check_table.ensures.stays;
-      failures = c.in_ok-counts.ensures.failures ∙ inv.failures;
+      stays = SameImage-trans _ _ _ inv.stays c.check_table.ensures.reads.image;
+      failures = c.in_ok-counts.ensures.reads.failures ∙ inv.failures;
       checked = λ steady.
           let now = still_steady _ _ inv.stays steady in
           let told = c.in_ok-counts.ensures in

@@ -1,8 +1,8 @@
+use Rattle.image.specs.Pages.{pages_seen}
 use Rattle.std.proofs.Common.{List, sym, subst, inr}
 use Rattle.std.specs.Cow.{cow_slice_items}
 use Rattle.std.proofs.lemmas.Result.{err_from_is_err_and}
 use Rattle.values.specs.Datum.{Datum}
-use Rattle.btree.specs.Rest.{pages_seen}
 use Rattle.btree.specs.Views.{cell_data}
 use Rattle.integrity.specs.Stored.{IsRowOf}
 use Rattle.integrity.proofs.CellLemmas.{record_breaks, row_is}

@@ -1,7 +1,7 @@
+use Rattle.image.specs.Pages.{pages_seen}
 use Rattle.std.proofs.Common.{All, ℕ, sym, subst, None}
 use Rattle.image.specs.declared.kind.TreeKind.TheVariants.{Table}
 use Rattle.image.specs.Shape.{places_under}
-use Rattle.btree.specs.Rest.{pages_seen}
 use Rattle.integrity.specs.Stored.{HoldsRow}
 use Rattle.integrity.specs.Walked.{AreCounts, IsMet, IsTree}
 use Rattle.integrity.proofs.TreeLemmas.{root_shape, sound_table}
