@@ -19,10 +19,13 @@ use Rattle.integrity.specs.Walked.{IsMet}
 module _ (pages : Pages) (n : ℕ) (long : length (pages.page n) ≡ pages.usable) where
   cell_here : (level : Level) (i : ℕ) (key : ℤ) → HasKeyAt (header_at n) pages.size (pages.page n) level i key
       → HasCell pages Table level (cell_at pages level n i)
-  cell_here Leaf i key (cell, row, e) = (cell, record {
-    is = subst (λ (u : ℕ). IsTableCell u (cell_at pages Leaf n i) cell) long row.is.is;
-    fits = row.is.fits;
-  })
+  cell_here Leaf i key (cell, row, e) = (
+    cell,
+    record {
+      is = subst (λ (u : ℕ). IsTableCell u (cell_at pages Leaf n i) cell) long row.is.is;
+      fits = row.is.fits;
+    },
+  )
   cell_here Interior i key divider = (key, divider.is)
 
   rowid_here : (level : Level) (i : ℕ) (key : ℤ) → HasKeyAt (header_at n) pages.size (pages.page n) level i key → HasRowid pages level n i key

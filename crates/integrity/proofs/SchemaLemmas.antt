@@ -95,10 +95,9 @@ module _ (pages : Pages) (at most : ℕ) (page : List ℕ) (seen : IsSeen pages 
 
     pub rows_cause : (fault : Fault) → IsRowsFault pages schema_table 1 at most page fault → HasCause pages fault
     rows_cause fault (inl failed) = inl failed
-    rows_cause fault (inr (inl memory)) = inr (inl memory)
-    rows_cause fault (inr (inr (inl broken))) =
-        inr (inr (inl (schema_table, schema, inr (leaf_fault pages schema_table 1 at most page seen 1 leaf top fault broken))))
-    rows_cause fault (inr (inr (inr (is, lacks)))) = absurd (none_lacks lacks)
+    rows_cause fault (inr (inl broken)) =
+        inr (inl (schema_table, schema, inr (leaf_fault pages schema_table 1 at most page seen 1 leaf top fault broken)))
+    rows_cause fault (inr (inr (is, lacks))) = absurd (none_lacks lacks)
 
 -- the first page, as a pager shows it
 module _ (state : PagerState) (header : Header) (header_is : header ≡ state.header) (sound : IsSoundHeader header) where

@@ -2,6 +2,7 @@
 use Rattle.std.specs.Prelude.{ℕ, ◌<◌, All, List}
 use Rattle.std.specs.List.{AllZip}
 use Rattle.image.specs.Pages.{pages_of, Pages}
+use Rattle.image.specs.Shape.{most_levels}
 use Rattle.meaning.specs.Body.{Row, Database}
 use Rattle.schema.specs.Rows.{AreTables}
 use Rattle.schema.specs.TableData.{TableData, schema_table}
@@ -23,7 +24,7 @@ pub record Denotes (image : List ℕ) (tables : List TableData) (db : Database) 
 pub record IsStoredTable (pages : Pages) (table : TableData) : Type 0 where
   pub levels : ℕ
   pub rows : List Row
-  pub few : levels < 20
+  pub few : levels < most_levels
   pub stored : IsStored pages table levels rows
 
 -- the tables of the pages, each with its rows

@@ -1,12 +1,7 @@
 //! The check of a whole image.
-ghost use Rattle.std.specs.Prelude.{◌≡◌, All, IfErr, IfOk, OnOk};
-ghost use Rattle.std.specs.List.{AllZip};
+ghost use Rattle.std.specs.Prelude.{◌≡◌, MatchResult};
 ghost use Rattle.pager.specs.Calls.{ReadsPages};
-ghost use Rattle.pager.specs.PagerState.{IsPageNumber};
-ghost use Rattle.image.specs.Pages.{WhereSteady};
-ghost use Rattle.integrity.specs.Checked.{HasCause, IsBrokenImage, IsCheckedTree};
-ghost use Rattle.integrity.specs.Denotes.{HasTables};
-ghost use Rattle.integrity.specs.Walked.{IsCheckFault};
+ghost use Rattle.integrity.specs.Checked.{HasCheckedImage, IsCheckFailure};
 
 use crate::trees::{check_tables, read_schema};
 use crate::walk::TreeCounts;
@@ -56,12 +51,7 @@ impl Checked {
 /// has that condition; `NotYet` where the schema has more than one page, or one of its rows isn't that of a table that is
 /// served; `ReadFailed` and `NoMemory`.
 pub fn check<S: Source>(alloc: Global, pager: &mut Pager<S>) -> Result<Checked, Fault>
-    ensures tables { WhereSteady pager.old.state (λ pages. IfOk result (λ checked. HasTables pages checked.tables)) }
-    ensures trees { WhereSteady pager.old.state (λ pages. IfOk result (λ checked. AllZip (IsCheckedTree pages) checked.tables checked.trees)) }
-    ensures unbroken { WhereSteady pager.old.state (λ pages. OnOk result ((fault : Fault) → ¬ IsBrokenImage pages fault)) }
-    ensures roots { IfOk result (λ checked. All (λ table. IsPageNumber pager.old.state table.root) checked.tables) }
-    ensures cause { WhereSteady pager.old.state (λ pages. IfErr result (HasCause pages)) }
-    ensures only { IfErr result IsCheckFault }
+    ensures outcome { MatchResult result (HasCheckedImage pager.old.state) (IsCheckFailure pager.old.state) }
     ensures reads { ReadsPages result pager.old.state pager.new.state }
 {
     let schema = Table::schema(alloc)?;

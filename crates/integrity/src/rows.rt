@@ -5,7 +5,7 @@ ghost use Rattle.values.specs.Datum.{Datum, datum_of_ref};
 ghost use Rattle.image.specs.declared.kind.TreeKind.TheVariants as kind;
 ghost use Rattle.image.specs.declared.kind.Level.TheVariants.{Leaf};
 ghost use Rattle.image.specs.Chain.{HasBytes};
-ghost use Rattle.pager.specs.Calls.{ReadsPages};
+ghost use Rattle.pager.specs.Calls.{IsReadFault, ReadsPages};
 ghost use Rattle.image.specs.Pages.{WhereSteady};
 ghost use Rattle.btree.specs.Views.{cell_data, payload_data};
 ghost use Rattle.integrity.specs.Keys.{HasCells};
@@ -179,7 +179,7 @@ pub(crate) fn payload_of<'p, S: Source>(
     n: u32,
 ) -> Result<CowSlice<'p, u8>, Fault>
     ensures bytes { WhereSteady pager.old.state (λ pages. IfOk result (λ bytes. HasBytes pages (payload_data cell.now.payload) (cow_slice_items bytes))) }
-    ensures fault { WhereSteady pager.old.state (λ pages. IfErr result (λ e. (e ≡ Fault.ReadFailed) ⊎ (e ≡ Fault.NoMemory)
+    ensures fault { WhereSteady pager.old.state (λ pages. IfErr result (λ e. IsReadFault e
         ⊎ ((e ≡ Fault.BadChain n) × ((bytes : List ℕ) → ¬ HasBytes pages (payload_data cell.now.payload) bytes)))) }
     ensures only { IfErr result IsRowFault }
     ensures reads { ReadsPages result pager.old.state pager.new.state }
@@ -247,7 +247,7 @@ fn check_row<S: Source>(
     n: u32,
 ) -> Result<(), Fault>
     ensures row { WhereSteady pager.old.state (λ pages. OnOk result ((row : List Datum) × IsRowOf pages table.now (cell_data cell.now) row × Fits table.now row)) }
-    ensures fault { WhereSteady pager.old.state (λ pages. IfErr result (λ e. (e ≡ Fault.ReadFailed) ⊎ (e ≡ Fault.NoMemory)
+    ensures fault { WhereSteady pager.old.state (λ pages. IfErr result (λ e. IsReadFault e
         ⊎ IsCellFault pages table.now n (cell_data cell.now) e)) }
     ensures only { IfErr result IsRowFault }
     ensures reads { ReadsPages result pager.old.state pager.new.state }
@@ -278,7 +278,7 @@ pub(crate) fn check_rows<S: Source>(
     requires level { view.now.level ≡ Leaf }
     requires cells { HasCells view.now.at most view.now.page Leaf }
     ensures rows { WhereSteady pager.old.state (λ pages. OnOk result (AreRowsIn pages table.now view.now.at most view.now.page)) }
-    ensures fault { WhereSteady pager.old.state (λ pages. IfErr result (λ e. (e ≡ Fault.ReadFailed) ⊎ (e ≡ Fault.NoMemory)
+    ensures fault { WhereSteady pager.old.state (λ pages. IfErr result (λ e. IsReadFault e
         ⊎ IsLeafFault pages table.now n view.now.at most view.now.page e)) }
     ensures only { IfErr result IsRowFault }
     ensures reads { ReadsPages result pager.old.state pager.new.state }

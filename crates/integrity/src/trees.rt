@@ -1,7 +1,7 @@
 //! The trees of an image's tables, and the rows of its schema.
 ghost use Rattle.std.specs.Prelude.{◌≡◌, ◌⊎◌, All, Contains, IfErr, IfOk, IsTrue, OnOk};
 ghost use Rattle.std.specs.List.{AllZip};
-ghost use Rattle.pager.specs.Calls.{ReadsPages};
+ghost use Rattle.pager.specs.Calls.{IsReadFault, ReadsPages};
 ghost use Rattle.pager.specs.PagerState.{IsPageNumber};
 ghost use Rattle.image.specs.declared.kind.TreeKind.TheVariants as kind;
 ghost use Rattle.image.specs.declared.kind.Level.TheVariants.{Leaf};
@@ -30,7 +30,7 @@ pub(crate) fn check_tables<S: Source>(
 ) -> Result<Vec<TreeCounts>, Fault>
     requires { All (λ table. IsPageNumber pager.old.state table.root) tables.now }
     ensures checked { WhereSteady pager.old.state (λ pages. IfOk result (λ trees. AllZip (IsCheckedTree pages) tables.now trees.items)) }
-    ensures fault { WhereSteady pager.old.state (λ pages. IfErr result (λ e. (e ≡ Fault.ReadFailed) ⊎ (e ≡ Fault.NoMemory)
+    ensures fault { WhereSteady pager.old.state (λ pages. IfErr result (λ e. IsReadFault e
         ⊎ ((table : TableData) × Contains tables.now table × IsBrokenTable pages table e))) }
     ensures only { IfErr result IsWalkFault }
     ensures reads { ReadsPages result pager.old.state pager.new.state }
@@ -52,7 +52,7 @@ fn row_in<S: Source>(
     n: u32,
 ) -> Result<Row, Fault>
     ensures row { WhereSteady pager.old.state (λ pages. IfOk result (λ row. IsRowOf pages table.now (cell_data cell.now) row)) }
-    ensures fault { WhereSteady pager.old.state (λ pages. IfErr result (λ e. (e ≡ Fault.ReadFailed) ⊎ (e ≡ Fault.NoMemory)
+    ensures fault { WhereSteady pager.old.state (λ pages. IfErr result (λ e. IsReadFault e
         ⊎ IsCellFault pages table.now n (cell_data cell.now) e)) }
     ensures only { IfErr result IsRowFault }
     ensures reads { ReadsPages result pager.old.state pager.new.state }

@@ -1,14 +1,14 @@
 //! A walk over a table's tree, from its root down.
-ghost use Rattle.std.specs.Prelude.{All, ◌≡◌, ◌≢◌, ◌⊎◌, ◌+◌, ◌<◌, ◌≤◌, ℤ, Option, IfErr, IfNone, IfOk, IfSome, OnOk, IsFalse, IsTrue, None, Some, suc, ℕ};
+ghost use Rattle.std.specs.Prelude.{All, ◌≡◌, ◌≢◌, ◌⊎◌, ◌+◌, ◌<◌, ◌≤◌, ℤ, Option, IfErr, IfNone, IfOk, IfSome, IsFalse, IsTrue, MatchResult, None, Some, suc, ℕ};
 ghost use Rattle.image.specs.declared.kind.TreeKind.TheVariants as kind;
 ghost use Rattle.image.specs.declared.kind.Level.TheVariants.{Interior};
 ghost use Rattle.image.specs.Layout.{cell_count, child};
-ghost use Rattle.image.specs.Shape.{HasShape, places_under};
-ghost use Rattle.image.specs.Sound.{IsSoundTable};
-ghost use Rattle.pager.specs.Calls.{ReadsPages};
+ghost use Rattle.image.specs.Shape.{most_levels, places_under};
+ghost use Rattle.pager.specs.Calls.{IsReadFault, ReadsPages};
 ghost use Rattle.pager.specs.PagerState.{IsPageNumber};
 ghost use Rattle.btree.specs.Bytes.{IsDividerOf};
 ghost use Rattle.image.specs.Pages.{WhereSteady};
+ghost use Rattle.integrity.specs.Checked.{HasCheckedTable, IsTableFault};
 ghost use Rattle.integrity.specs.Keys.{HasCells, HasKeyAt};
 ghost use Rattle.integrity.specs.RowFaults.{IsBrokenTable};
 ghost use Rattle.integrity.specs.Stored.{HoldsRow};
@@ -121,11 +121,11 @@ fn walk<S: Source>(
 ) -> Result<TreeCounts, Fault>
     requires number { IsPageNumber pager.old.state n }
     requires met { WhereSteady pager.old.state (λ pages. IsMet pages table.now.root depth low high n) }
-    ensures deep { IfOk result (λ counts. counts.levels + depth ≤ 20) }
+    ensures deep { IfOk result (λ counts. counts.levels + depth ≤ most_levels) }
     ensures tree { WhereSteady pager.old.state (λ pages. IfOk result (λ counts. IsTree pages table.now.root counts.levels low high n)) }
     ensures counts { WhereSteady pager.old.state (λ pages. IfOk result (λ counts. AreCounts pages counts.levels n counts.rows counts.pages)) }
     ensures rows { WhereSteady pager.old.state (λ pages. IfOk result (λ counts. All (HoldsRow pages table.now) (places_under pages kind.Table counts.levels n))) }
-    ensures fault { WhereSteady pager.old.state (λ pages. IfErr result (λ e. (e ≡ Fault.ReadFailed) ⊎ (e ≡ Fault.NoMemory) ⊎ IsBrokenTable pages table.now e)) }
+    ensures fault { WhereSteady pager.old.state (λ pages. IfErr result (λ e. IsReadFault e ⊎ IsBrokenTable pages table.now e)) }
     ensures only { IfErr result IsWalkFault }
     ensures reads { ReadsPages result pager.old.state pager.new.state }
 {
@@ -175,13 +175,7 @@ pub fn check_table<S: Source>(
     table: &Table,
 ) -> Result<TreeCounts, Fault>
     requires { IsPageNumber pager.old.state table.now.root }
-    ensures sound { WhereSteady pager.old.state (λ pages. OnOk result (IsSoundTable pages table.now.root)) }
-    ensures few { IfOk result (λ counts. counts.levels < 20) }
-    ensures shape { WhereSteady pager.old.state (λ pages. IfOk result (λ counts. HasShape pages kind.Table counts.levels table.now.root)) }
-    ensures counts { WhereSteady pager.old.state (λ pages. IfOk result (λ counts. AreCounts pages counts.levels table.now.root counts.rows counts.pages)) }
-    ensures rows { WhereSteady pager.old.state (λ pages. IfOk result (λ counts. All (HoldsRow pages table.now) (places_under pages kind.Table counts.levels table.now.root))) }
-    ensures fault { WhereSteady pager.old.state (λ pages. IfErr result (λ e. (e ≡ Fault.ReadFailed) ⊎ (e ≡ Fault.NoMemory) ⊎ IsBrokenTable pages table.now e)) }
-    ensures only { IfErr result IsWalkFault }
+    ensures outcome { MatchResult result (HasCheckedTable pager.old.state table.now) (IsTableFault pager.old.state table.now) }
     ensures reads { ReadsPages result pager.old.state pager.new.state }
 {
     let counts = walk(alloc, pager, table, table.root(), 1, None, None)?;

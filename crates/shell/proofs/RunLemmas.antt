@@ -22,7 +22,9 @@ use Rattle.schema.specs.TableData.{TableData}
 use Rattle.integrity.specs.Stored.{IsStored}
 use Rattle.integrity.proofs.DenotesLemmas.{HasDatabase, IsStoredAs, database_of}
 use Rattle.shell.specs.Answer.{Answers, Stops, scan_query}
-use Rattle.shell.specs.State.{IsReady, widths}
+use Rattle.integrity.specs.Walked.{IsCheckFault}
+use Rattle.pager.specs.Calls.{IsOpenFault, IsReadFault}
+use Rattle.shell.specs.State.{IsOpeningFault, IsReady, widths}
 use Rattle.shell.specs.Stream.{Streams, StreamsUntil, shown}
 
 pub some_one : {X : Type 0} (x y : X) → Some x ≡ Some y → x ≡ y
@@ -121,3 +123,12 @@ pub pages_opened : (state : PagerState) (source : SourceFacts) (header : Header)
     → state.header ≡ header_of state.source.bytes → pages_seen state ≡ pages_of source.bytes
 pages_opened state source header capacity is header_is =
     ap (λ (h : Header). pages_in h state.source.bytes) header_is ∙ ap (λ (s : PagerState). pages_of s.source.bytes) is
+
+-- a source that wasn't opened
+read_check : (fault : Fault) → IsReadFault fault → IsCheckFault fault
+read_check fault (inl is) = subst (λ (x : Fault). IsCheckFault x) (sym is) tt
+read_check fault (inr is) = subst (λ (x : Fault). IsCheckFault x) (sym is) tt
+
+pub opening_fault : (source : SourceFacts) (fault : Fault) → IsOpenFault source fault → IsOpeningFault source fault
+opening_fault source fault (inl read) = record { only = inr (read_check fault read); cause = λ steady. inl read }
+opening_fault source fault (inr header) = record { only = inl header.0; cause = λ steady. inr (inl (header.1 steady)) }

@@ -22,14 +22,14 @@ returns-in_err-row-clause-fault g c = λ steady.
     let within : c.loop-i.i < cell_count c.args.view.now.at c.args.view.now.page = search rules in
     let p = err_from_is_err_and c.from_residual-in_err-row.result c.from_residual-in_err-row.ensures.1 in
     rw (p.1, p.2)
-    (⊎_elim inl (λ other. inr (⊎_elim inl
+    (⊎_elim inl
     (λ broken. inr (inl (record {
       i = c.loop-i.i;
       cell = _;
       within = within;
       here = c.in-Some.ensures.found;
       broken = subst (λ (pages : Pages). IsCellFault pages c.args.table.now c.args.n (cell_data c.in-Some.cell) c.in_err-row.field-0.0) (same_pages _ _ inv.stays) broken;
-    }))) other))
+    })))
     (c.in_err-row.ensures.fault (still_steady _ _ inv.stays steady)))
 
 -- the fault of a row is one of a walk

@@ -20,9 +20,9 @@ pub returns-in_err-check_table-clause-fault : goal.returns-in_err-check_table-cl
 returns-in_err-check_table-clause-fault g c = λ steady.
     let p = err_from_is_err_and c.from_residual.result c.from_residual.ensures.1 in
     rw (p.1, p.2)
-    (⊎_elim inl (λ other. inr (⊎_elim inl
-    (λ broken. inr (inl (schema_table, schema, subst (λ (t : TableData). IsBrokenTable (pages_seen c.args.pager.now.state) t c.in_err-check_table.field-0.0) c.requires broken))) other))
-    (c.in_err-check_table.ensures.fault steady))
+    (⊎_elim inl
+    (λ broken. inr (inl (schema_table, schema, subst (λ (t : TableData). IsBrokenTable (pages_seen c.args.pager.now.state) t c.in_err-check_table.field-0.0) c.requires broken)))
+    (c.in_err-check_table.ensures.outcome.cause steady))
 
 pub returns-in_default-clause-fault : goal.returns-in_default-clause-fault
 returns-in_default-clause-fault g c = λ steady.
@@ -31,12 +31,12 @@ returns-in_default-clause-fault g c = λ steady.
     let page = subst (λ (b : List ℕ). c.in_ok-page.page ≡ page_of b 1) stays.bytes (told.outcome.is (still_steady _ _ stays steady)) in
     let long = told.outcome.long ∙ ap (λ (h : Header). h.page_size) stays.header in
     let met = first_met c.args.pager.now.state c.header-header.result c.header-header.ensures.is c.header-header.ensures.sound in
-    inr (inr (inl (
+    inr (inl (
       schema_table,
       schema,
       inl (broken_header c.args.pager.now.state c.header-header.result c.header-header.ensures.is c.header-header.ensures.sound 1
           c.in_ok-page.page page long 1 1 None None met c.in_default.ensures.none),
-    )))
+    ))
 
 pub returns-then-eq-clause-fault : goal.returns-then-eq-clause-fault
 returns-then-eq-clause-fault g c = λ steady.
@@ -52,9 +52,9 @@ returns-then-eq-clause-fault g c = λ steady.
     let checked = c.in_ok-check_table.ensures in
     let tree : IsCheckedTree (pages_seen c.args.pager.now.state) schema_table c.in_ok-check_table.field-0 =
     subst (λ (t : TableData). IsCheckedTree (pages_seen c.args.pager.now.state) t c.in_ok-check_table.field-0) c.requires
-    (record { few = checked.few; sound = checked.sound steady; shape = checked.shape steady; rows = checked.rows steady; counts_are = checked.counts steady }) in
+    (checked.outcome.tree steady) in
     let level : c.in-Some.view.level ≡ Interior = search rules in
-    inr (inr (inr (refl, beyond (pages_seen c.args.pager.now.state) _ _ _ seen _ tree (subst (λ (l : Level). HasHeaderAt c.in-Some.view.at Table l c.in-Some.view.page) level header))))
+    inr (inr (refl, beyond (pages_seen c.args.pager.now.state) _ _ _ seen _ tree (subst (λ (l : Level). HasHeaderAt c.in-Some.view.at Table l c.in-Some.view.page) level header)))
 
 pub returns-in_err-rows-clause-fault : goal.returns-in_err-rows-clause-fault
 returns-in_err-rows-clause-fault g c = λ steady.
@@ -71,7 +71,7 @@ returns-in_err-rows-clause-fault g c = λ steady.
     let checked = c.in_ok-check_table.ensures in
     let tree : IsCheckedTree (pages_seen c.args.pager.now.state) schema_table c.in_ok-check_table.field-0 =
     subst (λ (t : TableData). IsCheckedTree (pages_seen c.args.pager.now.state) t c.in_ok-check_table.field-0) c.requires
-    (record { few = checked.few; sound = checked.sound steady; shape = checked.shape steady; rows = checked.rows steady; counts_are = checked.counts steady }) in
+    (checked.outcome.tree steady) in
     let level : c.in-Some.view.level ≡ Leaf = not_interior c.in-Some.view.level (search rules) in
     let leaf = subst (λ (l : Level). HasHeaderAt c.in-Some.view.at Table l c.in-Some.view.page) level header in
     let p = err_from_is_err_and c.from_residual-in_err-rows.result c.from_residual-in_err-rows.ensures.1 in
@@ -96,7 +96,7 @@ returns-clause-rows g c = λ steady.
     let checked = c.in_ok-check_table.ensures in
     let tree : IsCheckedTree (pages_seen c.args.pager.now.state) schema_table c.in_ok-check_table.field-0 =
     subst (λ (t : TableData). IsCheckedTree (pages_seen c.args.pager.now.state) t c.in_ok-check_table.field-0) c.requires
-    (record { few = checked.few; sound = checked.sound steady; shape = checked.shape steady; rows = checked.rows steady; counts_are = checked.counts steady }) in
+    (checked.outcome.tree steady) in
     let level : c.in-Some.view.level ≡ Leaf = not_interior c.in-Some.view.level (search rules) in
     let leaf = subst (λ (l : Level). HasHeaderAt c.in-Some.view.at Table l c.in-Some.view.page) level header in
     schema_rows (pages_seen c.args.pager.now.state) _ _ _ seen _ tree leaf c.in_ok-rows.rows.items
@@ -109,5 +109,5 @@ returns-clause-checked g c = λ steady.
     let checked = c.in_ok-check_table.ensures in
     let tree : IsCheckedTree (pages_seen c.args.pager.now.state) schema_table c.in_ok-check_table.field-0 =
     subst (λ (t : TableData). IsCheckedTree (pages_seen c.args.pager.now.state) t c.in_ok-check_table.field-0) c.requires
-    (record { few = checked.few; sound = checked.sound steady; shape = checked.shape steady; rows = checked.rows steady; counts_are = checked.counts steady }) in
+    (checked.outcome.tree steady) in
     (c.in_ok-check_table.field-0, tree)

@@ -25,8 +25,8 @@ use Rattle.integrity.proofs.walk.+walk.Goals as goal
 
 pub returns-in_default-clause-fault : goal.returns-in_default-clause-fault
 returns-in_default-clause-fault g t c = λ steady.
-    inr (inr (inl (broken_header c.args.pager.now.state c.header-header.result c.header-header.ensures.is c.header-header.ensures.sound c.args.n c.in_ok-page.page
-    (c.in_ok-page.ensures.outcome.is steady) c.in_ok-page.ensures.outcome.long c.args.table.now.root c.args.depth c.args.low c.args.high (c.requires.met steady) c.in_default.ensures.none)))
+    inr (inl (broken_header c.args.pager.now.state c.header-header.result c.header-header.ensures.is c.header-header.ensures.sound c.args.n c.in_ok-page.page
+    (c.in_ok-page.ensures.outcome.is steady) c.in_ok-page.ensures.outcome.long c.args.table.now.root c.args.depth c.args.low c.args.high (c.requires.met steady) c.in_default.ensures.none))
 
 pub returns-then-is_leaf_of_rows-clause-tree : goal.returns-then-is_leaf_of_rows-clause-tree
 returns-then-is_leaf_of_rows-clause-tree g t c = λ steady.
@@ -58,9 +58,9 @@ pub returns-in_err-level-clause-fault : goal.returns-in_err-level-clause-fault
 returns-in_err-level-clause-fault g t c = λ steady.
     let p = err_from_is_err_and c.from_residual-in_err-level.result c.from_residual-in_err-level.ensures.1 in
     rw (p.1, p.2)
-    (inr (inr (inl (broken_head c.args.pager.now.state c.header-header.result c.header-header.ensures.is c.header-header.ensures.sound c.args.n c.in_ok-page.page
+    (inr (inl (broken_head c.args.pager.now.state c.header-header.result c.header-header.ensures.is c.header-header.ensures.sound c.args.n c.in_ok-page.page
     (c.in_ok-page.ensures.outcome.is steady) c.in_ok-page.ensures.outcome.long c.args.table.now.root c.args.depth c.args.low c.args.high (c.requires.met steady)
-    c.in-Some.view c.in-Some.ensures.found c.in-Some.ensures.header _ c.in_err-level.ensures.fault))))
+    c.in-Some.view c.in-Some.ensures.found c.in-Some.ensures.header _ c.in_err-level.ensures.fault)))
 
 pub returns-then-eq-clause-tree : goal.returns-then-eq-clause-tree
 returns-then-eq-clause-tree g t c = λ steady.
@@ -85,7 +85,7 @@ returns-in_default-child_within-clause-fault g t c = λ steady.
     (c.in_ok-page.ensures.outcome.is steady) c.in_ok-page.ensures.outcome.long c.args.table.now.root c.args.depth c.args.low c.args.high (c.requires.met steady)
     c.in-Some.view c.in-Some.ensures.found c.in-Some.ensures.header c.in_ok-level.ensures.head interior in
     let header : c.header-header.result ≡ c.args.pager.now.state.header = c.header-header.ensures.is in
-    inr (inr (inl (broken_child _ _ _ _ _ _ _ _ _ all c.loop-i.i within (subst (λ (h : Header). ¬ ((1 ≤ child c.in-Some.view.at c.in-Some.view.page c.loop-i.i) × (child c.in-Some.view.at c.in-Some.view.page c.loop-i.i ≤ h.pages))) header (c.in_default-child_within.ensures.none (c.header-header.result.pages * c.header-header.result.page_size) all.cells)))))
+    inr (inl (broken_child _ _ _ _ _ _ _ _ _ all c.loop-i.i within (subst (λ (h : Header). ¬ ((1 ≤ child c.in-Some.view.at c.in-Some.view.page c.loop-i.i) × (child c.in-Some.view.at c.in-Some.view.page c.loop-i.i ≤ h.pages))) header (c.in_default-child_within.ensures.none (c.header-header.result.pages * c.header-header.result.page_size) all.cells))))
 
 pub walk-requires : goal.walk-requires
 walk-requires g t c κs within =
@@ -130,8 +130,8 @@ returns-then-is_uneven-clause-fault g t c = λ steady.
     c.in_ok-below.below.levels tree in
     let odd = c.is_uneven.ensures.uneven c.if-is_uneven.true in
     let here : c.loop-i.i ≤ _ = here_within _ _ _ _ _ _ _ _ _ all c.loop-i.i in_count in
-    inr (inr (inl (subst (λ (r : ℕ). IsBroken (pages_seen c.args.pager.now.state) c.args.table.now.root (BadDepth r)) (sym c.root-then-is_uneven.ensures)
-    (uneven _ _ _ _ _ _ all.met c.loop-i.i c.loop-i.counts.levels c.in_ok-below.below.levels all.page_is here (inv.branches steady 0 odd.0) later odd.1))))
+    inr (inl (subst (λ (r : ℕ). IsBroken (pages_seen c.args.pager.now.state) c.args.table.now.root (BadDepth r)) (sym c.root-then-is_uneven.ensures)
+    (uneven _ _ _ _ _ _ all.met c.loop-i.i c.loop-i.counts.levels c.in_ok-below.below.levels all.page_is here (inv.branches steady 0 odd.0) later odd.1)))
 
 pub loop-i-preserved : goal.loop-i-preserved
 loop-i-preserved g t c =
@@ -239,9 +239,9 @@ returns-in_err-check_rows-clause-fault g t c = λ steady.
     c.in-Some.view c.in-Some.ensures.found c.in-Some.ensures.header c.in_ok-level.ensures.head leaf in
     let p = err_from_is_err_and c.from_residual-in_err-check_rows.result c.from_residual-in_err-check_rows.ensures.1 in
     rw (p.1, p.2)
-    (⊎_elim inl (λ other. inr (⊎_elim inl
+    (⊎_elim inl
     (λ broken. inr (inr (leaf_fault (pages_seen c.args.pager.now.state) c.args.table.now c.args.n _ _ _ seen c.args.depth tree.0 met.stands _
-    (subst (λ (p : Pages). IsLeafFault p c.args.table.now c.args.n c.in-Some.view.at (c.header-header.result.pages * c.header-header.result.page_size) c.in-Some.view.page c.in_err-check_rows.field-0.0) (same_pages _ _ read) broken)))) other))
+    (subst (λ (p : Pages). IsLeafFault p c.args.table.now c.args.n c.in-Some.view.at (c.header-header.result.pages * c.header-header.result.page_size) c.in-Some.view.page c.in_err-check_rows.field-0.0) (same_pages _ _ read) broken))))
     (c.in_err-check_rows.ensures.fault (still_steady _ _ read steady)))
 
 pub returns-then-eq-clause-rows : goal.returns-then-eq-clause-rows
