@@ -8,20 +8,20 @@ use Rattle.std.specs.declared.cmp.Ordering.TheVariants.{Less, Equal, Greater}
 use Rattle.values.specs.Datum.{Datum, null, int, text, blob}
 use Rattle.values.specs.Order.{datum_cmp}
 use Rattle.values.specs.OrderLaws.{datum_cmp_total}
-use Rattle.key_ranges.specs.Ranges.{Edge, Cut, is_null, is_true, above, below, is_above, is_below, meets, directed, key_cmp, stands_before, first_cut, last_cut, behind_values, direction, is_within, edge_is_null}
+use Rattle.key_ranges.specs.Ranges.{Edge, Cut, is_null, holds, above, below, is_above, is_below, meets, directed, key_cmp, stands_before, first_cut, last_cut, behind_values, direction, is_within, edge_is_null}
 use Rattle.key_ranges.specs.Laws.{CutsAreRange, NullMeetsNothing}
 
 turned : (x y : Datum) → datum_cmp x y ≡ ordering_reverse (datum_cmp y x)
 turned x y = datum_cmp_total.antisymm x y
 
 -- a comparison of two values, none of them NULL, and of one that may be
-holds_of : (test : Ordering → Bool) (x v : Datum) → is_null x ≡ false → is_null v ≡ false → is_true test x v ≡ test (datum_cmp x v)
+holds_of : (test : Ordering → Bool) (x v : Datum) → is_null x ≡ false → is_null v ≡ false → holds test x v ≡ test (datum_cmp x v)
 holds_of test x v a b = rw (a, b) refl
 
-holds_null : (test : Ordering → Bool) (x v : Datum) → is_null x ≡ true → is_true test x v ≡ false
+holds_null : (test : Ordering → Bool) (x v : Datum) → is_null x ≡ true → holds test x v ≡ false
 holds_null test x v a = rw a refl
 
-holds_by_null : (test : Ordering → Bool) (x v : Datum) → is_null v ≡ true → is_true test x v ≡ false
+holds_by_null : (test : Ordering → Bool) (x v : Datum) → is_null v ≡ true → holds test x v ≡ false
 holds_by_null test x v b = by-first (is_null x)
   where
     by-first : (t : Bool) → cond (t || is_null v) false (test (datum_cmp x v)) ≡ false
@@ -111,16 +111,16 @@ and_swap false false = refl
 
 -- of a value that isn't NULL
 module _ (x : Datum) (some : is_null x ≡ false) (e : Edge) (sound : is_null e.value ≡ false) where
-  above_first : not (stands_before e.strict (datum_cmp e.value x)) ≡ is_true (above e.strict) x e.value
+  above_first : not (stands_before e.strict (datum_cmp e.value x)) ≡ holds (above e.strict) x e.value
   above_first = sym (holds_of (above e.strict) x e.value some sound ∙ ap (above e.strict) (turned x e.value) ∙ test_above e.strict (datum_cmp e.value x))
 
-  below_last : stands_before (not e.strict) (datum_cmp e.value x) ≡ is_true (below e.strict) x e.value
+  below_last : stands_before (not e.strict) (datum_cmp e.value x) ≡ holds (below e.strict) x e.value
   below_last = sym (holds_of (below e.strict) x e.value some sound ∙ ap (below e.strict) (turned x e.value) ∙ test_below e.strict (datum_cmp e.value x))
 
-  below_first : not (stands_before e.strict (ordering_reverse (datum_cmp e.value x))) ≡ is_true (below e.strict) x e.value
+  below_first : not (stands_before e.strict (ordering_reverse (datum_cmp e.value x))) ≡ holds (below e.strict) x e.value
   below_first = sym (holds_of (below e.strict) x e.value some sound ∙ ap (below e.strict) (turned x e.value) ∙ test_below_turned e.strict (datum_cmp e.value x))
 
-  above_last : stands_before (not e.strict) (ordering_reverse (datum_cmp e.value x)) ≡ is_true (above e.strict) x e.value
+  above_last : stands_before (not e.strict) (ordering_reverse (datum_cmp e.value x)) ≡ holds (above e.strict) x e.value
   above_last = sym (holds_of (above e.strict) x e.value some sound ∙ ap (above e.strict) (turned x e.value) ∙ test_above_turned e.strict (datum_cmp e.value x))
 
 past_greater : (strict : Bool) → not (stands_before strict Greater) ≡ false
@@ -138,13 +138,13 @@ some_value false (Some l) None x s a b = ap (λ t. t && true) (above_first x s l
 some_value false None (Some u) x s a b = rw (null_first x s) (below_last x s u b)
 some_value false (Some l) (Some u) x s a b = rw (above_first x s l a, below_last x s u b) refl
 some_value true None None x s a b = refl
-some_value true (Some l) None x s a b = rw (above_last x s l a) (sym (and_true (is_true (above l.strict) x l.value)))
+some_value true (Some l) None x s a b = rw (above_last x s l a) (sym (and_true (holds (above l.strict) x l.value)))
   where
     and_true : (t : Bool) → (t && true) ≡ t
     and_true true = refl
     and_true false = refl
-some_value true None (Some u) x s a b = rw (null_first x s) (ap (λ t. t && true) (below_first x s u b) ∙ and_swap (is_true (below u.strict) x u.value) true)
-some_value true (Some l) (Some u) x s a b = rw (above_last x s l a, below_first x s u b) (and_swap (is_true (below u.strict) x u.value) (is_true (above l.strict) x l.value))
+some_value true None (Some u) x s a b = rw (null_first x s) (ap (λ t. t && true) (below_first x s u b) ∙ and_swap (holds (below u.strict) x u.value) true)
+some_value true (Some l) (Some u) x s a b = rw (above_last x s l a, below_first x s u b) (and_swap (holds (below u.strict) x u.value) (holds (above l.strict) x l.value))
 
 no_value : (d : Bool) (l u : Option Edge) (x : Datum) → is_null x ≡ true → edge_is_null l ≡ false → edge_is_null u ≡ false
     → one_within d (first_cut d l u) (last_cut d l u) x ≡ (is_above l x && is_below u x)
@@ -200,14 +200,14 @@ equal_turned false Equal = refl
 equal_turned false Greater = refl
 
 -- equality with a bound is agreement with the cuts' key
-holds_equal : (d : Bool) (x v : Datum) → is_null v ≡ false → is_true is_eq x v ≡ is_eq (directed d (datum_cmp v x))
+holds_equal : (d : Bool) (x v : Datum) → is_null v ≡ false → holds is_eq x v ≡ is_eq (directed d (datum_cmp v x))
 holds_equal d x v a = by-value (is_null x) refl
   where
     greater : (k : Bool) → is_eq (directed k Greater) ≡ false
     greater true = refl
     greater false = refl
 
-    by-value : (t : Bool) → is_null x ≡ t → is_true is_eq x v ≡ is_eq (directed d (datum_cmp v x))
+    by-value : (t : Bool) → is_null x ≡ t → holds is_eq x v ≡ is_eq (directed d (datum_cmp v x))
     by-value true s = rw (holds_null is_eq x v s, null_least v x a s) (sym (greater d))
     by-value false s = holds_of is_eq x v s a ∙ ap is_eq (turned x v) ∙ sym (equal_turned d (datum_cmp v x))
 
@@ -278,9 +278,9 @@ module _ (l u : Option Edge) where
   null_in (v ∷ more) (x ∷ rest) h = by-value (is_null v) refl h (null_in more rest)
     where
       by-value : (t : Bool) → is_null v ≡ t → ((t || list_any is_null more) || (edge_is_null l || edge_is_null u)) ≡ true
-          → ((list_any is_null more || (edge_is_null l || edge_is_null u)) ≡ true → meets more l u rest ≡ false) → (is_true is_eq x v && meets more l u rest) ≡ false
+          → ((list_any is_null more || (edge_is_null l || edge_is_null u)) ≡ true → meets more l u rest ≡ false) → (holds is_eq x v && meets more l u rest) ≡ false
       by-value true e h later = rw (holds_by_null is_eq x v e) refl
-      by-value false e h later = rw (later h) (and_false (is_true is_eq x v))
+      by-value false e h later = rw (later h) (and_false (holds is_eq x v))
 
 pub null_meets_nothing : NullMeetsNothing
 null_meets_nothing range entry h = null_in range.lower range.upper range.equal entry h

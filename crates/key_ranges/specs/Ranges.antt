@@ -27,8 +27,8 @@ is_null (int number) = false
 is_null (text bytes) = false
 is_null (blob bytes) = false
 
-abbrev pub is_true : (Ordering → Bool) → Datum → Datum → Bool
-is_true test a b = if is_null a || is_null b then false else test (datum_cmp a b)
+abbrev pub holds : (Ordering → Bool) → Datum → Datum → Bool
+holds test a b = if is_null a || is_null b then false else test (datum_cmp a b)
 
 abbrev pub above : Bool → Ordering → Bool
 above strict = if strict then is_gt else is_ge
@@ -38,16 +38,16 @@ below strict = if strict then is_lt else is_le
 
 abbrev pub is_above : Option Edge → Datum → Bool
 is_above None value = true
-is_above (Some edge) value = is_true (above edge.strict) value edge.value
+is_above (Some edge) value = holds (above edge.strict) value edge.value
 
 abbrev pub is_below : Option Edge → Datum → Bool
 is_below None value = true
-is_below (Some edge) value = is_true (below edge.strict) value edge.value
+is_below (Some edge) value = holds (below edge.strict) value edge.value
 
 abbrev pub meets : List Datum → Option Edge → Option Edge → List Datum → Bool
 meets [] lower upper entry = is_above lower (slice_index_or entry 0 null) && is_below upper (slice_index_or entry 0 null)
 meets (value ∷ more) lower upper [] = false
-meets (value ∷ more) lower upper (first ∷ rest) = is_true is_eq first value && meets more lower upper rest
+meets (value ∷ more) lower upper (first ∷ rest) = holds is_eq first value && meets more lower upper rest
 
 -- ---- where such entries stand
 

@@ -1,0 +1,4 @@
+pub mod ColumnBounds
+pub mod View
+pub mod Conditions
+pub mod Bounds
