@@ -1,2 +1,4 @@
 pub mod BoundLemmas
 pub mod ImplyLemmas
+pub mod RunLemmas
+pub mod LeastLemmas
