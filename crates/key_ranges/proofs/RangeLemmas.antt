@@ -1,5 +1,5 @@
 -- Between the cuts of a range stand exactly the entries that meet it.
-use Rattle.std.proofs.Common.{◌≡◌, ◌<◌, ◌≤◌, Bool, true, false, not, ◌&&◌, ◌||◌, cond, List, [], ◌∷◌, length, Option, Some, None, refl, sym, ap, ◌∙◌, arith}
+use Rattle.std.proofs.Common.{◌≡◌, ◌+◌, ◌≤◌, Bool, true, false, not, ◌&&◌, ◌||◌, cond, List, [], ◌∷◌, length, Option, Some, None, refl, sym, ap, ◌∙◌, arith}
 use Rattle.std.specs.Prelude.{slice_index_or}
 use Rattle.std.specs.List.{list_any}
 use Rattle.std.specs.Ordering.{ordering_then, ordering_reverse, is_eq}
@@ -8,7 +8,7 @@ use Rattle.std.specs.declared.cmp.Ordering.TheVariants.{Less, Equal, Greater}
 use Rattle.values.specs.Datum.{Datum, null, int, text, blob}
 use Rattle.values.specs.Order.{datum_cmp}
 use Rattle.values.specs.OrderLaws.{datum_cmp_total}
-use Rattle.key_ranges.specs.Ranges.{Edge, Cut, is_null, holds, above, below, is_above, is_below, meets, directed, key_cmp, stands_before, first_cut, last_cut, behind_values, direction, is_within, edge_is_null}
+use Rattle.key_ranges.specs.Ranges.{Edge, Cut, bounded_columns, is_null, holds, above, below, is_above, is_below, meets, directed, key_cmp, stands_before, first_cut, last_cut, behind_values, direction, is_within, edge_is_null}
 use Rattle.key_ranges.specs.Laws.{CutsAreRange, NullMeetsNothing}
 
 turned : (x y : Datum) → datum_cmp x y ≡ ordering_reverse (datum_cmp y x)
@@ -226,11 +226,20 @@ or_right : (a b : Bool) → (a || b) ≡ false → b ≡ false
 or_right true b h = cc
 or_right false b h = h
 
+-- of no column the cuts let every entry through
+no_column : (l u : Option Edge) (d : Bool) (ds : List Bool) → 0 + bounded_columns l u ≤ 0
+    → is_within ds (behind_values [] (first_cut d l u)) (behind_values [] (last_cut d l u)) [] ≡ meets [] l u []
+no_column None None true ds h = refl
+no_column None None false ds h = refl
+no_column None (Some u) d ds h = absurd (omega (arith, h))
+no_column (Some l) None d ds h = absurd (omega (arith, h))
+no_column (Some l) (Some u) d ds h = absurd (omega (arith, h))
+
 module _ (l u : Option Edge) (a : edge_is_null l ≡ false) (b : edge_is_null u ≡ false) where
-  cuts : (ds : List Bool) (equal entry : List Datum) → list_any is_null equal ≡ false → length equal < length entry
+  cuts : (ds : List Bool) (equal entry : List Datum) → list_any is_null equal ≡ false → length equal + bounded_columns l u ≤ length entry
       → is_within ds (behind_values equal (first_cut (direction ds (length equal)) l u)) (behind_values equal (last_cut (direction ds (length equal)) l u)) entry
       ≡ meets equal l u entry
-  cuts ds [] [] n h = absurd (omega (arith, h))
+  cuts ds [] [] n h = no_column l u (direction ds 0) ds h
   cuts ds [] (x ∷ rest) n h =
       let d = direction ds 0 in
       rw (last_is_one ds (first_cut d l u).key x rest (first_short d l u), last_is_one ds (last_cut d l u).key x rest (last_short d l u)) (one_column d l u x a b)

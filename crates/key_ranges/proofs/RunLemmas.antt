@@ -1,5 +1,5 @@
 -- Between two cuts of an ascending list stands one run of it.
-use Rattle.std.proofs.Common.{◌≡◌, ◌<◌, Bool, true, false, not, ◌&&◌, List, [], ◌∷◌, length, refl, sym, ap, ◌∙◌}
+use Rattle.std.proofs.Common.{◌≡◌, ◌≤◌, Bool, true, false, not, ◌&&◌, List, [], ◌∷◌, length, refl, sym, ap, ◌∙◌}
 use Rattle.std.specs.Prelude.{All, ⊤}
 use Rattle.std.proofs.lemmas.List.Elements.{All-cons, All-head, All-nil, All-tail}
 use Rattle.std.specs.List.{filter, list_all}
@@ -9,7 +9,7 @@ use Rattle.std.specs.declared.cmp.Ordering.TheVariants.{Less, Equal, Greater}
 use Rattle.values.specs.Datum.{Datum}
 use Rattle.values.specs.Order.{datum_cmp}
 use Rattle.values.specs.OrderLaws.{datum_cmp_total}
-use Rattle.key_ranges.specs.Ranges.{Cut, Range, directed, from_cut, has_null, is_before, is_within, key_cmp, meets, stands_before, to_cut}
+use Rattle.key_ranges.specs.Ranges.{Cut, Range, directed, from_cut, has_null, is_before, is_within, key_cmp, meets, stands_before, to_cut, width}
 use Rattle.key_ranges.specs.Runs.{Ascend, CutsAreOneRun, RangeIsOneRun, skip_while, take_while}
 use Rattle.key_ranges.proofs.RangeLemmas.{cuts_are_range}
 
@@ -162,12 +162,12 @@ module _ (ds : List Bool) (range : Range) (sound : has_null range ≡ false) whe
   abbrev MeetsWithin : List Datum → Type 0
   MeetsWithin entry = meets range.equal range.lower range.upper entry ≡ is_within ds (from_cut ds range) (to_cut ds range) entry
 
-  all_meet : (xs : List (List Datum)) → All (λ entry. length range.equal < length entry) xs
+  all_meet : (xs : List (List Datum)) → All (λ entry. width range ≤ length entry) xs
       → All MeetsWithin xs
   all_meet [] wide = All-nil MeetsWithin
   all_meet (x ∷ xs) wide =
-      All-cons MeetsWithin x xs (sym (cuts_are_range ds range x sound (All-head (λ entry. length range.equal < length entry) x xs wide)))
-      (all_meet xs (All-tail (λ entry. length range.equal < length entry) x xs wide))
+      All-cons MeetsWithin x xs (sym (cuts_are_range ds range x sound (All-head (λ entry. width range ≤ length entry) x xs wide)))
+      (all_meet xs (All-tail (λ entry. width range ≤ length entry) x xs wide))
 
 pub range_is_one_run : RangeIsOneRun
 range_is_one_run ds range entries up sound wide =

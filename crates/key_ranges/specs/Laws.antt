@@ -1,12 +1,12 @@
 -- What a search stands for.
-use Rattle.std.specs.Prelude.{◌≡◌, Bool, true, false, ◌<◌, List, length, map, All, IsPermutation}
+use Rattle.std.specs.Prelude.{◌≡◌, ◌≤◌, Bool, true, false, List, length, map, All, IsPermutation}
 use Rattle.std.specs.List.{filter}
 use Rattle.values.specs.Datum.{Datum}
-use Rattle.key_ranges.specs.Ranges.{Range, from_cut, to_cut, has_null, is_within, meets}
+use Rattle.key_ranges.specs.Ranges.{Range, from_cut, to_cut, has_null, is_within, meets, width}
 
 -- where no bound is NULL, the entries between the cuts of a range are those that meet it
 abbrev pub CutsAreRange : Type 0
-CutsAreRange = (descends : List Bool) (range : Range) (entry : List Datum) → has_null range ≡ false → length range.equal < length entry
+CutsAreRange = (descends : List Bool) (range : Range) (entry : List Datum) → has_null range ≡ false → width range ≤ length entry
     → is_within descends (from_cut descends range) (to_cut descends range) entry ≡ meets range.equal range.lower range.upper entry
 
 -- where one is, none meets it

@@ -1,6 +1,6 @@
 -- Which entries of a tree a search gives, and where they stand. (Database File Format, section 2.3; The SQLite Query
 -- Optimizer Overview)
-use Rattle.std.specs.Prelude.{Bool, true, false, not, ◌&&◌, ◌||◌, if◌then◌else◌, ℕ, List, [], ◌∷◌, ◌++◌, length, Option, Some, None, slice_index_or}
+use Rattle.std.specs.Prelude.{Bool, true, false, not, ◌&&◌, ◌||◌, if◌then◌else◌, ℕ, ◌+◌, List, [], ◌∷◌, ◌++◌, length, Option, Some, None, slice_index_or}
 use Rattle.std.specs.List.{list_any}
 use Rattle.std.specs.Ordering.{ordering_then, ordering_reverse, is_lt, is_le, is_eq, is_ge, is_gt}
 use Rattle.std.specs.declared.cmp.Ordering.{Ordering}
@@ -115,3 +115,11 @@ edge_is_null (Some edge) = is_null edge.value
 
 abbrev pub has_null : Range → Bool
 has_null range = list_any is_null range.equal || (edge_is_null range.lower || edge_is_null range.upper)
+
+-- how many columns of an entry a range looks at
+abbrev pub bounded_columns : Option Edge → Option Edge → ℕ
+bounded_columns None None = 0
+bounded_columns lower upper = 1
+
+abbrev pub width : Range → ℕ
+width range = length range.equal + bounded_columns range.lower range.upper

@@ -1,9 +1,9 @@
 -- What a cursor gives that goes from one cut of an ascending list to another.
-use Rattle.std.specs.Prelude.{◌≡◌, ◌<◌, All, Bool, true, false, if◌then◌else◌, length, List, [], ◌∷◌, ⊤}
+use Rattle.std.specs.Prelude.{◌≡◌, ◌≤◌, All, Bool, true, false, if◌then◌else◌, length, List, [], ◌∷◌, ⊤}
 use Rattle.std.specs.List.{filter, list_all}
 use Rattle.std.specs.Ordering.{is_lt}
 use Rattle.values.specs.Datum.{Datum}
-use Rattle.key_ranges.specs.Ranges.{Cut, Range, from_cut, has_null, is_before, is_within, key_cmp, meets, to_cut}
+use Rattle.key_ranges.specs.Ranges.{Cut, Range, from_cut, has_null, is_before, is_within, key_cmp, meets, to_cut, width}
 
 -- what is left from the first on that fails a test
 abbrev pub skip_while : {X : Type 0} → (X → Bool) → List X → List X
@@ -29,6 +29,6 @@ CutsAreOneRun = (descends : List Bool) (from to : Cut) (entries : List (List Dat
 -- so the entries that meet a range are those from its start to its end
 abbrev pub RangeIsOneRun : Type 0
 RangeIsOneRun = (descends : List Bool) (range : Range) (entries : List (List Datum)) → Ascend descends entries → has_null range ≡ false
-    → All (λ entry. length range.equal < length entry) entries
+    → All (λ entry. width range ≤ length entry) entries
     → filter (meets range.equal range.lower range.upper) entries
     ≡ take_while (is_before descends (to_cut descends range)) (skip_while (is_before descends (from_cut descends range)) entries)
