@@ -1,7 +1,6 @@
 -- The least path of a list.
-use Rattle.std.proofs.Common.{◌≡◌, ◌<◌, ◌≤◌, ℕ, suc, Bool, true, false, ◌&&◌, ◌||◌, List, [], ◌∷◌, ◌++◌, length, get_or, take, refl, sym, ap, ◌∙◌, arith, subst, append-nil, append_assoc, length-append}
+use Rattle.std.proofs.Common.{◌≡◌, ◌≤◌, ℕ, Bool, true, false, ◌&&◌, ◌||◌, List, [], ◌∷◌, ◌++◌, length, get_or, refl, ◌∙◌, arith, subst, append-nil, append_assoc, length-append}
 use Rattle.std.specs.Prelude.{All, nat_eq, nat_lt, if◌then◌else◌}
-use Rattle.std.specs.List.{HoldsAt}
 use Rattle.std.proofs.Math.ListN.{get_or-append}
 use Rattle.std.proofs.Math.Seq.{get_or-append_seam}
 use Rattle.std.proofs.lemmas.List.{take-append-le, take_all}
@@ -53,9 +52,9 @@ module _ (paths : List PathData) (best x : PathData) (least : IsLeastPath paths 
     within = omega (arith, length-append paths (x ∷ []));
     there = λ d. get_or-append_seam paths x [] d;
     none_before = All-append (NotBefore x) paths (x ∷ []) (All-map (NotBefore best) (NotBefore x) (λ y h. past y best x h t) paths least.none_before)
-      (All-cons (NotBefore x) x [] (taken_itself x.cost x.rows) (All-nil (NotBefore x)));
+        (All-cons (NotBefore x) x [] (taken_itself x.cost x.rows) (All-nil (NotBefore x)));
     first = rw (take-append-le (length paths) paths (x ∷ []) (omega arith), take_all (length paths) paths (omega arith))
-      (All-map (NotBefore best) (Before x) (λ y h. over y best x h t) paths least.none_before);
+        (All-map (NotBefore best) (Before x) (λ y h. over y best x h t) paths least.none_before);
   }
 
   kept_more : is_taken x best ≡ false → IsLeastPath (paths ++ x ∷ []) best

@@ -2,3 +2,5 @@ pub mod BoundLemmas
 pub mod ImplyLemmas
 pub mod RunLemmas
 pub mod LeastLemmas
+pub mod SearchLemmas
+pub mod FirstLemmas

@@ -1,8 +1,8 @@
 -- What a choice of paths sees of a conjunct. (The SQLite Query Optimizer Overview, "WHERE Clause Analysis")
 --
 -- Columns are told by their places in the row of the whole FROM; `known` tells of each whether its source is placed.
-use Rattle.std.specs.Prelude.{◌≡◌, Bool, true, false, ◌&&◌, ℕ, nat_eq, List, map, Option, slice_index_or}
-use Rattle.std.specs.List.{list_all, list_any, position}
+use Rattle.std.specs.Prelude.{◌≡◌, Bool, true, false, ◌&&◌, ℕ, nat_eq, List, map, Option, Some, slice_get, slice_index_or}
+use Rattle.std.specs.List.{AllZip, Contains, list_all, list_any, position}
 use Rattle.expr.specs.Columns.{columns_of}
 use Rattle.expr.specs.Term.{Term}
 use Rattle.index_choice.specs.declared.comparisons.Side.{Side}
@@ -47,3 +47,18 @@ bounds_column known side column conjunct = list_any (is_bound_on known side colu
 -- the first of some conjuncts that does
 abbrev pub first_bound : List Bool → List Conjunct → Side → ℕ → Option ℕ
 first_bound known conjuncts side column = position (bounds_column known side column) conjuncts
+
+-- the conjunct at a place bounds a column on a side, by a value of known columns alone
+pub record IsBoundAt (known : List Bool) (terms : List Term) (side : Side) (c at : ℕ) : Type 0 where
+  pub term : Term
+  pub there : slice_get terms at ≡ Some term
+  pub bound : BoundTerm
+  pub among : Contains (bounds_of term) bound
+  pub side_is : bound.side ≡ side
+  pub column_is : bound.column ≡ c
+  pub known_is : are_known known (columns_of bound.value) ≡ true
+
+-- the first conjunct that does, where some does
+abbrev pub FirstBoundIsBound : Type 0
+FirstBoundIsBound = (known : List Bool) (terms : List Term) (conjuncts : List Conjunct) (side : Side) (c at : ℕ) → AllZip IsConjunctOf terms conjuncts
+    → first_bound known conjuncts side c ≡ Some at → IsBoundAt known terms side c at

@@ -6,3 +6,4 @@ pub mod Costs
 pub mod Sources
 pub mod Examples
 pub mod Paths
+pub mod Searches

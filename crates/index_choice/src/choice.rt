@@ -74,7 +74,12 @@ fn search_key(
     let equal = run_of_equal(alloc, known, conjuncts, &key.columns)?;
     let lower = bound_behind(known, conjuncts, Side::Lower, &key.columns, equal.len());
     let upper = bound_behind(known, conjuncts, Side::Upper, &key.columns, equal.len());
-    Ok(Search { key: at, equal, lower, upper })
+    Ok(Search {
+        key: at,
+        equal,
+        lower,
+        upper,
+    })
 }
 
 fn count_bound(bound: Option<usize>) -> usize
@@ -104,7 +109,9 @@ fn any_usable(usable: &[bool], conjuncts: &[Conjunct], implying: &[usize]) -> bo
 fn all_implied(usable: &[bool], conjuncts: &[Conjunct], conditions: &[Vec<usize>]) -> bool
     ensures { result ≡ list_all (λ implying. is_implied usable.now conjuncts.now implying.items) conditions.now }
 {
-    conditions.iter().all(|implying| any_usable(usable, conjuncts, implying))
+    conditions
+        .iter()
+        .all(|implying| any_usable(usable, conjuncts, implying))
 }
 
 /// Whether a search has a bound.
@@ -119,8 +126,15 @@ fn path_by(key: &Key, search: Search) -> Path
     ensures { path_data result ≡ path_of key.now (search_data search) }
 {
     let ranges = count_bound(search.lower) + count_bound(search.upper);
-    let rows = let_through(agreeing(key.entries, &key.distinct, search.equal.len()), ranges);
-    Path { search: Some(search), cost: cost_of(key.depth, key.fetch, rows), rows }
+    let rows = let_through(
+        agreeing(key.entries, &key.distinct, search.equal.len()),
+        ranges,
+    );
+    Path {
+        search: Some(search),
+        cost: cost_of(key.depth, key.fetch, rows),
+        rows,
+    }
 }
 
 /// The search of a key, where it serves.
@@ -164,7 +178,11 @@ pub fn paths(
     ensures { IfOk result (λ paths. map path_data paths.items ≡ paths_of known.now usable.now conjuncts.now source.now) }
 {
     let mut paths = Vec::new(alloc);
-    paths.push(Path { search: None, cost: source.pages, rows: source.rows })?;
+    paths.push(Path {
+        search: None,
+        cost: source.pages,
+        rows: source.rows,
+    })?;
     for (at, key) in source.keys.iter().enumerate() {
         let path = path_of_key(alloc, known, usable, conjuncts, at, key)?;
         push_path(&mut paths, path)?;

@@ -14,7 +14,7 @@ mod comparisons;
 mod conditions;
 mod conjuncts;
 mod costs;
-
+pub mod laws;
 mod sources;
 
 pub use choice::{Path, Search, best, paths};

@@ -55,12 +55,7 @@ impl Key {
     }
 
     /// The primary key of a table, whose entries are its rows.
-    pub fn primary(
-        alloc: Global,
-        columns: Vec<usize>,
-        distinct: Vec<u64>,
-        table: TreeCounts,
-    ) -> Key
+    pub fn primary(alloc: Global, columns: Vec<usize>, distinct: Vec<u64>, table: TreeCounts) -> Key
         ensures { key_data result ≡ primary_key columns.items distinct.items table }
     {
         Key {
@@ -99,13 +94,23 @@ impl Source {
     pub fn table(columns: usize, table: TreeCounts, keys: Vec<Key>) -> Source
         ensures { source_data result ≡ table_source columns table (map key_data keys.items) }
     {
-        Source { columns, rows: table.entries, pages: table.pages, keys }
+        Source {
+            columns,
+            rows: table.entries,
+            pages: table.pages,
+            keys,
+        }
     }
 
     /// A derived table or a mention of a WITH item, which is computed once and kept.
     pub fn kept(alloc: Global, columns: usize) -> Source
         ensures { source_data result ≡ kept_source columns }
     {
-        Source { columns, rows: KEPT_ROWS, pages: 0, keys: Vec::new(alloc) }
+        Source {
+            columns,
+            rows: KEPT_ROWS,
+            pages: 0,
+            keys: Vec::new(alloc),
+        }
     }
 }

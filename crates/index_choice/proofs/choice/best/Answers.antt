@@ -6,4 +6,4 @@ use Rattle.index_choice.proofs.choice.best.Goals as goal
 pub returns-clause-least : goal.returns-clause-least
 returns-clause-least c =
     least_is_least (map path_data c.args.paths.now) (path_data c.best_of.result.now) (path_data c.in-Some.first.now) (map path_data c.in-Some.rest.now)
-      (ap (map path_data) c.in-Some.ensures.cases.0) c.best_of.ensures
+    (ap (map path_data) c.in-Some.ensures.cases.0) c.best_of.ensures
