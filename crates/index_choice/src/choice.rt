@@ -175,7 +175,8 @@ pub fn paths(
     conjuncts: &[Conjunct],
     source: &Source,
 ) -> Result<Vec<Path>, AllocError>
-    ensures { IfOk result (λ paths. map path_data paths.items ≡ paths_of known.now usable.now conjuncts.now source.now) }
+    ensures paths { IfOk result (λ paths. map path_data paths.items ≡ paths_of known.now usable.now conjuncts.now source.now) }
+    ensures some { IfOk result (λ paths. 0 < length paths.items) }
 {
     let mut paths = Vec::new(alloc);
     paths.push(Path {

@@ -16,6 +16,8 @@ mod conjuncts;
 mod costs;
 pub mod laws;
 mod sources;
+#[cfg(test)]
+mod tests;
 
 pub use choice::{Path, Search, best, paths};
 pub use comparisons::{ColumnBound, Side, bounds};
