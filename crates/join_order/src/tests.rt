@@ -6,13 +6,19 @@ use crate::{Price, Pricing, least_order};
 use std::alloc::{AllocError, Global};
 use std::test::Fail;
 
-/// `big` and tables `a`, `b` .. of four rows, in the order in which they were written.
-struct Chain;
+/// `big` and tables `a`, `b` .. of four rows, in the order in which they were written: so many sources in all.
+struct Chain(usize);
 
 impl Pricing for Chain {
+    ghost count_of = { λ chain. chain.0 };
+
     ghost price_of = { λ chain placed source. example_price placed source };
 
-    fn price(&self, placed: &[usize], source: usize) -> Result<Price, AllocError> {
+    fn count(&self) -> usize {
+        self.0
+    }
+
+    fn price(&self, _alloc: Global, placed: &[usize], source: usize) -> Result<Price, AllocError> {
         if source != 0 {
             return Ok(Price { cost: 1, rows: 4 });
         }
@@ -28,7 +34,7 @@ impl Pricing for Chain {
 }
 
 fn is_least(alloc: Global, count: usize, cost: u64, places: &[usize]) -> bool {
-    match least_order(alloc, &Chain, count) {
+    match least_order(alloc, &Chain(count)) {
         Ok(order) => order.cost == cost && order.places.as_slice() == places,
         Err(_) => false,
     }
