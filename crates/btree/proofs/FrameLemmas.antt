@@ -11,7 +11,7 @@ use Rattle.image.specs.Tree.{HasHeader, IsPageOf, cell_at, count_at}
 use Rattle.image.specs.Cell.{CellData, IsTableCell}
 use Rattle.image.specs.Layout.{cell_count}
 use Rattle.image.specs.Layout.{HasHeaderAt}
-use Rattle.btree.specs.Bytes.{LacksChild, IsRowOf}
+use Rattle.btree.specs.Bytes.{LacksChild, IsRowCell}
 use Rattle.btree.specs.declared.cursor.Frame.{Frame}
 use Rattle.btree.specs.Rest.{Holds, AreReadable}
 use Rattle.btree.proofs.CellLemmas.{begins_some}
@@ -58,7 +58,7 @@ module _ (image : Pages) (frame : Frame) (usable : ℕ) (holds : Holds image fra
 
   -- the cells of a leaf are there
   pub has_row : (most i : ℕ) → image.size ≡ most → IsPageOf image Table Leaf frame.number → i < count_at image frame.number
-      → ((cell : CellData) → ¬ IsRowOf (header_at frame.number) most (take usable frame.page) i cell) → ⊥
+      → ((cell : CellData) → ¬ IsRowCell (header_at frame.number) most (take usable frame.page) i cell) → ⊥
   has_row most i size page within none =
       let there = page.cells i within in
       let long : length (image.page frame.number) ≡ image.usable =

@@ -5,7 +5,7 @@ use Rattle.image.specs.Layout.{places_end, cell_place}
 use Rattle.image.specs.Cell.{CellData, FitsIn, IsTableCell, IsDivider}
 
 -- cell i of a table's leaf lies behind the cell places, and is such a cell
-pub record IsRowOf (at most : ℕ) (page : List ℕ) (i : ℕ) (cell : CellData) : Type 0 where
+pub record IsRowCell (at most : ℕ) (page : List ℕ) (i : ℕ) (cell : CellData) : Type 0 where
   pub begins : places_end at Leaf page ≤ cell_place at Leaf page i
   pub is : FitsIn most (IsTableCell (length page) (drop (cell_place at Leaf page i) page)) cell
 
@@ -14,6 +14,6 @@ pub record LacksChild (at : ℕ) (page : List ℕ) (i : ℕ) : Type 0 where
   pub outside : length page < cell_place at Interior page i + 4
 
 -- cell i of a table's interior page lies behind the cell places, and has this key
-pub record IsDividerOf (at : ℕ) (page : List ℕ) (i : ℕ) (key : ℤ) : Type 0 where
+pub record IsDividerCell (at : ℕ) (page : List ℕ) (i : ℕ) (key : ℤ) : Type 0 where
   pub begins : places_end at Interior page ≤ cell_place at Interior page i
   pub is : IsDivider (drop (cell_place at Interior page i) page) key

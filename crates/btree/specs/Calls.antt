@@ -13,7 +13,7 @@ use Rattle.image.specs.Shape.{IsTreeAt, most_levels, places_under, size_under}
 use Rattle.image.specs.Tree.{Place}
 use Rattle.btree.specs.declared.cursor.Cursor.{Cursor}
 use Rattle.btree.specs.declared.cursor.Frame.{Frame}
-use Rattle.btree.specs.Held.{HoldsRow, IsLast, LacksRow}
+use Rattle.btree.specs.Held.{HasRowHere, IsLast, LacksRow}
 use Rattle.btree.specs.Left.{steps_left}
 use Rattle.btree.specs.Listing.{IsAt, IsEnded}
 use Rattle.btree.specs.Way.{HasCome}
@@ -83,7 +83,7 @@ pub record HasFailed (old : PagerState) (was now : Cursor) (fault : Fault) : Typ
 abbrev pub GivesEntry : Cursor → Option CellData → Type 0
 GivesEntry cursor None = (¬ IsEnded cursor) × (steps_left cursor ≡ 0)
 GivesEntry cursor (Some cell) = (0 < steps_left cursor)
-    × ((leaf : Frame) → cursor.leaf ≡ Some leaf → HoldsRow cursor.usable cursor.most leaf cell)
+    × ((leaf : Frame) → cursor.leaf ≡ Some leaf → HasRowHere cursor.usable cursor.most leaf cell)
 
 -- why it gives none: it has ended, or its leaf has no cell there
 abbrev pub IsEntryFault : Cursor → Fault → Type 0

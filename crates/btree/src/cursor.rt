@@ -11,7 +11,7 @@ ghost use Rattle.image.specs.Pages.{Pages, IsNumber, WhereSteady, pages_seen};
 ghost use Rattle.image.specs.Shape.{most_levels, place_at};
 ghost use Rattle.image.specs.Tree.{Place, HasHeader, IsNamedChild, IsPageOf, IsRowAt, child_at, count_at};
 ghost use Rattle.btree.specs.Calls.{GivesEntry, HasFailed, HasStepped, IsCursorFault, IsDescentFault, IsEntryFault, IsOpenedAt, IsOpeningFault};
-ghost use Rattle.btree.specs.Held.{GoesDown, HoldsRow, IsLast, IsPassed, TakesNext};
+ghost use Rattle.btree.specs.Held.{GoesDown, HasRowHere, IsLast, IsPassed, TakesNext};
 ghost use Rattle.btree.specs.Left.{IsLess, frame_left, frames_left, worth};
 ghost use Rattle.btree.specs.Listing.{IsAt, IsEnded, IsEntry};
 ghost use Rattle.btree.specs.Rest.{AreReadable, GoesOn, Holds, IsHeading, IsLeft, IsStanding};
@@ -89,8 +89,8 @@ fn row_of(frame: &Frame, usable: usize, most: u64) -> Option<Cell<'_>>
         → IfSome result (λ cell. IsRowAt image (place_at frame.now.number frame.now.at) (cell_data cell)) }
     ensures sure { (image : Pages) → Holds image frame.now → AreReadable image → image.usable ≡ usable → image.size ≡ most
         → IsPageOf image Table Leaf frame.now.number → frame.now.at < frame.now.count → IsSome result }
-    ensures held { IfSome result (λ cell. HoldsRow usable most frame.now (cell_data cell)) }
-    ensures none { IfNone result ((cell : CellData) → ¬ HoldsRow usable most frame.now cell) }
+    ensures held { IfSome result (λ cell. HasRowHere usable most frame.now (cell_data cell)) }
+    ensures none { IfNone result ((cell : CellData) → ¬ HasRowHere usable most frame.now cell) }
 {
     let view = view_of(&frame.page, frame.number, usable)?;
     if view.level() != Level::Leaf || frame.at >= view.count() {

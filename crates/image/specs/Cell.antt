@@ -5,16 +5,16 @@ use Rattle.records.specs.Varint.{BeginsVarint}
 use Rattle.image.specs.declared.kind.TreeKind.{TreeKind}
 use Rattle.image.specs.declared.kind.TreeKind.TheVariants.{Table, Index}
 
--- the most bytes of a payload that stand in its cell whole
+-- the most bytes of a payload that stand in its cell whole: X of the file format, which calls the used bytes of a page U
 abbrev pub most_local : TreeKind → ℕ → ℕ
 most_local Table usable = usable - 35
 most_local Index usable = (usable - 12) * 64 / 255 - 23
 
--- the fewest that stand there of a longer one
+-- the fewest that stand there of a longer one: M
 abbrev pub least_local : ℕ → ℕ
 least_local usable = (usable - 12) * 32 / 255 - 23
 
--- as many as fill its overflow pages, where these fit the cell
+-- as many as fill its overflow pages, where these fit the cell: K, for a payload of P bytes
 abbrev pub cut_local : ℕ → ℕ → ℕ
 cut_local usable size = least_local usable + (size - least_local usable) % (usable - 4)
 

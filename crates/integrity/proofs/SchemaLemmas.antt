@@ -87,10 +87,10 @@ module _ (pages : Pages) (at most : ℕ) (page : List ℕ) (seen : IsSeen pages 
     none_lacks lacks =
         let within : lacks.i < count_at pages 1 = omega (arith, lacks.within, seen_cells pages schema_table 1 at most page seen) in
         let there = has_cells pages 1 long_here Leaf leaf lacks.i within in
-        let back : bytes.IsRowOf at most page lacks.i there.1.0 =
-        subst (λ (b : List ℕ). bytes.IsRowOf at most b lacks.i there.1.0) (sym seen.page_is)
-        (subst (λ (m : ℕ). bytes.IsRowOf at m (pages.page 1) lacks.i there.1.0) (sym seen.most_is)
-        (subst (λ (a : ℕ). bytes.IsRowOf a pages.size (pages.page 1) lacks.i there.1.0) (sym seen.at_is) there.1.1)) in
+        let back : bytes.IsRowCell at most page lacks.i there.1.0 =
+        subst (λ (b : List ℕ). bytes.IsRowCell at most b lacks.i there.1.0) (sym seen.page_is)
+        (subst (λ (m : ℕ). bytes.IsRowCell at m (pages.page 1) lacks.i there.1.0) (sym seen.most_is)
+        (subst (λ (a : ℕ). bytes.IsRowCell a pages.size (pages.page 1) lacks.i there.1.0) (sym seen.at_is) there.1.1)) in
         lacks.none there.1.0 back
 
     pub rows_cause : (fault : Fault) → IsRowsFault pages schema_table 1 at most page fault → HasCause pages fault

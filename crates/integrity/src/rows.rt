@@ -135,30 +135,6 @@ fn fits(table: &Table, row: &RowView<'_>) -> bool
     true
 }
 
-/// The row of a table that a record is, with its rowid where it has one. (Database File Format, section 2.3
-/// "Representation Of SQL Tables") The fault is `Changed` where the record has another number of values than the table has
-/// columns, or a value that isn't of its column; or `NoMemory`.
-pub fn row_of(
-    alloc: Global,
-    table: &Table,
-    rowid: Option<i64>,
-    fields: RecordView<'_>,
-) -> Result<Row, Fault>
-    ensures row { IfOk result (λ row. IsRowFrom table.now rowid fields.entry row) }
-    ensures fits { IfOk result (λ row. Fits table.now row) }
-    ensures changed { IfErr result (λ e. (e ≡ Fault.NoMemory)
-        ⊎ ((e ≡ Fault.Changed) × ((row : List Datum) → IsRowFrom table.now rowid fields.entry row → ¬ Fits table.now row))) }
-{
-    let Some(row) = RowView::new(table, rowid, fields) else {
-        return Err(Fault::Changed);
-    };
-    if !fits(table, &row) {
-        return Err(Fault::Changed);
-    }
-    let row = row.to_row(alloc)?;
-    Ok(row)
-}
-
 /// The fault of a record of page `n`.
 fn record_fault(fault: RecordFault, n: u32) -> Fault
     ensures { result ≡ fault_of fault n }

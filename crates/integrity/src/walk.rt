@@ -6,7 +6,7 @@ ghost use Rattle.image.specs.Layout.{cell_count, child};
 ghost use Rattle.image.specs.Shape.{most_levels, places_under};
 ghost use Rattle.pager.specs.Calls.{IsReadFault, ReadsPages};
 ghost use Rattle.pager.specs.PagerState.{IsPageNumber};
-ghost use Rattle.btree.specs.Bytes.{IsDividerOf};
+ghost use Rattle.btree.specs.Bytes.{IsDividerCell};
 ghost use Rattle.image.specs.Pages.{WhereSteady};
 ghost use Rattle.integrity.specs.Checked.{HasCheckedTable, IsTableFault};
 ghost use Rattle.integrity.specs.Keys.{HasCells, HasKeyAt};
@@ -42,7 +42,7 @@ fn low_bound(view: &PageView<'_>, low: Option<i64>, i: u32) -> Option<i64>
     requires within { i ≤ cell_count view.now.at view.now.page }
     ensures first { i ≡ 0 → result ≡ low }
     ensures inner { (most n : ℕ) → HasCells view.now.at most view.now.page Interior → i ≡ suc n
-        → (key : ℤ) × (result ≡ Some key) × IsDividerOf view.now.at view.now.page n key }
+        → (key : ℤ) × (result ≡ Some key) × IsDividerCell view.now.at view.now.page n key }
 {
     if i == 0 { low } else { view.divider(i - 1) }
 }
@@ -52,7 +52,7 @@ fn high_bound(view: &PageView<'_>, high: Option<i64>, i: u32) -> Option<i64>
     requires kind { view.now.kind ≡ kind.Table }
     requires level { view.now.level ≡ Interior }
     ensures inner { (most : ℕ) → HasCells view.now.at most view.now.page Interior → i < cell_count view.now.at view.now.page
-        → (key : ℤ) × (result ≡ Some key) × IsDividerOf view.now.at view.now.page i key }
+        → (key : ℤ) × (result ≡ Some key) × IsDividerCell view.now.at view.now.page i key }
     ensures last { cell_count view.now.at view.now.page ≤ i → result ≡ high }
 {
     if i < u32::from(view.count()) {

@@ -134,7 +134,7 @@ pub record Given (pages : Pages) (table : TableData) (columns : List ℕ) (rows 
   pub counted : n ≡ min (length given) (2 ^ 64 - 1)
 
 -- a cell is the first of these rows, and the others stand at these places
-record IsFirst (pages : Pages) (table : TableData) (cell : CellData) (rest : List Row) (others : List Place) : Type 0 where
+record BeginsRows (pages : Pages) (table : TableData) (cell : CellData) (rest : List Row) (others : List Place) : Type 0 where
   row : Row
   more : List Row
   is : IsRowOf pages table cell row
@@ -142,7 +142,7 @@ record IsFirst (pages : Pages) (table : TableData) (cell : CellData) (rest : Lis
   stored : AllZip (StoresRow pages table) others more
 
 first_cell : (pages : Pages) (table : TableData) (cell : CellData) (places : List Place) (rest : List Row)
-    → AllZip (StoresRow pages table) places rest → IsEntry pages places (Some cell) → IsFirst pages table cell rest (drop 1 places)
+    → AllZip (StoresRow pages table) places rest → IsEntry pages places (Some cell) → BeginsRows pages table cell rest (drop 1 places)
 first_cell pages table cell [] rest stored entry = absurd cc
 first_cell pages table cell (place ∷ places) [] stored entry = absurd stored
 first_cell pages table cell (place ∷ places) (row ∷ more) stored entry = record {
@@ -185,7 +185,7 @@ module _ (pages : Pages) (table : TableData) (columns : List ℕ) (rows : List R
         counted_is = g.counted ∙ ap (λ k. min k (2 ^ 64 - 1)) (ap length whole ∙ sym (length-shown columns rows));
       }
 
-  module _ (cell : CellData) (first : IsFirst pages table cell g.rest (drop 1 g.places)) where
+  module _ (cell : CellData) (first : BeginsRows pages table cell g.rest (drop 1 g.places)) where
     Given-next : (next : Cursor) (asked' n' : ℕ) (new : SinkFacts) → IsAt pages next (drop 1 g.places) asked' budget
         → Appends mid.written new.written (row_text (shown columns first.row)) → n' ≡ min (n + 1) (2 ^ 64 - 1)
         → Given pages table columns rows all next asked' budget n' old new
@@ -288,7 +288,7 @@ module _ (start now : PagerState) (table : TableData) (columns : List ℕ) (curs
     asked_most = let asks = now_given.at.stands.left.asks in omega arith
 
     now_first : (cell : CellData) → IsEntryOf cursor (Some cell)
-        → IsFirst (pages_seen start) table cell now_given.rest (drop 1 now_given.places)
+        → BeginsRows (pages_seen start) table cell now_given.rest (drop 1 now_given.places)
     now_first cell entry = first_cell (pages_seen start) table cell now_given.places now_given.rest now_given.stored (entry _ _ _ _ now_given.at)
 
     -- what was said of the cell

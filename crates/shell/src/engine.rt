@@ -88,9 +88,8 @@ impl<S: Source> Engine<S> {
     /// `Limit`; `NotYet` for a text that spells no SELECT that is served; `UnknownTable`, `UnknownColumn`, `Ambiguous`, and
     /// `NoMemory`.
     pub fn prepare(&self, text: &str) -> Result<Prepared, Fault>
-        ensures of { IfOk result (IsPreparedFor self.now.tables) }
-        ensures means { IfOk result (Means self.now.tables text.now) }
-        ensures refuses { IfErr result (Refuses self.now.tables text.now) }
+        ensures { MatchResult result (λ prepared. IsPreparedFor self.now.tables prepared × Means self.now.tables text.now prepared)
+            (Refuses self.now.tables text.now) }
     {
         let select = served_select(self.alloc, text)?;
         let query = resolve(self.alloc, self.checked.tables(), &select)?;

@@ -56,7 +56,7 @@ loop-i-preserved g c =
           let row = subst (λ (q : Pages). IsRowOf q c.args.table.now (cell_data c.in-Some.cell) c.in_ok-row.row) (same_pages _ _ inv.stays)
           (c.in_ok-row.ensures.row (still_steady _ _ inv.stays steady)) in
           each_push
-          (λ (k : ℕ) (row : Row). (cell : CellData) × bytes.IsRowOf c.args.view.now.at c.args.most c.args.view.now.page k cell × IsRowOf pages c.args.table.now cell row)
+          (λ (k : ℕ) (row : Row). (cell : CellData) × bytes.IsRowCell c.args.view.now.at c.args.most c.args.view.now.page k cell × IsRowOf pages c.args.table.now cell row)
           c.loop-i.rows.items c.push.new.self.items c.in_ok-row.row c.loop-i.i inv.long c.in_ok-push.ensures.items
           (_, c.in-Some.ensures.found, row) (inv.each steady);
     }

@@ -13,5 +13,5 @@ invariant-loop-i g l = record {
   failures : l.pager.state.source.failures ≡ l.fn.pager.state.source.failures;
   long : length l.rows.items ≡ l.i;
   each : IsTrue l.fn.pager.state.source.steady → (k : ℕ) (row : Row) → slice_get l.rows.items k ≡ Some row
-      → (cell : CellData) × bytes.IsRowOf l.view.at l.most l.view.page k cell × IsRowOf (pages_seen l.fn.pager.state) l.table cell row;
+      → (cell : CellData) × bytes.IsRowCell l.view.at l.most l.view.page k cell × IsRowOf (pages_seen l.fn.pager.state) l.table cell row;
 }

@@ -46,9 +46,9 @@ returns-then-eq-clause-fault g c = λ steady.
     let long = told.outcome.long ∙ ap (λ (h : Header). h.page_size) stays.header in
     let met = first_met c.args.pager.now.state c.header-header.result c.header-header.ensures.is c.header-header.ensures.sound in
     let seen = see c.args.pager.now.state c.header-header.result c.header-header.ensures.is c.header-header.ensures.sound 1
-    c.in_ok-page.page page long 1 1 None None met c.in-Some.view c.in-Some.ensures.found c.in-Some.ensures.header in
+    c.in_ok-page.page page long 1 1 None None met c.in-Some.view c.in-Some.ensures.found.0.is c.in-Some.ensures.found.0.header in
     let header = has_header c.args.pager.now.state c.header-header.result c.header-header.ensures.is c.header-header.ensures.sound 1
-    c.in_ok-page.page page long 1 1 None None met c.in-Some.view c.in-Some.ensures.found c.in-Some.ensures.header in
+    c.in_ok-page.page page long 1 1 None None met c.in-Some.view c.in-Some.ensures.found.0.is c.in-Some.ensures.found.0.header in
     let checked = c.in_ok-check_table.ensures in
     let tree : IsCheckedTree (pages_seen c.args.pager.now.state) schema_table c.in_ok-check_table.field-0 =
     subst (λ (t : TableData). IsCheckedTree (pages_seen c.args.pager.now.state) t c.in_ok-check_table.field-0) c.requires
@@ -65,9 +65,9 @@ returns-in_err-rows-clause-fault g c = λ steady.
     let long = told.outcome.long ∙ ap (λ (h : Header). h.page_size) stays.header in
     let met = first_met c.args.pager.now.state c.header-header.result c.header-header.ensures.is c.header-header.ensures.sound in
     let seen = see c.args.pager.now.state c.header-header.result c.header-header.ensures.is c.header-header.ensures.sound 1
-    c.in_ok-page.page page long 1 1 None None met c.in-Some.view c.in-Some.ensures.found c.in-Some.ensures.header in
+    c.in_ok-page.page page long 1 1 None None met c.in-Some.view c.in-Some.ensures.found.0.is c.in-Some.ensures.found.0.header in
     let header = has_header c.args.pager.now.state c.header-header.result c.header-header.ensures.is c.header-header.ensures.sound 1
-    c.in_ok-page.page page long 1 1 None None met c.in-Some.view c.in-Some.ensures.found c.in-Some.ensures.header in
+    c.in_ok-page.page page long 1 1 None None met c.in-Some.view c.in-Some.ensures.found.0.is c.in-Some.ensures.found.0.header in
     let checked = c.in_ok-check_table.ensures in
     let tree : IsCheckedTree (pages_seen c.args.pager.now.state) schema_table c.in_ok-check_table.field-0 =
     subst (λ (t : TableData). IsCheckedTree (pages_seen c.args.pager.now.state) t c.in_ok-check_table.field-0) c.requires
@@ -90,9 +90,9 @@ returns-clause-rows g c = λ steady.
     let long = told.outcome.long ∙ ap (λ (h : Header). h.page_size) stays.header in
     let met = first_met c.args.pager.now.state c.header-header.result c.header-header.ensures.is c.header-header.ensures.sound in
     let seen = see c.args.pager.now.state c.header-header.result c.header-header.ensures.is c.header-header.ensures.sound 1
-    c.in_ok-page.page page long 1 1 None None met c.in-Some.view c.in-Some.ensures.found c.in-Some.ensures.header in
+    c.in_ok-page.page page long 1 1 None None met c.in-Some.view c.in-Some.ensures.found.0.is c.in-Some.ensures.found.0.header in
     let header = has_header c.args.pager.now.state c.header-header.result c.header-header.ensures.is c.header-header.ensures.sound 1
-    c.in_ok-page.page page long 1 1 None None met c.in-Some.view c.in-Some.ensures.found c.in-Some.ensures.header in
+    c.in_ok-page.page page long 1 1 None None met c.in-Some.view c.in-Some.ensures.found.0.is c.in-Some.ensures.found.0.header in
     let checked = c.in_ok-check_table.ensures in
     let tree : IsCheckedTree (pages_seen c.args.pager.now.state) schema_table c.in_ok-check_table.field-0 =
     subst (λ (t : TableData). IsCheckedTree (pages_seen c.args.pager.now.state) t c.in_ok-check_table.field-0) c.requires

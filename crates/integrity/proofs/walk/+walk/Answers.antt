@@ -36,20 +36,20 @@ returns-then-is_leaf_of_rows-clause-tree g t c = λ steady.
     subst (λ (counts : TreeCounts). IsTree (pages_seen c.args.pager.now.state) c.args.table.now.root counts.levels c.args.low c.args.high c.args.n) (sym c.counts_of_page.ensures)
     (leaf_tree c.args.pager.now.state c.header-header.result c.header-header.ensures.is c.header-header.ensures.sound c.args.n c.in_ok-page.page
     (c.in_ok-page.ensures.outcome.is steady) c.in_ok-page.ensures.outcome.long c.args.table.now.root c.args.depth c.args.low c.args.high (c.requires.met steady)
-    c.in-Some.view c.in-Some.ensures.found c.in-Some.ensures.header head leaf)
+    c.in-Some.view c.in-Some.ensures.found.0.is c.in-Some.ensures.found.0.header head leaf)
 
 pub returns-then-is_leaf_of_rows-clause-counts : goal.returns-then-is_leaf_of_rows-clause-counts
 returns-then-is_leaf_of_rows-clause-counts g t c = λ steady.
     subst (λ (counts : TreeCounts). AreCounts (pages_seen c.args.pager.now.state) counts.levels c.args.n counts.rows counts.pages) (sym c.counts_of_page.ensures)
     (leaf_counts c.args.pager.now.state c.header-header.result c.header-header.ensures.is c.header-header.ensures.sound c.args.n c.in_ok-page.page
     (c.in_ok-page.ensures.outcome.is steady) c.in_ok-page.ensures.outcome.long c.args.table.now.root c.args.depth c.args.low c.args.high (c.requires.met steady)
-    c.in-Some.view c.in-Some.ensures.found c.in-Some.ensures.header c.from.result (search rules) (search rules))
+    c.in-Some.view c.in-Some.ensures.found.0.is c.in-Some.ensures.found.0.header c.from.result (search rules) (search rules))
 
 pub returns-then-is_leaf_of_rows-clause-rows : goal.returns-then-is_leaf_of_rows-clause-rows
 returns-then-is_leaf_of_rows-clause-rows g t c = λ steady.
     let seen = see c.args.pager.now.state c.header-header.result c.header-header.ensures.is c.header-header.ensures.sound c.args.n c.in_ok-page.page
     (c.in_ok-page.ensures.outcome.is steady) c.in_ok-page.ensures.outcome.long c.args.table.now.root c.args.depth c.args.low c.args.high (c.requires.met steady)
-    c.in-Some.view c.in-Some.ensures.found c.in-Some.ensures.header in
+    c.in-Some.view c.in-Some.ensures.found.0.is c.in-Some.ensures.found.0.header in
     let rows = c.is_leaf_of_rows.ensures.rows c.if-is_leaf_of_rows.true (pages_seen c.args.pager.now.state) in
     subst (λ (counts : TreeCounts). All (HoldsRow (pages_seen c.args.pager.now.state) c.args.table.now) (places_under (pages_seen c.args.pager.now.state) Table counts.levels c.args.n)) (sym c.counts_of_page.ensures)
     (held_leaf (pages_seen c.args.pager.now.state) c.args.table.now c.args.n _ _ _ seen rows)
@@ -60,7 +60,7 @@ returns-in_err-level-clause-fault g t c = λ steady.
     rw (p.1, p.2)
     (inr (inl (broken_head c.args.pager.now.state c.header-header.result c.header-header.ensures.is c.header-header.ensures.sound c.args.n c.in_ok-page.page
     (c.in_ok-page.ensures.outcome.is steady) c.in_ok-page.ensures.outcome.long c.args.table.now.root c.args.depth c.args.low c.args.high (c.requires.met steady)
-    c.in-Some.view c.in-Some.ensures.found c.in-Some.ensures.header _ c.in_err-level.ensures.fault)))
+    c.in-Some.view c.in-Some.ensures.found.0.is c.in-Some.ensures.found.0.header _ c.in_err-level.ensures.fault)))
 
 pub returns-then-eq-clause-tree : goal.returns-then-eq-clause-tree
 returns-then-eq-clause-tree g t c = λ steady.
@@ -68,14 +68,14 @@ returns-then-eq-clause-tree g t c = λ steady.
     subst (λ (counts : TreeCounts). IsTree (pages_seen c.args.pager.now.state) c.args.table.now.root counts.levels c.args.low c.args.high c.args.n) (sym c.counts_of_page-then-eq.ensures)
     (leaf_tree c.args.pager.now.state c.header-header.result c.header-header.ensures.is c.header-header.ensures.sound c.args.n c.in_ok-page.page
     (c.in_ok-page.ensures.outcome.is steady) c.in_ok-page.ensures.outcome.long c.args.table.now.root c.args.depth c.args.low c.args.high (c.requires.met steady)
-    c.in-Some.view c.in-Some.ensures.found c.in-Some.ensures.header c.in_ok-level.ensures.head leaf)
+    c.in-Some.view c.in-Some.ensures.found.0.is c.in-Some.ensures.found.0.header c.in_ok-level.ensures.head leaf)
 
 pub returns-then-eq-clause-counts : goal.returns-then-eq-clause-counts
 returns-then-eq-clause-counts g t c = λ steady.
     subst (λ (counts : TreeCounts). AreCounts (pages_seen c.args.pager.now.state) counts.levels c.args.n counts.rows counts.pages) (sym c.counts_of_page-then-eq.ensures)
     (leaf_counts c.args.pager.now.state c.header-header.result c.header-header.ensures.is c.header-header.ensures.sound c.args.n c.in_ok-page.page
     (c.in_ok-page.ensures.outcome.is steady) c.in_ok-page.ensures.outcome.long c.args.table.now.root c.args.depth c.args.low c.args.high (c.requires.met steady)
-    c.in-Some.view c.in-Some.ensures.found c.in-Some.ensures.header c.from-then-eq.result (search rules) (search rules))
+    c.in-Some.view c.in-Some.ensures.found.0.is c.in-Some.ensures.found.0.header c.from-then-eq.result (search rules) (search rules))
 
 pub returns-in_default-child_within-clause-fault : goal.returns-in_default-child_within-clause-fault
 returns-in_default-child_within-clause-fault g t c = λ steady.
@@ -83,7 +83,7 @@ returns-in_default-child_within-clause-fault g t c = λ steady.
     let within : c.loop-i.i ≤ cell_count c.in-Some.view.at c.in-Some.view.page = search rules in
     let all = inner c.args.pager.now.state c.header-header.result c.header-header.ensures.is c.header-header.ensures.sound c.args.n c.in_ok-page.page
     (c.in_ok-page.ensures.outcome.is steady) c.in_ok-page.ensures.outcome.long c.args.table.now.root c.args.depth c.args.low c.args.high (c.requires.met steady)
-    c.in-Some.view c.in-Some.ensures.found c.in-Some.ensures.header c.in_ok-level.ensures.head interior in
+    c.in-Some.view c.in-Some.ensures.found.0.is c.in-Some.ensures.found.0.header c.in_ok-level.ensures.head interior in
     let header : c.header-header.result ≡ c.args.pager.now.state.header = c.header-header.ensures.is in
     inr (inl (broken_child _ _ _ _ _ _ _ _ _ all c.loop-i.i within (subst (λ (h : Header). ¬ ((1 ≤ child c.in-Some.view.at c.in-Some.view.page c.loop-i.i) × (child c.in-Some.view.at c.in-Some.view.page c.loop-i.i ≤ h.pages))) header (c.in_default-child_within.ensures.none (c.header-header.result.pages * c.header-header.result.page_size) all.cells))))
 
@@ -103,7 +103,7 @@ walk-requires g t c κs within =
               let in_count : c.loop-i.i ≤ cell_count c.in-Some.view.at c.in-Some.view.page = search rules in
               let all = inner c.args.pager.now.state c.header-header.result c.header-header.ensures.is c.header-header.ensures.sound c.args.n c.in_ok-page.page
               (c.in_ok-page.ensures.outcome.is steady) c.in_ok-page.ensures.outcome.long c.args.table.now.root c.args.depth c.args.low c.args.high (c.requires.met steady)
-              c.in-Some.view c.in-Some.ensures.found c.in-Some.ensures.header c.in_ok-level.ensures.head interior in
+              c.in-Some.view c.in-Some.ensures.found.0.is c.in-Some.ensures.found.0.header c.in_ok-level.ensures.head interior in
               subst (λ (p : Pages). IsMet p c.args.table.now.root (c.args.depth + 1) c.low_bound-low.result c.high_bound-high.result c.in-Some-child_within.child) (sym (same_pages _ _ inv.stays))
               (step_met _ _ _ _ _ _ _ _ _ all c.loop-i.i in_count c.in-Some-child_within.child c.low_bound-low.result c.high_bound-high.result kid.0
               (kid.1, subst (λ (h : Header). c.in-Some-child_within.child ≤ h.pages) header kid.2)
@@ -122,7 +122,7 @@ returns-then-is_uneven-clause-fault g t c = λ steady.
     let in_count : c.loop-i.i ≤ cell_count c.in-Some.view.at c.in-Some.view.page = search rules in
     let all = inner c.args.pager.now.state c.header-header.result c.header-header.ensures.is c.header-header.ensures.sound c.args.n c.in_ok-page.page
     (c.in_ok-page.ensures.outcome.is steady) c.in_ok-page.ensures.outcome.long c.args.table.now.root c.args.depth c.args.low c.args.high (c.requires.met steady)
-    c.in-Some.view c.in-Some.ensures.found c.in-Some.ensures.header c.in_ok-level.ensures.head interior in
+    c.in-Some.view c.in-Some.ensures.found.0.is c.in-Some.ensures.found.0.header c.in_ok-level.ensures.head interior in
     let tree = subst (λ (p : Pages). IsTree p c.args.table.now.root c.in_ok-below.below.levels c.low_bound-low.result c.high_bound-high.result c.in-Some-child_within.child) (same_pages _ _ inv.stays) (c.in_ok-below.ensures.tree now) in
     let later = step_branch _ _ _ _ _ _ _ _ _ all c.loop-i.i in_count c.in-Some-child_within.child c.low_bound-low.result c.high_bound-high.result kid.0
     (kid.1, subst (λ (h : Header). c.in-Some-child_within.child ≤ h.pages) header kid.2)
@@ -152,7 +152,7 @@ loop-i-preserved g t c =
           let now = still_steady _ _ inv.stays steady in
           let all = inner c.args.pager.now.state c.header-header.result c.header-header.ensures.is c.header-header.ensures.sound c.args.n c.in_ok-page.page
           (c.in_ok-page.ensures.outcome.is steady) c.in_ok-page.ensures.outcome.long c.args.table.now.root c.args.depth c.args.low c.args.high (c.requires.met steady)
-          c.in-Some.view c.in-Some.ensures.found c.in-Some.ensures.header c.in_ok-level.ensures.head interior in
+          c.in-Some.view c.in-Some.ensures.found.0.is c.in-Some.ensures.found.0.header c.in_ok-level.ensures.head interior in
           let tree = subst (λ (l : ℕ). IsTree (pages_seen c.args.pager.now.state) c.args.table.now.root l c.low_bound-low.result c.high_bound-high.result c.in-Some-child_within.child) (sym levels)
           (subst (λ (p : Pages). IsTree p c.args.table.now.root c.in_ok-below.below.levels c.low_bound-low.result c.high_bound-high.result c.in-Some-child_within.child) (same_pages _ _ inv.stays) (c.in_ok-below.ensures.tree now)) in
           let later = step_branch _ _ _ _ _ _ _ _ _ all c.loop-i.i in_count c.in-Some-child_within.child c.low_bound-low.result c.high_bound-high.result kid.0
@@ -165,7 +165,7 @@ loop-i-preserved g t c =
           let at : c.in-Some-child_within.child ≡ child_at (pages_seen c.args.pager.now.state) c.args.n c.loop-i.i =
           let all = inner c.args.pager.now.state c.header-header.result c.header-header.ensures.is c.header-header.ensures.sound c.args.n c.in_ok-page.page
           (c.in_ok-page.ensures.outcome.is steady) c.in_ok-page.ensures.outcome.long c.args.table.now.root c.args.depth c.args.low c.args.high (c.requires.met steady)
-          c.in-Some.view c.in-Some.ensures.found c.in-Some.ensures.header c.in_ok-level.ensures.head interior in
+          c.in-Some.view c.in-Some.ensures.found.0.is c.in-Some.ensures.found.0.header c.in_ok-level.ensures.head interior in
           seen_child _ _ _ _ _ all.seen c.loop-i.i c.in-Some-child_within.child kid.0 in
           let under = subst (λ (p : Pages). All (HoldsRow p c.args.table.now) (places_under p Table c.in_ok-below.below.levels c.in-Some-child_within.child)) (same_pages _ _ inv.stays) (c.in_ok-below.ensures.rows now) in
           let here = subst (λ (l : ℕ). All (HoldsRow (pages_seen c.args.pager.now.state) c.args.table.now) (places_under (pages_seen c.args.pager.now.state) Table l (child_at (pages_seen c.args.pager.now.state) c.args.n c.loop-i.i))) (sym levels)
@@ -175,7 +175,7 @@ loop-i-preserved g t c =
           let now = still_steady _ _ inv.stays steady in
           let all = inner c.args.pager.now.state c.header-header.result c.header-header.ensures.is c.header-header.ensures.sound c.args.n c.in_ok-page.page
           (c.in_ok-page.ensures.outcome.is steady) c.in_ok-page.ensures.outcome.long c.args.table.now.root c.args.depth c.args.low c.args.high (c.requires.met steady)
-          c.in-Some.view c.in-Some.ensures.found c.in-Some.ensures.header c.in_ok-level.ensures.head interior in
+          c.in-Some.view c.in-Some.ensures.found.0.is c.in-Some.ensures.found.0.header c.in_ok-level.ensures.head interior in
           let under = subst (λ (p : Pages). AreCounts p c.in_ok-below.below.levels c.in-Some-child_within.child c.in_ok-below.below.rows c.in_ok-below.below.pages) (same_pages _ _ inv.stays) (c.in_ok-below.ensures.counts now) in
           let at = subst (λ (l : ℕ). AreCounts (pages_seen c.args.pager.now.state) l (child_at (pages_seen c.args.pager.now.state) c.args.n c.loop-i.i) c.in_ok-below.below.rows c.in_ok-below.below.pages) (sym levels)
           (step_under _ _ _ _ _ _ _ _ _ all c.loop-i.i in_count c.in-Some-child_within.child c.low_bound-low.result c.high_bound-high.result kid.0
@@ -187,7 +187,7 @@ loop-i-preserved g t c =
           let now = still_steady _ _ inv.stays steady in
           let all = inner c.args.pager.now.state c.header-header.result c.header-header.ensures.is c.header-header.ensures.sound c.args.n c.in_ok-page.page
           (c.in_ok-page.ensures.outcome.is steady) c.in_ok-page.ensures.outcome.long c.args.table.now.root c.args.depth c.args.low c.args.high (c.requires.met steady)
-          c.in-Some.view c.in-Some.ensures.found c.in-Some.ensures.header c.in_ok-level.ensures.head interior in
+          c.in-Some.view c.in-Some.ensures.found.0.is c.in-Some.ensures.found.0.header c.in_ok-level.ensures.head interior in
           let under = subst (λ (p : Pages). AreCounts p c.in_ok-below.below.levels c.in-Some-child_within.child c.in_ok-below.below.rows c.in_ok-below.below.pages) (same_pages _ _ inv.stays) (c.in_ok-below.ensures.counts now) in
           let at = subst (λ (l : ℕ). AreCounts (pages_seen c.args.pager.now.state) l (child_at (pages_seen c.args.pager.now.state) c.args.n c.loop-i.i) c.in_ok-below.below.rows c.in_ok-below.below.pages) (sym levels)
           (step_under _ _ _ _ _ _ _ _ _ all c.loop-i.i in_count c.in-Some-child_within.child c.low_bound-low.result c.high_bound-high.result kid.0
@@ -204,7 +204,7 @@ returns-clause-tree g t c = λ steady.
     let end : c.loop-i.i ≡ cell_count c.in-Some.view.at c.in-Some.view.page + 1 = search rules in
     let all = inner c.args.pager.now.state c.header-header.result c.header-header.ensures.is c.header-header.ensures.sound c.args.n c.in_ok-page.page
     (c.in_ok-page.ensures.outcome.is steady) c.in_ok-page.ensures.outcome.long c.args.table.now.root c.args.depth c.args.low c.args.high (c.requires.met steady)
-    c.in-Some.view c.in-Some.ensures.found c.in-Some.ensures.header c.in_ok-level.ensures.head interior in
+    c.in-Some.view c.in-Some.ensures.found.0.is c.in-Some.ensures.found.0.header c.in_ok-level.ensures.head interior in
     rw add-one (inner_tree _ _ _ _ _ _ _ _ _ all c.loop-i.i c.loop-i.counts.levels end (inv.branches steady))
 
 pub returns-clause-counts : goal.returns-clause-counts
@@ -214,7 +214,7 @@ returns-clause-counts g t c = λ steady.
     let end : c.loop-i.i ≡ cell_count c.in-Some.view.at c.in-Some.view.page + 1 = search rules in
     let all = inner c.args.pager.now.state c.header-header.result c.header-header.ensures.is c.header-header.ensures.sound c.args.n c.in_ok-page.page
     (c.in_ok-page.ensures.outcome.is steady) c.in_ok-page.ensures.outcome.long c.args.table.now.root c.args.depth c.args.low c.args.high (c.requires.met steady)
-    c.in-Some.view c.in-Some.ensures.found c.in-Some.ensures.header c.in_ok-level.ensures.head interior in
+    c.in-Some.view c.in-Some.ensures.found.0.is c.in-Some.ensures.found.0.header c.in_ok-level.ensures.head interior in
     let done = end_is _ _ _ _ _ _ _ _ _ all c.loop-i.i c.loop-i.counts.levels end in
     rw add-one (record {
       rows_is = inv.rows steady ∙ ap counted (rows_all (pages_seen c.args.pager.now.state) c.args.n c.loop-i.counts.levels c.loop-i.i done);
@@ -233,10 +233,10 @@ returns-in_err-check_rows-clause-fault g t c = λ steady.
     let met = c.requires.met steady in
     let seen = see c.args.pager.now.state c.header-header.result c.header-header.ensures.is c.header-header.ensures.sound c.args.n c.in_ok-page.page
     (c.in_ok-page.ensures.outcome.is steady) c.in_ok-page.ensures.outcome.long c.args.table.now.root c.args.depth c.args.low c.args.high met
-    c.in-Some.view c.in-Some.ensures.found c.in-Some.ensures.header in
+    c.in-Some.view c.in-Some.ensures.found.0.is c.in-Some.ensures.found.0.header in
     let tree = leaf_tree c.args.pager.now.state c.header-header.result c.header-header.ensures.is c.header-header.ensures.sound c.args.n c.in_ok-page.page
     (c.in_ok-page.ensures.outcome.is steady) c.in_ok-page.ensures.outcome.long c.args.table.now.root c.args.depth c.args.low c.args.high met
-    c.in-Some.view c.in-Some.ensures.found c.in-Some.ensures.header c.in_ok-level.ensures.head leaf in
+    c.in-Some.view c.in-Some.ensures.found.0.is c.in-Some.ensures.found.0.header c.in_ok-level.ensures.head leaf in
     let p = err_from_is_err_and c.from_residual-in_err-check_rows.result c.from_residual-in_err-check_rows.ensures.1 in
     rw (p.1, p.2)
     (⊎_elim inl
@@ -249,7 +249,7 @@ returns-then-eq-clause-rows g t c = λ steady.
     let read = c.page.ensures.reads.image in
     let seen = see c.args.pager.now.state c.header-header.result c.header-header.ensures.is c.header-header.ensures.sound c.args.n c.in_ok-page.page
     (c.in_ok-page.ensures.outcome.is steady) c.in_ok-page.ensures.outcome.long c.args.table.now.root c.args.depth c.args.low c.args.high (c.requires.met steady)
-    c.in-Some.view c.in-Some.ensures.found c.in-Some.ensures.header in
+    c.in-Some.view c.in-Some.ensures.found.0.is c.in-Some.ensures.found.0.header in
     let rows = subst (λ (p : Pages). AreRowsIn p c.args.table.now c.in-Some.view.at (c.header-header.result.pages * c.header-header.result.page_size) c.in-Some.view.page) (same_pages _ _ read)
     (c.in_ok-check_rows.ensures.rows (still_steady _ _ read steady)) in
     subst (λ (counts : TreeCounts). All (HoldsRow (pages_seen c.args.pager.now.state) c.args.table.now) (places_under (pages_seen c.args.pager.now.state) Table counts.levels c.args.n)) (sym c.counts_of_page-then-eq.ensures)
@@ -262,7 +262,7 @@ returns-clause-rows g t c = λ steady.
     let end : c.loop-i.i ≡ cell_count c.in-Some.view.at c.in-Some.view.page + 1 = search rules in
     let all = inner c.args.pager.now.state c.header-header.result c.header-header.ensures.is c.header-header.ensures.sound c.args.n c.in_ok-page.page
     (c.in_ok-page.ensures.outcome.is steady) c.in_ok-page.ensures.outcome.long c.args.table.now.root c.args.depth c.args.low c.args.high (c.requires.met steady)
-    c.in-Some.view c.in-Some.ensures.found c.in-Some.ensures.header c.in_ok-level.ensures.head interior in
+    c.in-Some.view c.in-Some.ensures.found.0.is c.in-Some.ensures.found.0.header c.in_ok-level.ensures.head interior in
     let done = end_is _ _ _ _ _ _ _ _ _ all c.loop-i.i c.loop-i.counts.levels end in
     rw add-one (held_under (pages_seen c.args.pager.now.state) c.args.table.now c.loop-i.counts.levels c.args.n
     (λ k within. inv.held steady k (omega (arith, within, done))))
