@@ -47,7 +47,7 @@ long_values() {
             FROM n, piece, (SELECT 1 AS k UNION ALL SELECT 2);"
 }
 
-for size in 512 1024 2048 4096 8192 16384 32768 65536; do
+for size in $(sizes 512 1024 2048 4096 8192 16384 32768 65536); do
     file="$folder/$size.db"
     { echo "PRAGMA page_size=$size;" && many_rows && long_values; } | sqlite3 -bail "$file" >"$folder/made" 2>&1
     sqlite3 "$file" "SELECT quote(a) || ',' || quote(b) FROM t ORDER BY id" >"$wanted"

@@ -34,6 +34,15 @@ build() {
     fi
 }
 
+# sizes SIZE..: these page sizes, the first alone where SMALL asks for few files.
+sizes() {
+    if test -n "$SMALL"; then
+        echo "$1"
+    else
+        echo "$@"
+    fi
+}
+
 # pass, fail WHAT: counts, and says what failed and where the answer isn't as wanted.
 pass() {
     passed=$((passed + 1))

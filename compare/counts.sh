@@ -121,7 +121,7 @@ found() {
 }
 
 for kind in many_rows several_tables far_rowids deleted_rows no_rows no_tables long_values long_schema; do
-    for size in 512 1024 4096 8192 65536; do
+    for size in $(sizes 512 1024 4096 8192 65536); do
         file="$folder/$kind.$size.db"
         { echo "PRAGMA page_size=$size;" && "$kind"; } | sqlite3 -bail "$file" >"$folder/made" 2>&1
         said "$file" "$kind" >"$wanted"

@@ -58,8 +58,7 @@ def try_outputs(tally: Tally, path: Path) -> None:
         answer = run(path, "SELECT * FROM nowhere", stderr=full)
         tally.add("standard error on a full device", "" if answer.status == 1 and answer.out == b"" else str(answer))
     with open("/dev/full", "wb") as full:
-        answer = run("--help", stdout=full)
-        tally.add("the help on a full device", "" if answer.status in (0, 1, 2) else str(answer))
+        tally.add("the help on a full device", stopped_problem(run("--help", stdout=full), WRITE_FAILED))
     shell = ["/bin/sh", "-c", '"$0" "$@" >&-', str(PROGRAM), str(path), SELECT]
     closed = subprocess.run(shell, capture_output=True, timeout=MOST_SECONDS, check=False)
     problem = "" if closed.returncode in (0, 1) and closed.stdout == b"" else str(closed)

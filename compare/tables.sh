@@ -5,7 +5,7 @@
 
 build table_rows data/item.db 2
 
-for size in 512 1024 4096 65536; do
+for size in $(sizes 512 1024 4096 65536); do
     file="$folder/$size.db"
     # Rowids from -49,999 on in steps of 1 and more, and texts of up to 40 letters.
     sqlite3 "$file" "PRAGMA page_size=$size;

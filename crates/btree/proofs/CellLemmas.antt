@@ -11,7 +11,8 @@ use Rattle.image.specs.declared.kind.TreeKind.TheVariants.{Table, Index}
 use Rattle.std.proofs.lemmas.Bool.Decides.{nat_tests}
 use Rattle.pager.specs.Header.{field}
 use Rattle.image.specs.Cell.{most_local, local_size, overflow_size, overflow_of, CellData, PayloadData, IsPayload, IsTableCell, IsIndexCell}
-use Rattle.btree.specs.Bytes.{FitsIn, IsDividerOf}
+use Rattle.image.specs.Cell.{FitsIn}
+use Rattle.btree.specs.Bytes.{IsDividerOf}
 
 pub IfNone-always : {T : Type 0} {P : Type 0} (r : Option T) → P → IfNone r P
 IfNone-always None p = p

@@ -9,7 +9,9 @@ use Rattle.image.specs.declared.kind.TreeKind.TheVariants.{Table, Index}
 use Rattle.image.specs.declared.kind.Level.{Level}
 use Rattle.image.specs.declared.kind.Level.TheVariants.{Leaf, Interior}
 use Rattle.image.specs.Layout.{flag, flag_of, cell_count, cell_place, child, header_size, right_child, places_end}
-use Rattle.btree.specs.Bytes.{HasHeaderAt, FitsIn, IsRowOf}
+use Rattle.image.specs.Layout.{HasHeaderAt}
+use Rattle.image.specs.Cell.{FitsIn}
+use Rattle.btree.specs.Bytes.{IsRowOf}
 
 -- a flag tells the level
 pub flag_of-same : (kind : TreeKind) (a b : Level) → flag_of kind a ≡ flag_of kind b → a ≡ b

@@ -1,20 +1,8 @@
 -- What a page's used bytes alone say, of a page whose header begins at a place.
-use Rattle.std.specs.Prelude.{◌≡◌, ℕ, ℤ, ◌+◌, ◌<◌, ◌≤◌, List, length, drop}
-use Rattle.image.specs.declared.kind.TreeKind.{TreeKind}
-use Rattle.image.specs.declared.kind.Level.{Level}
+use Rattle.std.specs.Prelude.{ℕ, ℤ, ◌+◌, ◌<◌, ◌≤◌, List, length, drop}
 use Rattle.image.specs.declared.kind.Level.TheVariants.{Leaf, Interior}
-use Rattle.image.specs.Layout.{flag, flag_of, places_end, cell_place}
-use Rattle.image.specs.Cell.{CellData, IsTableCell, IsDivider}
-
--- the bytes are a page of this kind as its header says, and its cell places lie inside it
-pub record HasHeaderAt (at : ℕ) (kind : TreeKind) (level : Level) (page : List ℕ) : Type 0 where
-  pub flag_is : flag at page ≡ flag_of kind level
-  pub places : places_end at level page ≤ length page
-
--- such a cell, with a payload of at most so many bytes
-pub record FitsIn (most : ℕ) (IsCellOf : CellData → Type 0) (cell : CellData) : Type 0 where
-  pub is : IsCellOf cell
-  pub fits : cell.payload.size ≤ most
+use Rattle.image.specs.Layout.{places_end, cell_place}
+use Rattle.image.specs.Cell.{CellData, FitsIn, IsTableCell, IsDivider}
 
 -- cell i of a table's leaf lies behind the cell places, and is such a cell
 pub record IsRowOf (at most : ℕ) (page : List ℕ) (i : ℕ) (cell : CellData) : Type 0 where

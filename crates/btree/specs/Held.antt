@@ -2,11 +2,11 @@
 use Rattle.std.specs.Prelude.{◌≡◌, ◌<◌, ◌≤◌, ◌+◌, ◌++◌, ℕ, List, [], ◌∷◌, All, length, take, Some}
 use Rattle.image.specs.declared.kind.TreeKind.TheVariants.{Table}
 use Rattle.image.specs.declared.kind.Level.TheVariants.{Leaf}
-use Rattle.image.specs.Layout.{cell_count, header_at}
+use Rattle.image.specs.Layout.{HasHeaderAt, cell_count, header_at}
 use Rattle.image.specs.Cell.{CellData}
 use Rattle.values.specs.declared.fault.Fault.{Fault}
 use Rattle.values.specs.declared.fault.Fault.TheVariants.{BadPage}
-use Rattle.btree.specs.Bytes.{HasHeaderAt, IsRowOf}
+use Rattle.btree.specs.Bytes.{IsRowOf}
 use Rattle.btree.specs.declared.cursor.Cursor.{Cursor}
 use Rattle.btree.specs.declared.cursor.Frame.{Frame}
 

@@ -2,7 +2,7 @@
 use Rattle.std.specs.Prelude.{ℕ, ◌≤◌, List, length}
 use Rattle.image.specs.declared.kind.TreeKind.{TreeKind}
 use Rattle.image.specs.declared.kind.Level.{Level}
-use Rattle.btree.specs.Bytes.{HasHeaderAt}
+use Rattle.image.specs.Layout.{HasHeaderAt}
 
 -- where a page's header begins, of which kind and level the page is, and its used bytes
 pub record ViewData : Type 0 where

@@ -5,8 +5,8 @@ ghost use Rattle.image.specs.declared.kind.Level.{Level};
 ghost use Rattle.image.specs.declared.kind.Level.TheVariants.{Leaf, Interior};
 ghost use Rattle.image.specs.Cell.{CellData};
 ghost use Rattle.pager.specs.Header.{field};
-ghost use Rattle.image.specs.Layout.{cell_count, cell_place, child, flag, flag_of, header_at, header_size, right_child};
-ghost use Rattle.btree.specs.Bytes.{HasHeaderAt, IsDividerOf, IsRowOf, LacksChild};
+ghost use Rattle.image.specs.Layout.{HasHeaderAt, cell_count, cell_place, child, flag, flag_of, header_at, header_size, right_child};
+ghost use Rattle.btree.specs.Bytes.{IsDividerOf, IsRowOf, LacksChild};
 ghost use Rattle.btree.specs.Views.{cell_data};
 
 use crate::cell::{Cell, table_cell};
@@ -27,7 +27,7 @@ pub struct PageView<'p> {
 
 impl<'p> Model for PageView<'p> {
     ghost use Rattle.std.specs.Prelude.{◌≤◌, length};
-    ghost use Rattle.btree.specs.Bytes.{HasHeaderAt};
+    ghost use Rattle.image.specs.Layout.{HasHeaderAt};
     ghost use Rattle.btree.specs.ViewData.{ViewData, IsView};
 
     ghost Value = { ViewData };

@@ -5,7 +5,7 @@ use Rattle.std.proofs.lemmas.List.{length-append}
 use Rattle.std.proofs.lemmas.List.Elements.{All-head, All-tail}
 use Rattle.values.specs.Datum.{Datum}
 use Rattle.values.specs.Literal.{literal}
-use Rattle.meaning.specs.Body.{Row}
+use Rattle.values.specs.Row.{Row}
 use Rattle.explain.specs.Text.{IsInRange, row_text, rows_text}
 use Rattle.explain.proofs.LiteralLemmas.{AreOneInRange, IsBehind, literal_told, literal-no_feed, head, tail}
 

@@ -1,7 +1,7 @@
 //! What holds of the definitions alone, and examples of them.
 ghost use Rattle.std.specs.Prelude.{◌≡◌, ℕ, All, List, [], ◌∷◌, ◌++◌, codes, negsuc, pos};
 ghost use Rattle.values.specs.Datum.{null, int, text, blob};
-ghost use Rattle.meaning.specs.Body.{Row};
+ghost use Rattle.values.specs.Row.{Row};
 ghost use Rattle.explain.specs.Text.{IsInRange, row_text, rows_text};
 
 /// No row's text begins another's: where one does, the texts are one. The rows are one too, where their whole numbers

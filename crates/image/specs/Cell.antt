@@ -67,9 +67,14 @@ pub record IsIndexCell (usable : ℕ) (bytes : List ℕ) (cell : CellData) : Typ
   pub no_rowid : cell.rowid ≡ None
   pub payload : IsPayload Index usable (drop size_length bytes) cell.payload
 
-abbrev pub IsCell : TreeKind → ℕ → List ℕ → CellData → Type 0
-IsCell Table usable bytes cell = IsTableCell usable bytes cell
-IsCell Index usable bytes cell = IsIndexCell usable bytes cell
+-- such a cell, with a payload of at most so many bytes
+pub record FitsIn (most : ℕ) (IsCellOf : CellData → Type 0) (cell : CellData) : Type 0 where
+  pub is : IsCellOf cell
+  pub fits : cell.payload.size ≤ most
+
+-- there is one
+abbrev pub HasFitting : ℕ → (CellData → Type 0) → Type 0
+HasFitting most IsCellOf = (cell : CellData) × FitsIn most IsCellOf cell
 
 -- the bytes begin with a cell of a table's interior page: a child, and a key that divides it from the next
 pub record IsDivider (bytes : List ℕ) (key : ℤ) : Type 0 where

@@ -9,7 +9,7 @@ use Rattle.image.specs.Cell.{CellData}
 use Rattle.image.specs.Chain.{HasBytes, local}
 use Rattle.image.specs.Pages.{Pages}
 use Rattle.schema.specs.TableData.{TableData}
-use Rattle.meaning.specs.Body.{Row}
+use Rattle.values.specs.Row.{Row}
 use Rattle.integrity.specs.Stored.{IsRowOf, IsRowRecord}
 use Rattle.integrity.specs.RowFaults.{HasRecordFault, IsCellFault, IsRecordFault, IsRowFault, fault_of}
 

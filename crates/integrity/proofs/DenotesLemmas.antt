@@ -5,7 +5,8 @@ use Rattle.std.proofs.lemmas.List.Elements.{All-head, All-tail}
 use Rattle.image.specs.declared.kind.TreeKind.TheVariants.{Table}
 use Rattle.image.specs.Pages.{pages_of, Pages}
 use Rattle.image.specs.Shape.{places_under}
-use Rattle.meaning.specs.Body.{Row, Database}
+use Rattle.values.specs.Row.{Row}
+use Rattle.values.specs.Database.{Database}
 use Rattle.schema.specs.TableData.{TableData}
 use Rattle.integrity.specs.Stored.{Fits, HoldsRows, IsStored}
 use Rattle.integrity.specs.Denotes.{Denotes, HasTables, IsStoredTable}

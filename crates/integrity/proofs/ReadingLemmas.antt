@@ -8,7 +8,7 @@ use Rattle.std.proofs.lemmas.Bool.Decides.{nat_tests}
 use Rattle.values.specs.Datum.{Datum, null, int}
 use Rattle.records.specs.Fields.{AreUnread, Unread}
 use Rattle.records.specs.Record.{IsRecord}
-use Rattle.meaning.specs.Body.{Row}
+use Rattle.values.specs.Row.{Row}
 use Rattle.schema.specs.TableData.{ColumnData, TableData}
 use Rattle.integrity.specs.Reading.{IsReading, Reading, value_in}
 use Rattle.integrity.specs.Stored.{Fits, FitsColumn, IsRowRecord, row_from}

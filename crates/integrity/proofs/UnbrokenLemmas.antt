@@ -14,7 +14,7 @@ use Rattle.image.specs.Tree.{Place}
 use Rattle.image.proofs.CellLemmas.{one_cell}
 use Rattle.image.proofs.ChainLemmas.{one_payload}
 use Rattle.image.proofs.TableLemmas as table_laws
-use Rattle.meaning.specs.Body.{Row}
+use Rattle.values.specs.Row.{Row}
 use Rattle.schema.proofs.OneLemmas.{one_table}
 use Rattle.schema.specs.Rows.{AreTables, SaysTable}
 use Rattle.schema.specs.TableData.{TableData, schema_table}

@@ -7,21 +7,21 @@ use Rattle.image.specs.declared.kind.TreeKind.TheVariants.{Table}
 use Rattle.image.specs.declared.kind.Level.{Level}
 use Rattle.image.specs.declared.kind.Level.TheVariants.{Leaf, Interior}
 use Rattle.image.specs.Layout.{header_at, cell_count, child}
-use Rattle.image.specs.Pages.{Pages, IsNumber}
+use Rattle.image.specs.Pages.{pages_seen, Pages, IsNumber}
 use Rattle.image.specs.Tree.{IsPageOf, IsChild, IsUnder, StandsAt, top, below, Reaches, child_at, count_at}
 use Rattle.image.specs.Shape.{places_under}
 use Rattle.image.specs.Broken.{HasRowid, IsSound, IsBroken}
 use Rattle.image.proofs.ShapeLemmas.{one_level}
-use Rattle.btree.specs.Bytes.{HasHeaderAt, IsDividerOf}
+use Rattle.image.specs.Layout.{HasHeaderAt}
+use Rattle.btree.specs.Bytes.{IsDividerOf}
 use Rattle.integrity.specs.Keys.{IsHead, IsHeadFault, KeysFit, HasCells}
 use Rattle.integrity.specs.Walked.{IsLowAt, IsHighAt, IsTree, IsBranch, IsMet, IsSeen}
 use Rattle.std.proofs.Common.{take, length-take, ◌*◌}
 use Rattle.std.proofs.lemmas.List.FromFn.{length-map-range_with_len}
 use Rattle.pager.specs.declared.header.Header.{Header}
 use Rattle.pager.specs.Page.{page_of}
-use Rattle.pager.specs.PagerState.{PagerState, IsSound as IsSoundHeader}
+use Rattle.pager.specs.PagerState.{PagerState, IsSoundHeader}
 use Rattle.image.specs.Shape.{place_at}
-use Rattle.btree.specs.Rest.{pages_seen}
 use Rattle.btree.specs.ViewData.{ViewData}
 use Rattle.btree.proofs.SeenLemmas.{readable}
 use Rattle.integrity.specs.Walked.{AreCounts}

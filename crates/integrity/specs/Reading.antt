@@ -3,7 +3,7 @@ use Rattle.std.specs.Prelude.{◌≡◌, ◌≤◌, ℕ, ℤ, List, Option, None
 use Rattle.values.specs.Datum.{Datum, int}
 use Rattle.records.specs.Fields.{AreUnread, Unread}
 use Rattle.records.specs.Record.{IsRecord}
-use Rattle.meaning.specs.Body.{Row}
+use Rattle.values.specs.Row.{Row}
 use Rattle.integrity.specs.Stored.{row_from}
 
 -- the value of a row in a column where its record has this one: the rowid at its place

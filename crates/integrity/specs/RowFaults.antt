@@ -3,6 +3,7 @@ use Rattle.std.specs.Prelude.{◌≡◌, ◌≢◌, ◌⊎◌, ◌<◌, ℕ, Lis
 use Rattle.values.specs.Datum.{Datum}
 use Rattle.values.specs.declared.fault.Fault.{Fault}
 use Rattle.values.specs.declared.fault.Fault.TheVariants.{ReadFailed, NoMemory, BadPage, BadChain, BadRecord, FloatValue, BadText, ValueBreaksColumn}
+use Rattle.pager.specs.Calls.{IsReadFault}
 use Rattle.records.specs.declared.fault.RecordFault.{RecordFault}
 use Rattle.records.specs.declared.fault.RecordFault.TheVariants as r
 use Rattle.records.specs.Record.{Breaks, IsRecord}
@@ -14,7 +15,7 @@ use Rattle.image.specs.Layout.{cell_count}
 use Rattle.image.specs.Pages.{Pages}
 use Rattle.image.specs.Tree.{Place, IsPlaceOf, IsRowAt}
 use Rattle.btree.specs.Bytes as bytes
-use Rattle.meaning.specs.Body.{Row}
+use Rattle.values.specs.Row.{Row}
 use Rattle.schema.specs.TableData.{TableData}
 use Rattle.integrity.specs.Stored.{Fits, IsRowOf}
 
@@ -113,5 +114,5 @@ pub record LacksCell (at most : ℕ) (page : List ℕ) : Type 0 where
 -- why the cells of a leaf are no rows: a read failed or memory ran out, a cell has a fault, or isn't there
 abbrev pub IsRowsFault : Pages → TableData → ℕ → ℕ → ℕ → List ℕ → Fault → Type 0
 IsRowsFault pages table n at most page fault =
-    (fault ≡ ReadFailed) ⊎ (fault ≡ NoMemory) ⊎ IsLeafFault pages table n at most page fault
+    IsReadFault fault ⊎ IsLeafFault pages table n at most page fault
     ⊎ ((fault ≡ BadPage n) × LacksCell at most page)

@@ -11,7 +11,7 @@ use Rattle.image.specs.Pages.{Pages}
 use Rattle.image.specs.Tree.{Place, IsRowAt}
 use Rattle.image.specs.Shape.{HasShape, places_under}
 use Rattle.image.specs.Sound.{AreRowsOf}
-use Rattle.meaning.specs.Body.{Row}
+use Rattle.values.specs.Row.{Row}
 use Rattle.schema.specs.TableData.{ColumnData, TableData}
 
 -- The row that a record's values are: at the place of the column that is the rowid stands the rowid, whatever is stored

@@ -1,7 +1,7 @@
 //! A row of a table, of which those values are read that are asked for.
 ghost use Rattle.std.specs.Prelude.{◌≡◌, ◌<◌, IfNone, IfSome, IsFalse, IsTrue, None, Some, length, slice_get};
 ghost use Rattle.values.specs.Datum.{datum_of_ref};
-ghost use Rattle.meaning.specs.Body.{Row};
+ghost use Rattle.values.specs.Row.{Row};
 ghost use Rattle.integrity.specs.Reading.{GoesBack, IsReading};
 ghost use Rattle.integrity.specs.Stored.{IsRowRecord};
 

@@ -9,7 +9,9 @@ use Rattle.values.specs.Datum.{Datum}
 use Rattle.values.specs.Order.{row_cmp}
 use Rattle.values.specs.OrderLaws.{row_cmp_total}
 use Rattle.meaning.specs.Query.{Source, table, QueryData}
-use Rattle.meaning.specs.Body.{Row, Database, Output, output, body, source_rows, term_values}
+use Rattle.values.specs.Row.{Row}
+use Rattle.values.specs.Database.{Database}
+use Rattle.meaning.specs.Body.{Output, output, body, source_rows, term_values}
 use Rattle.meaning.specs.Answer.{Permits, Begins}
 use Rattle.meaning.proofs.OrderLemmas.{Rises, IsUnder, IsSortedBy-rises, IsSortedBy-ascending, ascending, ascending-same}
 

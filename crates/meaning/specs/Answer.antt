@@ -4,7 +4,9 @@ use Rattle.std.specs.Int.{w64}
 use Rattle.values.specs.Datum.{Datum, null, int, text, blob}
 use Rattle.values.specs.Order.{row_cmp}
 use Rattle.meaning.specs.Query.{QueryData}
-use Rattle.meaning.specs.Body.{Row, Database, Output, body}
+use Rattle.values.specs.Row.{Row}
+use Rattle.values.specs.Database.{Database}
+use Rattle.meaning.specs.Body.{Output, body}
 
 -- what may stand for a result out of range: NULL or a whole number of 64 bits
 abbrev pub IsStandIn : Datum → Type 0

@@ -4,14 +4,9 @@
 -- that leaves 64 bits: what a query means is said for every such value.
 use Rattle.std.specs.Prelude.{ℕ, List, [], map, slice_index_or}
 use Rattle.values.specs.Datum.{Datum, null}
+use Rattle.values.specs.Row.{Row}
+use Rattle.values.specs.Database.{Database}
 use Rattle.meaning.specs.Query.{Source, table, Term, column, QueryData}
-
-abbrev pub Row : Type 0
-Row = List Datum
-
--- the rows of each table, in the catalog's order
-abbrev pub Database : Type 0
-Database = List (List Row)
 
 -- the value at a place of a row, and NULL past its end
 abbrev pub value_at : Row → ℕ → Datum

@@ -2,7 +2,8 @@
 use Rattle.std.specs.Prelude.{ℕ, List, [], ◌∷◌, pos, codes}
 use Rattle.values.specs.Datum.{null, int, text}
 use Rattle.meaning.specs.Query.{table, column, QueryData}
-use Rattle.meaning.specs.Body.{Row, Database}
+use Rattle.values.specs.Row.{Row}
+use Rattle.values.specs.Database.{Database}
 
 -- one table of three columns
 abbrev pub example_widths : List ℕ

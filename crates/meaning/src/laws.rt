@@ -3,7 +3,9 @@ ghost use Rattle.std.specs.Prelude.{◌≡◌, All, List, [], ◌++◌, length, 
 ghost use Rattle.std.specs.List.{AllZip};
 ghost use Rattle.values.specs.Datum.{Datum};
 ghost use Rattle.meaning.specs.Query.{QueryData, IsTyped};
-ghost use Rattle.meaning.specs.Body.{Row, Database, source_rows, term_values, body};
+ghost use Rattle.values.specs.Row.{Row};
+ghost use Rattle.values.specs.Database.{Database};
+ghost use Rattle.meaning.specs.Body.{source_rows, term_values, body};
 ghost use Rattle.meaning.specs.Answer.{Permits, Begins};
 ghost use Rattle.meaning.specs.Examples.{ascending_rows, by_qty, example_widths, item, qty_and_id, shown_rows};
 

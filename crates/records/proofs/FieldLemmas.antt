@@ -1,12 +1,10 @@
 -- One field: its body's length, its one value, and what has no value.
-use Rattle.std.proofs.Common.{◌≡◌, ℕ, ◌+◌, ◌*◌, ◌%◌, ◌≤◌, ◌⊎◌, inl, inr, ℤ, pos, negsuc, cond, eqb, ltb, List, ◌++◌, length, refl, sym, ap, ◌∙◌, arith}
+use Rattle.std.proofs.Common.{◌≡◌, ℕ, ◌+◌, ◌*◌, ◌%◌, ◌≤◌, ◌⊎◌, inl, inr, ℤ, pos, negsuc, cond, eqb, ltb, List, length, refl, sym, ap, ◌∙◌, arith}
 use Rattle.std.specs.Prelude.{IsUtf8, ◌≤ℤ◌, ◌<ℤ◌, unsigned_abs, nat_lt, ◌==◌, if◌then◌else◌}
 use Rattle.std.proofs.lemmas.Bool.Decides.{nat_tests}
 use Rattle.std.proofs.lemmas.Int.{ints}
 use Rattle.values.specs.Datum.{Datum, null, int, text, blob}
-use Rattle.records.specs.declared.fault.RecordFault.{RecordFault}
-use Rattle.records.specs.declared.fault.RecordFault.TheVariants.{Bad, Float, Text, NoMemory}
-use Rattle.records.specs.Serial.{IsField, is_null, is_int, is_zero, is_one, is_blob, is_text, IsReserved, is_ten, is_eleven, is_below, body_len, big_endian, BreaksField, BreaksFront}
+use Rattle.records.specs.Serial.{IsField, is_null, is_int, is_zero, is_one, is_blob, is_text, IsReserved, is_ten, is_eleven, is_below, body_len, big_endian}
 
 pub body_len-blob : (n : ℕ) → body_len (pos (12 + 2 * n)) ≡ n
 body_len-blob n = grind (arith, nat_tests)
@@ -116,11 +114,3 @@ text_is_utf8 serial body v s h = elim h [
   | is_blob e w ↦ absurd (omega (arith, ap unsigned_abs (sym e ∙ s)))
   | is_text e u w ↦ u
 ]
-
--- a body at the front that is no value
-pub front_broken : (f : RecordFault) (serial : ℤ) (bytes body rest : List ℕ) → bytes ≡ body ++ rest → BreaksField f serial body
-    → BreaksFront f serial bytes
-front_broken Bad serial bytes body rest e h = inl h
-front_broken Float serial bytes body rest e h = h
-front_broken Text serial bytes body rest e h = (body, rest, e, h.0, h.1)
-front_broken NoMemory serial bytes body rest e h = h

@@ -2,7 +2,7 @@
 use Rattle.std.proofs.Common.{◌≡◌, ℕ, ◌+◌, ◌-◌, ◌*◌, ◌%◌, ◌<◌, ◌≤◌, inl, inr, ℤ, List, [], ◌∷◌, ◌++◌, length, get_or, take, drop, All, refl, sym, ap, subst, ◌∙◌, arith}
 use Rattle.std.proofs.lemmas.List.Sums.{fold-append}
 use Rattle.std.proofs.lemmas.List.{get_or_append_left, get_or_at, length-append, length_push, take-append-drop, length-take, take_more}
-use Rattle.std.proofs.lemmas.List.Elements.{All-get_or}
+use Rattle.std.proofs.lemmas.List.Elements.{All-get_or, All-more, All-nil}
 use Rattle.std.proofs.lemmas.Bool.{cases_lt}
 use Rattle.std.specs.Int.{w64, cast_signed}
 use Rattle.records.specs.Varint.{seven_bits, GoesOn, IsVarint, BeginsVarint, EndsInside}
@@ -138,6 +138,21 @@ ends_short bytes read bits byte lt in_it at low go_on so_far =
         signed = refl;
       };
     }
+
+-- two bytes with the high bit set and one below 128
+pub ends_third : (bytes : List ℕ) (high middle low : ℕ) → 3 ≤ length bytes → 128 ≤ get_or bytes 0 0 → 128 ≤ get_or bytes 1 0 → get_or bytes 2 0 < 128
+    → high ≡ get_or bytes 0 0 % 128 → middle ≡ get_or bytes 1 0 % 128 → low ≡ get_or bytes 2 0
+    → BeginsVarint bytes (cast_signed w64 ((high * 128 + middle) * 128 + low)) 3
+ends_third bytes high middle low long first second third is_high is_middle is_low =
+    let one : All GoesOn (take 1 bytes) = All-more GoesOn bytes 0 0 (omega arith) (All-nil GoesOn) first in
+    let two : All GoesOn (take 2 bytes) = All-more GoesOn bytes 1 0 (omega arith) one second in
+    let front : seven_bits (take 1 bytes) ≡ 0 + get_or bytes 0 0 % 128 =
+    ap seven_bits (take_more bytes 0 0 (omega arith)) ∙ seven_bits-push (take 0 bytes) (get_or bytes 0 0) in
+    let spelt : seven_bits (take 2 bytes) ≡ seven_bits (take 1 bytes) * 128 + get_or bytes 1 0 % 128 =
+    ap seven_bits (take_more bytes 1 0 (omega arith)) ∙ seven_bits-push (take 1 bytes) (get_or bytes 1 0) in
+    let small : low % 128 ≡ low = omega (arith, third, is_low) in
+    subst (λ (n : ℕ). BeginsVarint bytes (cast_signed w64 ((high * 128 + middle) * 128 + n)) 3) small
+    (ends_short bytes 2 (high * 128 + middle) low (omega arith) (omega arith) is_low (omega (arith, third, is_low)) two (omega (arith, front, spelt, is_high, is_middle)))
 
 -- a ninth byte ends one
 pub ends_long : (bytes : List ℕ) (read bits byte : ℕ) → read ≡ 8 → read < length bytes → byte ≡ get_or bytes read 0

@@ -32,13 +32,6 @@ pub data IsReserved (serial : ℤ) : Type 0 where
   is_eleven : serial ≡ pos 11 → IsReserved serial
   is_below : serial <ℤ pos 0 → IsReserved serial
 
--- why a body of this type is no value
-abbrev pub BreaksField : RecordFault → ℤ → List ℕ → Type 0
-BreaksField Bad serial body = IsReserved serial
-BreaksField Float serial body = serial ≡ pos 7
-BreaksField Text serial body = (serial ≡ pos (13 + 2 * length body)) × ¬ (IsUtf8 body)
-BreaksField NoMemory serial body = ⊥
-
 -- the body of a value stands at the front of the bytes
 pub record BeginsField (serial : ℤ) (bytes : List ℕ) (value : Datum) (rest : List ℕ) : Type 0 where
   pub body : List ℕ

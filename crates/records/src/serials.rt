@@ -1,7 +1,7 @@
 //! Serial types: how long a field's body is, and the value that it stands for. (Database File Format, section 2.1)
-ghost use Rattle.std.specs.Prelude.{◌≡◌, ◌≤◌, length, IfOk, IfErr};
+ghost use Rattle.std.specs.Prelude.{◌≡◌, ◌≤ℤ◌, pos, IfOk, IfErr};
 ghost use Rattle.values.specs.Datum.{datum_of_ref};
-ghost use Rattle.records.specs.Serial.{big_endian, body_len, IsField, BreaksField, BeginsField, BreaksFront};
+ghost use Rattle.records.specs.Serial.{body_len, BeginsField, BreaksFront};
 
 use crate::fault::RecordFault;
 use byteorder::{BigEndian, ByteOrder};
@@ -21,50 +21,12 @@ pub(crate) fn len_of(serial: i64) -> usize
     }
 }
 
-/// The number that a body is, the most significant byte first, in two's complement. Each length stands apart, so that it
-/// is a constant where the bytes are read.
+/// The value of a type of a whole number whose body is at the front of the bytes, the most significant byte first, in two's
+/// complement, and the bytes after it. Where the type is a constant, so is the length that is read.
 #[inline(always)]
-fn number(body: &[u8]) -> i64
-    requires low { 1 ≤ length body.now }
-    requires high { length body.now ≤ 8 }
-    ensures { result ≡ big_endian body.now }
-{
-    match body.len() {
-        1 => BigEndian::read_int(body, 1),
-        2 => BigEndian::read_int(body, 2),
-        3 => BigEndian::read_int(body, 3),
-        4 => BigEndian::read_int(body, 4),
-        6 => BigEndian::read_int(body, 6),
-        8 => BigEndian::read_int(body, 8),
-        len => BigEndian::read_int(body, len),
-    }
-}
-
-/// The value that a body of this type is.
-#[inline(always)]
-fn field(serial: i64, body: &[u8]) -> Result<ValueRef<'_>, RecordFault>
-    requires { length body.now ≡ body_len serial }
-    ensures found { IfOk result (λ value. IsField serial body.now (datum_of_ref value)) }
-    ensures fault { IfErr result (λ fault. BreaksField fault serial body.now) }
-{
-    match serial {
-        0 => Ok(ValueRef::Null),
-        1..=6 => Ok(ValueRef::Int(number(body))),
-        7 => Err(RecordFault::Float),
-        8 => Ok(ValueRef::Int(0)),
-        9 => Ok(ValueRef::Int(1)),
-        ..=-1 | 10 | 11 => Err(RecordFault::Bad),
-        _ if serial % 2 == 0 => Ok(ValueRef::Blob(body)),
-        _ => match str::from_utf8(body) {
-            Ok(text) => Ok(ValueRef::Text(text)),
-            Err(_) => Err(RecordFault::Text),
-        },
-    }
-}
-
-/// The value of this type whose body is at the front of the bytes, and the bytes after it.
-#[inline(always)]
-pub(crate) fn first_field(serial: i64, bytes: &[u8]) -> Result<(ValueRef<'_>, &[u8]), RecordFault>
+fn first_number(serial: i64, bytes: &[u8]) -> Result<(ValueRef<'_>, &[u8]), RecordFault>
+    requires low { pos 1 ≤ℤ serial }
+    requires high { serial ≤ℤ pos 6 }
     ensures found { IfOk result (λ first. BeginsField serial bytes.now (datum_of_ref first.0) first.1.now) }
     ensures fault { IfErr result (λ fault. BreaksFront fault serial bytes.now) }
 {
@@ -73,6 +35,49 @@ pub(crate) fn first_field(serial: i64, bytes: &[u8]) -> Result<(ValueRef<'_>, &[
         return Err(RecordFault::Bad);
     }
     let (body, rest) = bytes.split_at(len);
-    let value = field(serial, body)?;
-    Ok((value, rest))
+    Ok((ValueRef::Int(BigEndian::read_int(body, len)), rest))
+}
+
+/// The blob or the text of this type whose body is at the front of the bytes, and the bytes after it.
+#[inline(always)]
+fn first_string(serial: i64, bytes: &[u8]) -> Result<(ValueRef<'_>, &[u8]), RecordFault>
+    requires { pos 12 ≤ℤ serial }
+    ensures found { IfOk result (λ first. BeginsField serial bytes.now (datum_of_ref first.0) first.1.now) }
+    ensures fault { IfErr result (λ fault. BreaksFront fault serial bytes.now) }
+{
+    let len = len_of(serial);
+    if bytes.len() < len {
+        return Err(RecordFault::Bad);
+    }
+    let (body, rest) = bytes.split_at(len);
+    if serial % 2 == 0 {
+        return Ok((ValueRef::Blob(body), rest));
+    }
+    match str::from_utf8(body) {
+        Ok(text) => Ok((ValueRef::Text(text), rest)),
+        Err(_) => Err(RecordFault::Text),
+    }
+}
+
+/// The value of this type whose body is at the front of the bytes, and the bytes after it. Each type of a whole number
+/// stands apart, so that it is tested once.
+#[inline(always)]
+pub(crate) fn first_field(serial: i64, bytes: &[u8]) -> Result<(ValueRef<'_>, &[u8]), RecordFault>
+    ensures found { IfOk result (λ first. BeginsField serial bytes.now (datum_of_ref first.0) first.1.now) }
+    ensures fault { IfErr result (λ fault. BreaksFront fault serial bytes.now) }
+{
+    match serial {
+        0 => Ok((ValueRef::Null, bytes)),
+        1 => first_number(1, bytes),
+        2 => first_number(2, bytes),
+        3 => first_number(3, bytes),
+        4 => first_number(4, bytes),
+        5 => first_number(5, bytes),
+        6 => first_number(6, bytes),
+        7 => Err(RecordFault::Float),
+        8 => Ok((ValueRef::Int(0), bytes)),
+        9 => Ok((ValueRef::Int(1), bytes)),
+        12.. => first_string(serial, bytes),
+        ..=-1 | 10 | 11 => Err(RecordFault::Bad),
+    }
 }

@@ -33,9 +33,16 @@ pub fn varint(bytes: &[u8]) -> Option<(i64, usize)>
     ensures only { (value : ℤ) (len : ℕ) → BeginsVarint bytes.now value len → result ≡ Some (value, len) }
     ensures none { IsNone result ↔ EndsInside bytes.now }
 {
-    // Most are of one byte.
+    // Most are of one byte, and the rowids of most tables of two or three.
     match bytes {
         [byte, ..] if *byte < 128 => Some((i64::from(*byte), 1)),
+        [first, last, ..] if *last < 128 => {
+            Some((i64::from(*first % 128) * 128 + i64::from(*last), 2))
+        }
+        [first, second, last, ..] if *last < 128 => {
+            let front = u64::from(*first % 128) * 128 + u64::from(*second % 128);
+            Some(((front * 128 + u64::from(*last)).cast_signed(), 3))
+        }
         _ => varint_by_bytes(bytes),
     }
 }

@@ -4,7 +4,7 @@ use Rattle.std.specs.List.{AllZip}
 use Rattle.std.proofs.lemmas.Option.{slice_get_within, get_or_from_slice_get}
 use Rattle.values.specs.declared.fault.Fault.{Fault}
 use Rattle.values.specs.declared.fault.Fault.TheVariants as f
-use Rattle.sql_reader.specs.Tree.{Name}
+use Rattle.syntax.specs.Tree.{Name}
 use Rattle.resolver.specs.Lookups.{IsColumnRefused, AreNamesRefused}
 use Rattle.std.proofs.lemmas.List.{take_more, take_all}
 

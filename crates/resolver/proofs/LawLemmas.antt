@@ -6,9 +6,9 @@ use Rattle.std.proofs.lemmas.Slice.Zip.{AllZip-long}
 use Rattle.values.specs.declared.fault.Fault.{Fault}
 use Rattle.values.specs.declared.fault.Fault.TheVariants as f
 use Rattle.meaning.specs.Query.{Source, Term, column, QueryData}
-use Rattle.sql_reader.specs.Texts.{max_columns}
-use Rattle.sql_reader.specs.SelectTrees.{SelectTree}
-use Rattle.sql_reader.specs.Tree.{Name}
+use Rattle.phrases.specs.Texts.{max_columns}
+use Rattle.syntax.specs.SelectTrees.{SelectTree}
+use Rattle.syntax.specs.Tree.{Name}
 use Rattle.schema.specs.TableData.{TableData}
 use Rattle.resolver.proofs.PlainLemmas.{one_plain, zip_one}
 use Rattle.resolver.specs.Named.{IsPlaceOf, IsNowhere, IsTwice}

@@ -1,7 +1,7 @@
 -- The place of a name: where one more declared name is looked at.
 use Rattle.std.proofs.Common.{MatchOption, ◌≡◌, ℕ, ◌+◌, ◌<◌, ◌≤◌, List, length, Option, Some, None, slice_get, slice_index_or, is_some, true, false, map, option_map, refl, sym, ap, ◌∙◌, subst, arith, below_more}
 use Rattle.std.proofs.lemmas.Option.{slice_get-get_or, slice_get-map, slice_get_within, slice_get_read}
-use Rattle.sql_reader.specs.Tree.{Name}
+use Rattle.syntax.specs.Tree.{Name}
 use Rattle.schema.specs.Names.{IsSameName}
 use Rattle.resolver.specs.Named.{HasNameAt, IsPlaceOf, IsNowhere, IsTwice}
 

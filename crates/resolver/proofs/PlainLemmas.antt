@@ -1,9 +1,9 @@
 -- A SELECT gives one list of columns of one table, where it is plain.
 use Rattle.std.proofs.Common.{◌≡◌, ℕ, zero, suc, ◌<◌, List, [], ◌∷◌, length, map, slice_index_or, Some, None, refl, sym, ap, ◌∙◌, subst, arith}
 use Rattle.std.specs.List.{AllZip}
-use Rattle.sql_reader.specs.ExprTree.{ExprTree}
-use Rattle.sql_reader.specs.SelectTrees.{NameTree, ResultTree, SelectTree}
-use Rattle.sql_reader.specs.Tree.{Name}
+use Rattle.syntax.specs.ExprTree.{ExprTree}
+use Rattle.syntax.specs.SelectTrees.{NameTree, ResultTree, SelectTree}
+use Rattle.syntax.specs.Tree.{Name}
 use Rattle.resolver.specs.Plain.{Columns, IsName, AreColumns, IsPlain}
 
 some_one : {A : Type 0} (a b : A) → Some a ≡ Some b → a ≡ b

@@ -7,8 +7,8 @@ use Rattle.std.proofs.lemmas.Option.{slice_get-map, slice_get_within, slice_get_
 use Rattle.values.specs.declared.fault.Fault.{Fault}
 use Rattle.values.specs.declared.fault.Fault.TheVariants as f
 use Rattle.meaning.specs.Query.{Source, Term, column, QueryData, HasSource, source_width, IsTermOf, IsTyped}
-use Rattle.sql_reader.specs.SelectTrees.{SelectTree}
-use Rattle.sql_reader.specs.Tree.{Name}
+use Rattle.syntax.specs.SelectTrees.{SelectTree}
+use Rattle.syntax.specs.Tree.{Name}
 use Rattle.schema.specs.TableData.{TableData}
 use Rattle.resolver.specs.Named.{IsPlaceOf}
 use Rattle.resolver.specs.Plain.{Columns, IsPlain}

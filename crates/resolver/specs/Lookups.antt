@@ -2,8 +2,8 @@
 use Rattle.std.specs.Prelude.{◌<◌, Any, List}
 use Rattle.values.specs.declared.fault.Fault.{Fault}
 use Rattle.values.specs.declared.fault.Fault.TheVariants as f
-use Rattle.sql_reader.specs.Texts.{max_columns}
-use Rattle.sql_reader.specs.Tree.{Name}
+use Rattle.phrases.specs.Texts.{max_columns}
+use Rattle.syntax.specs.Tree.{Name}
 use Rattle.resolver.specs.Named.{IsNowhere, IsTwice}
 use Rattle.resolver.specs.Plain.{Columns}
 use Rattle.resolver.specs.Resolved.{IsSchemaTable, width_of, written_names}

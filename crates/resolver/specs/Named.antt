@@ -1,6 +1,6 @@
 -- What a name stands for among declared names. (SQL As Understood By SQLite)
 use Rattle.std.specs.Prelude.{◌≡◌, ◌<◌, ℕ, List, slice_get, Some}
-use Rattle.sql_reader.specs.Tree.{Name}
+use Rattle.syntax.specs.Tree.{Name}
 use Rattle.schema.specs.Names.{IsSameName}
 
 -- the name that is declared at a place is the same

@@ -1,9 +1,9 @@
 -- The SELECTs that are served: every column of a table, or columns of it by their names, and nothing else. (SELECT)
 use Rattle.std.specs.Prelude.{◌≡◌, List, [], ◌∷◌, Some, None}
 use Rattle.std.specs.List.{AllZip}
-use Rattle.sql_reader.specs.ExprTree.{ExprTree}
-use Rattle.sql_reader.specs.SelectTrees.{NameTree, ResultTree, SelectTree}
-use Rattle.sql_reader.specs.Tree.{Name}
+use Rattle.syntax.specs.ExprTree.{ExprTree}
+use Rattle.syntax.specs.SelectTrees.{NameTree, ResultTree, SelectTree}
+use Rattle.syntax.specs.Tree.{Name}
 
 -- all columns of a table, or those with these names
 pub data Columns : Type 0 where

@@ -4,9 +4,9 @@ use Rattle.std.specs.List.{AllZip, range_with_len}
 use Rattle.values.specs.declared.fault.Fault.{Fault}
 use Rattle.values.specs.declared.fault.Fault.TheVariants as f
 use Rattle.meaning.specs.Query.{Source, Term, column, QueryData}
-use Rattle.sql_reader.specs.Texts.{max_columns}
-use Rattle.sql_reader.specs.SelectTrees.{SelectTree}
-use Rattle.sql_reader.specs.Tree.{Name}
+use Rattle.phrases.specs.Texts.{max_columns}
+use Rattle.syntax.specs.SelectTrees.{SelectTree}
+use Rattle.syntax.specs.Tree.{Name}
 use Rattle.schema.specs.TableData.{ColumnData, TableData}
 use Rattle.schema.specs.Names.{IsSameName}
 use Rattle.resolver.specs.Named.{IsPlaceOf, IsNowhere, IsTwice}

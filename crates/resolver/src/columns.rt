@@ -2,7 +2,7 @@
 ghost use Rattle.std.specs.Prelude.{◌≡◌, ◌<◌, ◌≤◌, All, Err, IfErr, IfOk, length, map, slice_get, Some, string_bytes};
 ghost use Rattle.std.specs.List.{AllZip, range_with_len};
 ghost use Rattle.meaning.specs.Query.{column};
-ghost use Rattle.sql_reader.specs.Texts.{max_columns};
+ghost use Rattle.phrases.specs.Texts.{max_columns};
 ghost use Rattle.resolver.specs.Lookups.{AreColumnsRefused, AreNamesRefused, IsColumnRefused};
 ghost use Rattle.resolver.specs.Named.{IsPlaceOf};
 ghost use Rattle.resolver.specs.PlainView.{columns_of};

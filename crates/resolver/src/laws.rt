@@ -4,8 +4,8 @@ ghost use Rattle.values.specs.declared.fault.Fault.{Fault};
 ghost use Rattle.values.specs.declared.fault.Fault.TheVariants.{NoMemory};
 ghost use Rattle.meaning.specs.Query.{IsTyped, QueryData};
 ghost use Rattle.schema.specs.TableData.{TableData};
-ghost use Rattle.sql_reader.specs.SelectTrees.{SelectTree};
-ghost use Rattle.sql_reader.specs.Tree.{Name};
+ghost use Rattle.syntax.specs.SelectTrees.{SelectTree};
+ghost use Rattle.syntax.specs.Tree.{Name};
 ghost use Rattle.resolver.specs.Resolved.{IsRefused, Resolves};
 
 /// A SELECT resolves to at most one query, whose result columns have one name each.

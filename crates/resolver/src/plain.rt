@@ -1,14 +1,14 @@
 //! The SELECTs that are served: every column of a table, or columns of it by their names.
 ghost use Rattle.std.specs.Prelude.{◌↔◌, ◌≡◌, [], ◌∷◌, IfOk, IsTrue, List, map, MatchOption};
 ghost use Rattle.std.specs.List.{AllZip};
-ghost use Rattle.sql_reader.specs.SelectTrees.{ResultTree};
-ghost use Rattle.sql_reader.specs.SelectView.{result_of, select_of};
-ghost use Rattle.sql_reader.specs.Tree.{Name};
+ghost use Rattle.syntax.specs.SelectTrees.{ResultTree};
+ghost use Rattle.syntax.specs.SelectView.{result_of, select_of};
+ghost use Rattle.syntax.specs.Tree.{Name};
 ghost use Rattle.resolver.specs.Plain.{AreColumns, Columns, IsName, IsNotPlain, IsPlain};
 ghost use Rattle.resolver.specs.PlainView.{columns_of};
 
-use sql_reader::{Expr, ResultColumn, ResultName, Select};
 use std::alloc::{AllocError, Global};
+use syntax::{Expr, ResultColumn, ResultName, Select};
 
 /// The columns that a SELECT gives of its table: all, or those with these names.
 #[derive(Debug, Drop)]

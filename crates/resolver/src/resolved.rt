@@ -1,16 +1,16 @@
 //! SELECTs whose names are resolved.
 ghost use Rattle.std.specs.Prelude.{◌≡◌, [], IfErr, IfOk, length, map, string_bytes};
 ghost use Rattle.meaning.specs.Query.{column, IsTyped, table};
-ghost use Rattle.sql_reader.specs.SelectView.{select_of};
+ghost use Rattle.syntax.specs.SelectView.{select_of};
 ghost use Rattle.resolver.specs.Resolved.{IsRefused, Resolves};
 
 use crate::columns::{names_at, places_given};
 use crate::plain::plain_select;
 use crate::tables::place_of_table;
 use schema::Table;
-use sql_reader::Select;
 use std::alloc::Global;
 use std::marker::Model;
+use syntax::Select;
 use values::Fault;
 
 /// A SELECT whose names are resolved.

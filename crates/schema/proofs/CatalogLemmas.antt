@@ -5,11 +5,12 @@ use Rattle.std.proofs.lemmas.List.{map_push, take_all, take_more}
 use Rattle.std.specs.List.{AllZip, Any}
 use Rattle.values.specs.declared.fault.Fault.{Fault}
 use Rattle.values.specs.declared.fault.Fault.TheVariants as f
-use Rattle.meaning.specs.Body.{Row}
-use Rattle.sql_reader.proofs.StatementLemmas.{one_create}
-use Rattle.sql_reader.specs.CreateGrammar.{SpellsCreate}
-use Rattle.sql_reader.specs.Texts.{IsRefused, IsWithin, max_columns}
-use Rattle.sql_reader.specs.Tree.{Name, TableTree, columns_of_table}
+use Rattle.values.specs.Row.{Row}
+use Rattle.create_reader.proofs.CreateTexts.{one_create}
+use Rattle.create_reader.specs.CreateGrammar.{SpellsCreate}
+use Rattle.phrases.specs.Texts.{IsRefused, IsWithin, max_columns}
+use Rattle.syntax.specs.Tree.{Name}
+use Rattle.syntax.specs.CreateTrees.{TableTree, columns_of_table}
 use Rattle.schema.specs.Created.{IsTable}
 use Rattle.schema.specs.Names.{AreDistinct, IsSameName}
 use Rattle.schema.specs.Refused as schema

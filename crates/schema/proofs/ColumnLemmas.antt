@@ -3,12 +3,12 @@ use Rattle.std.proofs.Common.{◌≡◌, ◌<◌, Bool, true, false, Contains, I
 use Rattle.std.proofs.lemmas.List.{get_or-map, length-map, map_push}
 use Rattle.std.specs.List.{AllZip, Any}
 use denote.Enum.Bare.{sameb}
-use Rattle.sql_reader.specs.Tree.{ConstraintTree}
-use Rattle.sql_reader.specs.View.{column_of, constraint_of}
-use Rattle.sql_reader.specs.contracts.tree.ColumnConstraint.{the_type}
-use Rattle.sql_reader.specs.declared.tree.Column.{Column}
-use Rattle.sql_reader.specs.declared.tree.ColumnConstraint.{ColumnConstraint}
-use Rattle.sql_reader.specs.declared.tree.ColumnConstraint.TheVariants as c
+use Rattle.syntax.specs.CreateTrees.{ConstraintTree}
+use Rattle.syntax.specs.CreateView.{column_of, constraint_of}
+use Rattle.syntax.specs.contracts.create.ColumnConstraint.{the_type}
+use Rattle.syntax.specs.declared.create.Column.{Column}
+use Rattle.syntax.specs.declared.create.ColumnConstraint.{ColumnConstraint}
+use Rattle.syntax.specs.declared.create.ColumnConstraint.TheVariants as c
 use Rattle.schema.proofs.ListLemmas.{all_zip_push, any_at}
 use Rattle.schema.specs.Created.{IsColumn}
 use Rattle.schema.specs.TableData.{ColumnData}

@@ -3,10 +3,11 @@ use Rattle.std.proofs.Common.{◌≡◌, ℕ, Bool, true, false, IsTrue, ◌↔�
 use Rattle.std.proofs.lemmas.Option.{slice_get_within}
 use Rattle.std.specs.List.{AllZip}
 use Rattle.values.specs.declared.fault.Fault.{Fault}
-use Rattle.sql_reader.specs.Tree.{ColumnTree, Name}
-use Rattle.sql_reader.specs.View.{column_of, table_of}
-use Rattle.sql_reader.specs.declared.tree.Column.{Column}
-use Rattle.sql_reader.specs.declared.tree.CreateTable.{CreateTable}
+use Rattle.syntax.specs.CreateTrees.{ColumnTree}
+use Rattle.syntax.specs.Tree.{Name}
+use Rattle.syntax.specs.CreateView.{column_of, table_of}
+use Rattle.syntax.specs.declared.create.Column.{Column}
+use Rattle.syntax.specs.declared.create.CreateTable.{CreateTable}
 use Rattle.schema.specs.Created.{AreKeys, IsColumn, IsKeyPlace, IsTable}
 use Rattle.schema.specs.Names.{AreDistinct, IsReserved}
 use Rattle.schema.specs.Refused.{IsRefused}

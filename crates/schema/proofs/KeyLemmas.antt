@@ -2,7 +2,7 @@
 use Rattle.std.proofs.Common.{◌≡◌, ℕ, suc, ◌+◌, ◌<◌, ◌≤◌, All, Contains, List, [], ◌∷◌, ◌++◌, length, get_or, slice_get, sum_by, IsSome, Option, None, Some, refl, subst, arith}
 use Rattle.std.proofs.lemmas.List.Elements.{All-nil, All-push, All-contains, Contains-append_right}
 use Rattle.std.proofs.lemmas.List.Sums.{sum_by-append, sum_by-cons, sum_by_push, get_or-le-sum_by}
-use Rattle.sql_reader.specs.Tree.{TypeTree, ConstraintTree, ColumnTree}
+use Rattle.syntax.specs.CreateTrees.{TypeTree, ConstraintTree, ColumnTree}
 use Rattle.schema.specs.Created.{AreKeys, IsKey, IsKeyPlace, key_count, keys_of}
 use Rattle.schema.proofs.ListLemmas.{get_front, get_middle}
 

@@ -1,9 +1,9 @@
 -- The search for the PRIMARY KEY, one column on.
 use Rattle.std.proofs.Common.{◌≡◌, ℕ, ◌+◌, ◌<◌, ◌≤◌, Bool, true, false, IsTrue, ◌↔◌, List, ◌∷◌, ◌++◌, length, get_or, map, take, drop, is_some, Option, None, Some, refl, sym, ◌∙◌, subst, arith}
 use Rattle.std.proofs.lemmas.List.{length-map, length-take-le}
-use Rattle.sql_reader.specs.Tree.{TypeTree}
-use Rattle.sql_reader.specs.View.{column_of}
-use Rattle.sql_reader.specs.declared.tree.Column.{Column}
+use Rattle.syntax.specs.CreateTrees.{TypeTree}
+use Rattle.syntax.specs.CreateView.{column_of}
+use Rattle.syntax.specs.declared.create.Column.{Column}
 use Rattle.schema.specs.Created.{AreKeys}
 use Rattle.schema.proofs.KeyLemmas.{KeysSoFar, another_key, keys_found, keys_more, no_integer, twice_written, written}
 use Rattle.schema.proofs.ListLemmas.{map_next, map_split}

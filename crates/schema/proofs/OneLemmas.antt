@@ -4,8 +4,8 @@ use Rattle.std.proofs.lemmas.Bool.{cases_order}
 use Rattle.std.proofs.lemmas.List.Sums.{get_or-le-sum_by, sum_by-cons}
 use Rattle.std.proofs.lemmas.Option.{get_or_from_slice_get, slice_get_within}
 use Rattle.std.specs.List.{AllZip}
-use Rattle.meaning.specs.Body.{Row}
-use Rattle.sql_reader.specs.Tree.{ColumnTree, TableTree}
+use Rattle.values.specs.Row.{Row}
+use Rattle.syntax.specs.CreateTrees.{ColumnTree, TableTree}
 use Rattle.schema.specs.Created.{IsColumn, IsKey, IsKeyPlace, IsTable, key_count}
 use Rattle.schema.specs.Rows.{AreTables, SaysTable}
 use Rattle.schema.specs.TableData.{ColumnData, TableData}

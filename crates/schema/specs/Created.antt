@@ -3,7 +3,7 @@ use Rattle.std.specs.Prelude.{◌≡◌, ◌↔◌, ◌≤◌, IsTrue, ℕ, All,
 use Rattle.std.specs.List.{AllZip}
 use Rattle.values.specs.declared.value.Ty.{Ty}
 use Rattle.values.specs.declared.value.Ty.TheVariants as class
-use Rattle.sql_reader.specs.Tree.{TypeTree, ConstraintTree, ColumnTree, TableTree}
+use Rattle.syntax.specs.CreateTrees.{TypeTree, ConstraintTree, ColumnTree, TableTree}
 use Rattle.schema.specs.TableData.{ColumnData, TableData}
 use Rattle.schema.specs.Names.{AreDistinct, IsReserved}
 

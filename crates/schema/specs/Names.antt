@@ -1,7 +1,7 @@
 -- Names, which are the same where they differ in ASCII case alone. (SQL As Understood By SQLite)
 use Rattle.std.specs.Prelude.{◌≡◌, ◌<◌, ℕ, List, codes, length, map, slice_get, Some, take}
 use Rattle.std.specs.Char.{to_ascii_lowercase}
-use Rattle.sql_reader.specs.Tree.{Name}
+use Rattle.syntax.specs.Tree.{Name}
 
 abbrev pub IsSameName : Name → Name → Type 0
 IsSameName a b = map to_ascii_lowercase a ≡ map to_ascii_lowercase b

@@ -2,10 +2,11 @@
 use Rattle.std.specs.Prelude.{◌≡◌, ℕ, ℤ, pos, ◌≤◌, List, [], ◌∷◌, codes, map}
 use Rattle.std.specs.List.{AllZip}
 use Rattle.values.specs.Datum.{int, text}
-use Rattle.meaning.specs.Body.{Row}
-use Rattle.sql_reader.specs.CreateGrammar.{SpellsCreate}
-use Rattle.sql_reader.specs.Texts.{IsWithin}
-use Rattle.sql_reader.specs.Tree.{Name, TableTree, columns_of_table}
+use Rattle.values.specs.Row.{Row}
+use Rattle.create_reader.specs.CreateGrammar.{SpellsCreate}
+use Rattle.phrases.specs.Texts.{IsWithin}
+use Rattle.syntax.specs.Tree.{Name}
+use Rattle.syntax.specs.CreateTrees.{TableTree, columns_of_table}
 use Rattle.schema.specs.TableData.{TableData}
 use Rattle.schema.specs.Names.{AreDistinct, IsSameName}
 use Rattle.schema.specs.Created.{IsTable}

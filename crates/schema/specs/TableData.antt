@@ -2,7 +2,7 @@
 use Rattle.std.specs.Prelude.{Bool, false, ℕ, ◌<◌, List, [], ◌∷◌, codes, Option, None, Some}
 use Rattle.values.specs.declared.value.Ty.{Ty}
 use Rattle.values.specs.declared.value.Ty.TheVariants.{Int, Text}
-use Rattle.sql_reader.specs.Tree.{Name}
+use Rattle.syntax.specs.Tree.{Name}
 
 -- a column: its name as it was declared, the type of its values, and whether none of them may be NULL
 pub record ColumnData : Type 0 where

@@ -1,19 +1,20 @@
 //! The tables that the rows of the schema say.
 ghost use Rattle.std.specs.Prelude.{◌≡◌, ◌≤◌, ◌↔◌, ℕ, ℤ, pos, All, IfErr, IfNone, IfOk, IfSome, IsTrue, List};
 ghost use Rattle.std.specs.List.{Any};
-ghost use Rattle.sql_reader.specs.Tree.{columns_of_table};
-ghost use Rattle.sql_reader.specs.CreateGrammar.{SpellsCreate};
-ghost use Rattle.sql_reader.specs.Texts.{IsWithin};
-ghost use Rattle.sql_reader.specs.View.{table_of};
+ghost use Rattle.syntax.specs.CreateTrees.{columns_of_table};
+ghost use Rattle.create_reader.specs.CreateGrammar.{SpellsCreate};
+ghost use Rattle.phrases.specs.Texts.{IsWithin};
+ghost use Rattle.syntax.specs.CreateView.{table_of};
 ghost use Rattle.schema.specs.Names.{IsSameName};
 ghost use Rattle.schema.specs.Refused.{IsRefused};
 ghost use Rattle.schema.specs.Rows.{AreTables, SaysTable, object_row};
 
 use crate::Table;
 use crate::created::{is_same_name, table_from};
-use sql_reader::{CreateTable, read_create};
+use create_reader::read_create;
 use std::alloc::Global;
 use std::marker::Model;
+use syntax::CreateTable;
 use values::{Fault, Row, Value};
 
 /// What a row of the schema has of an object: its kind, its name, its table's name, its root, and its text. (The Schema
@@ -55,7 +56,7 @@ fn object_of(row: &Row) -> Option<Object<'_>>
 }
 
 /// The CREATE TABLE that a text spells. The fault is `NotYet` where it spells none, or one beyond the limits of
-/// `sql_reader`; or `NoMemory`.
+/// `create_reader`; or `NoMemory`.
 fn created_by(alloc: Global, sql: &str) -> Result<CreateTable, Fault>
     ensures spelt { IfOk result (λ created. SpellsCreate sql.now (table_of created)) }
     ensures within { IfOk result (λ created. IsWithin columns_of_table sql.now (table_of created)) }

@@ -1,17 +1,17 @@
 //! The table that a CREATE TABLE makes.
 ghost use Rattle.std.specs.Prelude.{◌≡◌, ◌↔◌, Contains, IfErr, IfOk, IsTrue, map, sum_by};
 ghost use Rattle.std.specs.List.{AllZip, Any};
-ghost use Rattle.sql_reader.specs.Tree.{ConstraintTree, TypeTree};
-ghost use Rattle.sql_reader.specs.View as view;
-ghost use Rattle.sql_reader.specs.View.{column_of, table_of};
+ghost use Rattle.syntax.specs.CreateTrees.{ConstraintTree, TypeTree};
+ghost use Rattle.syntax.specs.CreateView as view;
+ghost use Rattle.syntax.specs.CreateView.{column_of, table_of};
 ghost use Rattle.schema.specs.Created as spec;
 ghost use Rattle.schema.specs.Created.{AreKeys, IsColumn, IsTable, keys_of};
 ghost use Rattle.schema.specs.Names.{AreDistinct, IsReserved, IsSameName};
 ghost use Rattle.schema.specs.Refused.{IsRefused};
 
 use crate::{Column, Table};
-use sql_reader::{Column as ColumnDefinition, ColumnConstraint, ColumnType, CreateTable};
 use std::alloc::{AllocError, Global};
+use syntax::{Column as ColumnDefinition, ColumnConstraint, ColumnType, CreateTable};
 use values::{Fault, Ty};
 
 /// What the name of an object begins with that only SQLite makes.

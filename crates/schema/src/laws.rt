@@ -1,6 +1,6 @@
 //! What holds of the definitions alone.
 ghost use Rattle.std.specs.Prelude.{◌≡◌, List, ℕ};
-ghost use Rattle.meaning.specs.Body.{Row};
+ghost use Rattle.values.specs.Row.{Row};
 ghost use Rattle.schema.specs.Rows.{AreTables, SaysTable};
 ghost use Rattle.schema.specs.TableData.{TableData};
 

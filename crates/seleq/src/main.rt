@@ -43,10 +43,14 @@ where
     match Args::read(rt.alloc(), words.as_slice()) {
         Ok(args) => answer(rt, &args, out, err),
         Err(error) if error.kind() == ErrorKind::OutOfMemory => Err(AllocError),
-        Err(error) => {
+        Err(error) if error.use_stderr() => {
             let _ = error.print(rt);
-            Ok(if error.use_stderr() { REFUSED } else { 0 })
+            Ok(REFUSED)
         }
+        Err(help) => match help.print(rt) {
+            Ok(()) => Ok(0),
+            Err(_) => Ok(fail(&Fault::WriteFailed, err)),
+        },
     }
 }
 

@@ -1,15 +1,24 @@
 -- What a run answers, of a query over the tables that an image denotes. (SELECT)
-use Rattle.std.specs.Prelude.{◌≡◌, ◌≢◌, ℕ, List, [], map}
+use Rattle.std.specs.Prelude.{◌≡◌, ◌≢◌, ◌⊎◌, ℕ, List, [], map}
 use Rattle.values.specs.Datum.{Datum}
 use Rattle.values.specs.Sink.{SinkFacts}
 use Rattle.values.specs.declared.fault.Fault.{Fault}
-use Rattle.values.specs.declared.fault.Fault.TheVariants.{Changed, Overflow}
+use Rattle.values.specs.declared.fault.Fault.TheVariants.{Changed, NoMemory, Overflow, ReadFailed, WriteFailed}
 use Rattle.meaning.specs.Query.{QueryData, column, table}
-use Rattle.meaning.specs.Body.{Database, Row}
+use Rattle.values.specs.Row.{Row}
+use Rattle.values.specs.Database.{Database}
 use Rattle.meaning.specs.Answer.{Begins, Hits, IsStandIn, Permits}
 use Rattle.schema.specs.TableData.{TableData}
 use Rattle.integrity.specs.Denotes.{Denotes}
 use Rattle.shell.specs.Printed.{Prints, PrintsUntil}
+
+-- the faults of a run: those of reading, a changed image, and a failed write
+abbrev pub IsRunFault : Fault → Type 0
+IsRunFault fault = (fault ≡ ReadFailed) ⊎ (fault ≡ NoMemory) ⊎ (fault ≡ Changed) ⊎ (fault ≡ WriteFailed)
+
+-- those of reading the rows of a table
+abbrev pub IsScanFault : Fault → Type 0
+IsScanFault fault = (fault ≡ ReadFailed) ⊎ (fault ≡ NoMemory) ⊎ (fault ≡ Changed)
 
 -- these columns of the table at a place of the catalog, without an order
 abbrev pub scan_query : ℕ → List ℕ → QueryData

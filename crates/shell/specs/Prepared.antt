@@ -5,8 +5,8 @@ use Rattle.values.specs.declared.fault.Fault.TheVariants as f
 use Rattle.resolver.specs.Resolved.{IsRefused, ResolvedData, Resolves}
 use Rattle.schema.specs.TableData.{TableData}
 use Rattle.sql_reader.specs.SelectTexts.{IsRefusedSelect, SpellsSelect, SpellsWithin}
-use Rattle.sql_reader.specs.SelectTrees.{SelectTree, columns_of_select}
-use Rattle.sql_reader.specs.Texts.{IsWithin}
+use Rattle.syntax.specs.SelectTrees.{SelectTree, columns_of_select}
+use Rattle.phrases.specs.Texts.{IsWithin}
 
 -- the text spells a SELECT within the limits, which is this query over these tables
 pub record Means (tables : List TableData) (text : List ℕ) (prepared : ResolvedData) : Type 0 where

@@ -4,7 +4,7 @@ use Rattle.std.specs.Io.KnownBytes.{Appends}
 use Rattle.values.specs.Sink.{SinkFacts, WritesFront}
 use Rattle.values.specs.declared.fault.Fault.{Fault}
 use Rattle.values.specs.declared.fault.Fault.TheVariants.{WriteFailed}
-use Rattle.meaning.specs.Body.{Row}
+use Rattle.values.specs.Row.{Row}
 use Rattle.explain.specs.Text.{rows_text}
 
 -- the text of all these rows was written, and so many were counted, up to the greatest number of 64 bits

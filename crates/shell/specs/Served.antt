@@ -5,7 +5,7 @@ use Rattle.values.specs.Datum.{Datum, text}
 use Rattle.values.specs.Sink.{SinkFacts}
 use Rattle.image.specs.Pages.{pages_of}
 use Rattle.meaning.specs.Answer.{IsStandIn}
-use Rattle.meaning.specs.Body.{Row}
+use Rattle.values.specs.Row.{Row}
 use Rattle.explain.specs.Text.{row_text, rows_text}
 use Rattle.schema.specs.TableData.{TableData}
 use Rattle.integrity.specs.Denotes.{HasTables}

@@ -9,7 +9,8 @@ use Rattle.image.specs.Shape.{places_under, size_under}
 use Rattle.image.specs.Cell.{CellData}
 use Rattle.image.specs.Tree.{Place, IsRowAt}
 use Rattle.schema.specs.TableData.{TableData}
-use Rattle.meaning.specs.Body.{Row, value_at}
+use Rattle.values.specs.Row.{Row}
+use Rattle.meaning.specs.Body.{value_at}
 use Rattle.shell.specs.Printed.{Prints, PrintsUntil}
 
 -- these columns of a row

@@ -1,23 +1,20 @@
 //! An engine, which answers queries over one image.
-ghost use Rattle.std.specs.Prelude.{◌≡◌, ◌≢◌, ◌⊎◌, ◌-◌, ◌<◌, ◌≤◌, ℕ, IfErr, IfOk, IsTrue, List, OnOk, Some, slice_get};
+ghost use Rattle.std.specs.Prelude.{◌≡◌, ◌≢◌, ◌⊎◌, ◌-◌, ◌<◌, ◌≤◌, ℕ, IfErr, IfOk, IsTrue, List, MatchResult, Some, slice_get};
 ghost use Rattle.std.specs.NonZero.{non_zero_usize_get};
-ghost use Rattle.pager.specs.Header.{IsLeastBroken, KeepsAll};
-ghost use Rattle.pager.specs.Source.{ChangesCount};
+ghost use Rattle.pager.specs.Calls.{HandsBack};
 ghost use Rattle.sql_reader.specs.SelectTexts.{SpellsSelect};
 ghost use Rattle.sql_reader.specs.SelectTrees.{columns_of_select};
 ghost use Rattle.sql_reader.specs.SelectView.{select_of};
 ghost use Rattle.sql_reader.specs.Texts.{IsWithin};
-ghost use Rattle.integrity.specs.Checked.{HasCause, IsBrokenImage};
-ghost use Rattle.integrity.specs.Denotes.{HasTables};
 ghost use Rattle.shell.specs.Prepared.{IsUnserved, Means, Refuses};
 ghost use Rattle.values.specs.Fault.{Counts};
 ghost use Rattle.image.specs.Pages.{pages_of};
-ghost use Rattle.meaning.specs.Body.{Row};
+ghost use Rattle.values.specs.Row.{Row};
 ghost use Rattle.meaning.specs.Query.{table};
 ghost use Rattle.schema.specs.TableData.{TableData};
 ghost use Rattle.integrity.specs.Stored.{IsStored};
-ghost use Rattle.shell.specs.Answer.{Answers, Stops};
-ghost use Rattle.shell.specs.State.{IsPreparedFor, IsReady, Keeps};
+ghost use Rattle.shell.specs.Answer.{Answers, IsRunFault, Stops};
+ghost use Rattle.shell.specs.State.{IsOpenedOver, IsOpeningFault, IsPreparedFor, ReadsTables};
 ghost use Rattle.shell.specs.Stream.{IsUnchained, size_of};
 
 use crate::query::run_query;
@@ -25,10 +22,11 @@ use crate::{Prepared, Report};
 use integrity::{Checked, check};
 use pager::{Pager, Source};
 use resolver::resolve;
-use sql_reader::{Select, read_select};
+use sql_reader::read_select;
 use std::alloc::Global;
 use std::marker::Model;
 use std::num::NonZeroUsize;
+use syntax::Select;
 use values::{Fault, Sink};
 
 /// An image that was checked whole, and its tables.
@@ -69,16 +67,8 @@ impl<S: Source> Engine<S> {
     /// The least condition of the header that is broken; then those of the image's tables and rows, and `NotYet` where the
     /// image has what isn't served; `ReadFailed` where the source failed, and `NoMemory`. The source is handed back.
     pub fn open(alloc: Global, source: S, cache: NonZeroUsize) -> Result<Engine<S>, (Fault, S)>
-        ensures source { IfOk result (λ engine. engine.pager.source ≡ S.facts source) }
-        ensures capacity { IfOk result (λ engine. engine.pager.capacity ≡ non_zero_usize_get cache) }
-        ensures header { IsTrue (S.facts source).steady → OnOk result (KeepsAll (S.facts source).bytes) }
-        ensures tables { IsTrue (S.facts source).steady → IfOk result (λ engine. HasTables (pages_of (S.facts source).bytes) engine.tables) }
-        ensures unbroken { IsTrue (S.facts source).steady
-            → OnOk result ((fault : Fault) → ¬ IsBrokenImage (pages_of (S.facts source).bytes) fault) }
-        ensures back { IfErr result (λ e. ChangesCount (S.facts source) (S.facts e.1)) }
-        ensures read { IfErr result (λ e. e.0 ≡ Fault.ReadFailed → (S.facts e.1).failures ≢ (S.facts source).failures) }
-        ensures cause { IsTrue (S.facts source).steady
-            → IfErr result (λ e. IsLeastBroken (S.facts source).bytes e.0 ⊎ HasCause (pages_of (S.facts source).bytes) e.0) }
+        ensures outcome { MatchResult result (IsOpenedOver (S.facts source) (non_zero_usize_get cache)) (λ e. IsOpeningFault (S.facts source) e.0) }
+        ensures back { IfErr result (λ e. HandsBack e.0 (S.facts source) (S.facts e.1)) }
     {
         let mut pager = Pager::open(alloc, source, cache)?;
         match check(alloc, &mut pager) {
@@ -117,26 +107,19 @@ impl<S: Source> Engine<S> {
     /// only where the source no longer has the bytes that were checked.
     pub fn run<W: Sink>(&mut self, prepared: &Prepared, out: &mut W) -> Result<Report, Fault>
         requires { IsPreparedFor self.old.tables prepared.now }
-        ensures answer { IsTrue self.old.pager.source.steady
-            → IfOk result (λ report. Answers self.old.pager.source.bytes self.old.tables prepared.now.query report.rows
-            (W.facts out.old) (W.facts out.new)) }
-        ensures stops { IsTrue self.old.pager.source.steady
-            → IfErr result (λ e. Stops e self.old.pager.source.bytes self.old.tables prepared.now.query
-            (W.facts out.old) (W.facts out.new)) }
+        ensures answer { IsTrue self.old.pager.source.steady → MatchResult result
+            (λ report. Answers self.old.pager.source.bytes self.old.tables prepared.now.query report.rows (W.facts out.old) (W.facts out.new))
+            (λ e. Stops e self.old.pager.source.bytes self.old.tables prepared.now.query (W.facts out.old) (W.facts out.new)) }
         ensures pages { IsTrue self.old.pager.source.steady → (place : ℕ) (stored : TableData) (levels : ℕ) (rows : List Row)
             → prepared.now.query.source ≡ table place → slice_get self.old.tables place ≡ Some stored
             → IsStored (pages_of self.old.pager.source.bytes) stored levels rows → levels < 20
-            → IfOk result (λ report. report.asked ≤ size_of (pages_of self.old.pager.source.bytes) stored levels) }
-        ensures unchained { IsTrue self.old.pager.source.steady → (place : ℕ) (stored : TableData) (levels : ℕ) (rows : List Row)
-            → prepared.now.query.source ≡ table place → slice_get self.old.tables place ≡ Some stored
-            → IsStored (pages_of self.old.pager.source.bytes) stored levels rows → levels < 20
-            → IsUnchained (pages_of self.old.pager.source.bytes) stored levels → IfOk result (λ report. report.chained ≡ 0) }
-        ensures only { IfErr result (λ e. (e ≡ Fault.ReadFailed) ⊎ (e ≡ Fault.NoMemory) ⊎ (e ≡ Fault.Changed) ⊎ (e ≡ Fault.WriteFailed)) }
-        ensures reads { Counts Fault.ReadFailed result self.old.pager.source.failures self.new.pager.source.failures }
+            → IfOk result (λ report. (report.asked ≤ size_of (pages_of self.old.pager.source.bytes) stored levels)
+            × (IsUnchained (pages_of self.old.pager.source.bytes) stored levels → report.chained ≡ 0)) }
+        ensures counts { IfOk result (λ report. (report.asked ≡ self.new.pager.asked - self.old.pager.asked)
+            × (report.chained ≡ self.new.pager.chained - self.old.pager.chained)) }
+        ensures only { IfErr result IsRunFault }
+        ensures reads { ReadsTables result self.old self.new }
         ensures writes { Counts Fault.WriteFailed result (W.facts out.old).failures (W.facts out.new).failures }
-        ensures asked { IfOk result (λ report. report.asked ≡ self.new.pager.asked - self.old.pager.asked) }
-        ensures chained { IfOk result (λ report. report.chained ≡ self.new.pager.chained - self.old.pager.chained) }
-        ensures keeps { Keeps self.old self.new }
     {
         run_query(
             self.alloc,

@@ -8,18 +8,19 @@ use Rattle.tokens.specs.declared.sign.Sign.TheVariants as s
 use Rattle.tokens.specs.declared.token.Quoting.{Quoting}
 use Rattle.tokens.specs.declared.token.Quoting.TheVariants as q
 use Rattle.sql_reader.specs.ExprGrammar.{level_of, level_of_prefix, nowhere, Expresses, ExpressesAll, ExpressesItem, ExpressesOperand, ExpressesArms, ExpressesElse}
-use Rattle.sql_reader.specs.ExprReading.{Refusal, Outcome, ◌>>=◌, needed, kept_if, Read, read, Opening, opening, Joint, joint, level_of_joint, binds, Inside, inside, after_and, after_when, after_then, after_else, after_end, loosely, item, others, put, series, list, arm, arms, operand_of_case, otherwise, choice, bare_call, arguments, called, named, operand_at, operand, members, extended_at, climb, expr_by, raised, inner, expr}
-use Rattle.sql_reader.specs.ExprTree.{ExprTree, ExprTrees, MaybeExpr, ArmTrees, trees_of, arms_of, count}
-use Rattle.sql_reader.specs.Functions.{function_of, takes, takes_number}
-use Rattle.sql_reader.specs.Reading.{Rest, after_close, after_comma}
-use Rattle.sql_reader.specs.Tree.{Name}
-use Rattle.sql_reader.specs.declared.expr.BinaryOperator.{BinaryOperator}
-use Rattle.sql_reader.specs.declared.expr.Function.{Function}
-use Rattle.sql_reader.specs.declared.expr.Function.TheVariants as f
-use Rattle.sql_reader.specs.declared.expr.PostfixOperator.{PostfixOperator}
-use Rattle.sql_reader.specs.declared.expr.PrefixOperator.{PrefixOperator}
+use Rattle.phrases.specs.Outcomes.{Refusal, Outcome, ◌>>=◌, needed, kept_if, Read, read, others, put, series}
+use Rattle.sql_reader.specs.ExprReading.{Opening, opening, Joint, joint, level_of_joint, binds, Inside, inside, after_and, after_when, after_then, after_else, after_end, loosely, item, list, arm, arms, operand_of_case, otherwise, choice, bare_call, arguments, called, named, operand_at, operand, members, extended_at, climb, expr_by, raised, inner, expr}
+use Rattle.syntax.specs.ExprTree.{ExprTree, ExprTrees, MaybeExpr, ArmTrees, trees_of, arms_of, count}
+use Rattle.syntax.specs.Functions.{function_of, takes, takes_number}
+use Rattle.phrases.specs.Steps.{Rest, after_close, after_comma}
+use Rattle.syntax.specs.Tree.{Name}
+use Rattle.syntax.specs.declared.expr.BinaryOperator.{BinaryOperator}
+use Rattle.syntax.specs.declared.expr.Function.{Function}
+use Rattle.syntax.specs.declared.expr.Function.TheVariants as f
+use Rattle.syntax.specs.declared.expr.PostfixOperator.{PostfixOperator}
+use Rattle.syntax.specs.declared.expr.PrefixOperator.{PrefixOperator}
 use Rattle.sql_reader.proofs.ExprShape.{below_prefix, prefix_large, literal_opening, prefix_opening, all_no_close, list_of, trees_of_list, count_of_list, arms_list, arms_of_list, all_arguments, begins_no_when, joint_of, between_joint, in_joint, postfix_joint, no_following, room, room_item}
-use Rattle.sql_reader.proofs.ExprSteps.{fits, fits_in, fits_out, fits_bind, fits_same, fits_suc, step, step_last, fits_is}
+use Rattle.phrases.proofs.OutcomeLemmas.{fits, fits_in, fits_out, fits_bind, fits_same, fits_suc, step, step_last, fits_is}
 use Rattle.sql_reader.proofs.ExprTurns.{climb_stops, climb_step, extended_full, extended_room}
 
 pub expr_is : (d p : ℕ) (ts : Rest) → expr d p ts ≡ operand (inner d) d p ts >>= climb (inner d) d d p

@@ -4,38 +4,15 @@ use Rattle.tokens.specs.Lexeme.{Lexeme}
 use Rattle.tokens.specs.declared.keyword.Keyword.TheVariants as k
 use Rattle.tokens.specs.declared.sign.Sign.TheVariants as s
 use Rattle.sql_reader.specs.ExprExamples.{Examples, IsNothing, number, word, sign, keyword, a}
-use Rattle.sql_reader.specs.ExprGrammar.{
-  Joins,
-  Precedes,
-  MaybeNot,
-  IsLiteral,
-  Expresses,
-  ExpressesAll,
-  ExpressesItem,
-  ExpressesOperand,
-  ExpressesArms,
-  ExpressesElse,
-}
-use Rattle.sql_reader.specs.ExprReading.{
-  Refusal,
-  Read,
-  Outcome,
-  read,
-  expr,
-  inner,
-  expr_by,
-  climb,
-  extended,
-  extended_at,
-  operand_at,
-  series,
-}
-use Rattle.sql_reader.specs.ExprTree.{ExprTree}
-use Rattle.sql_reader.specs.Functions.{function_of}
-use Rattle.sql_reader.specs.declared.expr.Function.TheVariants as f
+use Rattle.sql_reader.specs.ExprGrammar.{Joins, Precedes, MaybeNot, IsLiteral, Expresses, ExpressesAll, ExpressesItem, ExpressesOperand, ExpressesArms, ExpressesElse}
+use Rattle.phrases.specs.Outcomes.{Refusal, Read, Outcome, read, series}
+use Rattle.sql_reader.specs.ExprReading.{expr, inner, expr_by, climb, extended, extended_at, operand_at}
+use Rattle.syntax.specs.ExprTree.{ExprTree}
+use Rattle.syntax.specs.Functions.{function_of}
+use Rattle.syntax.specs.declared.expr.Function.TheVariants as f
 use Rattle.sql_reader.proofs.ExprLemmas.{reads_whole}
 use Rattle.sql_reader.proofs.ExprShape.{loose, room}
-use Rattle.sql_reader.proofs.ExprSteps.{fits_in}
+use Rattle.phrases.proofs.OutcomeLemmas.{fits_in}
 
 -- what the reader refuses is no expression
 refused : (ts : List Lexeme) (d : ℕ) → ((h : ℕ) (e : ExprTree) → Expresses 1 h e ts [] → h ≤ d)

@@ -1,19 +1,17 @@
 -- What stands at the front of the tokens of an expression, as the grammar says it.
-use Rattle.std.proofs.Common.{◌≡◌, Bool, true, false, ◌∷◌, Option, Some, None, Ok, refl, ap}
+use Rattle.std.proofs.Common.{Bool, ◌∷◌}
 use Rattle.tokens.specs.Lexeme.{Lexeme}
 use Rattle.tokens.specs.declared.keyword.Keyword.TheVariants as k
 use Rattle.tokens.specs.declared.sign.Sign.TheVariants as s
 use Rattle.tokens.specs.declared.token.Quoting.{Quoting}
 use Rattle.sql_reader.specs.ExprGrammar.{Joins, Precedes, Follows, MaybeNot, IsLiteral}
-use Rattle.sql_reader.specs.ExprReading.{needed, kept_if, Opening, opening, Joint, joint, Following, following, Inside, inside, after_and, after_when, after_then, after_else, after_end}
-use Rattle.sql_reader.specs.ExprTree.{ExprTree}
-use Rattle.sql_reader.specs.Reading.{Rest, name, after_close, after_comma, after_open}
-use Rattle.sql_reader.specs.Tree.{Name}
-use Rattle.sql_reader.specs.declared.expr.BinaryOperator.{BinaryOperator}
-use Rattle.sql_reader.specs.declared.expr.PostfixOperator.{PostfixOperator}
-use Rattle.sql_reader.specs.declared.expr.PrefixOperator.{PrefixOperator}
-use Rattle.sql_reader.proofs.ExprSteps.{ok_inj}
-use Rattle.sql_reader.proofs.PhraseLemmas.{some_inj}
+use Rattle.sql_reader.specs.ExprReading.{Opening, opening, Joint, joint, Following, following, Inside, inside}
+use Rattle.syntax.specs.ExprTree.{ExprTree}
+use Rattle.phrases.specs.Steps.{Rest}
+use Rattle.syntax.specs.Tree.{Name}
+use Rattle.syntax.specs.declared.expr.BinaryOperator.{BinaryOperator}
+use Rattle.syntax.specs.declared.expr.PostfixOperator.{PostfixOperator}
+use Rattle.syntax.specs.declared.expr.PrefixOperator.{PrefixOperator}
 
 pub data Opens : Rest → Opening → Type 0 where
   value : {e : ExprTree} {word : Lexeme} {after : Rest} → IsLiteral e word
@@ -103,48 +101,3 @@ pub holds : (ts : Rest) → Holds ts (inside ts)
 holds (Lexeme.Punctuation s.Close ∷ ts) = Holds.closed
 holds (Lexeme.Punctuation s.Star ∷ ts) = Holds.star
 holds _ = Holds.arguments
-
-pub needed_some : {A : Type 0} (o : Option A) (x : A) → needed o ≡ Ok x → o ≡ Some x
-needed_some (Some y) x h = ap (λ z. Some z) (ok_inj y x h)
-needed_some None x h = absurd cc
-
-pub kept : {A : Type 0} (b : Bool) (x y : A) → kept_if b x ≡ Ok y → (b ≡ true) × (x ≡ y)
-kept true x y h = (refl, ok_inj x y h)
-kept false x y h = absurd cc
-
-pub closes : (ts us : Rest) → needed (after_close ts) ≡ Ok us → ts ≡ Lexeme.Punctuation s.Close ∷ us
-closes (Lexeme.Punctuation s.Close ∷ ts) us h = ap (λ vs. Lexeme.Punctuation s.Close ∷ vs) (ok_inj ts us h)
-closes _ us h = absurd cc
-
-pub opened : (ts us : Rest) → needed (after_open ts) ≡ Ok us → ts ≡ Lexeme.Punctuation s.Open ∷ us
-opened (Lexeme.Punctuation s.Open ∷ ts) us h = ap (λ vs. Lexeme.Punctuation s.Open ∷ vs) (ok_inj ts us h)
-opened _ us h = absurd cc
-
-pub ands : (ts us : Rest) → needed (after_and ts) ≡ Ok us → ts ≡ Lexeme.Reserved k.And ∷ us
-ands (Lexeme.Reserved k.And ∷ ts) us h = ap (λ vs. Lexeme.Reserved k.And ∷ vs) (ok_inj ts us h)
-ands _ us h = absurd cc
-
-pub thens : (ts us : Rest) → needed (after_then ts) ≡ Ok us → ts ≡ Lexeme.Reserved k.Then ∷ us
-thens (Lexeme.Reserved k.Then ∷ ts) us h = ap (λ vs. Lexeme.Reserved k.Then ∷ vs) (ok_inj ts us h)
-thens _ us h = absurd cc
-
-pub whens : (ts us : Rest) → needed (after_when ts) ≡ Ok us → ts ≡ Lexeme.Reserved k.When ∷ us
-whens (Lexeme.Reserved k.When ∷ ts) us h = ap (λ vs. Lexeme.Reserved k.When ∷ vs) (ok_inj ts us h)
-whens _ us h = absurd cc
-
-pub ends : (ts us : Rest) → needed (after_end ts) ≡ Ok us → ts ≡ Lexeme.Reserved k.End ∷ us
-ends (Lexeme.Reserved k.End ∷ ts) us h = ap (λ vs. Lexeme.Reserved k.End ∷ vs) (ok_inj ts us h)
-ends _ us h = absurd cc
-
-pub elses : (ts us : Rest) → after_else ts ≡ Some us → ts ≡ Lexeme.Reserved k.Else ∷ us
-elses (Lexeme.Reserved k.Else ∷ ts) us h = ap (λ vs. Lexeme.Reserved k.Else ∷ vs) (some_inj ts us h)
-elses _ us h = absurd cc
-
-pub commas : (ts us : Rest) → after_comma ts ≡ Some us → ts ≡ Lexeme.Punctuation s.Comma ∷ us
-commas (Lexeme.Punctuation s.Comma ∷ ts) us h = ap (λ vs. Lexeme.Punctuation s.Comma ∷ vs) (some_inj ts us h)
-commas _ us h = absurd cc
-
-pub names : (ts : Rest) (r : Name × Rest) → needed (name ts) ≡ Ok r
-    → (q : Quoting) × (ts ≡ Lexeme.Name q r.0 ∷ r.1)
-names (Lexeme.Name q n ∷ ts) r h = (q, ap (λ (r : Name × Rest). Lexeme.Name q r.0 ∷ r.1) (ok_inj (n, ts) r h))
-names _ r h = absurd cc

@@ -2,10 +2,11 @@
 use Rattle.std.proofs.Common.{◌≡◌, ℕ, max, List, [], Ok, sym, ap, ◌∙◌, arith}
 use Rattle.tokens.specs.Lexeme.{Lexeme}
 use Rattle.sql_reader.specs.ExprGrammar.{Expresses}
-use Rattle.sql_reader.specs.ExprReading.{Read, read, inner, expr}
-use Rattle.sql_reader.specs.ExprTree.{ExprTree}
+use Rattle.phrases.specs.Outcomes.{Read, read}
+use Rattle.sql_reader.specs.ExprReading.{inner, expr}
+use Rattle.syntax.specs.ExprTree.{ExprTree}
 use Rattle.sql_reader.proofs.ExprComplete.{complete}
-use Rattle.sql_reader.proofs.ExprSteps.{fits, fits_in, ok_inj}
+use Rattle.phrases.proofs.OutcomeLemmas.{fits, fits_in, ok_inj}
 use Rattle.sql_reader.proofs.ExprTurns.{climb_stops}
 
 -- the reader at all tokens of an expression

@@ -5,29 +5,15 @@ use Rattle.tokens.specs.Lexeme.{Lexeme}
 use Rattle.tokens.specs.declared.keyword.Keyword.{Keyword}
 use Rattle.tokens.specs.declared.keyword.Keyword.TheVariants as k
 use Rattle.tokens.specs.declared.sign.Sign.TheVariants as s
-use Rattle.sql_reader.specs.ExprGrammar.{
-  level_of,
-  level_of_prefix,
-  Joins,
-  Precedes,
-  Follows,
-  MaybeNot,
-  IsLiteral,
-  Expresses,
-  ExpressesAll,
-  ExpressesItem,
-  ExpressesOperand,
-  ExpressesArms,
-  ExpressesElse,
-}
+use Rattle.sql_reader.specs.ExprGrammar.{level_of, level_of_prefix, Joins, Precedes, Follows, MaybeNot, IsLiteral, Expresses, ExpressesAll, ExpressesItem, ExpressesOperand, ExpressesArms, ExpressesElse}
 use Rattle.sql_reader.specs.ExprReading.{Opening, opening, Joint, joint, joint_after_is, level_of_joint, binds, Following, following, Inside, inside, after_when}
-use Rattle.sql_reader.specs.ExprTree.{ExprTree, ExprTrees, MaybeExpr, ArmTrees, trees_of, arms_of, count}
-use Rattle.sql_reader.specs.Reading.{Rest, after_close}
-use Rattle.sql_reader.specs.declared.expr.BinaryOperator.{BinaryOperator}
-use Rattle.sql_reader.specs.declared.expr.BinaryOperator.TheVariants as o
-use Rattle.sql_reader.specs.declared.expr.PostfixOperator.{PostfixOperator}
-use Rattle.sql_reader.specs.declared.expr.PrefixOperator.{PrefixOperator}
-use Rattle.sql_reader.specs.declared.expr.PrefixOperator.TheVariants as p
+use Rattle.syntax.specs.ExprTree.{ExprTree, ExprTrees, MaybeExpr, ArmTrees, trees_of, arms_of, count}
+use Rattle.phrases.specs.Steps.{Rest, after_close}
+use Rattle.syntax.specs.declared.expr.BinaryOperator.{BinaryOperator}
+use Rattle.syntax.specs.declared.expr.BinaryOperator.TheVariants as o
+use Rattle.syntax.specs.declared.expr.PostfixOperator.{PostfixOperator}
+use Rattle.syntax.specs.declared.expr.PrefixOperator.{PrefixOperator}
+use Rattle.syntax.specs.declared.expr.PrefixOperator.TheVariants as p
 
 -- Levels
 

@@ -8,17 +8,20 @@ use Rattle.tokens.specs.declared.sign.Sign.TheVariants as s
 use Rattle.tokens.specs.declared.token.Quoting.{Quoting}
 use Rattle.tokens.specs.declared.token.Quoting.TheVariants as q
 use Rattle.sql_reader.specs.ExprGrammar.{level_of, level_of_prefix, nowhere, MaybeNot, IsLiteral, Expresses, ExpressesAll, ExpressesItem, ExpressesOperand, ExpressesArms, ExpressesElse}
-use Rattle.sql_reader.specs.ExprReading.{Refusal, Outcome, ◌>>=◌, needed, kept_if, Read, read, Opening, opening, Joint, joint, level_of_joint, binds, Following, following, Inside, inside, after_and, after_when, after_then, after_else, after_end, loosely, alone, Inner, item, others, put, series, list, arm, arms, operand_of_case, otherwise, choice, bare_call, starred, arguments, called, named, operand_at, operand, members, extended_at, extended, climb, inner, expr}
-use Rattle.sql_reader.specs.ExprTree.{ExprTree, ExprTrees, MaybeExpr, ArmTrees, trees_of, arms_of}
-use Rattle.sql_reader.specs.Functions.{function_of, takes, takes_number}
-use Rattle.sql_reader.specs.Reading.{Rest, name, after_close, after_comma, after_open}
-use Rattle.sql_reader.specs.Tree.{Name}
-use Rattle.sql_reader.specs.declared.expr.Function.{Function}
-use Rattle.sql_reader.specs.declared.expr.Function.TheVariants as f
+use Rattle.phrases.specs.Outcomes.{Refusal, Outcome, ◌>>=◌, needed, kept_if, Read, read, others, put, series}
+use Rattle.sql_reader.specs.ExprReading.{Opening, opening, Joint, joint, level_of_joint, binds, Following, following, Inside, inside, after_and, after_when, after_then, after_else, after_end, loosely, alone, Inner, item, list, arm, arms, operand_of_case, otherwise, choice, bare_call, starred, arguments, called, named, operand_at, operand, members, extended_at, extended, climb, inner, expr}
+use Rattle.syntax.specs.ExprTree.{ExprTree, ExprTrees, MaybeExpr, ArmTrees, trees_of, arms_of}
+use Rattle.syntax.specs.Functions.{function_of, takes, takes_number}
+use Rattle.phrases.specs.Steps.{Rest, name, after_close, after_comma, after_open}
+use Rattle.syntax.specs.Tree.{Name}
+use Rattle.syntax.specs.declared.expr.Function.{Function}
+use Rattle.syntax.specs.declared.expr.Function.TheVariants as f
 use Rattle.sql_reader.proofs.ExprComplete.{complete, expr_is}
-use Rattle.sql_reader.proofs.ExprFronts.{Opens, opens, Continues, continues, IsFollowed, followed, Holds, holds, kept, closes, opened, ands, thens, whens, ends, elses, commas, names}
+use Rattle.sql_reader.proofs.ExprFronts.{Opens, opens, Continues, continues, IsFollowed, followed, Holds, holds}
+use Rattle.phrases.proofs.StepLemmas.{at_keyword, at_sign, needs_keyword, needs_sign}
+use Rattle.phrases.proofs.StepLemmas.{kept, names}
 use Rattle.sql_reader.proofs.ExprShape.{count_trees, level_small, loose, prefix_large}
-use Rattle.sql_reader.proofs.ExprSteps.{bind_ok, ok_inj, fits, fits_in}
+use Rattle.phrases.proofs.OutcomeLemmas.{bind_ok, ok_inj, fits, fits_in}
 use Rattle.sql_reader.proofs.ExprTurns.{climb_stops, extended_full, extended_room}
 
 -- two phrases at the same front, which nothing goes on with
@@ -197,7 +200,7 @@ module _ (inner : Inner) (d : ℕ) (inside_is : SoundInner inner d) where
               is = omega (arith, i.is, j.is);
               within = omega (arith, i.within, j.within);
               spelt = ExpressesAll.more
-                  (subst (λ r. ExpressesItem (numbers place) i.h a.first.tree from r) (commas a.first.rest c.0 c.1) i.spelt)
+                  (subst (λ r. ExpressesItem (numbers place) i.h a.first.tree from r) (at_sign s.Comma a.first.rest c.0 c.1) i.spelt)
                   j.spelt;
             }
         | inr e ↦ record {
@@ -227,7 +230,7 @@ module _ (inner : Inner) (d : ℕ) (inside_is : SoundInner inner d) where
         is = omega (arith, i.is, j.is);
         within = omega (arith, i.within, j.within);
         mid = b.0;
-        condition = with_rest (thens a.0.rest b.0 b.1) i.spelt;
+        condition = with_rest (needs_keyword k.Then a.0.rest b.0 b.1) i.spelt;
         value = j.spelt;
       })
 
@@ -246,7 +249,7 @@ module _ (inner : Inner) (d : ℕ) (inside_is : SoundInner inner d) where
               is = omega (arith, i.is, j.is);
               within = omega (arith, i.within, j.within);
               spelt = ExpressesArms.more_arms i.condition
-                  (with_rest (whens a.first.rest c.0 (ap needed c.1)) i.value) j.spelt;
+                  (with_rest (needs_keyword k.When a.first.rest c.0 (ap needed c.1)) i.value) j.spelt;
             }
         | inr e ↦ record {
           h = max i.h i.i;
@@ -286,7 +289,7 @@ module _ (inner : Inner) (d : ℕ) (inside_is : SoundInner inner d) where
         h = 0;
         is = refl;
         within = omega arith;
-        spelt = subst (λ r. ExpressesElse 0 MaybeExpr.Absent r a.0) (sym (ends ts a.0 a.1)) ExpressesElse.no_else;
+        spelt = subst (λ r. ExpressesElse 0 MaybeExpr.Absent r a.0) (sym (needs_keyword k.End ts a.0 a.1)) ExpressesElse.no_else;
       })
   sound_else ts (Some next) x e h =
       let a = bind_ok (inner 1 next)
@@ -298,8 +301,8 @@ module _ (inner : Inner) (d : ℕ) (inside_is : SoundInner inner d) where
         h = i.h;
         is = omega (arith, i.is);
         within = omega (arith, i.is, i.within);
-        spelt = subst (λ r. ExpressesElse i.h (MaybeExpr.Present a.0.tree) r b.0) (sym (elses ts next e))
-            (ExpressesElse.otherwise (with_rest (ends a.0.rest b.0 b.1) i.spelt));
+        spelt = subst (λ r. ExpressesElse i.h (MaybeExpr.Present a.0.tree) r b.0) (sym (at_keyword k.Else ts next e))
+            (ExpressesElse.otherwise (with_rest (needs_keyword k.End a.0.rest b.0 b.1) i.spelt));
       })
 
   sound_choice : (p : ℕ) (ts : Rest) (x : Read ExprTree) → p ≤ 10 → choice inner d ts ≡ Ok x
@@ -328,7 +331,7 @@ module _ (inner : Inner) (d : ℕ) (inside_is : SoundInner inner d) where
       subst (Stands d p (Lexeme.Reserved k.Case ∷ ts)) (ok_inj _ x g.2) (stands_alone d p (Lexeme.Reserved k.Case ∷ ts)
       (read (ExprTree.Case a.0.tree (arms_of c.0.tree) g.0.tree) (max a.0.levels (max c.0.levels g.0.levels)) g.0.rest) small
       (with_levels (omega (arith, i.is, j.is, l.is))
-      (Expresses.choice (subst (λ r. ExpressesOperand i.h a.0.tree ts r) (whens a.0.rest b.0 b.1) i.spelt) j.spelt
+      (Expresses.choice (subst (λ r. ExpressesOperand i.h a.0.tree ts r) (needs_keyword k.When a.0.rest b.0 b.1) i.spelt) j.spelt
       l.spelt))
       (omega (arith, i.within, j.is, j.within, l.within)))
 
@@ -354,7 +357,7 @@ module _ (inner : Inner) (d : ℕ) (inside_is : SoundInner inner d) where
       (subst
       (λ r. Expresses 11 1 ExprTree.CountRows
       (Lexeme.Name q.Bare word ∷ Lexeme.Punctuation s.Open ∷ Lexeme.Punctuation s.Star ∷ r) a.0)
-      (sym (closes ts a.0 a.1)) (Expresses.count_rows is))
+      (sym (needs_sign s.Close ts a.0 a.1)) (Expresses.count_rows is))
       a.2
   sound_starred p word _ ts x small is h = absurd cc
 
@@ -385,7 +388,7 @@ module _ (inner : Inner) (d : ℕ) (inside_is : SoundInner inner d) where
       (stands_alone d p from (read (ExprTree.Call function (trees_of a.0.tree)) a.0.levels b.0) small
       (with_levels (sym i.is)
       (Expresses.call is
-      (subst (λ r. ExpressesAll (takes_number function) 0 i.h (trees_of a.0.tree) ts r) (closes a.0.rest b.0 b.1) i.spelt)
+      (subst (λ r. ExpressesAll (takes_number function) 0 i.h (trees_of a.0.tree) ts r) (needs_sign s.Close a.0.rest b.0 b.1) i.spelt)
       (ap (takes function) (count_trees a.0.tree) ∙ t.0)))
       (omega (arith, i.is, i.within)))
 
@@ -456,7 +459,7 @@ module _ (inner : Inner) (d : ℕ) (inside_is : SoundInner inner d) where
       let from : Rest = Lexeme.Punctuation s.Open ∷ after in
       subst (Stands d p from) (ok_inj _ x b.2)
       (stands_alone d p from (read a.0.tree a.0.levels b.0) small
-      (with_levels (sym i.is) (Expresses.parentheses (with_rest (closes a.0.rest b.0 b.1) i.spelt)))
+      (with_levels (sym i.is) (Expresses.parentheses (with_rest (needs_sign s.Close a.0.rest b.0 b.1) i.spelt)))
       (omega (arith, i.is, i.within)))
   sound_operand_at p _ _ x small (Opens.choice {after = after}) h = sound_choice p after x small h
   sound_operand_at p _ _ x small Opens.nothing h = absurd cc
@@ -476,7 +479,7 @@ module _ (inner : Inner) (d : ℕ) (inside_is : SoundInner inner d) where
         level = 4;
         at_least = small;
         spelt = Expresses.in_none front
-            (subst (λ r. MaybeNot k.In n mid (Lexeme.Punctuation s.Open ∷ r)) (closes ts rest (ap needed is)) m);
+            (subst (λ r. MaybeNot k.In n mid (Lexeme.Punctuation s.Open ∷ r)) (needs_sign s.Close ts rest (ap needed is)) m);
         behind = λ b. l.1;
         within = room;
       })
@@ -495,7 +498,7 @@ module _ (inner : Inner) (d : ℕ) (inside_is : SoundInner inner d) where
         level = 4;
         at_least = small;
         spelt = with_levels (omega (arith, i.is)) (Expresses.in_list front m
-            (subst (λ r. ExpressesAll nowhere 0 i.h (trees_of a.0.tree) ts r) (closes a.0.rest b.0 b.1) i.spelt));
+            (subst (λ r. ExpressesAll nowhere 0 i.h (trees_of a.0.tree) ts r) (needs_sign s.Close a.0.rest b.0 b.1) i.spelt));
         behind = λ b. l.1;
         within = omega (arith, room, i.is, i.within);
       })
@@ -533,14 +536,14 @@ module _ (inner : Inner) (d : ℕ) (inside_is : SoundInner inner d) where
         level = 4;
         at_least = one;
         spelt = with_levels (omega (arith, i.is, l.is))
-            (Expresses.between (loose (two (omega arith)) s) c (with_rest (ands a.0.rest b.0 b.1) i.spelt) l.spelt);
+            (Expresses.between (loose (two (omega arith)) s) c (with_rest (needs_keyword k.And a.0.rest b.0 b.1) i.spelt) l.spelt);
         behind = λ b. omega (arith, l.stops);
         within = omega (arith, room, i.is, i.within, l.is, l.within);
       })
-  sound_extended_at p r h e from mid (Joint.In n ts) x one two room c s g =
+  sound_extended_at p r h e from mid (Joint.In n ts) x one two room c spelt g =
       let a = bind_ok (needed (after_open ts)) (λ rest. members inner d n (read e h mid) rest (after_close rest)) x g in
       sound_members p h n e from mid a.0 (after_close a.0) x one room
-      (subst (λ r. Continues mid (Joint.In n r)) (opened ts a.0 a.1) c) refl (loose (two (omega arith)) s) a.2
+      (subst (λ r. Continues mid (Joint.In n r)) (needs_sign s.Open ts a.0 a.1) c) refl (loose (two (omega arith)) spelt) a.2
   sound_extended_at p r h e from _ (Joint.Postfix op ts) x one two room (Continues.postfix c) s g =
       let a = bind_ok (loosely ts) (λ rest. Ok (read (ExprTree.Postfix op e) (suc h) rest)) x g in
       let l = is_loose ts a.0 a.1 in

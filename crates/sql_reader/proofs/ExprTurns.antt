@@ -3,28 +3,11 @@ use Rattle.std.proofs.Common.{◌≡◌, Bool, Option, ℕ, zero, suc, ◌+◌, 
 use Rattle.std.proofs.lemmas.Bool.{le-leb, lt-leb, le-ltb, lt-ltb, cond-true, cond-false, cases_lt}
 use mathlib.Core.Logic.{inl, inr}
 use Rattle.sql_reader.specs.ExprGrammar.{level_of, nowhere}
-use Rattle.sql_reader.specs.ExprReading.{
-  Refusal,
-  Outcome,
-  ◌>>=◌,
-  needed,
-  Read,
-  read,
-  Joint,
-  joint,
-  binds,
-  after_and,
-  loosely,
-  Inner,
-  list,
-  members,
-  extended_at,
-  extended,
-  climb,
-}
-use Rattle.sql_reader.specs.ExprTree.{ExprTree, ExprTrees, trees_of}
-use Rattle.sql_reader.specs.Reading.{Rest, after_close, after_open}
-use Rattle.sql_reader.proofs.ExprSteps.{bind_ok, bind_same, ok_inj}
+use Rattle.phrases.specs.Outcomes.{Refusal, Outcome, ◌>>=◌, needed, Read, read}
+use Rattle.sql_reader.specs.ExprReading.{Joint, joint, binds, after_and, loosely, Inner, list, members, extended_at, extended, climb}
+use Rattle.syntax.specs.ExprTree.{ExprTree, ExprTrees, trees_of}
+use Rattle.phrases.specs.Steps.{Rest, after_close, after_open}
+use Rattle.phrases.proofs.OutcomeLemmas.{bind_ok, bind_same, ok_inj}
 
 module _ (inner : Inner) (d : ℕ) where
   pub climb_stops : (n p : ℕ) (x : Read ExprTree) → binds x.rest < p → climb inner d n p x ≡ Ok x

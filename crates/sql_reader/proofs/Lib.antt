@@ -1,9 +1,3 @@
-pub mod ListLemmas
-pub mod PhraseLemmas
-pub mod CreateLemmas
-pub mod ColumnLemmas
-pub mod StatementLemmas
-pub mod ExprSteps
 pub mod ExprShape
 pub mod ExprTurns
 pub mod ExprComplete

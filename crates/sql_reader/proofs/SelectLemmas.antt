@@ -7,50 +7,22 @@ use Rattle.tokens.specs.declared.keyword.Keyword.TheVariants as k
 use Rattle.tokens.specs.declared.sign.Sign.TheVariants as s
 use Rattle.tokens.specs.declared.token.Quoting.{Quoting}
 use Rattle.sql_reader.proofs.ExprComplete.{complete, expr_is}
-use Rattle.sql_reader.proofs.ExprFronts.{commas, kept, names}
 use Rattle.sql_reader.proofs.ExprShape.{begins, room}
 use Rattle.sql_reader.proofs.ExprSound.{sound}
-use Rattle.sql_reader.proofs.ExprSteps.{bind_ok, fits, fits_in, fits_out, ok_inj}
+use Rattle.phrases.proofs.StepLemmas.{at_keyword, at_sign, kept, names, needs_keyword}
+use Rattle.phrases.proofs.OutcomeLemmas.{bind_ok, fits, fits_in, fits_out, ok_inj}
 use Rattle.sql_reader.proofs.ExprTurns.{climb_stops}
 use Rattle.sql_reader.specs.ExprGrammar.{Expresses}
-use Rattle.sql_reader.specs.ExprReading.{
-  Outcome,
-  Read,
-  Refusal,
-  Opening,
-  ◌>>=◌,
-  binds,
-  expr,
-  inner,
-  kept_if,
-  needed,
-  opening,
-  operand_at,
-  others,
-  put,
-  read,
-  series,
-}
-use Rattle.sql_reader.specs.ExprTree.{ExprTree}
-use Rattle.sql_reader.specs.Phrases.{AfterComma, Listed, Many}
-use Rattle.sql_reader.specs.Reading.{Rest, after_comma, after_from, after_select, ends, name}
+use Rattle.phrases.specs.Outcomes.{Outcome, Read, Refusal, ◌>>=◌, kept_if, needed, others, put, read, series}
+use Rattle.sql_reader.specs.ExprReading.{Opening, binds, expr, inner, opening, operand_at}
+use Rattle.syntax.specs.ExprTree.{ExprTree}
+use Rattle.phrases.specs.Lists.{AfterComma, Listed, Many}
+use Rattle.phrases.specs.Steps.{Rest, after_comma, ends, name}
+use Rattle.sql_reader.specs.SelectReading.{after_from, after_select}
 use Rattle.sql_reader.specs.SelectGrammar.{Ends, ExpressesWithin, From, Results, Selects, Titles, Where}
-use Rattle.sql_reader.specs.SelectReading.{
-  Beginning,
-  after_where,
-  beginning,
-  condition,
-  condition_at,
-  result_at,
-  result_column,
-  results,
-  select,
-  table,
-  table_at,
-  title,
-}
-use Rattle.sql_reader.specs.SelectTrees.{NameTree, ResultTree, SelectTree}
-use Rattle.sql_reader.specs.Tree.{Name}
+use Rattle.sql_reader.specs.SelectReading.{Beginning, after_where, beginning, condition, condition_at, result_at, result_column, results, select, table, table_at, title}
+use Rattle.syntax.specs.SelectTrees.{NameTree, ResultTree, SelectTree}
+use Rattle.syntax.specs.Tree.{Name}
 
 -- What is spelt within m levels is read where there may be so many; else the reader may meet its limit of d.
 abbrev pub Reaches : {A : Type 0} → ℕ → ℕ → Outcome A → A → Type 0
@@ -218,12 +190,12 @@ module _ (source : ℕ → ℕ → List ℕ) where
         (inl refl),
   )
   more_reaches d zero place (Many.more (AfterComma.comma x) xs) le halts = absurd (omega (arith, le))
-  more_reaches {m = m} {after = after} d (suc n) place (Many.more {x = x} {xs = xs} (AfterComma.comma {from = from} r) rs) le halts =
+  more_reaches {m = m} {after = after} d (suc n) place (Many.more {x = x} {xs = xs} {mid = mid} (AfterComma.comma {from = from} r) rs) le halts =
       let shorter = (result_room (length from) r (omega arith)).1 in
       let rest = more_reaches d n (suc place) rs (omega (arith, le, shorter)) halts in (
         (omega arith, λ source. refl),
-        reaches_bind d m (result_column source d from) (read x 0 _) _ _ (result_reaches d r rest.0)
-            (reaches_bind d m (others (series (phrase d) after_comma n (suc place)) _ (after_comma _)) (read xs 0 after) _ _ rest.1
+        reaches_bind d m (result_column source d from) (read x 0 mid) _ _ (result_reaches d r rest.0)
+            (reaches_bind d m (others (series (phrase d) after_comma n (suc place)) mid (after_comma mid)) (read xs 0 after) _ _ rest.1
             (inl refl)),
       )
 
@@ -269,7 +241,7 @@ module _ (source : ℕ → ℕ → List ℕ) where
       → AreMore d ts x
   others_spelt d more ts None x i h k = subst (AreMore d ts) (ok_inj (read [] 0 ts) x k) Many.none
   others_spelt d more ts (Some start) x i h k =
-      subst (λ ts. AreMore d ts x) (sym (commas ts start i)) (behind_comma (h start x k))
+      subst (λ ts. AreMore d ts x) (sym (at_sign s.Comma ts start i)) (behind_comma (h start x k))
 
   series_spelt : (d n place : ℕ) (ts : Rest) (x : Read (List ResultTree))
       → series (phrase d) after_comma n place ts ≡ Ok x → IsList d ts x
@@ -334,33 +306,27 @@ module _ (source : ℕ → ℕ → List ℕ) where
   table_spelt : (ts : Rest) (o : Option Rest) (r : Option Name × Rest) → after_from ts ≡ o → table_at ts o ≡ Ok r
       → From r.0 ts r.1
   table_spelt ts None r i h = subst (λ (r : Option Name × Rest). From r.0 ts r.1) (ok_inj (None, ts) r h) From.no_table
-  table_spelt (Lexeme.Reserved k.From ∷ ts) (Some us) r i h =
+  table_spelt ts (Some us) r i h =
       let a = bind_ok (needed (name us)) (λ r. Ok (Some r.0, r.1)) r h in
       let n = names us a.0 a.1 in
-      subst (λ (r : Option Name × Rest). From r.0 (Lexeme.Reserved k.From ∷ ts) r.1) (ok_inj _ r a.2)
-      (subst (λ vs. From (Some a.0.0) (Lexeme.Reserved k.From ∷ vs) a.0.1) (sym n.1 ∙ sym (let e : ts ≡ us = cc in e))
-      (From.table {q = n.0}))
-  table_spelt _ (Some us) r i h = absurd cc
+      subst (λ (r : Option Name × Rest). From r.0 ts r.1) (ok_inj _ r a.2)
+      (subst (λ vs. From (Some a.0.0) vs a.0.1)
+      (sym (at_keyword k.From ts us i ∙ ap (λ vs. Lexeme.Reserved k.From ∷ vs) n.1)) (From.table {q = n.0}))
 
   condition_spelt : (d : ℕ) (ts : Rest) (o : Option Rest) (r : Option ExprTree × Rest) → after_where ts ≡ o
       → condition_at d ts o ≡ Ok r → Where d r.0 ts r.1
   condition_spelt d ts None r i h =
       subst (λ (r : Option ExprTree × Rest). Where d r.0 ts r.1) (ok_inj (None, ts) r h) Where.no_condition
-  condition_spelt d (Lexeme.Reserved k.Where ∷ ts) (Some us) r i h =
+  condition_spelt d ts (Some us) r i h =
       let a = bind_ok (expr d 1 us) (λ x. Ok (Some x.tree, x.rest)) r h in
-      subst (λ (r : Option ExprTree × Rest). Where d r.0 (Lexeme.Reserved k.Where ∷ ts) r.1) (ok_inj _ r a.2)
-      (subst (λ vs. Where d (Some a.0.tree) (Lexeme.Reserved k.Where ∷ vs) a.0.rest) (sym (let e : ts ≡ us = cc in e))
+      subst (λ (r : Option ExprTree × Rest). Where d r.0 ts r.1) (ok_inj _ r a.2)
+      (subst (λ vs. Where d (Some a.0.tree) vs a.0.rest) (sym (at_keyword k.Where ts us i))
       (Where.condition (expr_spelt d us a.0 a.1)))
-  condition_spelt d _ (Some us) r i h = absurd cc
 
   ends_spelt : (ts : Rest) → ends ts ≡ true → Ends ts
   ends_spelt [] h = Ends.nothing
   ends_spelt (Lexeme.Punctuation s.Semicolon ∷ []) h = Ends.semicolon
   ends_spelt _ h = absurd cc
-
-  begins_select : (ts us : Rest) → needed (after_select ts) ≡ Ok us → ts ≡ Lexeme.Reserved k.Select ∷ us
-  begins_select (Lexeme.Reserved k.Select ∷ ts) us h = ap (λ vs. Lexeme.Reserved k.Select ∷ vs) (ok_inj ts us h)
-  begins_select _ us h = absurd cc
 
   pub select_sound : (d : ℕ) (ts : Rest) (tree : SelectTree) → select source d ts ≡ Ok tree
       → Selects source (suc d) tree ts
@@ -372,7 +338,7 @@ module _ (source : ℕ → ℕ → List ℕ) where
       let w = bind_ok (condition d c.0.1) _ tree c.2 in
       let last = kept (ends w.0.1)
       (let s : SelectTree = record { columns = b.0.tree; table = c.0.0; condition = w.0.0 } in s) tree w.2 in
-      subst (Selects source (suc d) tree) (sym (begins_select ts a.0 a.1))
+      subst (Selects source (suc d) tree) (sym (needs_keyword k.Select ts a.0 a.1))
       (subst (λ t. Selects source (suc d) t (Lexeme.Reserved k.Select ∷ a.0)) last.1
       (Selects.select (series_spelt d (suc (length a.0)) 0 a.0 b.0 b.1)
       (table_spelt b.0.rest (after_from b.0.rest) c.0 refl c.1)

@@ -1,18 +1,20 @@
 -- The loop over result columns.
 use Rattle.std.proofs.Common.{◌≡◌, ◌<◌, ℕ, suc, List, [], ◌∷◌, length, map, Ok, arith, ap, refl}
+use Rattle.tokens.specs.declared.sign.Sign.TheVariants as s
 use Rattle.tokens.specs.declared.token.Token.{Token}
-use Rattle.sql_reader.proofs.ExprFronts.{commas}
-use Rattle.sql_reader.proofs.ExprLoops.{Shrinks}
+use Rattle.phrases.proofs.StepLemmas.{at_sign}
+use Rattle.phrases.proofs.TurnLemmas.{Shrinks}
 use Rattle.sql_reader.proofs.ExprShape.{room}
 use Rattle.sql_reader.proofs.ExprSound.{sound}
 use Rattle.sql_reader.proofs.SelectLemmas.{result_shorter}
-use Rattle.sql_reader.specs.ExprReading.{Read, expr}
-use Rattle.sql_reader.specs.ExprTree.{ExprTree}
-use Rattle.sql_reader.specs.Reading.{Rest, after_comma}
+use Rattle.phrases.specs.Outcomes.{Read}
+use Rattle.sql_reader.specs.ExprReading.{expr}
+use Rattle.syntax.specs.ExprTree.{ExprTree}
+use Rattle.phrases.specs.Steps.{Rest, after_comma}
 use Rattle.sql_reader.specs.SelectReading.{result_column}
-use Rattle.sql_reader.specs.SelectView.{result_of}
-use Rattle.sql_reader.specs.declared.tree.ResultColumn.{ResultColumn}
-use Rattle.sql_reader.specs.View.{lexemes_of}
+use Rattle.syntax.specs.SelectView.{result_of}
+use Rattle.syntax.specs.declared.select.ResultColumn.{ResultColumn}
+use Rattle.phrases.specs.Texts.{lexemes_of}
 
 -- an expression takes a token
 pub expr_shorter : (d : ℕ) (ts : Rest) (x : Read ExprTree) → expr d 1 ts ≡ Ok x → length x.rest < length ts
@@ -20,7 +22,7 @@ expr_shorter d ts x h = let t = sound d 1 ts x (omega arith) h in omega (arith, 
 
 pub results_shrink : (source : ℕ → ℕ → List ℕ) (d : ℕ) → Shrinks (λ place. result_column source d) after_comma
 results_shrink source d place ts start x h e =
-    let l = ap length (commas x.rest start e) in omega (arith, l, result_shorter source d ts x h)
+    let l = ap length (at_sign s.Comma x.rest start e) in omega (arith, l, result_shorter source d ts x h)
 
 pub same_length : (items : List Token) → length (lexemes_of items) ≡ length items
 same_length [] = refl

@@ -10,17 +10,17 @@ use Rattle.tokens.specs.Tokens as tokens
 use Rattle.tokens.specs.Tokens.{Placed, Tokens}
 use Rattle.tokens.specs.declared.keyword.Grammar.TheVariants as g
 use Rattle.tokens.specs.declared.token.Token.{Token}
-use Rattle.sql_reader.proofs.ExprSteps.{ok_inj}
+use Rattle.phrases.proofs.OutcomeLemmas.{ok_inj}
 use Rattle.sql_reader.proofs.SelectLemmas.{select_reaches, select_room, select_sound}
-use Rattle.sql_reader.proofs.StatementLemmas.{same_lexemes}
-use Rattle.sql_reader.specs.ExprReading.{Fails, Outcome, Refusal}
-use Rattle.sql_reader.specs.Reading.{Rest}
+use Rattle.phrases.proofs.TextLemmas.{same_lexemes}
+use Rattle.phrases.specs.Outcomes.{Fails, Outcome, Refusal}
+use Rattle.phrases.specs.Steps.{Rest}
 use Rattle.sql_reader.specs.SelectGrammar.{Selects}
 use Rattle.sql_reader.specs.SelectReading.{select, settled, whole}
 use Rattle.sql_reader.specs.SelectTexts.{IsRefusedSelect, SpellsSelect, SpellsWithin, source_of, source_text}
-use Rattle.sql_reader.specs.SelectTrees.{SelectTree}
-use Rattle.sql_reader.specs.Texts.{lexemes, max_levels}
-use Rattle.sql_reader.specs.View.{lexemes_of}
+use Rattle.syntax.specs.SelectTrees.{SelectTree}
+use Rattle.phrases.specs.Texts.{lexemes, max_levels}
+use Rattle.phrases.specs.Texts.{lexemes_of}
 
 module _ (source : ℕ → ℕ → List ℕ) where
   -- what an outcome says of the tokens

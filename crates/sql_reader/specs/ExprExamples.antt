@@ -7,11 +7,11 @@ use Rattle.tokens.specs.declared.sign.Sign.{Sign}
 use Rattle.tokens.specs.declared.sign.Sign.TheVariants as s
 use Rattle.tokens.specs.declared.token.Quoting.TheVariants as q
 use Rattle.sql_reader.specs.ExprGrammar.{Expresses}
-use Rattle.sql_reader.specs.ExprTree.{ExprTree, ExprTrees, MaybeExpr, ArmTrees}
-use Rattle.sql_reader.specs.Tree.{Name}
-use Rattle.sql_reader.specs.declared.expr.BinaryOperator.TheVariants as o
-use Rattle.sql_reader.specs.declared.expr.Function.TheVariants as f
-use Rattle.sql_reader.specs.declared.expr.PrefixOperator.TheVariants as p
+use Rattle.syntax.specs.ExprTree.{ExprTree, ExprTrees, MaybeExpr, ArmTrees}
+use Rattle.syntax.specs.Tree.{Name}
+use Rattle.syntax.specs.declared.expr.BinaryOperator.TheVariants as o
+use Rattle.syntax.specs.declared.expr.Function.TheVariants as f
+use Rattle.syntax.specs.declared.expr.PrefixOperator.TheVariants as p
 
 abbrev pub number : ℕ → Lexeme
 number n = Lexeme.Number (pos n)

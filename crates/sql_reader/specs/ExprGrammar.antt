@@ -10,17 +10,17 @@ use Rattle.tokens.specs.declared.keyword.Keyword.TheVariants as k
 use Rattle.tokens.specs.declared.sign.Sign.TheVariants as s
 use Rattle.tokens.specs.declared.token.Quoting.{Quoting}
 use Rattle.tokens.specs.declared.token.Quoting.TheVariants as q
-use Rattle.sql_reader.specs.ExprTree.{ExprTree, ExprTrees, MaybeExpr, ArmTrees, count}
-use Rattle.sql_reader.specs.Functions.{function_of, takes, takes_number}
-use Rattle.sql_reader.specs.Tree.{Name}
-use Rattle.sql_reader.specs.declared.expr.BinaryOperator.{BinaryOperator}
-use Rattle.sql_reader.specs.declared.expr.BinaryOperator.TheVariants as o
-use Rattle.sql_reader.specs.declared.expr.Function.{Function}
-use Rattle.sql_reader.specs.declared.expr.Function.TheVariants as f
-use Rattle.sql_reader.specs.declared.expr.PostfixOperator.{PostfixOperator}
-use Rattle.sql_reader.specs.declared.expr.PostfixOperator.TheVariants as b
-use Rattle.sql_reader.specs.declared.expr.PrefixOperator.{PrefixOperator}
-use Rattle.sql_reader.specs.declared.expr.PrefixOperator.TheVariants as p
+use Rattle.syntax.specs.ExprTree.{ExprTree, ExprTrees, MaybeExpr, ArmTrees, count}
+use Rattle.syntax.specs.Functions.{function_of, takes, takes_number}
+use Rattle.syntax.specs.Tree.{Name}
+use Rattle.syntax.specs.declared.expr.BinaryOperator.{BinaryOperator}
+use Rattle.syntax.specs.declared.expr.BinaryOperator.TheVariants as o
+use Rattle.syntax.specs.declared.expr.Function.{Function}
+use Rattle.syntax.specs.declared.expr.Function.TheVariants as f
+use Rattle.syntax.specs.declared.expr.PostfixOperator.{PostfixOperator}
+use Rattle.syntax.specs.declared.expr.PostfixOperator.TheVariants as b
+use Rattle.syntax.specs.declared.expr.PrefixOperator.{PrefixOperator}
+use Rattle.syntax.specs.declared.expr.PrefixOperator.TheVariants as p
 
 -- the level of the phrases that an operator makes
 abbrev pub level_of : BinaryOperator → ℕ

@@ -1,30 +1,6 @@
 -- What a reader that goes from left to right makes of the tokens of an expression: it climbs by the levels of the
 -- operators. No public clause cites it.
-use Rattle.std.specs.Prelude.{
-  ◌≡◌,
-  Bool,
-  true,
-  false,
-  ℕ,
-  zero,
-  suc,
-  max,
-  List,
-  [],
-  ◌∷◌,
-  length,
-  Option,
-  Some,
-  None,
-  Result,
-  Ok,
-  Err,
-  nat_lt,
-  nat_le,
-  if◌then◌else◌,
-}
-use Rattle.values.specs.declared.fault.Fault.{Fault}
-use Rattle.values.specs.declared.fault.Fault.TheVariants as e
+use Rattle.std.specs.Prelude.{Bool, true, false, ℕ, zero, suc, max, List, [], ◌∷◌, length, Option, Some, None, Ok, Err, nat_lt, nat_le, if◌then◌else◌}
 use Rattle.tokens.specs.Lexeme.{Lexeme}
 use Rattle.tokens.specs.declared.keyword.Keyword.{Keyword}
 use Rattle.tokens.specs.declared.keyword.Keyword.TheVariants as k
@@ -33,58 +9,19 @@ use Rattle.tokens.specs.declared.sign.Sign.TheVariants as s
 use Rattle.tokens.specs.declared.token.Quoting.{Quoting}
 use Rattle.tokens.specs.declared.token.Quoting.TheVariants as q
 use Rattle.sql_reader.specs.ExprGrammar.{level_of, level_of_prefix, nowhere}
-use Rattle.sql_reader.specs.ExprTree.{ExprTree, ExprTrees, MaybeExpr, trees_of, arms_of}
-use Rattle.sql_reader.specs.Functions.{function_of, takes, takes_number}
-use Rattle.sql_reader.specs.Reading.{Rest, name, after_close, after_comma, after_open}
-use Rattle.sql_reader.specs.Tree.{Name}
-use Rattle.sql_reader.specs.declared.expr.BinaryOperator.{BinaryOperator}
-use Rattle.sql_reader.specs.declared.expr.BinaryOperator.TheVariants as o
-use Rattle.sql_reader.specs.declared.expr.Function.{Function}
-use Rattle.sql_reader.specs.declared.expr.Function.TheVariants as f
-use Rattle.sql_reader.specs.declared.expr.PostfixOperator.{PostfixOperator}
-use Rattle.sql_reader.specs.declared.expr.PostfixOperator.TheVariants as b
-use Rattle.sql_reader.specs.declared.expr.PrefixOperator.{PrefixOperator}
-use Rattle.sql_reader.specs.declared.expr.PrefixOperator.TheVariants as p
-
--- why nothing is read: the tokens are wrong, or they have too many levels
-pub data Refusal : Type 0 where
-  Syntax : Refusal
-  Limit : Refusal
-
-abbrev pub Outcome : Type 0 → Type 0
-Outcome A = Result A Refusal
-
-infixl 10 ◌>>=◌
-abbrev pub ◌>>=◌ : {A B : Type 0} → Outcome A → (A → Outcome B) → Outcome B
-(Ok x) >>= f = f x
-(Err e) >>= f = Err e
-
-abbrev pub needed : {A : Type 0} → Option A → Outcome A
-needed None = Err Refusal.Syntax
-needed (Some x) = Ok x
-
-abbrev pub kept_if : {A : Type 0} → Bool → A → Outcome A
-kept_if kept x = if kept then Ok x else Err Refusal.Syntax
-
--- what a function of the program returned, seen by view, is this outcome, unless memory ran out
-abbrev pub Fails : {B : Type 0} → Fault → Outcome B → Type 0
-Fails (e.Syntax place) outcome = outcome ≡ Err Refusal.Syntax
-Fails e.Limit outcome = outcome ≡ Err Refusal.Limit
-Fails e.NoMemory outcome = Unit {0}
-Fails _ outcome = ⊥
-
-abbrev pub Yields : {A B : Type 0} → (A → B) → Result A Fault → Outcome B → Type 0
-Yields view (Ok x) outcome = outcome ≡ Ok (view x)
-Yields view (Err fault) outcome = Fails fault outcome
-
--- a tree, how many levels it has, and the tokens after it
-pub record Read (A : Type 0) : Type 0 where
-  pub tree : A
-  pub levels : ℕ
-  pub rest : Rest
-
-abbrev pub read : {A : Type 0} → A → ℕ → Rest → Read A
-read tree levels rest = record { tree = tree; levels = levels; rest = rest }
+use Rattle.syntax.specs.ExprTree.{ExprTree, ExprTrees, MaybeExpr, trees_of, arms_of}
+use Rattle.syntax.specs.Functions.{function_of, takes, takes_number}
+use Rattle.phrases.specs.Outcomes.{Outcome, Read, Refusal, ◌>>=◌, kept_if, needed, read, series}
+use Rattle.phrases.specs.Steps.{Rest, name, after_close, after_comma, after_keyword, after_open}
+use Rattle.syntax.specs.Tree.{Name}
+use Rattle.syntax.specs.declared.expr.BinaryOperator.{BinaryOperator}
+use Rattle.syntax.specs.declared.expr.BinaryOperator.TheVariants as o
+use Rattle.syntax.specs.declared.expr.Function.{Function}
+use Rattle.syntax.specs.declared.expr.Function.TheVariants as f
+use Rattle.syntax.specs.declared.expr.PostfixOperator.{PostfixOperator}
+use Rattle.syntax.specs.declared.expr.PostfixOperator.TheVariants as b
+use Rattle.syntax.specs.declared.expr.PrefixOperator.{PrefixOperator}
+use Rattle.syntax.specs.declared.expr.PrefixOperator.TheVariants as p
 
 -- What stands at the front
 
@@ -215,24 +152,19 @@ inside (Lexeme.Punctuation s.Star ∷ ts) = Inside.Star ts
 inside _ = Inside.Arguments
 
 abbrev pub after_and : Rest → Option Rest
-after_and (Lexeme.Reserved k.And ∷ ts) = Some ts
-after_and _ = None
+after_and = after_keyword k.And
 
 abbrev pub after_when : Rest → Option Rest
-after_when (Lexeme.Reserved k.When ∷ ts) = Some ts
-after_when _ = None
+after_when = after_keyword k.When
 
 abbrev pub after_then : Rest → Option Rest
-after_then (Lexeme.Reserved k.Then ∷ ts) = Some ts
-after_then _ = None
+after_then = after_keyword k.Then
 
 abbrev pub after_else : Rest → Option Rest
-after_else (Lexeme.Reserved k.Else ∷ ts) = Some ts
-after_else _ = None
+after_else = after_keyword k.Else
 
 abbrev pub after_end : Rest → Option Rest
-after_end (Lexeme.Reserved k.End ∷ ts) = Some ts
-after_end _ = None
+after_end = after_keyword k.End
 
 -- behind a phrase of level 4 that has no right operand stands no operator that binds tighter
 abbrev pub loosely : Rest → Outcome Rest
@@ -251,25 +183,6 @@ Inner = ℕ → Rest → Outcome (Read ExprTree)
 abbrev pub item : Inner → Bool → Rest → Outcome (Read ExprTree)
 item inner true ts = alone ts >>= inner 1
 item inner false ts = inner 1 ts
-
--- one phrase before others
-abbrev pub put : {A : Type 0} → Read A → Read (List A) → Read (List A)
-put x xs = read (x.tree ∷ xs.tree) (max x.levels xs.levels) xs.rest
-
--- what follows a phrase: none, or the others
-abbrev pub others : {A : Type 0} → (Rest → Outcome (Read (List A))) → Rest → Option Rest → Outcome (Read (List A))
-others more ts None = Ok (read [] 0 ts)
-others more ts (Some start) = more start
-
--- one phrase or more, where `next` tells whether a further one follows, in at most so many turns; a phrase is told its
--- place
-unfoldable pub series : {A : Type 0} → (ℕ → Rest → Outcome (Read A)) → (Rest → Option Rest) → ℕ → ℕ → Rest
-    → Outcome (Read (List A))
-series phrase next zero place ts = Err Refusal.Syntax
-series phrase next (suc n) place ts =
-    phrase place ts
-    >>= λ x. others (series phrase next n (suc place)) x.rest (next x.rest)
-    >>= λ xs. Ok (put x xs)
 
 -- with commas between
 abbrev pub list : Inner → (ℕ → Bool) → ℕ → ℕ → Rest → Outcome (Read (List ExprTree))

@@ -1,15 +1,13 @@
--- What the program's expressions are.
-use Rattle.std.specs.Prelude.{Bool, false, ℕ, List, Option, Some, None, map, option_map, string_bytes}
+-- What the reader of expressions hands on.
+use Rattle.std.specs.Prelude.{Bool, false, ℕ, List, Option, Some, None, map, option_map}
 use Rattle.tokens.specs.Content.{content_of, undoubled, unhex}
+use Rattle.phrases.specs.Outcomes as outcomes
 use Rattle.sql_reader.specs.ExprReading as spec
-use Rattle.sql_reader.specs.ExprTree.{ExprTree, MaybeExpr, trees_of, arms_of}
-use Rattle.sql_reader.specs.declared.expr.Arm.{Arm}
-use Rattle.sql_reader.specs.declared.expr.Expr.{Expr}
-use Rattle.sql_reader.specs.declared.expr.Expr.TheFolds.{fold-Expr, fold-Arm}
-use Rattle.sql_reader.specs.declared.expr.Expr.TheOpen.{Expr-F, Arm-F}
+use Rattle.syntax.specs.ExprTree.{ExprTree, MaybeExpr}
+use Rattle.syntax.specs.ExprView.{arm_of, expr_of, maybe_of}
 use Rattle.sql_reader.specs.ExprGrammar.{nowhere}
-use Rattle.sql_reader.specs.Functions.{takes_number}
-use Rattle.sql_reader.specs.declared.expr.Function.{Function}
+use Rattle.syntax.specs.Functions.{takes_number}
+use Rattle.syntax.specs.declared.expr.Function.{Function}
 use Rattle.sql_reader.specs.declared.expressions.Read.{Read}
 use Rattle.sql_reader.specs.declared.expressions.ReadAll.{ReadAll}
 use Rattle.sql_reader.specs.declared.expressions.ReadArm.{ReadArm}
@@ -25,38 +23,7 @@ use Rattle.sql_reader.specs.declared.fronts.Literal.{Literal}
 use Rattle.sql_reader.specs.declared.fronts.Literal.TheVariants as l
 use Rattle.sql_reader.specs.declared.fronts.Opening.{Opening}
 use Rattle.sql_reader.specs.declared.fronts.Opening.TheVariants as o
-use Rattle.sql_reader.specs.View.{lexemes_of}
-
-abbrev pub maybe_of : Option ExprTree → MaybeExpr
-maybe_of None = MaybeExpr.Absent
-maybe_of (Some e) = MaybeExpr.Present e
-
--- one node, with the tree of each child in its place
-abbrev pub node : Expr-F ExprTree (ExprTree × ExprTree) → ExprTree
-node Expr-F.Null = ExprTree.Null
-node (Expr-F.Number n) = ExprTree.Number n
-node (Expr-F.Text content) = ExprTree.Text (string_bytes content)
-node (Expr-F.Blob bytes) = ExprTree.Blob bytes.items
-node (Expr-F.Column table name) = ExprTree.Column (option_map (λ table. string_bytes table) table) (string_bytes name)
-node (Expr-F.Prefix op e) = ExprTree.Prefix op e.value
-node (Expr-F.Binary op x y) = ExprTree.Binary op x.value y.value
-node (Expr-F.Postfix op e) = ExprTree.Postfix op e.value
-node (Expr-F.Between negated e x y) = ExprTree.Between negated e.value x.value y.value
-node (Expr-F.In negated e es) = ExprTree.In negated e.value (trees_of es.items)
-node Expr-F.CountRows = ExprTree.CountRows
-node (Expr-F.Call function es) = ExprTree.Call function (trees_of es.items)
-node (Expr-F.Case operand arms otherwise) =
-    ExprTree.Case (maybe_of (option_map (λ e. e.value) operand)) (arms_of arms.items)
-    (maybe_of (option_map (λ e. e.value) otherwise))
-
-abbrev pub arm_node : Arm-F ExprTree (ExprTree × ExprTree) → ExprTree × ExprTree
-arm_node a = (a.when, a.then)
-
-abbrev pub expr_of : Expr → ExprTree
-expr_of = fold-Expr ExprTree (ExprTree × ExprTree) node arm_node
-
-abbrev pub arm_of : Arm → ExprTree × ExprTree
-arm_of = fold-Arm ExprTree (ExprTree × ExprTree) node arm_node
+use Rattle.phrases.specs.Texts.{lexemes_of}
 
 -- What stands at the front
 
@@ -95,20 +62,20 @@ inside_of i.Arguments = spec.Inside.Arguments
 
 -- What was read
 
-abbrev pub seen : Read → spec.Read ExprTree
-seen r = spec.read (expr_of r.tree) r.levels (lexemes_of r.rest.now)
+abbrev pub seen : Read → outcomes.Read ExprTree
+seen r = outcomes.read (expr_of r.tree) r.levels (lexemes_of r.rest.now)
 
-abbrev pub seen_all : ReadAll → spec.Read (List ExprTree)
-seen_all r = spec.read (map expr_of r.trees.items) r.levels (lexemes_of r.rest.now)
+abbrev pub seen_all : ReadAll → outcomes.Read (List ExprTree)
+seen_all r = outcomes.read (map expr_of r.trees.items) r.levels (lexemes_of r.rest.now)
 
-abbrev pub seen_arm : ReadArm → spec.Read (ExprTree × ExprTree)
-seen_arm r = spec.read (arm_of r.arm) r.levels (lexemes_of r.rest.now)
+abbrev pub seen_arm : ReadArm → outcomes.Read (ExprTree × ExprTree)
+seen_arm r = outcomes.read (arm_of r.arm) r.levels (lexemes_of r.rest.now)
 
-abbrev pub seen_arms : ReadArms → spec.Read (List (ExprTree × ExprTree))
-seen_arms r = spec.read (map arm_of r.arms.items) r.levels (lexemes_of r.rest.now)
+abbrev pub seen_arms : ReadArms → outcomes.Read (List (ExprTree × ExprTree))
+seen_arms r = outcomes.read (map arm_of r.arms.items) r.levels (lexemes_of r.rest.now)
 
-abbrev pub seen_maybe : ReadMaybe → spec.Read MaybeExpr
-seen_maybe r = spec.read (maybe_of (option_map expr_of r.tree)) r.levels (lexemes_of r.rest.now)
+abbrev pub seen_maybe : ReadMaybe → outcomes.Read MaybeExpr
+seen_maybe r = outcomes.read (maybe_of (option_map expr_of r.tree)) r.levels (lexemes_of r.rest.now)
 
 -- which arguments of a function are numbers alone, or which members of a list
 abbrev pub numbers_of : Option Function → ℕ → Bool

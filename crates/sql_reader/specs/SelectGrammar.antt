@@ -6,10 +6,10 @@ use Rattle.tokens.specs.declared.keyword.Keyword.TheVariants as k
 use Rattle.tokens.specs.declared.sign.Sign.TheVariants as s
 use Rattle.tokens.specs.declared.token.Quoting.{Quoting}
 use Rattle.sql_reader.specs.ExprGrammar.{Expresses}
-use Rattle.sql_reader.specs.ExprTree.{ExprTree}
-use Rattle.sql_reader.specs.Phrases.{Listed}
-use Rattle.sql_reader.specs.SelectTrees.{NameTree, ResultTree, SelectTree}
-use Rattle.sql_reader.specs.Tree.{Name}
+use Rattle.syntax.specs.ExprTree.{ExprTree}
+use Rattle.phrases.specs.Lists.{Listed}
+use Rattle.syntax.specs.SelectTrees.{NameTree, ResultTree, SelectTree}
+use Rattle.syntax.specs.Tree.{Name}
 
 -- expr, of at most so many levels
 abbrev pub ExpressesWithin : ℕ → ExprTree → List Lexeme → List Lexeme → Type 0

@@ -3,25 +3,18 @@ use Rattle.std.specs.Prelude.{ℕ, suc, List, ◌∷◌, length, Option, Some, N
 use Rattle.tokens.specs.Lexeme.{Lexeme}
 use Rattle.tokens.specs.declared.keyword.Keyword.TheVariants as k
 use Rattle.tokens.specs.declared.sign.Sign.TheVariants as s
-use Rattle.sql_reader.specs.ExprReading.{Outcome, Read, Refusal, ◌>>=◌, expr, kept_if, needed, read, series}
-use Rattle.sql_reader.specs.ExprTree.{ExprTree}
-use Rattle.sql_reader.specs.Reading.{Rest, after_comma, after_from, after_select, ends, name}
-use Rattle.sql_reader.specs.SelectTrees.{NameTree, ResultTree, SelectTree}
-use Rattle.sql_reader.specs.Tree.{Name}
+use Rattle.phrases.specs.Outcomes.{Outcome, Read, Refusal, ◌>>=◌, kept_if, needed, read, series}
+use Rattle.sql_reader.specs.ExprReading.{expr}
+use Rattle.syntax.specs.ExprTree.{ExprTree}
+use Rattle.phrases.specs.Steps.{Rest, after_comma, after_dot, after_keyword, after_star, ends, name}
+use Rattle.syntax.specs.SelectTrees.{NameTree, ResultTree, SelectTree}
+use Rattle.syntax.specs.Tree.{Name}
 
 -- what a result column begins with, and what is behind it
 pub data Beginning : Type 0 where
   Star : Rest → Beginning
   TableStar : Name → Rest → Beginning
   Expression : Beginning
-
-abbrev pub after_dot : Rest → Option Rest
-after_dot (Lexeme.Punctuation s.Dot ∷ ts) = Some ts
-after_dot _ = None
-
-abbrev pub after_star : Rest → Option Rest
-after_star (Lexeme.Punctuation s.Star ∷ ts) = Some ts
-after_star _ = None
 
 abbrev pub star_of : Name → Option Rest → Beginning
 star_of table None = Beginning.Expression
@@ -37,9 +30,14 @@ beginning (Lexeme.Punctuation s.Star ∷ ts) = Beginning.Star ts
 beginning (Lexeme.Name q table ∷ ts) = behind_name table (after_dot ts)
 beginning _ = Beginning.Expression
 
+abbrev pub after_select : Rest → Option Rest
+after_select = after_keyword k.Select
+
+abbrev pub after_from : Rest → Option Rest
+after_from = after_keyword k.From
+
 abbrev pub after_where : Rest → Option Rest
-after_where (Lexeme.Reserved k.Where ∷ ts) = Some ts
-after_where _ = None
+after_where = after_keyword k.Where
 
 -- what a result column is called, behind an expression with this source text
 abbrev pub title : List ℕ → Rest → Outcome (NameTree × Rest)

@@ -7,8 +7,8 @@ use Rattle.tokens.specs.Tokens.{Placed, StandsIn, Tokens}
 use Rattle.tokens.specs.declared.token.Token.{Token}
 use Rattle.tokens.specs.declared.keyword.Grammar.TheVariants as g
 use Rattle.sql_reader.specs.SelectGrammar.{Selects}
-use Rattle.sql_reader.specs.SelectTrees.{SelectTree, columns_of_select}
-use Rattle.sql_reader.specs.Texts.{lexemes, max_columns, max_levels, max_text}
+use Rattle.syntax.specs.SelectTrees.{SelectTree, columns_of_select}
+use Rattle.phrases.specs.Texts.{lexemes, max_columns, max_levels, max_text}
 
 -- the bytes of a text from the beginning of one token to the end of another
 abbrev pub reach : List ℕ → Option Placed → Option Placed → List ℕ

@@ -1,27 +1,25 @@
 //! The reader of expressions: it climbs by the levels of the operators.
 ghost use Rattle.std.specs.Prelude.{◌≡◌, ◌<◌, ◌≤◌, ◌+◌, Bool, IfOk, length, map, option_map, string_bytes, suc};
 ghost use Rattle.sql_reader.specs.ExprReading as spec;
-ghost use Rattle.sql_reader.specs.ExprReading.{Yields};
-ghost use Rattle.sql_reader.specs.ExprView.{arm_of, expr_of, numbers_of, seen, seen_all, seen_arm, seen_arms, seen_maybe};
-ghost use Rattle.sql_reader.specs.Reading as steps;
-ghost use Rattle.sql_reader.specs.View.{lexemes_of};
+ghost use Rattle.phrases.specs.Outcomes.{Yields};
+ghost use Rattle.syntax.specs.ExprView.{arm_of, expr_of};
+ghost use Rattle.sql_reader.specs.ExprView.{numbers_of, seen, seen_all, seen_arm, seen_arms, seen_maybe};
+ghost use Rattle.phrases.specs.Steps as steps;
+ghost use Rattle.phrases.specs.Texts.{lexemes_of};
 ghost use Rattle.tokens.specs.Content.{content_of};
 
 use crate::fronts::{
     Following, Inside, Joint, Opening, binds, following_at, inside_at, joint_at, level_of,
     level_of_prefix, opening_at,
 };
-use crate::steps::{
-    after_and, after_close, after_comma, after_else, after_end, after_open, after_then, after_when,
-    name,
-};
 use crate::trees::{
     between, binary, call, case, column, count_rows, literal, membership, postfix, prefix,
     when_then,
 };
-use crate::{Arm, Expr, Function};
+use phrases::{after_keyword, after_sign, needed, needed_name, place_of};
 use std::alloc::Global;
-use tokens::{Quoting, Token, TokenKind, name_content};
+use syntax::{Arm, Expr, Function};
+use tokens::{Keyword, Quoting, Sign, Token, TokenKind, name_content};
 use values::Fault;
 
 /// What was read, how many levels it has, and the tokens after it.
@@ -64,28 +62,6 @@ pub(crate) struct ReadMaybe<'t> {
     pub rest: &'t [Token<'t>],
 }
 
-/// Where the first token stands, or the end of the text.
-pub(crate) fn place_of(tokens: &[Token<'_>], end: usize) -> usize {
-    match tokens {
-        [first, ..] => first.place,
-        [] => end,
-    }
-}
-
-/// What was found, which these tokens have to begin with.
-pub(crate) fn needed<'t>(
-    found: Option<&'t [Token<'t>]>,
-    tokens: &'t [Token<'t>],
-    end: usize,
-) -> Result<&'t [Token<'t>], Fault>
-    ensures { Yields (λ r. lexemes_of r.now) result (spec.needed (option_map (λ r. lexemes_of r.now) found.entry)) }
-{
-    match found {
-        Some(rest) => Ok(rest),
-        None => Err(Fault::Syntax(place_of(tokens, end))),
-    }
-}
-
 /// These tokens, unless an operator that binds tighter than level 4 stands there.
 fn loosely<'t>(tokens: &'t [Token<'t>], end: usize) -> Result<&'t [Token<'t>], Fault>
     ensures { Yields (λ r. lexemes_of r.now) result (spec.loosely (lexemes_of tokens.now)) }
@@ -117,20 +93,6 @@ fn alone<'t>(tokens: &'t [Token<'t>], end: usize) -> Result<&'t [Token<'t>], Fau
         }
         _ => Err(Fault::Syntax(place_of(tokens, end))),
     }
-}
-
-/// The name at the front, and what is behind it.
-#[tactic(auto, using(crate::proofs::ExprLoops::gives_yields))]
-pub(crate) fn needed_name<'t>(
-    alloc: Global,
-    tokens: &'t [Token<'t>],
-    end: usize,
-) -> Result<(String, &'t [Token<'t>]), Fault>
-    ensures value { Yields (λ r. (string_bytes r.0, lexemes_of r.1.now)) result
-        (spec.needed (steps.name (lexemes_of tokens.now))) }
-    ensures shorter { IfOk result (λ r. length r.1.now < length tokens.now) }
-{
-    name(alloc, tokens, end)
 }
 
 /// The function that a name is, if it isn't quoted.
@@ -210,7 +172,7 @@ fn item<'t>(
 
 /// One item or more, with commas between: the arguments of a function, or the members of a list.
 #[cycle(expr)]
-#[tactic(auto, using(crate::proofs::ExprLoops::first_err, crate::proofs::ExprLoops::first_ok, crate::proofs::ExprLoops::next_err, crate::proofs::ExprLoops::next_ok, crate::proofs::ExprLoops::series_end, crate::proofs::ExprLoops::list_shrinks))]
+#[tactic(auto, using(phrases::proofs::TurnLemmas::first_err, phrases::proofs::TurnLemmas::first_ok, phrases::proofs::TurnLemmas::next_err, phrases::proofs::TurnLemmas::next_ok, phrases::proofs::TurnLemmas::series_end, crate::proofs::ExprLoops::list_shrinks))]
 fn list<'t>(
     alloc: Global,
     depth: usize,
@@ -228,7 +190,7 @@ fn list<'t>(
     trees.push(first.tree)?;
     let mut levels = first.levels;
     let mut rest = first.rest;
-    while let Some(start) = after_comma(rest) {
+    while let Some(start) = after_sign(rest, Sign::Comma) {
         let number = is_number_at(function, trees.len());
         let next = item(alloc, depth, number, start, end)?;
         trees.push(next.tree)?;
@@ -254,7 +216,7 @@ fn arm<'t>(
     ensures within { IfOk result (λ r. r.levels ≤ depth) }
 {
     let when = inner(alloc, depth, 1, tokens, end)?;
-    let rest = needed(after_then(when.rest), when.rest, end)?;
+    let rest = needed(after_keyword(when.rest, Keyword::Then), when.rest, end)?;
     let then = inner(alloc, depth, 1, rest, end)?;
     Ok(ReadArm {
         arm: when_then(when.tree, then.tree),
@@ -265,7 +227,7 @@ fn arm<'t>(
 
 /// The arms of a CASE, behind the first WHEN.
 #[cycle(expr)]
-#[tactic(auto, using(crate::proofs::ExprLoops::first_err, crate::proofs::ExprLoops::first_ok, crate::proofs::ExprLoops::next_err, crate::proofs::ExprLoops::next_ok, crate::proofs::ExprLoops::series_end, crate::proofs::ExprLoops::arms_shrinks))]
+#[tactic(auto, using(phrases::proofs::TurnLemmas::first_err, phrases::proofs::TurnLemmas::first_ok, phrases::proofs::TurnLemmas::next_err, phrases::proofs::TurnLemmas::next_ok, phrases::proofs::TurnLemmas::series_end, crate::proofs::ExprLoops::arms_shrinks))]
 fn arms<'t>(
     alloc: Global,
     depth: usize,
@@ -281,7 +243,7 @@ fn arms<'t>(
     arms.push(first.arm)?;
     let mut levels = first.levels;
     let mut rest = first.rest;
-    while let Some(start) = after_when(rest) {
+    while let Some(start) = after_keyword(rest, Keyword::When) {
         let next = arm(alloc, depth, start, end)?;
         arms.push(next.arm)?;
         levels = levels.max(next.levels);
@@ -303,7 +265,7 @@ fn case_operand<'t>(
         (spec.after_when (lexemes_of tokens.now))) }
     ensures within { IfOk result (λ r. r.levels ≤ depth) }
 {
-    if after_when(tokens).is_some() {
+    if after_keyword(tokens, Keyword::When).is_some() {
         return Ok(ReadMaybe {
             tree: None,
             levels: 0,
@@ -330,8 +292,8 @@ fn otherwise<'t>(
         (spec.otherwise (spec.inner depth) depth (lexemes_of tokens.now) (spec.after_else (lexemes_of tokens.now))) }
     ensures within { IfOk result (λ r. r.levels ≤ depth) }
 {
-    let Some(rest) = after_else(tokens) else {
-        let rest = needed(after_end(tokens), tokens, end)?;
+    let Some(rest) = after_keyword(tokens, Keyword::Else) else {
+        let rest = needed(after_keyword(tokens, Keyword::End), tokens, end)?;
         return Ok(ReadMaybe {
             tree: None,
             levels: 0,
@@ -339,7 +301,7 @@ fn otherwise<'t>(
         });
     };
     let read = inner(alloc, depth, 1, rest, end)?;
-    let rest = needed(after_end(read.rest), read.rest, end)?;
+    let rest = needed(after_keyword(read.rest, Keyword::End), read.rest, end)?;
     Ok(ReadMaybe {
         tree: Some(read.tree),
         levels: read.levels,
@@ -360,7 +322,11 @@ fn choice<'t>(
     ensures within { IfOk result (λ r. r.levels ≤ depth) }
 {
     let operand = case_operand(alloc, depth, tokens, end)?;
-    let whens = needed(after_when(operand.rest), operand.rest, end)?;
+    let whens = needed(
+        after_keyword(operand.rest, Keyword::When),
+        operand.rest,
+        end,
+    )?;
     let arms = arms(alloc, depth, whens, end)?;
     let otherwise = otherwise(alloc, depth, arms.rest, end)?;
     Ok(Read {
@@ -393,14 +359,14 @@ fn arguments<'t>(
         }
         Inside::Star(rest) => match function {
             Function::Count => {
-                let rest = needed(after_close(rest), rest, end)?;
+                let rest = needed(after_sign(rest, Sign::Close), rest, end)?;
                 bare_call(depth, count_rows(), rest)
             }
             _ => Err(Fault::Syntax(place_of(tokens, end))),
         },
         Inside::Arguments => {
             let all = list(alloc, depth, Some(function), tokens, end)?;
-            let rest = needed(after_close(all.rest), all.rest, end)?;
+            let rest = needed(after_sign(all.rest, Sign::Close), all.rest, end)?;
             if !function.takes(all.trees.len()) {
                 return Err(Fault::Syntax(place_of(all.rest, end)));
             }
@@ -484,7 +450,7 @@ fn operand<'t>(
         }
         Opening::Parenthesis(rest) => {
             let read = inner(alloc, depth, 1, rest, end)?;
-            let rest = needed(after_close(read.rest), read.rest, end)?;
+            let rest = needed(after_sign(read.rest, Sign::Close), read.rest, end)?;
             Ok(Read {
                 tree: read.tree,
                 levels: read.levels,
@@ -513,7 +479,7 @@ fn members<'t>(
     ensures within { IfOk result (λ r. r.levels ≤ depth) }
     ensures more { IfOk result (λ r. left.entry.levels < r.levels) }
 {
-    if let Some(rest) = after_close(tokens) {
+    if let Some(rest) = after_sign(tokens, Sign::Close) {
         let rest = loosely(rest, end)?;
         return Ok(Read {
             tree: membership(alloc, negated, left.tree, Vec::new(alloc))?,
@@ -522,7 +488,7 @@ fn members<'t>(
         });
     }
     let all = list(alloc, depth, None, tokens, end)?;
-    let rest = needed(after_close(all.rest), all.rest, end)?;
+    let rest = needed(after_sign(all.rest, Sign::Close), all.rest, end)?;
     let rest = loosely(rest, end)?;
     Ok(Read {
         tree: membership(alloc, negated, left.tree, all.trees)?,
@@ -555,7 +521,7 @@ fn extended<'t>(alloc: Global, depth: usize, left: Read<'t>, end: usize) -> Resu
         }
         Joint::Between(negated, rest) => {
             let low = inner(alloc, depth, 5, rest, end)?;
-            let rest = needed(after_and(low.rest), low.rest, end)?;
+            let rest = needed(after_keyword(low.rest, Keyword::And), low.rest, end)?;
             let high = inner(alloc, depth, 5, rest, end)?;
             Ok(Read {
                 tree: between(alloc, negated, left.tree, low.tree, high.tree)?,
@@ -564,7 +530,7 @@ fn extended<'t>(alloc: Global, depth: usize, left: Read<'t>, end: usize) -> Resu
             })
         }
         Joint::In(negated, rest) => {
-            let rest = needed(after_open(rest), rest, end)?;
+            let rest = needed(after_sign(rest, Sign::Open), rest, end)?;
             members(alloc, depth, negated, left, rest, end)
         }
         Joint::Postfix(operator, rest) => {

@@ -3,9 +3,9 @@ ghost use Rattle.std.specs.Prelude.{◌≡◌, ◌<◌, ◌≤◌, length, IfOk,
 ghost use Rattle.sql_reader.specs.ExprGrammar as grammar;
 ghost use Rattle.sql_reader.specs.ExprReading as spec;
 ghost use Rattle.sql_reader.specs.ExprView.{following_of, inside_of, joint_of, opening_of};
-ghost use Rattle.sql_reader.specs.View.{lexemes_of};
+ghost use Rattle.phrases.specs.Texts.{lexemes_of};
 
-use crate::{BinaryOperator, PostfixOperator, PrefixOperator};
+use syntax::{BinaryOperator, PostfixOperator, PrefixOperator};
 use tokens::{Keyword, Quoting, Sign, Token, TokenKind};
 
 /// A value as it is written.

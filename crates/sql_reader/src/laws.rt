@@ -1,24 +1,16 @@
 //! What holds of the definitions alone.
 ghost use Rattle.std.specs.Prelude.{◌≡◌, List, [], ℕ};
 ghost use Rattle.tokens.specs.Lexeme.{Lexeme};
-ghost use Rattle.sql_reader.specs.CreateGrammar.{SpellsCreate};
 ghost use Rattle.sql_reader.specs.ExprExamples.{Examples};
 ghost use Rattle.sql_reader.specs.ExprGrammar.{Expresses};
-ghost use Rattle.sql_reader.specs.ExprTree.{ExprTree};
+ghost use Rattle.syntax.specs.ExprTree.{ExprTree};
 ghost use Rattle.sql_reader.specs.SelectTexts.{SpellsWithin};
-ghost use Rattle.sql_reader.specs.SelectTrees.{SelectTree};
-ghost use Rattle.sql_reader.specs.Tree.{TableTree};
+ghost use Rattle.syntax.specs.SelectTrees.{SelectTree};
 
 /// A text spells at most one SELECT, whatever levels it has.
 pub fn one_select()
     ensures { (text : List ℕ) (levels others : ℕ) (first second : SelectTree) → SpellsWithin levels text first
         → SpellsWithin others text second → first ≡ second }
-{}
-
-/// A text spells at most one CREATE TABLE.
-pub fn one_create()
-    ensures { (text : List ℕ) (first second : TableTree) → SpellsCreate text first → SpellsCreate text second
-        → first ≡ second }
 {}
 
 /// Tokens spell at most one expression, of so many levels.

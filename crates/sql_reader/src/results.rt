@@ -2,20 +2,22 @@
 ghost use Rattle.std.specs.Prelude.{◌≡◌, ◌<◌, ◌≤◌, ◌-◌, IfOk, length, Some};
 ghost use Rattle.tokens.specs.Content.{content_of, placed_of};
 ghost use Rattle.tokens.specs.Tokens.{StandsIn};
-ghost use Rattle.sql_reader.specs.ExprReading.{Yields};
+ghost use Rattle.phrases.specs.Outcomes.{Yields};
+ghost use Rattle.phrases.specs.Steps as steps;
 ghost use Rattle.sql_reader.specs.SelectReading as spec;
 ghost use Rattle.sql_reader.specs.SelectTexts as texts;
 ghost use Rattle.sql_reader.specs.SelectTexts.{AreCut, source_of};
-ghost use Rattle.sql_reader.specs.SelectTrees.{NameTree};
-ghost use Rattle.sql_reader.specs.SelectView.{beginning_of, name_of, seen_result, seen_results};
-ghost use Rattle.sql_reader.specs.Texts.{max_levels};
-ghost use Rattle.sql_reader.specs.View.{lexemes_of};
+ghost use Rattle.syntax.specs.SelectTrees.{NameTree};
+ghost use Rattle.sql_reader.specs.SelectView.{beginning_of, seen_result, seen_results};
+ghost use Rattle.syntax.specs.SelectView.{name_of};
+ghost use Rattle.phrases.specs.Texts.{max_levels};
+ghost use Rattle.phrases.specs.Texts.{lexemes_of};
 
-use crate::expressions::{expr, needed_name};
+use crate::expressions::expr;
 use crate::limits::EXPR_LEVELS;
-use crate::steps::{after_comma, after_dot, after_star};
-use crate::{ResultColumn, ResultName};
+use phrases::{after_sign, needed_name};
 use std::alloc::{AllocError, Global};
+use syntax::{ResultColumn, ResultName};
 use tokens::{Keyword, Quoting, Sign, Token, TokenKind, name_content};
 use values::Fault;
 
@@ -31,12 +33,12 @@ pub(crate) enum Beginning<'t> {
 /// Whether a name, which is written so, is that of a table before a dot and a star.
 fn behind_name<'t>(quoting: Quoting, inside: &'t str, tokens: &'t [Token<'t>]) -> Beginning<'t>
     ensures { beginning_of result
-        ≡ spec.behind_name (content_of quoting inside.now) (spec.after_dot (lexemes_of tokens.now)) }
+        ≡ spec.behind_name (content_of quoting inside.now) (steps.after_dot (lexemes_of tokens.now)) }
 {
-    let Some(rest) = after_dot(tokens) else {
+    let Some(rest) = after_sign(tokens, Sign::Dot) else {
         return Beginning::Expression;
     };
-    match after_star(rest) {
+    match after_sign(rest, Sign::Star) {
         Some(rest) => Beginning::TableStar(quoting, inside, rest),
         None => Beginning::Expression,
     }
@@ -151,7 +153,7 @@ fn result_column<'t>(
 }
 
 /// The result columns, with commas between them, and what is behind them.
-#[tactic(auto, using(crate::proofs::ExprLoops::series_end))]
+#[tactic(auto, using(phrases::proofs::TurnLemmas::series_end))]
 pub(crate) fn results<'t>(
     alloc: Global,
     text: &str,
@@ -166,7 +168,7 @@ pub(crate) fn results<'t>(
     let mut columns = Vec::new(alloc);
     let (first, mut rest) = result_column(alloc, text, all, tokens)?;
     columns.push(first)?;
-    while let Some(start) = after_comma(rest) {
+    while let Some(start) = after_sign(rest, Sign::Comma) {
         let (next, after) = result_column(alloc, text, all, start)?;
         columns.push(next)?;
         rest = after;

@@ -1,21 +1,23 @@
 //! SELECT texts.
 ghost use Rattle.std.specs.Prelude.{◌≡◌, ◌<◌, ◌-◌, Err, IfErr, IfOk, length, option_map, string_bytes};
-ghost use Rattle.sql_reader.specs.ExprReading.{Yields};
-ghost use Rattle.sql_reader.specs.ExprView.{expr_of};
+ghost use Rattle.phrases.specs.Outcomes.{Yields};
+ghost use Rattle.syntax.specs.ExprView.{expr_of};
 ghost use Rattle.sql_reader.specs.SelectReading as spec;
 ghost use Rattle.sql_reader.specs.SelectTexts.{AreCut, IsRefusedSelect, SpellsSelect, source_of};
-ghost use Rattle.sql_reader.specs.SelectTrees.{columns_of_select};
-ghost use Rattle.sql_reader.specs.SelectView.{select_of};
-ghost use Rattle.sql_reader.specs.Texts.{IsWithin, max_levels, max_text};
-ghost use Rattle.sql_reader.specs.View.{lexemes_of};
+ghost use Rattle.syntax.specs.SelectTrees.{columns_of_select};
+ghost use Rattle.syntax.specs.SelectView.{select_of};
+ghost use Rattle.phrases.specs.Texts.{IsWithin, max_levels, max_text};
+ghost use Rattle.phrases.specs.Texts.{lexemes_of};
 
-use crate::expressions::{expr, needed, needed_name, place_of};
-use crate::limits::{EXPR_LEVELS, MAX_COLUMNS, MAX_LEVELS, MAX_TEXT};
+use crate::expressions::expr;
+use crate::limits::{EXPR_LEVELS, MAX_LEVELS};
 use crate::results::results;
-use crate::steps::{after_from, after_select, after_semicolon, after_where, ends};
-use crate::{Expr, Select};
+use phrases::{
+    MAX_COLUMNS, MAX_TEXT, after_keyword, after_semicolon, ends, needed, needed_name, place_of,
+};
 use std::alloc::Global;
-use tokens::{Grammar, Token, read_tokens};
+use syntax::{Expr, Select};
+use tokens::{Grammar, Keyword, Token, read_tokens};
 use values::Fault;
 
 /// The table behind FROM, if that stands here, and what is behind it.
@@ -27,7 +29,7 @@ fn table<'t>(
     ensures { Yields (λ r. (option_map (λ name. string_bytes name) r.0, lexemes_of r.1.now)) result
         (spec.table (lexemes_of tokens.now)) }
 {
-    let Some(source) = after_from(tokens) else {
+    let Some(source) = after_keyword(tokens, Keyword::From) else {
         return Ok((None, tokens));
     };
     let (name, rest) = needed_name(alloc, source, end)?;
@@ -43,7 +45,7 @@ fn condition<'t>(
     ensures { Yields (λ r. (option_map expr_of r.0, lexemes_of r.1.now)) result
         (spec.condition (max_levels - 1) (lexemes_of tokens.now)) }
 {
-    let Some(start) = after_where(tokens) else {
+    let Some(start) = after_keyword(tokens, Keyword::Where) else {
         return Ok((None, tokens));
     };
     let read = expr(alloc, EXPR_LEVELS, 1, start, end)?;
@@ -58,7 +60,7 @@ fn statement(alloc: Global, text: &str, tokens: &[Token<'_>]) -> Result<Select, 
         (spec.select (source_of text.now tokens.now) (max_levels - 1) (lexemes_of tokens.now)) }
 {
     let end = text.len();
-    let rest = needed(after_select(tokens), tokens, end)?;
+    let rest = needed(after_keyword(tokens, Keyword::Select), tokens, end)?;
     let (columns, rest) = results(alloc, text, tokens, rest)?;
     let (table, rest) = table(alloc, rest, end)?;
     let (condition, rest) = condition(alloc, rest, end)?;

@@ -1,11 +1,12 @@
 //! Expressions of expressions.
 ghost use Rattle.std.specs.Prelude.{◌≡◌, IfOk, map, option_map, string_bytes};
-ghost use Rattle.sql_reader.specs.ExprTree.{ExprTree, arms_of, trees_of};
-ghost use Rattle.sql_reader.specs.ExprView.{arm_of, expr_of, literal_of, maybe_of};
+ghost use Rattle.syntax.specs.ExprTree.{ExprTree, arms_of, trees_of};
+ghost use Rattle.syntax.specs.ExprView.{arm_of, expr_of, maybe_of};
+ghost use Rattle.sql_reader.specs.ExprView.{literal_of};
 
 use crate::fronts::Literal;
-use crate::{Arm, BinaryOperator, Expr, Function, PostfixOperator, PrefixOperator};
 use std::alloc::{AllocError, Global};
+use syntax::{Arm, BinaryOperator, Expr, Function, PostfixOperator, PrefixOperator};
 use tokens::{blob_content, text_content};
 
 pub(crate) fn literal(alloc: Global, value: Literal<'_>) -> Result<Expr, AllocError>

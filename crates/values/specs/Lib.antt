@@ -1,4 +1,6 @@
 pub mod Datum
+pub mod Row
+pub mod Database
 pub mod Order
 pub mod OrderLaws
 pub mod Hashed

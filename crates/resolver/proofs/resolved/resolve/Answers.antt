@@ -2,7 +2,7 @@ use Rattle.std.proofs.Common.{refl, rules}
 use Rattle.std.proofs.lemmas.List.{length-map}
 use Rattle.std.proofs.lemmas.Result.{err_from_is_err_and}
 use Rattle.meaning.specs.Query.{column}
-use Rattle.sql_reader.specs.SelectView.{select_of}
+use Rattle.syntax.specs.SelectView.{select_of}
 use Rattle.resolver.specs.PlainView.{columns_of}
 use Rattle.resolver.specs.Resolved.{column_names}
 use Rattle.resolver.proofs.ColumnLemmas.{zip_map_left}

@@ -1,7 +1,7 @@
 use Rattle.std.proofs.Common.{rules, tests, ◌≡◌}
 use Rattle.std.proofs.lemmas.Iterator.{YieldsList-from_slice, cases_from_any}
-use Rattle.sql_reader.specs.Tree.{ConstraintTree}
-use Rattle.sql_reader.specs.View.{constraint_of}
+use Rattle.syntax.specs.CreateTrees.{ConstraintTree}
+use Rattle.syntax.specs.CreateView.{constraint_of}
 use Rattle.schema.proofs.ColumnLemmas.{contains_constraint, is_not_null, is_other}
 use Rattle.schema.proofs.ListLemmas.{any_is}
 use Rattle.schema.proofs.created.is_not_null.Goals as goal

@@ -1,6 +1,6 @@
 use Rattle.std.proofs.Common.{map, inr, refl}
 use Rattle.std.proofs.lemmas.Result.{err_from_is_err_and}
-use Rattle.sql_reader.specs.View.{column_of}
+use Rattle.syntax.specs.CreateView.{column_of}
 use Rattle.schema.proofs.CreatedLemmas.{distinct_names, doubled_refused, keys_found, keys_refused, place_within, reserved_refused, unreserved}
 use Rattle.schema.proofs.created.table_from.Goals as goal
 use Rattle.schema.proofs.created.table_from.Goals.{then-is_reserved-via-else-is_reserved+then-not-are_distinct, then-is_reserved-via-then-is_reserved}

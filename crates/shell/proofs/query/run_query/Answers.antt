@@ -1,7 +1,6 @@
 use Rattle.std.proofs.Common.{◌≡◌, ◌∙◌, sym, subst, arith}
 use Rattle.std.proofs.lemmas.Result.{err_from_is_err_and}
-use Rattle.image.specs.Pages.{Pages, pages_in, pages_of}
-use Rattle.btree.specs.Rest.{pages_seen}
+use Rattle.image.specs.Pages.{pages_seen, Pages, pages_in, pages_of}
 use Rattle.schema.specs.TableData.{TableData}
 use Rattle.integrity.specs.Stored.{IsStored}
 use Rattle.shell.specs.Stream.{IsUnchained}
@@ -12,8 +11,8 @@ pub write_rows-requires-clause-columns : goal.write_rows-requires-clause-columns
 write_rows-requires-clause-columns g c =
     columns_within c.args.tables.now c.args.source c.args.columns.now c.table_of.result.now c.requires.typed c.table_of.ensures
 
-pub returns-in_err-rows-clause-stops : goal.returns-in_err-rows-clause-stops
-returns-in_err-rows-clause-stops g c = λ steady.
+pub returns-in_err-rows-clause-answer : goal.returns-in_err-rows-clause-answer
+returns-in_err-rows-clause-answer g c = λ steady.
     let p = err_from_is_err_and c.from_residual.result c.from_residual.ensures.1 in
     rw (p.1, p.2)
     (stops c.args.pager.now.state c.args.tables.now c.args.source c.args.columns.now c.table_of.result.now c.requires.ready

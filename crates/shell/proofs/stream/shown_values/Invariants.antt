@@ -1,6 +1,6 @@
 use Rattle.std.proofs.Common.{◌≡◌, length, map, take}
 use Rattle.values.specs.Datum.{datum_of_ref}
-use Rattle.meaning.specs.Body.{Row}
+use Rattle.values.specs.Row.{Row}
 use Rattle.integrity.specs.Reading.{IsReading}
 use Rattle.integrity.specs.Stored.{IsRowRecord}
 use Rattle.shell.specs.Stream.{shown}

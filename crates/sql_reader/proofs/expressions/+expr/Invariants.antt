@@ -1,9 +1,10 @@
 use Rattle.std.proofs.Common.{◌≡◌, ◌≤◌, ◌+◌, length, suc, ◌-◌, ◌*◌}
-use Rattle.sql_reader.proofs.ExprLoops.{GoesOn}
+use Rattle.phrases.proofs.TurnLemmas.{GoesOn}
 use Rattle.sql_reader.specs.ExprReading.{after_when, arm, arms, climb, expr, inner, item, list}
-use Rattle.sql_reader.specs.ExprView.{arm_of, expr_of, numbers_of, seen}
-use Rattle.sql_reader.specs.Reading.{after_comma}
-use Rattle.sql_reader.specs.View.{lexemes_of}
+use Rattle.syntax.specs.ExprView.{arm_of, expr_of}
+use Rattle.sql_reader.specs.ExprView.{numbers_of, seen}
+use Rattle.phrases.specs.Steps.{after_comma}
+use Rattle.phrases.specs.Texts.{lexemes_of}
 use Rattle.sql_reader.proofs.expressions.+expr.Given as goal
 
 abbrev pub decreases-inner : goal.decreases-inner

@@ -1,16 +1,16 @@
 use Rattle.std.proofs.Common.{ℕ, List, sym, arith}
 use Rattle.std.proofs.lemmas.Result.{err_from_is_err_and}
 use Rattle.tokens.specs.declared.token.Token.{Token}
-use Rattle.sql_reader.proofs.ExprLoops.{first_err, first_ok, next_err, next_ok}
+use Rattle.phrases.proofs.TurnLemmas.{first_err, first_ok, next_err, next_ok}
 use Rattle.sql_reader.proofs.SelectLoops.{results_shrink}
 use Rattle.sql_reader.proofs.results.results.Goals as goal
-use Rattle.sql_reader.specs.ExprReading.{Outcome, Read}
-use Rattle.sql_reader.specs.Reading.{Rest, after_comma}
+use Rattle.phrases.specs.Outcomes.{Outcome, Read}
+use Rattle.phrases.specs.Steps.{Rest, after_comma}
 use Rattle.sql_reader.specs.SelectReading.{result_column, results}
 use Rattle.sql_reader.specs.SelectTexts.{source_of}
-use Rattle.sql_reader.specs.SelectTrees.{ResultTree}
-use Rattle.sql_reader.specs.SelectView.{result_of}
-use Rattle.sql_reader.specs.View.{lexemes_of}
+use Rattle.syntax.specs.SelectTrees.{ResultTree}
+use Rattle.syntax.specs.SelectView.{result_of}
+use Rattle.phrases.specs.Texts.{lexemes_of}
 
 -- a result column at any place of the list
 abbrev phrase : List ℕ → List Token → ℕ → Rest → Outcome (Read ResultTree)

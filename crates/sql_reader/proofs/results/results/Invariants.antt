@@ -1,11 +1,11 @@
 use Rattle.std.proofs.Common.{◌≤◌, length}
-use Rattle.sql_reader.proofs.ExprLoops.{GoesOn}
+use Rattle.phrases.proofs.TurnLemmas.{GoesOn}
 use Rattle.sql_reader.proofs.results.results.Given as goal
-use Rattle.sql_reader.specs.Reading.{after_comma}
+use Rattle.phrases.specs.Steps.{after_comma}
 use Rattle.sql_reader.specs.SelectReading.{result_column, results}
 use Rattle.sql_reader.specs.SelectTexts.{source_of}
-use Rattle.sql_reader.specs.SelectView.{result_of}
-use Rattle.sql_reader.specs.View.{lexemes_of}
+use Rattle.syntax.specs.SelectView.{result_of}
+use Rattle.phrases.specs.Texts.{lexemes_of}
 
 -- the columns so far, before those still to come, are all
 abbrev pub invariant-loop-start : goal.invariant-loop-start

@@ -5,8 +5,8 @@ use Rattle.sql_reader.proofs.SelectLoops.{same_columns}
 use Rattle.sql_reader.proofs.select.read_select.Goals as goal
 use Rattle.sql_reader.specs.SelectReading.{whole}
 use Rattle.sql_reader.specs.SelectTexts.{source_of}
-use Rattle.sql_reader.specs.SelectView.{select_of}
-use Rattle.sql_reader.specs.View.{lexemes_of}
+use Rattle.syntax.specs.SelectView.{select_of}
+use Rattle.phrases.specs.Texts.{lexemes_of}
 use Rattle.tokens.specs.declared.token.Token.{Token}
 
 pub returns-then-len-gt-MAX_COLUMNS-clause-refused : goal.returns-then-len-gt-MAX_COLUMNS-clause-refused

@@ -1,7 +1,7 @@
 use Rattle.std.proofs.Common.{◌∙◌, List, ap, subst, inr}
 use Rattle.std.proofs.lemmas.Result.{err_from_is_err_and}
 use Rattle.schema.specs.TableData.{TableData}
-use Rattle.sql_reader.specs.SelectView.{select_of}
+use Rattle.syntax.specs.SelectView.{select_of}
 use Rattle.resolver.specs.Resolved.{IsRefused}
 use Rattle.shell.specs.State.{EngineState}
 use Rattle.shell.proofs.engine.Engine.prepare.Goals as goal

@@ -1,0 +1,33 @@
+-- What a text spells as a CREATE TABLE, and why it spells none.
+use Rattle.std.proofs.Common.{◌≡◌, ℕ, List, map, Some}
+use Rattle.values.specs.declared.fault.Fault.{Fault}
+use Rattle.tokens.specs.Content.{placed_of}
+use Rattle.tokens.specs.Tokens as tokens
+use Rattle.tokens.specs.Tokens.{Tokens}
+use Rattle.tokens.specs.declared.keyword.Grammar.TheVariants as g
+use Rattle.tokens.specs.declared.token.Token.{Token}
+use Rattle.phrases.proofs.TextLemmas.{IsReader, one_tree, refused, spelt_by, tokens_refused}
+use Rattle.phrases.specs.Steps.{IsMissing}
+use Rattle.phrases.specs.Texts.{IsRefused, lexemes_of}
+use Rattle.syntax.specs.CreateTrees.{TableTree, columns_of_table}
+use Rattle.create_reader.proofs.CreateLemmas.{create_complete, create_sound}
+use Rattle.create_reader.specs.CreateGrammar.{Creates, SpellsCreate}
+use Rattle.create_reader.specs.CreateReading.{create}
+
+reads_create : IsReader Creates create
+reads_create = record { sound = create_sound; complete = λ ts tree s. create_complete s }
+
+pub create_spelt : (text : List ℕ) (items : List Token) (tree : TableTree)
+    → Tokens g.Create text (map placed_of items) → create (lexemes_of items) ≡ Some tree → SpellsCreate text tree
+create_spelt = spelt_by g.Create Creates create reads_create
+
+pub create_refused : (text : List ℕ) (items : List Token) (e : Fault) → Tokens g.Create text (map placed_of items)
+    → IsMissing e (create (lexemes_of items)) → IsRefused SpellsCreate columns_of_table text e
+create_refused = refused g.Create Creates create columns_of_table reads_create
+
+pub create_tokens_refused : (text : List ℕ) (e : Fault) → tokens.IsRefused g.Create text e
+    → IsRefused SpellsCreate columns_of_table text e
+create_tokens_refused = tokens_refused g.Create Creates columns_of_table
+
+pub one_create : (text : List ℕ) (a b : TableTree) → SpellsCreate text a → SpellsCreate text b → a ≡ b
+one_create = one_tree g.Create Creates create reads_create

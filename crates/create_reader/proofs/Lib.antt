@@ -1,0 +1,3 @@
+pub mod CreateLemmas
+pub mod ColumnLemmas
+pub mod CreateTexts

@@ -1,0 +1,2 @@
+pub mod CreateGrammar
+pub mod CreateReading

@@ -1,0 +1,220 @@
+//! Worked texts.
+use crate::{Column, ColumnConstraint, ColumnType, CreateTable, read_create};
+use std::alloc::Global;
+use std::process::Abort;
+use std::test::Fail;
+use values::Fault;
+
+/// A text with spaces behind it, up to a length.
+fn padded(alloc: Global, text: &str, len: usize) -> Result<String, Fail> {
+    let mut padded = String::from_str(alloc, text)?;
+    for _ in text.len()..len {
+        padded.push_str(" ")?;
+    }
+    Ok(padded)
+}
+
+/// A column in a form of the tests' own: its name, its type and its constraints.
+fn write_column(text: &mut String, column: &Column) -> Result<(), Fail> {
+    text.push_str(" | ")?;
+    text.push_str(column.name.as_str())?;
+    text.push_str(match column.ty {
+        ColumnType::Int => ": int",
+        ColumnType::Integer => ": integer",
+        ColumnType::Text => ": text",
+        ColumnType::Blob => ": blob",
+    })?;
+    for constraint in &column.constraints {
+        text.push_str(match constraint {
+            ColumnConstraint::PrimaryKey => " key",
+            ColumnConstraint::NotNull => " filled",
+        })?;
+    }
+    Ok(())
+}
+
+/// A table in a form of the tests' own.
+fn written(alloc: Global, table: &CreateTable) -> Result<String, Fail> {
+    let mut text = String::from_str(alloc, table.name.as_str())?;
+    for column in &table.columns {
+        write_column(&mut text, column)?;
+    }
+    Ok(text)
+}
+
+/// A text spells this table.
+fn expect_table(rt: &impl Abort, alloc: Global, text: &str, expected: &str) -> Result<(), Fail> {
+    let table = read_create(alloc, text)?;
+    let written = written(alloc, &table)?;
+    assert!(rt;
+        written.as_str() == expected,
+        "{} in {text}",
+        written.as_str()
+    );
+    Ok(())
+}
+
+/// Texts of tables as SQLite keeps them in its schema, with the names, types and constraints that it reports.
+const TABLES: [(&str, &str); 21] = [
+    ("CREATE TABLE t(a INT) STRICT", "t | a: int"),
+    ("CREATE TABLE t (a int) strict", "t | a: int"),
+    (
+        "CREATE TABLE item(id INTEGER PRIMARY KEY, name TEXT NOT NULL, picture BLOB) STRICT",
+        "item | id: integer key | name: text filled | picture: blob",
+    ),
+    (
+        "CREATE TABLE people (\n    id   INTEGER  PRIMARY   KEY,\n    nick TEXT\n  )  STRICT  ",
+        "people | id: integer key | nick: text",
+    ),
+    (
+        "CREATE TABLE \"my table\"(\"a\"\"b\" TEXT, [c d] BLOB, `e,f` INT) STRICT",
+        "my table | a\"b: text | c d: blob | e,f: int",
+    ),
+    (
+        "CREATE TABLE t(a INTEGER PRIMARY KEY NOT NULL) STRICT",
+        "t | a: integer key filled",
+    ),
+    (
+        "CREATE TABLE t(a INTEGER NOT NULL PRIMARY KEY) STRICT",
+        "t | a: integer filled key",
+    ),
+    (
+        "CREATE TABLE t(a TEXT PRIMARY KEY) STRICT",
+        "t | a: text key",
+    ),
+    (
+        "CREATE TABLE t(a INTEGER/* the key */PRIMARY KEY,-- and then\n b TEXT)STRICT",
+        "t | a: integer key | b: text",
+    ),
+    (
+        "CREATE TABLE t(a Integer Primary Key,b Text Not Null)Strict",
+        "t | a: integer key | b: text filled",
+    ),
+    (
+        "CREATE TABLE t(key INT, strict TEXT, text BLOB) STRICT",
+        "t | key: int | strict: text | text: blob",
+    ),
+    (
+        "CREATE TABLE \"t\"(\"primary\" TEXT NOT NULL, \"select\" INT) STRICT",
+        "t | primary: text filled | select: int",
+    ),
+    (
+        "CREATE TABLE t(\ta\tBLOB\t,\r\n\u{c}b\u{c}INT)\tSTRICT -- end",
+        "t | a: blob | b: int",
+    ),
+    (
+        "CREATE TABLE t(a INT NOT NULL NOT NULL) STRICT",
+        "t | a: int filled filled",
+    ),
+    (
+        "CREATE TABLE größe(länge INT, \"höhe\" TEXT) STRICT",
+        "größe | länge: int | höhe: text",
+    ),
+    (
+        "CREATE TABLE _t1(_a INT,b_2 INTEGER) STRICT",
+        "_t1 | _a: int | b_2: integer",
+    ),
+    (
+        "CREATE TABLE t/**/(/**/a/**/INT/**/)/**/STRICT",
+        "t | a: int",
+    ),
+    (
+        "CREATE TABLE t(row INT, table_name TEXT, limit_ INT) STRICT",
+        "t | row: int | table_name: text | limit_: int",
+    ),
+    ("CREATE TABLE t(a INT)\nSTRICT\n", "t | a: int"),
+    (
+        "CREATE TABLE T(A INT,B INT,C INT) STRICT",
+        "T | A: int | B: int | C: int",
+    ),
+    (
+        "CREATE TABLE key(no INT, action TEXT, rows BLOB) STRICT",
+        "key | no: int | action: text | rows: blob",
+    ),
+];
+
+#[test]
+fn tables(rt: HostRuntime) -> Result<(), Fail> {
+    for (text, expected) in TABLES {
+        expect_table(&rt, rt.alloc(), text, expected)?;
+    }
+    Ok(())
+}
+
+/// A text is refused as no CREATE TABLE at this place.
+fn expect_no_table(rt: &impl Abort, alloc: Global, text: &str, place: usize) {
+    match read_create(alloc, text) {
+        Ok(_) => assert!(rt; false, "a CREATE TABLE: {text}"),
+        Err(fault) => assert!(rt; fault == Fault::Syntax(place), "{fault:?} in {text}"),
+    }
+}
+
+/// Texts that spell no table, with the place of the token that can't stand there.
+const NO_TABLES: [(&str, usize); 29] = [
+    ("", 0),
+    ("CREATE", 6),
+    ("SELECT * FROM t", 0),
+    ("CREATE INDEX i ON t(a)", 7),
+    ("CREATE TABLE table(a INT) STRICT", 13),
+    ("CREATE TABLE t a INT STRICT", 15),
+    ("CREATE TABLE t() STRICT", 15),
+    ("CREATE TABLE t(a INT,,b INT) STRICT", 21),
+    ("CREATE TABLE t(a INT,) STRICT", 21),
+    ("CREATE TABLE t(a INT", 20),
+    ("CREATE TABLE t(a INT)", 21),
+    ("CREATE TABLE t(a INT) ;", 22),
+    ("CREATE TABLE t(a INT) STRICT;", 28),
+    ("CREATE TABLE t(a INT) STRICT, STRICT", 28),
+    ("CREATE TABLE t(a INT) STRICT STRICT", 29),
+    ("CREATE TABLE t(a INT) \"STRICT\"", 22),
+    ("CREATE TABLE t(a INT) WITHOUT ROWID", 22),
+    ("CREATE TABLE t(a) STRICT", 16),
+    ("CREATE TABLE t(a REAL) STRICT", 17),
+    ("CREATE TABLE t(a \"INT\") STRICT", 17),
+    ("CREATE TABLE t(a INT INT) STRICT", 21),
+    ("CREATE TABLE t(a INT PRIMARY) STRICT", 28),
+    ("CREATE TABLE t(a INT PRIMARY \"KEY\") STRICT", 29),
+    ("CREATE TABLE t(a INT NOT, b INT) STRICT", 24),
+    ("CREATE TABLE t(a INT KEY) STRICT", 21),
+    ("CREATE TABLE t(a INT NULL) STRICT", 21),
+    ("CREATE TABLE t(select INT) STRICT", 15),
+    ("CREATE TABLE größe(a INT b) STRICT", 27),
+    ("CREATE TABLE t(a INT) STRICT /*", 29),
+];
+
+#[test]
+fn no_tables(rt: HostRuntime) {
+    for (text, place) in NO_TABLES {
+        expect_no_table(&rt, rt.alloc(), text, place);
+    }
+}
+
+/// A table of so many columns.
+fn table_of(alloc: Global, count: usize) -> Result<String, Fail> {
+    let mut text = String::from_str(alloc, "CREATE TABLE t(a INT")?;
+    for _ in 1..count {
+        text.push_str(",a INT")?;
+    }
+    text.push_str(") STRICT")?;
+    Ok(text)
+}
+
+#[test]
+fn limits_of_tables(rt: HostRuntime) -> Result<(), Fail> {
+    let alloc = rt.alloc();
+    let most = table_of(alloc, 100)?;
+    assert_eq!(rt; read_create(alloc, most.as_str())?.columns.len(), 100);
+    let more = table_of(alloc, 101)?;
+    match read_create(alloc, more.as_str()) {
+        Ok(_) => assert!(rt; false),
+        Err(fault) => assert!(rt; fault == Fault::Limit),
+    }
+    let longest = padded(alloc, "CREATE TABLE t(a INT) STRICT", 65536)?;
+    expect_table(&rt, alloc, longest.as_str(), "t | a: int")?;
+    let longer = padded(alloc, "CREATE TABLE t(a INT) STRICT", 65537)?;
+    match read_create(alloc, longer.as_str()) {
+        Ok(_) => assert!(rt; false),
+        Err(fault) => assert!(rt; fault == Fault::Limit),
+    }
+    Ok(())
+}

@@ -1,0 +1,201 @@
+"""The gate of the repository, which `./check` calls.
+
+    ./check         the whole: proves every crate and its tests from nothing, runs the tests and the programs, tries the
+                    must-fail edits of this turn, and compares with the sqlite3 program
+    ./check --all   the same with every must-fail edit
+    ./check quick   what one runs while working: the layout of all crates; proofs over what earlier checks kept; the tests
+                    and the edits of the crates that differ from the commit in gate/passed; the comparisons at their smallest
+
+Each part ends with a line 'N passed, M failed'; the last line adds these. Before it stand how many edits were tried, and the
+processor time, user and system, of all that was started.
+"""
+
+from __future__ import annotations
+
+import argparse
+import os
+import re
+import resource
+import shutil
+import subprocess
+import sys
+import tempfile
+import time
+from concurrent.futures import ThreadPoolExecutor
+from dataclasses import dataclass, field
+from pathlib import Path
+
+from kit import rt
+from turns import changed_crates
+
+TOP = Path(__file__).resolve().parent.parent
+# What stands beside the sources and is no part of them.
+MADE = ("out", ".git", "__pycache__")
+# The programs that the scripts of compare/ run.
+PROGRAMS = ("forge_images", "seleq", "table_counts", "table_rows")
+COUNTS = re.compile(r"(\d+) passed, (\d+) failed")
+
+
+@dataclass
+class Sum:
+    """What passed and what failed, of all parts."""
+
+    passed: int = 0
+    failed: int = 0
+    tried: str = ""
+
+    def add(self, part: Part, lines: list[str], status: int) -> None:
+        """Adds the last line of a part. One that ended otherwise is a failure."""
+        counts = COUNTS.fullmatch(lines[-1]) if lines else None
+        if counts:
+            self.passed += int(counts[1])
+            self.failed += int(counts[2])
+        if not counts or bool(status) != bool(int(counts[2])):
+            print(f"{part.name} ended with status {status}")
+            self.failed += 1
+        self.tried = next((line for line in lines if line.endswith(" edits were tried")), self.tried)
+
+    def add_one(self, what: str, is_well: bool) -> None:
+        """Adds one thing that passed or failed."""
+        print(f"{what}: {'passed' if is_well else 'FAILED'}", flush=True)
+        self.passed += is_well
+        self.failed += not is_well
+
+
+@dataclass
+class Part:
+    """A command that prints lines, the last of which counts what passed and what failed."""
+
+    name: str
+    words: list[str]
+    folder: Path = TOP
+    more: dict[str, str] = field(default_factory=dict)
+
+    def run(self, is_shown: bool = False) -> tuple[list[str], int]:
+        """Runs the command: its lines, and its exit status. The lines are shown while it runs, or behind it."""
+        began, lines = time.time(), []
+        how = {"stdin": subprocess.DEVNULL, "stdout": subprocess.PIPE, "stderr": subprocess.STDOUT, "errors": "replace"}
+        with subprocess.Popen(self.words, cwd=self.folder, env={**os.environ, **self.more}, **how) as ran:
+            for line in ran.stdout:
+                lines.append(line.rstrip("\n"))
+                if is_shown:
+                    print(lines[-1], flush=True)
+        shown = [] if is_shown else lines
+        print("\n".join([*shown, f"-- {self.name}: {time.time() - began:.0f} s"]), flush=True)
+        return lines, ran.returncode
+
+
+def scripts(folder: Path, more: dict[str, str], rounds: list[str]) -> list[Part]:
+    """The comparisons, over programs that are built."""
+    more = {**more, "BUILT": "1"}
+    shells = [Part(name, ["sh", f"compare/{name}.sh"], folder, more) for name in ("forged", "counts", "tables", "answers")]
+    return [Part("outside", ["python3", "compare/outside.py", "--built", *rounds], folder, more), *shells]
+
+
+def run_beside(parts: list[Part], total: Sum) -> None:
+    """Runs parts side by side."""
+    with ThreadPoolExecutor(len(parts)) as pool:
+        for part, (lines, status) in zip(parts, pool.map(Part.run, parts)):
+            total.add(part, lines, status)
+
+
+def check_whole(is_all: bool, total: Sum) -> None:
+    """Runs `rt ci` on a copy without the edits, and then, over what it proved and built, these beside the comparisons."""
+    with tempfile.TemporaryDirectory(prefix="check-") as room:
+        copy = Path(room, "repository")
+        shutil.copytree(TOP, copy, ignore=shutil.ignore_patterns(*MADE))
+        for edits in copy.glob("crates/*/must-fail"):
+            shutil.rmtree(edits)
+        proved = Part("rt ci", ["rt", "ci"], copy)
+        lines, status = proved.run(is_shown=True)
+        total.add(proved, lines, status)
+        for edits in TOP.glob("crates/*/must-fail"):
+            shutil.copytree(edits, copy / edits.relative_to(TOP))
+        if not status:
+            edits = Part("edits", ["python3", "gate/edits.py", *([] if is_all else turn())], copy, {"EDITS_ROOM": room})
+            run_beside([edits, *scripts(copy, {}, [])], total)
+        # What was proved and tried is what stands here.
+        without = [word for name in MADE for word in ("-x", name)]
+        total.add_one("the copy is the repository", not subprocess.run(["diff", "-rq", *without, TOP, copy], check=False).returncode)
+
+
+def turn() -> list[str]:
+    """What tells the edits their turn: nothing where all are to be tried."""
+    changed = changed_crates()
+    commit = subprocess.run(["git", "-C", str(TOP), "rev-parse", "HEAD"], capture_output=True, text=True, check=False)
+    if changed is None or commit.returncode:
+        return []
+    return ["--turn", commit.stdout.strip(), "--changed", ",".join(sorted(changed))]
+
+
+def check_quick(total: Sum) -> None:
+    """Checks over kept work what differs from the commit on which the gate passed."""
+    crates = rt.rtlib.crates_below(str(TOP))
+    changed = changed_crates()
+    names = {it.name for it in crates} if changed is None else changed
+    print(f"differing crates: {' '.join(sorted(names)) or 'none'}", flush=True)
+    laid_out = [rt.rtlib.fmt(it.folder, "--check", sys.stdout) == 0 for it in crates]
+    total.add_one("the layout", all(laid_out))
+    is_proved = passes(["rt", "all", "check", "--jobs", str(rt.processors())], TOP)
+    total.add_one("the proofs", is_proved)
+    # Run without its words, a program is built, and refuses them.
+    built = is_proved and all(is_built(TOP / "crates" / name) for name in PROGRAMS)
+    total.add_one("the programs", built)
+    if not built:
+        return
+    edited = [it.name for it in crates if it.name in names and rt.edits_of(it)[0]]
+    parts = [Part("edits", ["python3", "gate/edits.py", "--kept", *edited])] if edited else []
+    parts += scripts(TOP, {"SMALL": "1"}, ["--rounds", "50"])
+    with ThreadPoolExecutor(1) as pool:
+        tests = pool.submit(test_crates, [it for it in crates if it.name in names and it.has_tests()], total)
+        run_beside(parts, total)
+        tests.result()
+
+
+def test_crates(crates: list, total: Sum) -> None:
+    """Proves and runs the tests of crates, one after the other, since each of them may build the libraries below."""
+    for crate in crates:
+        total.add_one(f"the tests of {crate.name}", passes(["rt", "test", "--jobs", "1"], Path(crate.folder)))
+
+
+def is_built(folder: Path) -> bool:
+    """Builds a program, by a run without words, which it may refuse."""
+    program = folder / "out" / folder.name
+    program.unlink(missing_ok=True)
+    passes(["rt", "run"], folder)
+    return program.exists()
+
+
+def passes(words: list[str], folder: Path) -> bool:
+    """Whether a command ends well. What it says is shown where it doesn't."""
+    ran = subprocess.run(words, cwd=folder, stdin=subprocess.DEVNULL, capture_output=True, text=True, errors="replace", check=False)
+    if ran.returncode:
+        print((ran.stdout + ran.stderr)[-6000:], flush=True)
+    return ran.returncode == 0
+
+
+def read_words() -> argparse.Namespace:
+    """The command line."""
+    parser = argparse.ArgumentParser(prog="./check", description="Proves, tests and compares all crates.")
+    parser.add_argument("how", nargs="?", choices=["whole", "quick"], default="whole", help="quick: over kept work, what differs")
+    parser.add_argument("--all", action="store_true", help="every must-fail edit, not those of a turn")
+    return parser.parse_args()
+
+
+def main() -> int:
+    """Runs the gate, and adds up."""
+    words, total, began = read_words(), Sum(), time.time()
+    if words.how == "quick":
+        check_quick(total)
+    else:
+        check_whole(words.all, total)
+    used = [resource.getrusage(who) for who in (resource.RUSAGE_CHILDREN, resource.RUSAGE_SELF)]
+    minutes = sum(it.ru_utime + it.ru_stime for it in used) / 60
+    print(f"{(time.time() - began) / 60:.0f} minutes, {minutes:.0f} minutes of processor time")
+    print(total.tried or "no edits were tried")
+    print(f"{total.passed} passed, {total.failed} failed")
+    return 1 if total.failed else 0
+
+
+if __name__ == "__main__":
+    sys.exit(main())
