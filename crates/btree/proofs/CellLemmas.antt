@@ -11,7 +11,8 @@ use Rattle.image.specs.declared.kind.TreeKind.TheVariants.{Table, Index}
 use Rattle.std.proofs.lemmas.Bool.Decides.{nat_tests}
 use Rattle.pager.specs.Header.{field}
 use Rattle.image.specs.Cell.{most_local, local_size, overflow_size, overflow_of, CellData, PayloadData, IsPayload, IsTableCell, IsIndexCell}
-use Rattle.btree.specs.Bytes.{FitsIn, IsDividerOf}
+use Rattle.image.specs.Cell.{FitsIn}
+use Rattle.btree.specs.Bytes.{IsDividerCell}
 
 pub IfNone-always : {T : Type 0} {P : Type 0} (r : Option T) → P → IfNone r P
 IfNone-always None p = p
@@ -136,21 +137,21 @@ module _ (at : ℕ) (page : List ℕ) (i place : ℕ) (is : place ≡ cell_place
   key_at : rest_of page (place + 4) ≡ key_bytes
   key_at = take_rest page (place + 4) ∙ ap (λ (n : ℕ). drop (n + 4) page) is ∙ sym (drop-drop 4 (cell_place at Interior page i) page)
 
-  pub no_divider_before : place < places_end at Interior page → (key : ℤ) → ¬ IsDividerOf at page i key
+  pub no_divider_before : place < places_end at Interior page → (key : ℤ) → ¬ IsDividerCell at page i key
   no_divider_before before key h = let begins = h.begins in absurd (omega (arith, is, begins))
 
-  pub no_divider_inside : length page < place + 4 → (key : ℤ) → ¬ IsDividerOf at page i key
+  pub no_divider_inside : length page < place + 4 → (key : ℤ) → ¬ IsDividerCell at page i key
   no_divider_inside past key h =
       let some = begins_some key_bytes key h.is.length h.is.key_is in
       let inner = length-drop (cell_place at Interior page i) page in
       let outer = length-drop 4 (drop (cell_place at Interior page i) page) in
       absurd (omega (arith, is, some, inner, outer))
 
-  pub no_divider_key : IsOnly (rest_of page (place + 4)) None → (key : ℤ) → ¬ IsDividerOf at page i key
+  pub no_divider_key : IsOnly (rest_of page (place + 4)) None → (key : ℤ) → ¬ IsDividerCell at page i key
   no_divider_key none key h =
       let e = none key h.is.length (subst (λ (b : List ℕ). BeginsVarint b key h.is.length) (sym key_at) h.is.key_is) in cc
 
-  pub divider_found : (key : ℤ) (len : ℕ) → places_end at Interior page ≤ place → BeginsVarint (rest_of page (place + 4)) key len → IsDividerOf at page i key
+  pub divider_found : (key : ℤ) (len : ℕ) → places_end at Interior page ≤ place → BeginsVarint (rest_of page (place + 4)) key len → IsDividerCell at page i key
   divider_found key len behind begins = record {
     begins = omega (arith, is);
     is = record { length = len; key_is = subst (λ (b : List ℕ). BeginsVarint b key len) key_at begins };

@@ -4,18 +4,9 @@ use Rattle.std.proofs.lemmas.Bool.{cases_lt}
 use Rattle.std.proofs.lemmas.List.{take_all}
 use Rattle.byteorder.specs.Endian.{big_number}
 use Rattle.pager.specs.Header.{field}
-use Rattle.pager.specs.PagerState.{PagerState, IsChained}
-use Rattle.pager.proofs.StaysLemmas.{Stays-trans}
 use Rattle.image.specs.Pages.{Pages, IsNumber}
 use Rattle.image.specs.Chain.{IsChain, end, more, chain_room, next_page}
 use Rattle.image.proofs.ChainLemmas.{chain_end}
-
-pub chained_then : (a b c : PagerState) → IsChained a b → IsChained b c → IsChained a c
-chained_then a b c one other = record {
-  stays = Stays-trans a b c one.stays other.stays;
-  asked = other.asked ∙ one.asked;
-  cached = other.cached ∙ one.cached;
-}
 
 pub first_field : (bytes : List ℕ) (n : ℕ) → n ≡ big_number 4 bytes → n ≡ field bytes 0 4
 unfolding field

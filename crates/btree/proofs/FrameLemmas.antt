@@ -10,7 +10,8 @@ use Rattle.image.specs.Pages.{Pages}
 use Rattle.image.specs.Tree.{HasHeader, IsPageOf, cell_at, count_at}
 use Rattle.image.specs.Cell.{CellData, IsTableCell}
 use Rattle.image.specs.Layout.{cell_count}
-use Rattle.btree.specs.Bytes.{HasHeaderAt, LacksChild, IsRowOf}
+use Rattle.image.specs.Layout.{HasHeaderAt}
+use Rattle.btree.specs.Bytes.{LacksChild, IsRowCell}
 use Rattle.btree.specs.declared.cursor.Frame.{Frame}
 use Rattle.btree.specs.Rest.{Holds, AreReadable}
 use Rattle.btree.proofs.CellLemmas.{begins_some}
@@ -57,13 +58,13 @@ module _ (image : Pages) (frame : Frame) (usable : ℕ) (holds : Holds image fra
 
   -- the cells of a leaf are there
   pub has_row : (most i : ℕ) → image.size ≡ most → IsPageOf image Table Leaf frame.number → i < count_at image frame.number
-      → ((cell : CellData) → ¬ IsRowOf (header_at frame.number) most (take usable frame.page) i cell) → ⊥
+      → ((cell : CellData) → ¬ IsRowCell (header_at frame.number) most (take usable frame.page) i cell) → ⊥
   has_row most i size page within none =
       let there = page.cells i within in
       let long : length (image.page frame.number) ≡ image.usable =
       (let e : length (take image.usable frame.page) ≡ length (image.page frame.number) = ap length holds.page in
       let l = length-take image.usable frame.page in let long = holds.long in omega (arith, e, l)) in
-      none there.cell (rw used (record {
+      none there.0 (rw used (record {
         begins = page.begins i within;
-        is = record { is = subst (λ (u : ℕ). IsTableCell u (cell_at image Leaf frame.number i) there.cell) (sym long) there.is; fits = subst (λ (m : ℕ). there.cell.payload.size ≤ m) size there.fits };
+        is = record { is = subst (λ (u : ℕ). IsTableCell u (cell_at image Leaf frame.number i) there.0) (sym long) there.1.is; fits = subst (λ (m : ℕ). there.0.payload.size ≤ m) size there.1.fits };
       }))

@@ -2,21 +2,21 @@
 use Rattle.std.proofs.Common.{◌≡◌, ◌+◌, ◌<◌, ◌≤◌, List, [], ◌∷◌, ◌++◌, All, append_assoc, append-nil, ap, sym, ◌∙◌, subst}
 use Rattle.std.proofs.lemmas.List.Elements.{All-nil, All-cons, All-append}
 use Rattle.btree.specs.declared.cursor.Frame.{Frame}
-use Rattle.btree.specs.Held.{IsFirst, IsPassed, GoesDown, TakesNext}
+use Rattle.btree.specs.Held.{HasTakenFirst, IsPassed, GoesDown, TakesNext}
 
 -- frames that have taken their first child came below those that were there
 abbrev pub IsDown : List Frame → List Frame → Type 0
-IsDown old now = (below : List Frame) × ((now ≡ old ++ below) × All IsFirst below)
+IsDown old now = (below : List Frame) × ((now ≡ old ++ below) × All HasTakenFirst below)
 
 pub down_starts : (old : List Frame) → IsDown old old
-down_starts old = ([], (sym (append-nil old), All-nil IsFirst))
+down_starts old = ([], (sym (append-nil old), All-nil HasTakenFirst))
 
 pub down_more : (old now all : List Frame) (frame : Frame) → IsDown old now → all ≡ now ++ frame ∷ [] → frame.at ≡ 0 → IsDown old all
 down_more old now all frame down is first = (
   down.0 ++ frame ∷ [],
   (
     is ∙ ap (λ (x : List Frame). x ++ frame ∷ []) down.1.0 ∙ append_assoc old down.0 (frame ∷ []),
-    All-append IsFirst down.0 (frame ∷ []) down.1.1 (All-cons IsFirst frame [] first (All-nil IsFirst)),
+    All-append HasTakenFirst down.0 (frame ∷ []) down.1.1 (All-cons HasTakenFirst frame [] first (All-nil HasTakenFirst)),
   ),
 )
 

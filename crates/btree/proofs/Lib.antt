@@ -7,3 +7,4 @@ pub mod SeenLemmas
 pub mod LeftLemmas
 pub mod ChainLemmas
 pub mod HeldLemmas
+pub mod WayLemmas

@@ -9,7 +9,9 @@ use Rattle.image.specs.declared.kind.TreeKind.TheVariants.{Table, Index}
 use Rattle.image.specs.declared.kind.Level.{Level}
 use Rattle.image.specs.declared.kind.Level.TheVariants.{Leaf, Interior}
 use Rattle.image.specs.Layout.{flag, flag_of, cell_count, cell_place, child, header_size, right_child, places_end}
-use Rattle.btree.specs.Bytes.{HasHeaderAt, FitsIn, IsRowOf}
+use Rattle.image.specs.Layout.{HasHeaderAt}
+use Rattle.image.specs.Cell.{FitsIn}
+use Rattle.btree.specs.Bytes.{IsRowCell}
 
 -- a flag tells the level
 pub flag_of-same : (kind : TreeKind) (a b : Level) → flag_of kind a ≡ flag_of kind b → a ≡ b
@@ -39,7 +41,7 @@ child-left at page i within = grind (arith, nat_tests)
 -- a cell that begins before the end of the cell places, or that the bytes from its place on aren't
 module _ (at most : ℕ) (page : List ℕ) (i from : ℕ) (is : from ≡ min (cell_place at Leaf page i) (length page)) where
   pub no_row : ((cell : CellData) → ¬ FitsIn most (IsTableCell (length page) (take (length page - from) (drop from page))) cell)
-      → (cell : CellData) → ¬ IsRowOf at most page i cell
+      → (cell : CellData) → ¬ IsRowCell at most page i cell
   no_row none cell h =
       let here : drop (cell_place at Leaf page i) page ≡ take (length page - from) (drop from page) =
       sym (drop_min (cell_place at Leaf page i) page) ∙ ap (λ (n : ℕ). drop n page) (sym is) ∙ sym (take_rest page from) in

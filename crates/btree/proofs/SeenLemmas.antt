@@ -3,18 +3,19 @@ use Rattle.std.proofs.Common.{◌≡◌, ◌≢◌, ℕ, suc, ◌+◌, ◌<◌, 
 use Rattle.std.proofs.lemmas.List.Elements.{All-nil, All-cons, All-contains}
 use Rattle.pager.specs.declared.header.Header.{Header}
 use Rattle.pager.specs.Header.{page_sizes}
-use Rattle.pager.specs.PagerState.{PagerState, IsSound, Stays}
+use Rattle.pager.specs.PagerState.{PagerState, IsSoundHeader}
+use Rattle.pager.specs.Calls.{SameImage}
 use Rattle.image.specs.declared.kind.TreeKind.TheVariants.{Table}
 use Rattle.image.specs.declared.kind.Level.{Level}
 use Rattle.image.specs.declared.kind.Level.TheVariants.{Leaf, Interior}
-use Rattle.image.specs.Pages.{Pages, IsNumber, pages_in}
+use Rattle.image.specs.Pages.{pages_seen, Pages, IsNumber, pages_in}
 use Rattle.image.specs.Tree.{Place, HasHeader, IsPageOf, child_at, count_at}
 use Rattle.btree.specs.declared.cursor.Frame.{Frame}
-use Rattle.btree.specs.Rest.{AreReadable, Holds, IsHeading, IsLeft, IsStanding, IsStep, pages_seen}
+use Rattle.btree.specs.Rest.{AreReadable, Holds, IsHeading, IsLeft, IsStanding, IsStep}
 use Rattle.btree.proofs.PageLemmas.{flag_of-same}
 use Rattle.btree.proofs.RestLemmas.{IsTurn, ends, goes, turn_at, heading_filled, heading_leaf, heading_down, left_next, left_step, left_up}
 
-module _ (a b : PagerState) (stays : Stays a b) where
+module _ (a b : PagerState) (stays : SameImage a b) where
   pub still_steady : IsTrue a.source.steady → IsTrue b.source.steady
   still_steady steady = stays.steady ∙ steady
 
@@ -29,7 +30,7 @@ small_sizes =
     more : (x : ℕ) (xs : List ℕ) → x ≤ 65536 → All (λ n. n ≤ 65536) xs → All (λ n. n ≤ 65536) (x ∷ xs)
     more x xs h i = All-cons (λ n. n ≤ 65536) x xs h i
 
-pub readable : (header : Header) (image : List ℕ) → IsSound header → AreReadable (pages_in header image)
+pub readable : (header : Header) (image : List ℕ) → IsSoundHeader header → AreReadable (pages_in header image)
 readable header image sound = record { least = sound.usable; most = (let most : header.page_size ≤ 65536 = All-contains (λ n. n ≤ 65536) page_sizes header.page_size small_sizes sound.size in let used : header.usable ≤ header.page_size = sound.usable_most in omega arith) }
 
 module _ (pages : Pages) where

@@ -1,23 +1,11 @@
 -- What a page's used bytes alone say, of a page whose header begins at a place.
-use Rattle.std.specs.Prelude.{◌≡◌, ℕ, ℤ, ◌+◌, ◌<◌, ◌≤◌, List, length, drop}
-use Rattle.image.specs.declared.kind.TreeKind.{TreeKind}
-use Rattle.image.specs.declared.kind.Level.{Level}
+use Rattle.std.specs.Prelude.{ℕ, ℤ, ◌+◌, ◌<◌, ◌≤◌, List, length, drop}
 use Rattle.image.specs.declared.kind.Level.TheVariants.{Leaf, Interior}
-use Rattle.image.specs.Layout.{flag, flag_of, places_end, cell_place}
-use Rattle.image.specs.Cell.{CellData, IsTableCell, IsDivider}
-
--- the bytes are a page of this kind as its header says, and its cell places lie inside it
-pub record HasHeaderAt (at : ℕ) (kind : TreeKind) (level : Level) (page : List ℕ) : Type 0 where
-  pub flag_is : flag at page ≡ flag_of kind level
-  pub places : places_end at level page ≤ length page
-
--- such a cell, with a payload of at most so many bytes
-pub record FitsIn (most : ℕ) (IsCellOf : CellData → Type 0) (cell : CellData) : Type 0 where
-  pub is : IsCellOf cell
-  pub fits : cell.payload.size ≤ most
+use Rattle.image.specs.Layout.{places_end, cell_place}
+use Rattle.image.specs.Cell.{CellData, FitsIn, IsTableCell, IsDivider}
 
 -- cell i of a table's leaf lies behind the cell places, and is such a cell
-pub record IsRowOf (at most : ℕ) (page : List ℕ) (i : ℕ) (cell : CellData) : Type 0 where
+pub record IsRowCell (at most : ℕ) (page : List ℕ) (i : ℕ) (cell : CellData) : Type 0 where
   pub begins : places_end at Leaf page ≤ cell_place at Leaf page i
   pub is : FitsIn most (IsTableCell (length page) (drop (cell_place at Leaf page i) page)) cell
 
@@ -26,6 +14,6 @@ pub record LacksChild (at : ℕ) (page : List ℕ) (i : ℕ) : Type 0 where
   pub outside : length page < cell_place at Interior page i + 4
 
 -- cell i of a table's interior page lies behind the cell places, and has this key
-pub record IsDividerOf (at : ℕ) (page : List ℕ) (i : ℕ) (key : ℤ) : Type 0 where
+pub record IsDividerCell (at : ℕ) (page : List ℕ) (i : ℕ) (key : ℤ) : Type 0 where
   pub begins : places_end at Interior page ≤ cell_place at Interior page i
   pub is : IsDivider (drop (cell_place at Interior page i) page) key

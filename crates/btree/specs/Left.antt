@@ -1,6 +1,7 @@
 -- A measure of a cursor that falls with each row that it gives, over any source. A page has fewer than 65536 cells and a
--- cursor holds at most 20 pages, so what is left in each of them is a digit, and a page nearer the root counts more.
+-- cursor holds at most as many pages as a tree has levels, so what is left in each of them is a digit, and a page nearer the root counts more.
 use Rattle.std.specs.Prelude.{ℕ, zero, suc, ◌+◌, ◌-◌, ◌*◌, ◌<◌, ◌≤◌, nat_lt, List, [], ◌∷◌, Option, None, Some, if◌then◌else◌}
+use Rattle.image.specs.Shape.{most_levels}
 use Rattle.btree.specs.declared.cursor.Cursor.{Cursor}
 use Rattle.btree.specs.declared.cursor.Frame.{Frame}
 
@@ -19,12 +20,12 @@ frames_left room (frame ∷ frames) = frame_left frame * worth room + frames_lef
 
 abbrev pub all_left : List Frame → Option Frame → ℕ
 all_left frames None = 0
-all_left frames (Some leaf) = if nat_lt leaf.at leaf.count then frames_left 20 frames + frame_left leaf else 0
+all_left frames (Some leaf) = if nat_lt leaf.at leaf.count then frames_left most_levels frames + frame_left leaf else 0
 
 abbrev pub steps_left : Cursor → ℕ
 steps_left cursor = all_left cursor.frames.items cursor.leaf
 
 -- less is left after a cursor has gone on to another leaf, and no more where there is none
 abbrev pub IsLess : List Frame → List Frame → Option Frame → Type 0
-IsLess old new None = frames_left 20 new ≤ frames_left 20 old
-IsLess old new (Some leaf) = frames_left 20 new + frame_left leaf < frames_left 20 old
+IsLess old new None = frames_left most_levels new ≤ frames_left most_levels old
+IsLess old new (Some leaf) = frames_left most_levels new + frame_left leaf < frames_left most_levels old

@@ -5,3 +5,5 @@ pub mod Listing
 pub mod Rest
 pub mod Left
 pub mod Held
+pub mod Way
+pub mod Calls

@@ -1,13 +1,11 @@
 -- A cursor over a table, and the cells that it still has to give.
 use Rattle.std.specs.Prelude.{◌≡◌, ℕ, List, [], ◌∷◌, Option, None, Some}
-use Rattle.values.specs.declared.fault.Fault.{Fault}
-use Rattle.values.specs.declared.fault.Fault.TheVariants.{Finished}
 use Rattle.image.specs.Cell.{CellData}
 use Rattle.image.specs.Pages.{Pages}
 use Rattle.image.specs.Tree.{Place, IsRowAt}
 use Rattle.btree.specs.declared.cursor.Cursor.{Cursor}
 use Rattle.btree.specs.declared.cursor.Frame.{Frame}
-use Rattle.btree.specs.Rest.{AreReadable, IsCursorFault, IsStanding}
+use Rattle.btree.specs.Rest.{AreReadable, IsStanding}
 
 -- These cells are to come, the one that the cursor stands at first. So many pages are asked for, and whoever lists the
 -- rest keeps within a budget of asked pages.
@@ -28,8 +26,3 @@ abbrev pub IsEntry : Pages → List Place → Option CellData → Type 0
 IsEntry pages [] entry = entry ≡ None
 IsEntry pages (place ∷ rest) None = ⊥
 IsEntry pages (place ∷ rest) (Some cell) = IsRowAt pages place cell
-
--- the faults of a step
-abbrev pub IsStepFault : Fault → Type 0
-IsStepFault Finished = Unit {0}
-IsStepFault fault = IsCursorFault fault

@@ -1,19 +1,12 @@
 -- The cells that a cursor over a table still has to give, by the pages that it holds.
 use Rattle.std.specs.Prelude.{◌≡◌, ◌≢◌, ℕ, suc, ◌+◌, ◌-◌, ◌<◌, ◌≤◌, List, [], ◌∷◌, ◌++◌, drop, length, take, sum_by, Option, None, Some}
 use Rattle.std.specs.List.{range_with_len, flat_map}
-use Rattle.values.specs.declared.fault.Fault.{Fault}
-use Rattle.values.specs.declared.fault.Fault.TheVariants.{ReadFailed, NoMemory, BadPage, BadDepth}
-use Rattle.pager.specs.PagerState.{PagerState}
 use Rattle.image.specs.declared.kind.TreeKind.TheVariants.{Table}
 use Rattle.image.specs.declared.kind.Level.TheVariants.{Leaf, Interior}
-use Rattle.image.specs.Pages.{Pages, IsNumber, pages_in}
+use Rattle.image.specs.Pages.{Pages, IsNumber}
 use Rattle.image.specs.Tree.{Place, count_at, child_at, IsPageOf}
-use Rattle.image.specs.Shape.{HasShape, IsFilled, IsBranch, places_in, places_under, size_under}
+use Rattle.image.specs.Shape.{HasShape, IsFilled, IsBranch, most_levels, places_in, places_under, size_under}
 use Rattle.btree.specs.declared.cursor.Frame.{Frame}
-
--- the pages that a pager reads, by the header that it has read
-abbrev pub pages_seen : PagerState → Pages
-pages_seen pager = pages_in pager.header pager.source.bytes
 
 -- pages of which so much is used that they can be read
 pub record AreReadable (pages : Pages) : Type 0 where
@@ -56,7 +49,7 @@ pub data IsStack (pages : Pages) (total : ℕ) : ℕ → List Frame → List Pla
 -- within a budget of asked pages.
 pub record IsLeft (pages : Pages) (levels : ℕ) (frames : List Frame) (rest : List Place) (asked budget : ℕ) : Type 0 where
   pub total : ℕ
-  pub shallow : total < 20
+  pub shallow : total < most_levels
   pub ahead : ℕ
   pub stack : IsStack pages total levels frames rest ahead
   pub asks : asked + ahead ≤ budget
@@ -84,11 +77,3 @@ pub record IsStanding (pages : Pages) (frames : List Frame) (leaf : Frame) (plac
 abbrev pub GoesOn : Pages → List Frame → List Place → ℕ → ℕ → Option Frame → Type 0
 GoesOn pages frames rest asked budget None = (rest ≡ []) × ((frames ≡ []) × (asked ≤ budget))
 GoesOn pages frames rest asked budget (Some leaf) = IsStanding pages frames leaf rest asked budget
-
--- the faults that a cursor may answer before it has ended
-abbrev pub IsCursorFault : Fault → Type 0
-IsCursorFault ReadFailed = Unit {0}
-IsCursorFault NoMemory = Unit {0}
-IsCursorFault (BadPage _) = Unit {0}
-IsCursorFault (BadDepth _) = Unit {0}
-IsCursorFault _ = ⊥

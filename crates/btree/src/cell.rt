@@ -1,7 +1,6 @@
 //! Cells, and the part of a payload that stands in one.
 ghost use Rattle.std.specs.Prelude.{◌≡◌, ◌≤◌, ℕ, pos, IfNone, IfSome};
-ghost use Rattle.image.specs.Cell.{CellData, PayloadData, IsIndexCell, IsPayload, IsTableCell, local_size, most_local};
-ghost use Rattle.btree.specs.Bytes.{FitsIn};
+ghost use Rattle.image.specs.Cell.{CellData, FitsIn, PayloadData, IsIndexCell, IsPayload, IsTableCell, local_size, most_local};
 ghost use Rattle.btree.specs.Views.{cell_data, payload_data};
 
 use byteorder::{BigEndian, ByteOrder};

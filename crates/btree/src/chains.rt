@@ -1,12 +1,11 @@
 //! The whole of a payload, with its overflow pages.
-ghost use Rattle.std.specs.Prelude.{◌≡◌, ◌⊎◌, ◌++◌, ◌≤◌, List, ℕ, length, take, IfErr, IfNone, IfOk, IfSome, IsFalse, IsTrue, None, Ok, Some};
+ghost use Rattle.std.specs.Prelude.{◌≡◌, ◌++◌, ◌≤◌, List, ℕ, length, option_map, take, IfErr, IfNone, IfOk, IfSome, IsFalse, IsTrue, MatchResult, None, Ok, Some};
 ghost use Rattle.std.specs.Cow.{cow_slice_items};
 ghost use Rattle.std.specs.declared.borrow.CowSlice.TheVariants.{Borrowed};
-ghost use Rattle.pager.specs.PagerState.{IsChained};
-ghost use Rattle.values.specs.Fault.{Counts};
-ghost use Rattle.image.specs.Pages.{IsNumber};
-ghost use Rattle.image.specs.Chain.{HasBytes, IsChain};
-ghost use Rattle.btree.specs.Rest.{pages_seen};
+ghost use Rattle.pager.specs.Calls.{IsReadFault, ReadsChainPages};
+ghost use Rattle.image.specs.Pages.{IsNumber, WhereSteady, pages_seen};
+ghost use Rattle.image.specs.Chain.{IsChain};
+ghost use Rattle.btree.specs.Calls.{IsBytesOf};
 ghost use Rattle.btree.specs.Views.{payload_data};
 
 use crate::Cell;
@@ -18,14 +17,12 @@ use values::Fault;
 
 /// An overflow page, if the number is that of a page. Its faults are `ReadFailed` and `NoMemory`.
 fn overflow_page<S: Source>(pager: &mut Pager<S>, number: u32) -> Result<Option<Page>, Fault>
-    ensures page { IsTrue pager.old.state.source.steady
-        → IfOk result (λ found. IfSome found (λ page. take pager.old.state.header.usable page ≡ (pages_seen pager.old.state).page number)) }
+    ensures page { WhereSteady pager.old.state (λ pages. IfOk result (λ found. IfSome found (λ page. take pages.usable page ≡ pages.page number))) }
     ensures number { IfOk result (λ found. IfSome found (λ page. IsNumber (pages_seen pager.old.state) number)) }
     ensures long { IfOk result (λ found. IfSome found (λ page. pager.old.state.header.usable ≤ length page)) }
     ensures none { IfOk result (λ found. IfNone found (¬ IsNumber (pages_seen pager.old.state) number)) }
-    ensures only { IfErr result (λ e. (e ≡ Fault.ReadFailed) ⊎ (e ≡ Fault.NoMemory)) }
-    ensures failures { Counts Fault.ReadFailed result pager.old.state.source.failures pager.new.state.source.failures }
-    ensures chained { IsChained pager.old.state pager.new.state }
+    ensures fault { IfErr result IsReadFault }
+    ensures reads { ReadsChainPages result pager.old.state pager.new.state }
 {
     if number < 1 || number > pager.header().pages {
         return Ok(None);
@@ -42,13 +39,12 @@ fn append_chain<S: Source>(
     size: u64,
     bytes: &mut Vec<u8>,
 ) -> Result<bool, Fault>
-    ensures joined { IsTrue pager.old.state.source.steady → IfOk result (λ sound. IsTrue sound
-        → (rest : List ℕ) × IsChain (pages_seen pager.old.state) first size rest × (bytes.new.items ≡ bytes.old.items ++ rest)) }
-    ensures broken { IsTrue pager.old.state.source.steady → IfOk result (λ sound. IsFalse sound
-        → (rest : List ℕ) → ¬ IsChain (pages_seen pager.old.state) first size rest) }
-    ensures only { IfErr result (λ e. (e ≡ Fault.ReadFailed) ⊎ (e ≡ Fault.NoMemory)) }
-    ensures failures { Counts Fault.ReadFailed result pager.old.state.source.failures pager.new.state.source.failures }
-    ensures chained { IsChained pager.old.state pager.new.state }
+    ensures joined { WhereSteady pager.old.state (λ pages. IfOk result (λ sound. IsTrue sound
+        → (rest : List ℕ) × IsChain pages first size rest × (bytes.new.items ≡ bytes.old.items ++ rest))) }
+    ensures broken { WhereSteady pager.old.state (λ pages. IfOk result (λ sound. IsFalse sound
+        → (rest : List ℕ) → ¬ IsChain pages first size rest)) }
+    ensures fault { IfErr result IsReadFault }
+    ensures reads { ReadsChainPages result pager.old.state pager.new.state }
 {
     let usable = pager.header().usable as usize;
     let mut next = first;
@@ -78,15 +74,12 @@ pub fn payload<'p, S: Source>(
     pager: &mut Pager<S>,
     cell: &Cell<'p>,
 ) -> Result<Option<CowSlice<'p, u8>>, Fault>
-    ensures found { IsTrue pager.old.state.source.steady
-        → IfOk result (λ found. IfSome found (λ bytes. HasBytes (pages_seen pager.old.state) (payload_data cell.now.payload) (cow_slice_items bytes))) }
-    ensures none { IsTrue pager.old.state.source.steady
-        → IfOk result (λ found. IfNone found ((bytes : List ℕ) → ¬ HasBytes (pages_seen pager.old.state) (payload_data cell.now.payload) bytes)) }
-    ensures borrowed { cell.now.payload.overflow ≡ None → result ≡ Ok (Some (Borrowed cell.now.payload.local)) }
-    ensures unread { cell.now.payload.overflow ≡ None → pager.new.state ≡ pager.old.state }
-    ensures only { IfErr result (λ e. (e ≡ Fault.ReadFailed) ⊎ (e ≡ Fault.NoMemory)) }
-    ensures failures { Counts Fault.ReadFailed result pager.old.state.source.failures pager.new.state.source.failures }
-    ensures chained { IsChained pager.old.state pager.new.state }
+    ensures outcome { MatchResult result
+        (λ found. WhereSteady pager.old.state (λ pages. IsBytesOf pages (payload_data cell.now.payload) (option_map cow_slice_items found)))
+        IsReadFault }
+    ensures local { cell.now.payload.overflow ≡ None
+        → (result ≡ Ok (Some (Borrowed cell.now.payload.local))) × (pager.new.state ≡ pager.old.state) }
+    ensures reads { ReadsChainPages result pager.old.state pager.new.state }
 {
     let local = cell.payload.local;
     let Some(first) = cell.payload.overflow else {

@@ -5,8 +5,9 @@ ghost use Rattle.image.specs.declared.kind.Level.{Level};
 ghost use Rattle.image.specs.declared.kind.Level.TheVariants.{Leaf, Interior};
 ghost use Rattle.image.specs.Cell.{CellData};
 ghost use Rattle.pager.specs.Header.{field};
-ghost use Rattle.image.specs.Layout.{cell_count, cell_place, child, flag, flag_of, header_at, header_size, right_child};
-ghost use Rattle.btree.specs.Bytes.{HasHeaderAt, IsDividerOf, IsRowOf, LacksChild};
+ghost use Rattle.image.specs.Layout.{HasHeaderAt, cell_count, cell_place, child, flag, flag_of, header_at, header_size, right_child};
+ghost use Rattle.btree.specs.Bytes.{IsDividerCell, IsRowCell, LacksChild};
+ghost use Rattle.btree.specs.ViewData.{IsViewOf, TellsOfCell};
 ghost use Rattle.btree.specs.Views.{cell_data};
 
 use crate::cell::{Cell, table_cell};
@@ -27,7 +28,7 @@ pub struct PageView<'p> {
 
 impl<'p> Model for PageView<'p> {
     ghost use Rattle.std.specs.Prelude.{◌≤◌, length};
-    ghost use Rattle.btree.specs.Bytes.{HasHeaderAt};
+    ghost use Rattle.image.specs.Layout.{HasHeaderAt};
     ghost use Rattle.btree.specs.ViewData.{ViewData, IsView};
 
     ghost Value = { ViewData };
@@ -118,8 +119,7 @@ impl<'p> PageView<'p> {
     /// The page of these used bytes, which is page `n` of a tree of this kind; `None` where its header says that it is
     /// none, or where its cell places leave it.
     pub fn read(kind: TreeKind, n: u32, used: &'p [u8]) -> Option<PageView<'p>>
-        ensures found { IfSome result (λ view. view ≡ record { at = header_at n; kind = kind; level = view.level; page = used.now }) }
-        ensures header { IfSome result (λ view. HasHeaderAt (header_at n) kind view.level used.now) }
+        ensures found { IfSome result (IsViewOf kind n used.now) }
         ensures none { 480 ≤ length used.now → length used.now ≤ 65536 → IfNone result ((level : Level) → ¬ HasHeaderAt (header_at n) kind level used.now) }
     {
         if used.len() < 480 || used.len() > 65536 {
@@ -175,11 +175,9 @@ impl<'p> PageView<'p> {
 
     /// Cell i of a table's leaf, with a payload of at most `most` bytes; `None` where none is there.
     pub fn row(&self, most: u64, i: u32) -> Option<Cell<'p>>
-        requires kind { self.now.kind ≡ TreeKind.Table }
-        requires level { self.now.level ≡ Level.Leaf }
-        requires within { i < cell_count self.now.at self.now.page }
-        ensures found { IfSome result (λ cell. IsRowOf self.now.at most self.now.page i (cell_data cell)) }
-        ensures none { IfNone result ((cell : CellData) → ¬ IsRowOf self.now.at most self.now.page i cell) }
+        requires { TellsOfCell self.now Table Leaf i }
+        ensures found { IfSome result (λ cell. IsRowCell self.now.at most self.now.page i (cell_data cell)) }
+        ensures none { IfNone result ((cell : CellData) → ¬ IsRowCell self.now.at most self.now.page i cell) }
     {
         let place = place_of(self.at, self.level, self.bytes, i) as usize;
         let places_end = self.at + size_of_header(self.level) + 2 * self.count() as usize;
@@ -193,11 +191,9 @@ impl<'p> PageView<'p> {
     /// The key of cell i of a table's interior page, which divides the rowids under the child before it from those under
     /// the next; `None` where no cell is there.
     pub fn divider(&self, i: u32) -> Option<i64>
-        requires kind { self.now.kind ≡ TreeKind.Table }
-        requires level { self.now.level ≡ Level.Interior }
-        requires within { i < cell_count self.now.at self.now.page }
-        ensures found { IfSome result (λ key. IsDividerOf self.now.at self.now.page i key) }
-        ensures none { IfNone result ((key : ℤ) → ¬ IsDividerOf self.now.at self.now.page i key) }
+        requires { TellsOfCell self.now Table Interior i }
+        ensures found { IfSome result (λ key. IsDividerCell self.now.at self.now.page i key) }
+        ensures none { IfNone result ((key : ℤ) → ¬ IsDividerCell self.now.at self.now.page i key) }
     {
         let place = place_of(self.at, self.level, self.bytes, i) as usize;
         let places_end = self.at + size_of_header(self.level) + 2 * self.count() as usize;
@@ -213,9 +209,7 @@ impl<'p> PageView<'p> {
 /// is none.
 #[inline]
 pub fn view_of(page: &Page, number: u32, usable: usize) -> Option<PageView<'_>>
-    ensures found { IfSome result (λ view. view ≡ record { at = header_at number; kind = Table; level = view.level; page = take usable page.now }) }
-    ensures header { IfSome result (λ view. HasHeaderAt (header_at number) Table view.level (take usable page.now)) }
-    ensures long { IfSome result (λ view. usable ≤ length page.now) }
+    ensures found { IfSome result (λ view. IsViewOf Table number (take usable page.now) view × (usable ≤ length page.now)) }
     ensures none { 480 ≤ usable → usable ≤ 65536 → usable ≤ length page.now
         → IfNone result ((level : Level) → ¬ HasHeaderAt (header_at number) Table level (take usable page.now)) }
 {

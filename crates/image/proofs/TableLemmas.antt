@@ -33,7 +33,7 @@ never_below x a = omega (arith, ints)
 
 rowid_of : (pages : Pages) (level : Level) (n i : ℕ) → IsPageOf pages Table level n → i < count_at pages n
     → (rowid : ℤ) × HasRowid pages level n i rowid
-rowid_of pages Leaf n i page within = let c = page.cells i within in (c.is.rowid, (c.cell, c.is, c.is.has_rowid))
+rowid_of pages Leaf n i page within = let c = page.cells i within in (c.1.is.rowid, (c.0, c.1.is, c.1.is.has_rowid))
 rowid_of pages Interior n i page within = let c = page.cells i within in (c.0, c.1)
 
 rowids : (pages : Pages) → AreKeys (HasRowid pages) Below AtMost pages Table

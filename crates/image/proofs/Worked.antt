@@ -103,5 +103,5 @@ unfolding cell_place cell_count flag field
 leaf_page = record {
   header = record { flag_is = refl; places = lit≤ tt };
   begins = two_cells (λ i. 12 ≤ cell_place 0 Leaf example_leaf i) (lit≤ tt) (lit≤ tt);
-  cells = two_cells (λ i. HasCell example_pages Table Leaf (cell_at example_pages Leaf 2 i)) (record { cell = first_cell; is = rw first_at first_is; fits = lit≤ tt }) (record { cell = second_cell; is = rw second_at second_is; fits = lit≤ tt });
+  cells = two_cells (λ i. HasCell example_pages Table Leaf (cell_at example_pages Leaf 2 i)) (first_cell, record { is = rw first_at first_is; fits = lit≤ tt }) (second_cell, record { is = rw second_at second_is; fits = lit≤ tt });
 }

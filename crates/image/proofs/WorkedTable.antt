@@ -106,7 +106,7 @@ unfolding cell_place cell_count flag field
 left_page = record {
   header = record { flag_is = refl; places = lit≤ tt };
   begins = one_cell (λ i. 10 ≤ cell_place 0 Leaf left_leaf i) (lit≤ tt);
-  cells = one_cell (λ i. HasCell table_pages Table Leaf (cell_at table_pages Leaf 3 i)) (record { cell = left_cell; is = rw left_at left_is; fits = lit≤ tt });
+  cells = one_cell (λ i. HasCell table_pages Table Leaf (cell_at table_pages Leaf 3 i)) (left_cell, record { is = rw left_at left_is; fits = lit≤ tt });
 }
 
 right_page : IsPageOf table_pages Table Leaf 4
@@ -114,7 +114,7 @@ unfolding cell_place cell_count flag field
 right_page = record {
   header = record { flag_is = refl; places = lit≤ tt };
   begins = one_cell (λ i. 10 ≤ cell_place 0 Leaf right_leaf i) (lit≤ tt);
-  cells = one_cell (λ i. HasCell table_pages Table Leaf (cell_at table_pages Leaf 4 i)) (record { cell = right_cell; is = rw right_at right_is; fits = lit≤ tt });
+  cells = one_cell (λ i. HasCell table_pages Table Leaf (cell_at table_pages Leaf 4 i)) (right_cell, record { is = rw right_at right_is; fits = lit≤ tt });
 }
 
 pub table_places : places_under table_pages Table 1 2 ≡ place_at 3 0 ∷ place_at 4 0 ∷ []

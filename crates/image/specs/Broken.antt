@@ -8,8 +8,9 @@ use Rattle.image.specs.declared.kind.TreeKind.TheVariants.{Table}
 use Rattle.image.specs.declared.kind.Level.{Level}
 use Rattle.image.specs.declared.kind.Level.TheVariants.{Leaf, Interior}
 use Rattle.image.specs.Pages.{Pages, IsNumber}
+use Rattle.image.specs.Shape.{most_levels}
 use Rattle.image.specs.Cell.{CellData, IsTableCell, IsDivider}
-use Rattle.image.specs.Tree.{count_at, child_at, cell_at, IsPageOf, IsUnder, StandsAt, Reaches}
+use Rattle.image.specs.Tree.{count_at, child_at, cell_at, IsPageOf, IsMetAt, IsUnder, StandsAt, Reaches}
 
 -- what a page of the tree must be: a page of its kind, with children that are pages, and with a cell unless it is a root
 pub record IsSound (pages : Pages) (kind : TreeKind) (root n : ℕ) : Type 0 where
@@ -50,12 +51,12 @@ pub record HasUnevenLeaves (pages : Pages) (kind : TreeKind) (root : ℕ) : Type
   pub other_leaf : IsPageOf pages kind Leaf other
   pub differ : depth < deeper
 
--- a page deeper than 20, so that a cycle of interior pages is too deep as well
+-- a page deeper than a tree may be, so that a cycle of interior pages is too deep as well
 pub record IsTooDeep (pages : Pages) (kind : TreeKind) (root : ℕ) : Type 0 where
   pub page : ℕ
   pub depth : ℕ
   pub stands : StandsAt pages kind root depth page
-  pub deep : 20 < depth
+  pub deep : most_levels < depth
 
 -- The condition on a table tree that a fault says is broken. Other faults say nothing of its pages and order.
 abbrev pub IsBroken : Pages → ℕ → Fault → Type 0
@@ -63,3 +64,10 @@ IsBroken pages root (BadPage n) = Reaches pages Table root n × (¬ IsSound page
 IsBroken pages root (BadOrder n) = Reaches pages Table root n × (¬ IsRowOrder pages root n)
 IsBroken pages root (BadDepth n) = (n ≡ root) × (HasUnevenLeaves pages Table root ⊎ IsTooDeep pages Table root)
 IsBroken pages root _ = ⊥
+
+-- What a cursor blames that has read the pages on its way alone: a page that it has met isn't what it must be, or it has
+-- met one that is too deep. In a sound tree none is.
+abbrev pub BlamesMet : Pages → TreeKind → ℕ → Fault → Type 0
+BlamesMet pages kind root (BadPage n) = (depth : ℕ) × IsMetAt pages kind root depth n × (¬ (IsNumber pages n × IsSound pages kind root n))
+BlamesMet pages kind root (BadDepth n) = (n ≡ root) × ((depth page : ℕ) × IsMetAt pages kind root depth page × (most_levels < depth))
+BlamesMet pages kind root _ = ⊥

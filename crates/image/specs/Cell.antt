@@ -5,16 +5,16 @@ use Rattle.records.specs.Varint.{BeginsVarint}
 use Rattle.image.specs.declared.kind.TreeKind.{TreeKind}
 use Rattle.image.specs.declared.kind.TreeKind.TheVariants.{Table, Index}
 
--- the most bytes of a payload that stand in its cell whole
+-- the most bytes of a payload that stand in its cell whole: X of the file format, which calls the used bytes of a page U
 abbrev pub most_local : TreeKind → ℕ → ℕ
 most_local Table usable = usable - 35
 most_local Index usable = (usable - 12) * 64 / 255 - 23
 
--- the fewest that stand there of a longer one
+-- the fewest that stand there of a longer one: M
 abbrev pub least_local : ℕ → ℕ
 least_local usable = (usable - 12) * 32 / 255 - 23
 
--- as many as fill its overflow pages, where these fit the cell
+-- as many as fill its overflow pages, where these fit the cell: K, for a payload of P bytes
 abbrev pub cut_local : ℕ → ℕ → ℕ
 cut_local usable size = least_local usable + (size - least_local usable) % (usable - 4)
 
@@ -67,9 +67,14 @@ pub record IsIndexCell (usable : ℕ) (bytes : List ℕ) (cell : CellData) : Typ
   pub no_rowid : cell.rowid ≡ None
   pub payload : IsPayload Index usable (drop size_length bytes) cell.payload
 
-abbrev pub IsCell : TreeKind → ℕ → List ℕ → CellData → Type 0
-IsCell Table usable bytes cell = IsTableCell usable bytes cell
-IsCell Index usable bytes cell = IsIndexCell usable bytes cell
+-- such a cell, with a payload of at most so many bytes
+pub record FitsIn (most : ℕ) (IsCellOf : CellData → Type 0) (cell : CellData) : Type 0 where
+  pub is : IsCellOf cell
+  pub fits : cell.payload.size ≤ most
+
+-- there is one
+abbrev pub HasFitting : ℕ → (CellData → Type 0) → Type 0
+HasFitting most IsCellOf = (cell : CellData) × FitsIn most IsCellOf cell
 
 -- the bytes begin with a cell of a table's interior page: a child, and a key that divides it from the next
 pub record IsDivider (bytes : List ℕ) (key : ℤ) : Type 0 where

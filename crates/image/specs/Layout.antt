@@ -1,6 +1,6 @@
 -- The bytes of a tree page: a header, the places of its cells in key order, and the cells.
 -- (Database File Format, section 1.6 "B-tree Pages")
-use Rattle.std.specs.Prelude.{ℕ, ◌+◌, ◌*◌, ◌==◌, nat_lt, List, if◌then◌else◌}
+use Rattle.std.specs.Prelude.{◌≡◌, ◌≤◌, ℕ, ◌+◌, ◌*◌, ◌==◌, nat_lt, length, List, if◌then◌else◌}
 use Rattle.pager.specs.Header.{field}
 use Rattle.image.specs.declared.kind.TreeKind.{TreeKind}
 use Rattle.image.specs.declared.kind.TreeKind.TheVariants.{Table, Index}
@@ -46,3 +46,8 @@ cell_place at level page i = field page (places_at at level + 2 * i) 2
 -- child i of an interior page: the left child of cell i, and behind the last cell the right child
 unfoldable pub child : ℕ → List ℕ → ℕ → ℕ
 child at page i = if nat_lt i (cell_count at page) then field page (cell_place at Interior page i) 4 else right_child at page
+
+-- the bytes are a page of this kind as its header says, and its cell places lie inside it
+pub record HasHeaderAt (at : ℕ) (kind : TreeKind) (level : Level) (page : List ℕ) : Type 0 where
+  pub flag_is : flag at page ≡ flag_of kind level
+  pub places : places_end at level page ≤ length page

@@ -8,6 +8,10 @@ use Rattle.image.specs.declared.kind.Level.TheVariants.{Leaf, Interior}
 use Rattle.image.specs.Pages.{Pages, IsNumber}
 use Rattle.image.specs.Tree.{count_at, child_at, IsPageOf, Place}
 
+-- the most levels of pages that a tree may have
+abbrev pub most_levels : ℕ
+most_levels = 20
+
 -- a leaf below a root has a cell
 abbrev pub IsFilled : Pages → ℕ → ℕ → Type 0
 IsFilled pages zero n = 0 < count_at pages n
@@ -50,3 +54,9 @@ places_under pages kind (suc height) n =
 abbrev pub size_under : Pages → ℕ → ℕ → ℕ
 size_under pages zero n = 1
 size_under pages (suc height) n = 1 + sum_by (λ i. size_under pages height (child_at pages n i)) (range_with_len 0 (suc (count_at pages n)))
+
+-- page `root` heads a tree of this kind, which has so many levels below it and isn't too deep
+pub record IsTreeAt (pages : Pages) (kind : TreeKind) (levels root : ℕ) : Type 0 where
+  pub few : levels < most_levels
+  pub number : IsNumber pages root
+  pub shape : HasShape pages kind levels root

@@ -6,7 +6,7 @@ use Rattle.image.specs.declared.kind.TreeKind.TheVariants.{Table}
 use Rattle.image.specs.declared.kind.Level.TheVariants.{Leaf}
 use Rattle.image.specs.Pages.{Pages}
 use Rattle.image.specs.Tree.{Place, IsChild, Reaches, ArePlacesOf}
-use Rattle.image.specs.Shape.{HasShape, places_under}
+use Rattle.image.specs.Shape.{HasShape, most_levels, places_under}
 use Rattle.image.specs.Broken.{IsSound, HasRowid, IsRowOrder, HasUnevenLeaves, IsTooDeep}
 
 -- every page is what it must be, no two leaves stand at different depths, and no page is too deep
@@ -23,7 +23,7 @@ pub record IsSoundTable (pages : Pages) (root : ℕ) : Type 0 where
 -- the tree has a shape, of so few levels that no page is too deep
 pub record HasSomeShape (pages : Pages) (kind : TreeKind) (root : ℕ) : Type 0 where
   pub levels : ℕ
-  pub few : levels < 20
+  pub few : levels < most_levels
   pub shape : HasShape pages kind levels root
 
 -- from left to right, the rowids of a table's cells ascend
@@ -40,7 +40,7 @@ pub record AreRowsOf (pages : Pages) (root : ℕ) (places : List Place) : Type 0
 -- a table whose tree has a shape, so that the cells under its root from left to right are its rows in order
 pub record HasRows (pages : Pages) (root : ℕ) : Type 0 where
   pub levels : ℕ
-  pub few : levels < 20
+  pub few : levels < most_levels
   pub shape : HasShape pages Table levels root
   pub rows : AreRowsOf pages root (places_under pages Table levels root)
 

@@ -1,12 +1,12 @@
 -- The trees of an image: their pages, and their cells by places. (Database File Format, section 1.6 "B-tree Pages")
-use Rattle.std.specs.Prelude.{◌≡◌, ℕ, ℤ, suc, ◌<◌, ◌≤◌, List, Contains, drop, length, slice_get, Some}
+use Rattle.std.specs.Prelude.{◌≡◌, ℕ, ℤ, suc, ◌<◌, ◌≤◌, List, Contains, drop, slice_get, Some}
 use Rattle.image.specs.declared.kind.TreeKind.{TreeKind}
 use Rattle.image.specs.declared.kind.TreeKind.TheVariants.{Table, Index}
 use Rattle.image.specs.declared.kind.Level.{Level}
 use Rattle.image.specs.declared.kind.Level.TheVariants.{Leaf, Interior}
 use Rattle.image.specs.Pages.{Pages, IsNumber}
-use Rattle.image.specs.Layout.{header_at, flag_of, flag, cell_count, cell_place, child, places_end}
-use Rattle.image.specs.Cell.{CellData, IsTableCell, IsIndexCell, IsDivider}
+use Rattle.image.specs.Layout.{HasHeaderAt, header_at, cell_count, cell_place, child, places_end}
+use Rattle.image.specs.Cell.{CellData, HasFitting, IsTableCell, IsIndexCell, IsDivider}
 
 abbrev pub count_at : Pages → ℕ → ℕ
 count_at pages n = cell_count (header_at n) (pages.page n)
@@ -18,23 +18,16 @@ child_at pages n i = child (header_at n) (pages.page n) i
 abbrev pub cell_at : Pages → Level → ℕ → ℕ → List ℕ
 cell_at pages level n i = drop (cell_place (header_at n) level (pages.page n) i) (pages.page n)
 
--- a cell, whose payload is no longer than the image
-pub record HasPayload (pages : Pages) (IsCellOf : CellData → Type 0) : Type 0 where
-  pub cell : CellData
-  pub is : IsCellOf cell
-  pub fits : cell.payload.size ≤ pages.size
-
 -- the bytes begin with a cell for such a page; on the interior page of an index it stands behind the left child
 abbrev pub HasCell : Pages → TreeKind → Level → List ℕ → Type 0
-HasCell pages Table Leaf bytes = HasPayload pages (IsTableCell pages.usable bytes)
+HasCell pages Table Leaf bytes = HasFitting pages.size (IsTableCell pages.usable bytes)
 HasCell pages Table Interior bytes = (key : ℤ) × IsDivider bytes key
-HasCell pages Index Leaf bytes = HasPayload pages (IsIndexCell pages.usable bytes)
-HasCell pages Index Interior bytes = HasPayload pages (IsIndexCell pages.usable (drop 4 bytes))
+HasCell pages Index Leaf bytes = HasFitting pages.size (IsIndexCell pages.usable bytes)
+HasCell pages Index Interior bytes = HasFitting pages.size (IsIndexCell pages.usable (drop 4 bytes))
 
 -- page n is of this kind as its header says, and its cell places lie inside it
-pub record HasHeader (pages : Pages) (kind : TreeKind) (level : Level) (n : ℕ) : Type 0 where
-  pub flag_is : flag (header_at n) (pages.page n) ≡ flag_of kind level
-  pub places : places_end (header_at n) level (pages.page n) ≤ length (pages.page n)
+abbrev pub HasHeader : Pages → TreeKind → Level → ℕ → Type 0
+HasHeader pages kind level n = HasHeaderAt (header_at n) kind level (pages.page n)
 
 -- page n is of this kind, and its cells lie inside it, behind the cell places
 pub record IsPageOf (pages : Pages) (kind : TreeKind) (level : Level) (n : ℕ) : Type 0 where
@@ -58,6 +51,20 @@ pub data StandsAt (pages : Pages) (kind : TreeKind) (root : ℕ) : ℕ → ℕ �
 -- the pages of a tree: the least set that holds the root and the children of its pages
 abbrev pub Reaches : Pages → TreeKind → ℕ → ℕ → Type 0
 Reaches pages kind root n = (depth : ℕ) × StandsAt pages kind root depth n
+
+-- Page m is child i of page n by the header of page n alone, whatever the cells of page n are.
+pub record IsNamedChild (pages : Pages) (kind : TreeKind) (n i m : ℕ) : Type 0 where
+  pub header : HasHeader pages kind Interior n
+  pub within : i ≤ count_at pages n
+  pub is : child_at pages n i ≡ m
+  pub number : IsNumber pages m
+
+-- Such children lead to page n at this depth from the root, which has depth 1: a page that is met before the cells above
+-- it are all known to be sound.
+pub data IsMetAt (pages : Pages) (kind : TreeKind) (root : ℕ) : ℕ → ℕ → Type 0 where
+  from_root : IsMetAt pages kind root 1 root
+  by_name : {depth n m : ℕ} (i : ℕ) → IsMetAt pages kind root depth n → IsNamedChild pages kind n i m
+      → IsMetAt pages kind root (suc depth) m
 
 -- page m is in the tree under child i of page n
 pub record IsUnder (pages : Pages) (kind : TreeKind) (n i m : ℕ) : Type 0 where

@@ -1,4 +1,4 @@
-//! The kinds of trees and of their pages.
+//! The kinds of trees and of their pages, and how deep a tree may be.
 
 /// What a tree holds: the rows of a table by their rowids, or the entries of an index.
 /// (Database File Format, section 1.6 "B-tree Pages")
@@ -14,3 +14,6 @@ pub enum Level {
     Leaf,
     Interior,
 }
+
+/// The most levels of pages that a tree may have. SQLite's cursors hold as many pages.
+pub const MOST_LEVELS: u32 = 20;

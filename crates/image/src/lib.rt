@@ -8,4 +8,4 @@
 mod kind;
 pub mod laws;
 
-pub use kind::{Level, TreeKind};
+pub use kind::{Level, MOST_LEVELS, TreeKind};

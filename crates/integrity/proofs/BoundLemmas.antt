@@ -3,20 +3,20 @@ use Rattle.std.proofs.Common.{◌≡◌, ℕ, ℤ, ◌<◌, List, Option, Some, 
 use Rattle.std.specs.Prelude.{IfSome, IfNone}
 use Rattle.image.specs.declared.kind.Level.TheVariants.{Interior}
 use Rattle.image.specs.Layout.{cell_count, cell_place}
-use Rattle.btree.specs.Bytes.{IsDividerOf, LacksChild}
+use Rattle.btree.specs.Bytes.{IsDividerCell, LacksChild}
 use Rattle.btree.proofs.CellLemmas.{no_divider_inside}
 use Rattle.integrity.specs.Keys.{HasCells}
 
 module _ (at most : ℕ) (page : List ℕ) (cells : HasCells at most page Interior) where
-  found : (i : ℕ) (result : Option ℤ) → IfSome result (λ key. IsDividerOf at page i key)
-      → IfNone result ((key : ℤ) → ¬ IsDividerOf at page i key) → (key : ℤ) × IsDividerOf at page i key
-      → (key : ℤ) × (result ≡ Some key) × IsDividerOf at page i key
+  found : (i : ℕ) (result : Option ℤ) → IfSome result (λ key. IsDividerCell at page i key)
+      → IfNone result ((key : ℤ) → ¬ IsDividerCell at page i key) → (key : ℤ) × IsDividerCell at page i key
+      → (key : ℤ) × (result ≡ Some key) × IsDividerCell at page i key
   found i None some none has = absurd (none has.0 has.1)
   found i (Some key) some none has = (key, refl, some)
 
-  pub divider_is : (i : ℕ) (result : Option ℤ) → i < cell_count at page → IfSome result (λ key. IsDividerOf at page i key)
-      → IfNone result ((key : ℤ) → ¬ IsDividerOf at page i key)
-      → (key : ℤ) × (result ≡ Some key) × IsDividerOf at page i key
+  pub divider_is : (i : ℕ) (result : Option ℤ) → i < cell_count at page → IfSome result (λ key. IsDividerCell at page i key)
+      → IfNone result ((key : ℤ) → ¬ IsDividerCell at page i key)
+      → (key : ℤ) × (result ≡ Some key) × IsDividerCell at page i key
   divider_is i result within some none = found i result some none (cells i within)
 
   pub has_child : (i : ℕ) → i < cell_count at page → LacksChild at page i → ⊥

@@ -1,5 +1,5 @@
 -- From what was checked to the tables that the pages have.
-use Rattle.std.proofs.Common.{◌≡◌, ◌⊎◌, ℕ, zero, suc, refl, ◌<◌, All, Contains, List, [], ◌∷◌, length, slice_index_or, arith, subst, inl, inr}
+use Rattle.std.proofs.Common.{◌≡◌, ◌⊎◌, ℕ, zero, suc, refl, ◌<◌, All, Contains, List, [], ◌∷◌, length, slice_index_or, arith, subst, sym, inl, inr}
 use Rattle.std.specs.List.{AllZip}
 use Rattle.std.proofs.lemmas.List.Elements.{All-cons, All-head, All-nil, All-tail}
 use Rattle.values.specs.declared.fault.Fault.{Fault}
@@ -18,6 +18,7 @@ use Rattle.integrity.specs.Checked.{HasCause, IsCheckedTree, IsTableOf, said, un
 use Rattle.integrity.specs.Denotes.{HasTables, IsStoredTable}
 use Rattle.integrity.specs.RowFaults.{IsBrokenTable}
 use Rattle.integrity.specs.Stored.{Fits, HoldsRow, HoldsRows, StoresRow}
+use Rattle.integrity.specs.Walked.{IsCheckFault, IsWalkFault}
 
 -- inside a list no default matters
 same_index : {A : Type 0} (xs : List A) (k : ℕ) (d : A) → k < length xs → slice_index_or xs k (slice_index_or xs k d) ≡ slice_index_or xs k d
@@ -87,15 +88,26 @@ module _ (pages : Pages) where
       → AreTables pages.count rows tables → Contains tables table → IsBrokenTable pages table fault → HasCause pages fault
   broken_table rows tables table fault stored are within broken =
       let all = tables_of stored.places rows tables (all_places stored.places stored.cells) stored.rows_are are.said in
-      inr (inr (inl (table, subst (λ (t : TableData). IsTableOf pages t) within.2 (all within.0 table within.1), broken)))
+      inr (inl (table, subst (λ (t : TableData). IsTableOf pages t) within.2 (all within.0 table within.1), broken))
 
   -- rows that say no tables are not served
   pub unsaid_rows : (rows : List Row) (fault : Fault) → HoldsRows pages schema_table rows
       → (fault ≡ NoMemory) ⊎ ((fault ≡ NotYet) × ((tables : List TableData) → ¬ AreTables pages.count rows tables)) → HasCause pages fault
-  unsaid_rows rows fault stored (inl memory) = inr (inl memory)
-  unsaid_rows rows fault stored (inr (is, none)) = inr (inr (inr (is, unsaid rows stored none)))
+  unsaid_rows rows fault stored (inl memory) = inl (inr memory)
+  unsaid_rows rows fault stored (inr (is, none)) = inr (inr (is, unsaid rows stored none))
 
 pub said_here : (n m : ℕ) (rows others : List Row) (tables : List TableData) → n ≡ m → rows ≡ others → AreTables n rows tables
     → AreTables m others tables
 said_here n m rows others tables same_count same says =
     subst (λ (k : ℕ). AreTables k others tables) same_count (subst (λ (r : List Row). AreTables n r tables) same says)
+
+-- the faults of a check
+pub only_memory : (fault : Fault) → fault ≡ NoMemory → IsCheckFault fault
+only_memory fault is = subst (λ (x : Fault). IsCheckFault x) (sym is) tt
+
+pub only_not_yet : (fault : Fault) → fault ≡ NotYet → IsCheckFault fault
+only_not_yet fault is = subst (λ (x : Fault). IsCheckFault x) (sym is) tt
+
+pub walk_only : (fault : Fault) → IsWalkFault fault → IsCheckFault fault
+walk_only NotYet h = tt
+walk_only fault h = h

@@ -12,18 +12,20 @@ use Rattle.image.specs.Tree.{HasCell, IsPageOf, IsUnder, Reaches, cell_at, count
 use Rattle.image.specs.Broken.{HasRowid, IsSound, IsRowOrder, IsBroken}
 use Rattle.image.proofs.RowidLemmas.{one_rowid}
 use Rattle.btree.proofs.PageLemmas.{flag_of-same}
-use Rattle.btree.specs.Bytes.{HasHeaderAt}
+use Rattle.image.specs.Layout.{HasHeaderAt}
 use Rattle.integrity.specs.Keys.{IsAbove, IsAtMost, HasKeyAt, HasCells, KeysFit, IsHeadFault}
 use Rattle.integrity.specs.Walked.{IsMet}
 
 module _ (pages : Pages) (n : ℕ) (long : length (pages.page n) ≡ pages.usable) where
   cell_here : (level : Level) (i : ℕ) (key : ℤ) → HasKeyAt (header_at n) pages.size (pages.page n) level i key
       → HasCell pages Table level (cell_at pages level n i)
-  cell_here Leaf i key (cell, row, e) = record {
-    cell = cell;
-    is = subst (λ (u : ℕ). IsTableCell u (cell_at pages Leaf n i) cell) long row.is.is;
-    fits = row.is.fits;
-  }
+  cell_here Leaf i key (cell, row, e) = (
+    cell,
+    record {
+      is = subst (λ (u : ℕ). IsTableCell u (cell_at pages Leaf n i) cell) long row.is.is;
+      fits = row.is.fits;
+    },
+  )
   cell_here Interior i key divider = (key, divider.is)
 
   rowid_here : (level : Level) (i : ℕ) (key : ℤ) → HasKeyAt (header_at n) pages.size (pages.page n) level i key → HasRowid pages level n i key
@@ -48,14 +50,14 @@ module _ (pages : Pages) (n : ℕ) (long : length (pages.page n) ≡ pages.usabl
       → (key : ℤ) × HasKeyAt (header_at n) pages.size (pages.page n) level i key
   key_there Leaf i page within =
       let there = page.cells i within in (
-        there.is.rowid,
+        there.1.is.rowid,
         (
-          there.cell,
+          there.0,
           record {
             begins = page.begins i within;
-            is = record { is = subst (λ (u : ℕ). IsTableCell u (cell_at pages Leaf n i) there.cell) (sym long) there.is; fits = there.fits };
+            is = record { is = subst (λ (u : ℕ). IsTableCell u (cell_at pages Leaf n i) there.0) (sym long) there.1.is; fits = there.1.fits };
           },
-          there.is.has_rowid,
+          there.1.is.has_rowid,
         ),
       )
   key_there Interior i page within = let there = page.cells i within in (there.0, record { begins = page.begins i within; is = there.1 })

@@ -47,11 +47,11 @@ module _ (pages : Pages) (table : TableData) where
 
   -- of a leaf, as its bytes were seen
   module _ (n at most : ℕ) (page : List ℕ) (seen : IsSeen pages n at most page) where
-    pub seen_row : (i : ℕ) (cell : CellData) → bytes.IsRowOf at most page i cell → IsRowAt pages (place_at n i) cell
+    pub seen_row : (i : ℕ) (cell : CellData) → bytes.IsRowCell at most page i cell → IsRowAt pages (place_at n i) cell
     seen_row i cell row =
-        let here : bytes.IsRowOf (header_at n) pages.size (pages.page n) i cell =
-        subst (λ (a : ℕ). bytes.IsRowOf a pages.size (pages.page n) i cell) seen.at_is
-        (subst (λ (m : ℕ). bytes.IsRowOf at m (pages.page n) i cell) seen.most_is (subst (λ (b : List ℕ). bytes.IsRowOf at most b i cell) seen.page_is row)) in
+        let here : bytes.IsRowCell (header_at n) pages.size (pages.page n) i cell =
+        subst (λ (a : ℕ). bytes.IsRowCell a pages.size (pages.page n) i cell) seen.at_is
+        (subst (λ (m : ℕ). bytes.IsRowCell at m (pages.page n) i cell) seen.most_is (subst (λ (b : List ℕ). bytes.IsRowCell at most b i cell) seen.page_is row)) in
         let long : length (pages.page n) ≡ pages.usable = sym (ap length seen.page_is) ∙ seen.long in
         record { is = subst (λ (u : ℕ). IsTableCell u (cell_at pages Leaf n i) cell) long here.is.is; fits = here.is.fits }
 

@@ -7,16 +7,16 @@ use Rattle.image.specs.declared.kind.Level.TheVariants.{Leaf, Interior}
 use Rattle.image.specs.Layout.{cell_place}
 use Rattle.image.specs.Cell.{CellData}
 use Rattle.image.proofs.RowidLemmas.{one_cell_rowid}
-use Rattle.btree.specs.Bytes.{IsRowOf, IsDividerOf}
+use Rattle.btree.specs.Bytes.{IsRowCell, IsDividerCell}
 use Rattle.integrity.specs.Keys.{IsAbove, IsAtMost, HasKeyAt, KeysFit, FitSoFar}
 
 module _ (at most : ℕ) (page : List ℕ) where
-  pub no_leaf_key : (level : Level) (i : ℕ) → level ≡ Leaf → ((cell : CellData) → ¬ IsRowOf at most page i cell)
+  pub no_leaf_key : (level : Level) (i : ℕ) → level ≡ Leaf → ((cell : CellData) → ¬ IsRowCell at most page i cell)
       → (key : ℤ) → ¬ HasKeyAt at most page level i key
   no_leaf_key Leaf i e none key h = none h.0 h.1
   no_leaf_key Interior i e none key h = absurd cc
 
-  pub no_interior_key : (level : Level) (i : ℕ) → level ≡ Interior → ((key : ℤ) → ¬ IsDividerOf at page i key)
+  pub no_interior_key : (level : Level) (i : ℕ) → level ≡ Interior → ((key : ℤ) → ¬ IsDividerCell at page i key)
       → (key : ℤ) → ¬ HasKeyAt at most page level i key
   no_interior_key Leaf i e none key h = absurd cc
   no_interior_key Interior i e none key h = none key h

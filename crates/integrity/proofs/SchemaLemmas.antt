@@ -1,4 +1,5 @@
 -- The first page of an image, as its used bytes were seen, where the schema's tree was checked.
+use Rattle.image.specs.Layout.{HasHeaderAt}
 use Rattle.std.proofs.Common.{◌≡◌, ℕ, zero, suc, ◌+◌, ◌<◌, List, length, map, slice_get, Some, None, refl, sym, ◌∙◌, ap, subst, inl, inr, arith}
 use Rattle.std.specs.List.{range_with_len}
 use Rattle.std.proofs.lemmas.List.FromFn.{length-map-range_with_len}
@@ -7,10 +8,9 @@ use Rattle.image.specs.declared.kind.TreeKind.TheVariants.{Table}
 use Rattle.image.specs.declared.kind.Level.{Level}
 use Rattle.image.specs.declared.kind.Level.TheVariants.{Leaf, Interior}
 use Rattle.image.specs.Layout.{header_at}
-use Rattle.image.specs.Pages.{Pages, IsNumber}
+use Rattle.image.specs.Pages.{pages_seen, Pages, IsNumber}
 use Rattle.pager.specs.declared.header.Header.{Header}
-use Rattle.pager.specs.PagerState.{PagerState, IsSound as IsSoundHeader}
-use Rattle.btree.specs.Rest.{pages_seen}
+use Rattle.pager.specs.PagerState.{PagerState, IsSoundHeader}
 use Rattle.image.specs.Shape.{HasShape, place_at, places_in, places_under}
 use Rattle.image.specs.Sound.{AreRowsOf}
 use Rattle.image.specs.Tree.{IsPageOf, Place, top, count_at}
@@ -46,19 +46,19 @@ module _ (pages : Pages) (at most : ℕ) (page : List ℕ) (seen : IsSeen pages 
   long_here : length (pages.page 1) ≡ pages.usable
   long_here = sym (ap length seen.page_is) ∙ seen.long
 
-  header_here : (level : Level) → bytes.HasHeaderAt at Table level page → bytes.HasHeaderAt (header_at 1) Table level (pages.page 1)
-  header_here level header = subst (λ (a : ℕ). bytes.HasHeaderAt a Table level (pages.page 1)) seen.at_is
-      (subst (λ (b : List ℕ). bytes.HasHeaderAt at Table level b) seen.page_is header)
+  header_here : (level : Level) → HasHeaderAt at Table level page → HasHeaderAt (header_at 1) Table level (pages.page 1)
+  header_here level header = subst (λ (a : ℕ). HasHeaderAt a Table level (pages.page 1)) seen.at_is
+      (subst (λ (b : List ℕ). HasHeaderAt at Table level b) seen.page_is header)
 
-  page_is : (level : Level) → bytes.HasHeaderAt at Table level page → IsPageOf pages Table level 1
+  page_is : (level : Level) → HasHeaderAt at Table level page → IsPageOf pages Table level 1
   page_is level header =
       let first = tree.sound.tree.each 1 (1, top) in
       subst (λ (l : Level). IsPageOf pages Table l 1) (one_level pages 1 long_here level first.level (header_here level header) first.page) first.page
 
-  pub beyond : bytes.HasHeaderAt at Table Interior page → IsBeyond pages
+  pub beyond : HasHeaderAt at Table Interior page → IsBeyond pages
   beyond header = levels (page_is Interior header)
 
-  module _ (header : bytes.HasHeaderAt at Table Leaf page) where
+  module _ (header : HasHeaderAt at Table Leaf page) where
     leaf : IsPageOf pages Table Leaf 1
     leaf = page_is Leaf header
 
@@ -87,18 +87,17 @@ module _ (pages : Pages) (at most : ℕ) (page : List ℕ) (seen : IsSeen pages 
     none_lacks lacks =
         let within : lacks.i < count_at pages 1 = omega (arith, lacks.within, seen_cells pages schema_table 1 at most page seen) in
         let there = has_cells pages 1 long_here Leaf leaf lacks.i within in
-        let back : bytes.IsRowOf at most page lacks.i there.1.0 =
-        subst (λ (b : List ℕ). bytes.IsRowOf at most b lacks.i there.1.0) (sym seen.page_is)
-        (subst (λ (m : ℕ). bytes.IsRowOf at m (pages.page 1) lacks.i there.1.0) (sym seen.most_is)
-        (subst (λ (a : ℕ). bytes.IsRowOf a pages.size (pages.page 1) lacks.i there.1.0) (sym seen.at_is) there.1.1)) in
+        let back : bytes.IsRowCell at most page lacks.i there.1.0 =
+        subst (λ (b : List ℕ). bytes.IsRowCell at most b lacks.i there.1.0) (sym seen.page_is)
+        (subst (λ (m : ℕ). bytes.IsRowCell at m (pages.page 1) lacks.i there.1.0) (sym seen.most_is)
+        (subst (λ (a : ℕ). bytes.IsRowCell a pages.size (pages.page 1) lacks.i there.1.0) (sym seen.at_is) there.1.1)) in
         lacks.none there.1.0 back
 
     pub rows_cause : (fault : Fault) → IsRowsFault pages schema_table 1 at most page fault → HasCause pages fault
     rows_cause fault (inl failed) = inl failed
-    rows_cause fault (inr (inl memory)) = inr (inl memory)
-    rows_cause fault (inr (inr (inl broken))) =
-        inr (inr (inl (schema_table, schema, inr (leaf_fault pages schema_table 1 at most page seen 1 leaf top fault broken))))
-    rows_cause fault (inr (inr (inr (is, lacks)))) = absurd (none_lacks lacks)
+    rows_cause fault (inr (inl broken)) =
+        inr (inl (schema_table, schema, inr (leaf_fault pages schema_table 1 at most page seen 1 leaf top fault broken)))
+    rows_cause fault (inr (inr (is, lacks))) = absurd (none_lacks lacks)
 
 -- the first page, as a pager shows it
 module _ (state : PagerState) (header : Header) (header_is : header ≡ state.header) (sound : IsSoundHeader header) where

@@ -7,21 +7,21 @@ use Rattle.image.specs.declared.kind.TreeKind.TheVariants.{Table}
 use Rattle.image.specs.declared.kind.Level.{Level}
 use Rattle.image.specs.declared.kind.Level.TheVariants.{Leaf, Interior}
 use Rattle.image.specs.Layout.{header_at, cell_count, child}
-use Rattle.image.specs.Pages.{Pages, IsNumber}
+use Rattle.image.specs.Pages.{pages_seen, Pages, IsNumber}
 use Rattle.image.specs.Tree.{IsPageOf, IsChild, IsUnder, StandsAt, top, below, Reaches, child_at, count_at}
 use Rattle.image.specs.Shape.{places_under}
 use Rattle.image.specs.Broken.{HasRowid, IsSound, IsBroken}
 use Rattle.image.proofs.ShapeLemmas.{one_level}
-use Rattle.btree.specs.Bytes.{HasHeaderAt, IsDividerOf}
+use Rattle.image.specs.Layout.{HasHeaderAt}
+use Rattle.btree.specs.Bytes.{IsDividerCell}
 use Rattle.integrity.specs.Keys.{IsHead, IsHeadFault, KeysFit, HasCells}
 use Rattle.integrity.specs.Walked.{IsLowAt, IsHighAt, IsTree, IsBranch, IsMet, IsSeen}
 use Rattle.std.proofs.Common.{take, length-take, ◌*◌}
 use Rattle.std.proofs.lemmas.List.FromFn.{length-map-range_with_len}
 use Rattle.pager.specs.declared.header.Header.{Header}
 use Rattle.pager.specs.Page.{page_of}
-use Rattle.pager.specs.PagerState.{PagerState, IsSound as IsSoundHeader}
+use Rattle.pager.specs.PagerState.{PagerState, IsSoundHeader}
 use Rattle.image.specs.Shape.{place_at}
-use Rattle.btree.specs.Rest.{pages_seen}
 use Rattle.btree.specs.ViewData.{ViewData}
 use Rattle.btree.proofs.SeenLemmas.{readable}
 use Rattle.integrity.specs.Walked.{AreCounts}
@@ -143,16 +143,16 @@ module _ (pages : Pages) (n at most : ℕ) (page : List ℕ) (seen : IsSeen page
   seen_count c is = here (λ a k b. c ≡ cell_count a b) is
 
   pub seen_low : (low l : Option ℤ) (i : ℕ) → (i ≡ 0 → l ≡ low)
-      → ((k : ℕ) → i ≡ suc k → (key : ℤ) × (l ≡ Some key) × IsDividerOf at page k key) → IsLowAt pages n low i l
+      → ((k : ℕ) → i ≡ suc k → (key : ℤ) × (l ≡ Some key) × IsDividerCell at page k key) → IsLowAt pages n low i l
   seen_low low l zero first inner = first refl
   seen_low low l (suc i) first inner =
       let at_key = inner i refl in
-      (at_key.0, at_key.1, (here (λ a m b. IsDividerOf a b i at_key.0) at_key.2).is)
+      (at_key.0, at_key.1, (here (λ a m b. IsDividerCell a b i at_key.0) at_key.2).is)
 
-  pub seen_high : (high h : Option ℤ) (i : ℕ) → (i < cell_count at page → (key : ℤ) × (h ≡ Some key) × IsDividerOf at page i key)
+  pub seen_high : (high h : Option ℤ) (i : ℕ) → (i < cell_count at page → (key : ℤ) × (h ≡ Some key) × IsDividerCell at page i key)
       → (cell_count at page ≤ i → h ≡ high) → IsHighAt pages n high i h
   seen_high high h i inner last = record {
-    inner = λ within. let at_key = here (λ a m b. i < cell_count a b → (key : ℤ) × (h ≡ Some key) × IsDividerOf a b i key) inner within in (at_key.0, at_key.1, at_key.2.is);
+    inner = λ within. let at_key = here (λ a m b. i < cell_count a b → (key : ℤ) × (h ≡ Some key) × IsDividerCell a b i key) inner within in (at_key.0, at_key.1, at_key.2.is);
     last = here (λ a m b. cell_count a b ≤ i → h ≡ high) last;
   }
 
@@ -257,8 +257,8 @@ module _ (pages : Pages) (root depth : ℕ) (low high : Option ℤ) (n at most :
       bad_child pages root depth low high n inner_is.met i inner_is.page_is here_within (λ number. not (subst (λ (m : ℕ). IsNumber pages m) (sym is) number))
 
   module _ (m : ℕ) (l h : Option ℤ) (m_is : m ≡ child at page i) (number : IsNumber pages m)
-      (first : i ≡ 0 → l ≡ low) (low_inner : (k : ℕ) → i ≡ suc k → (key : ℤ) × (l ≡ Some key) × IsDividerOf at page k key)
-      (high_inner : i < cell_count at page → (key : ℤ) × (h ≡ Some key) × IsDividerOf at page i key) (last : cell_count at page ≤ i → h ≡ high) where
+      (first : i ≡ 0 → l ≡ low) (low_inner : (k : ℕ) → i ≡ suc k → (key : ℤ) × (l ≡ Some key) × IsDividerCell at page k key)
+      (high_inner : i < cell_count at page → (key : ℤ) × (h ≡ Some key) × IsDividerCell at page i key) (last : cell_count at page ≤ i → h ≡ high) where
     child_is : m ≡ child_at pages n i
     child_is = seen_child pages n at most page inner_is.seen i m m_is
 

@@ -2,6 +2,7 @@
 use Rattle.std.specs.Prelude.{ℕ, ◌<◌, All, List}
 use Rattle.std.specs.List.{AllZip}
 use Rattle.image.specs.Pages.{pages_of, Pages}
+use Rattle.image.specs.Shape.{most_levels}
 use Rattle.values.specs.Row.{Row}
 use Rattle.values.specs.Database.{Database}
 use Rattle.schema.specs.Rows.{AreTables}
@@ -24,7 +25,7 @@ pub record Denotes (image : List ℕ) (tables : List TableData) (db : Database) 
 pub record IsStoredTable (pages : Pages) (table : TableData) : Type 0 where
   pub levels : ℕ
   pub rows : List Row
-  pub few : levels < 20
+  pub few : levels < most_levels
   pub stored : IsStored pages table levels rows
 
 -- the tables of the pages, each with its rows

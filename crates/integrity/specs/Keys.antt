@@ -7,7 +7,7 @@ use Rattle.image.specs.declared.kind.Level.{Level}
 use Rattle.image.specs.declared.kind.Level.TheVariants.{Leaf, Interior}
 use Rattle.image.specs.Cell.{CellData}
 use Rattle.image.specs.Layout.{cell_count}
-use Rattle.btree.specs.Bytes.{IsRowOf, IsDividerOf}
+use Rattle.btree.specs.Bytes.{IsRowCell, IsDividerCell}
 
 -- a key keeps a bound that there may be
 abbrev pub IsAbove : Option ℤ → ℤ → Type 0
@@ -21,8 +21,8 @@ IsAtMost (Some high) key = key ≤ℤ high
 -- Of a page of these used bytes, whose header begins at a place: cell i is there, with a payload of at most so many
 -- bytes, and has this key.
 abbrev pub HasKeyAt : ℕ → ℕ → List ℕ → Level → ℕ → ℤ → Type 0
-HasKeyAt at most page Leaf i key = (cell : CellData) × IsRowOf at most page i cell × (cell.rowid ≡ Some key)
-HasKeyAt at most page Interior i key = IsDividerOf at page i key
+HasKeyAt at most page Leaf i key = (cell : CellData) × IsRowCell at most page i cell × (cell.rowid ≡ Some key)
+HasKeyAt at most page Interior i key = IsDividerCell at page i key
 
 abbrev pub HasCells : ℕ → ℕ → List ℕ → Level → Type 0
 HasCells at most page level = (i : ℕ) → i < cell_count at page → (key : ℤ) × HasKeyAt at most page level i key

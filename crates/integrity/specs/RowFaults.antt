@@ -3,6 +3,7 @@ use Rattle.std.specs.Prelude.{◌≡◌, ◌≢◌, ◌⊎◌, ◌<◌, ℕ, Lis
 use Rattle.values.specs.Datum.{Datum}
 use Rattle.values.specs.declared.fault.Fault.{Fault}
 use Rattle.values.specs.declared.fault.Fault.TheVariants.{ReadFailed, NoMemory, BadPage, BadChain, BadRecord, FloatValue, BadText, ValueBreaksColumn}
+use Rattle.pager.specs.Calls.{IsReadFault}
 use Rattle.records.specs.declared.fault.RecordFault.{RecordFault}
 use Rattle.records.specs.declared.fault.RecordFault.TheVariants as r
 use Rattle.records.specs.Record.{Breaks, IsRecord}
@@ -72,7 +73,7 @@ IsBrokenTable pages table fault = IsBroken pages table.root fault ⊎ HasCellFau
 pub record IsRowIn (pages : Pages) (table : TableData) (at most : ℕ) (page : List ℕ) (i : ℕ) : Type 0 where
   pub cell : CellData
   pub row : Row
-  pub here : bytes.IsRowOf at most page i cell
+  pub here : bytes.IsRowCell at most page i cell
   pub is : IsRowOf pages table cell row
   pub fits : Fits table row
 
@@ -84,7 +85,7 @@ pub record IsLeafFault (pages : Pages) (table : TableData) (n at most : ℕ) (pa
   pub i : ℕ
   pub cell : CellData
   pub within : i < cell_count at page
-  pub here : bytes.IsRowOf at most page i cell
+  pub here : bytes.IsRowCell at most page i cell
   pub broken : IsCellFault pages table n cell fault
 
 -- the faults of a table's rows
@@ -102,16 +103,16 @@ IsRowFault _ = ⊥
 abbrev pub AreLeafRows : Pages → TableData → ℕ → ℕ → List ℕ → List Row → Type 0
 AreLeafRows pages table at most page rows =
     (length rows ≡ cell_count at page) × ((i : ℕ) (row : Row) → slice_get rows i ≡ Some row
-    → (cell : CellData) × bytes.IsRowOf at most page i cell × IsRowOf pages table cell row)
+    → (cell : CellData) × bytes.IsRowCell at most page i cell × IsRowOf pages table cell row)
 
 -- a cell of the leaf isn't there
 pub record LacksCell (at most : ℕ) (page : List ℕ) : Type 0 where
   pub i : ℕ
   pub within : i < cell_count at page
-  pub none : (cell : CellData) → ¬ bytes.IsRowOf at most page i cell
+  pub none : (cell : CellData) → ¬ bytes.IsRowCell at most page i cell
 
 -- why the cells of a leaf are no rows: a read failed or memory ran out, a cell has a fault, or isn't there
 abbrev pub IsRowsFault : Pages → TableData → ℕ → ℕ → ℕ → List ℕ → Fault → Type 0
 IsRowsFault pages table n at most page fault =
-    (fault ≡ ReadFailed) ⊎ (fault ≡ NoMemory) ⊎ IsLeafFault pages table n at most page fault
+    IsReadFault fault ⊎ IsLeafFault pages table n at most page fault
     ⊎ ((fault ≡ BadPage n) × LacksCell at most page)

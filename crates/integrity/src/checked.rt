@@ -1,12 +1,7 @@
 //! The check of a whole image.
-ghost use Rattle.std.specs.Prelude.{◌≡◌, All, IfErr, IfOk, IsTrue, OnOk};
-ghost use Rattle.std.specs.List.{AllZip};
-ghost use Rattle.pager.specs.PagerState.{IsPageNumber, Stays};
-ghost use Rattle.values.specs.Fault.{Counts};
-ghost use Rattle.btree.specs.Rest.{pages_seen};
-ghost use Rattle.integrity.specs.Checked.{HasCause, IsBrokenImage, IsCheckedTree};
-ghost use Rattle.integrity.specs.Denotes.{HasTables};
-ghost use Rattle.integrity.specs.Walked.{IsCheckFault};
+ghost use Rattle.std.specs.Prelude.{◌≡◌, MatchResult};
+ghost use Rattle.pager.specs.Calls.{ReadsPages};
+ghost use Rattle.integrity.specs.Checked.{HasCheckedImage, IsCheckFailure};
 
 use crate::trees::{check_tables, read_schema};
 use crate::walk::TreeCounts;
@@ -56,15 +51,8 @@ impl Checked {
 /// has that condition; `NotYet` where the schema has more than one page, or one of its rows isn't that of a table that is
 /// served; `ReadFailed` and `NoMemory`.
 pub fn check<S: Source>(alloc: Global, pager: &mut Pager<S>) -> Result<Checked, Fault>
-    ensures tables { IsTrue pager.old.state.source.steady → IfOk result (λ checked. HasTables (pages_seen pager.old.state) checked.tables) }
-    ensures trees { IsTrue pager.old.state.source.steady
-        → IfOk result (λ checked. AllZip (IsCheckedTree (pages_seen pager.old.state)) checked.tables checked.trees) }
-    ensures unbroken { IsTrue pager.old.state.source.steady → OnOk result ((fault : Fault) → ¬ IsBrokenImage (pages_seen pager.old.state) fault) }
-    ensures roots { IfOk result (λ checked. All (λ table. IsPageNumber pager.old.state table.root) checked.tables) }
-    ensures cause { IsTrue pager.old.state.source.steady → IfErr result (HasCause (pages_seen pager.old.state)) }
-    ensures only { IfErr result IsCheckFault }
-    ensures failures { Counts Fault.ReadFailed result pager.old.state.source.failures pager.new.state.source.failures }
-    ensures stays { Stays pager.old.state pager.new.state }
+    ensures outcome { MatchResult result (HasCheckedImage pager.old.state) (IsCheckFailure pager.old.state) }
+    ensures reads { ReadsPages result pager.old.state pager.new.state }
 {
     let schema = Table::schema(alloc)?;
     let rows = read_schema(alloc, pager, &schema)?;

@@ -20,5 +20,4 @@ mod walk;
 
 pub use checked::{Checked, check};
 pub use row_reader::RowReader;
-pub use rows::row_of;
 pub use walk::TreeCounts;

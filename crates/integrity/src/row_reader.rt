@@ -37,8 +37,8 @@ impl<'p> RowReader<'p> {
     /// Format, section 2.3 "Representation Of SQL Tables")
     #[inline]
     pub fn new(table: &Table, rowid: Option<i64>, payload: &'p [u8]) -> Option<RowReader<'p>>
-        ensures found { IfSome result (λ reader. (row : Row) → IsRowRecord table.now rowid payload.now row → IsReading reader row) }
-        ensures wide { IfSome result (λ reader. reader.width ≡ length table.now.columns) }
+        ensures found { IfSome result (λ reader. (reader.width ≡ length table.now.columns)
+            × ((row : Row) → IsRowRecord table.now rowid payload.now row → IsReading reader row)) }
         ensures none { IfNone result ((row : Row) → ¬ IsRowRecord table.now rowid payload.now row) }
     {
         let fields = FieldReader::new(payload)?;

@@ -5,9 +5,8 @@ ghost use Rattle.values.specs.Datum.{Datum, datum_of_ref};
 ghost use Rattle.image.specs.declared.kind.TreeKind.TheVariants as kind;
 ghost use Rattle.image.specs.declared.kind.Level.TheVariants.{Leaf};
 ghost use Rattle.image.specs.Chain.{HasBytes};
-ghost use Rattle.pager.specs.PagerState.{Stays};
-ghost use Rattle.values.specs.Fault.{Counts};
-ghost use Rattle.btree.specs.Rest.{pages_seen};
+ghost use Rattle.pager.specs.Calls.{IsReadFault, ReadsPages};
+ghost use Rattle.image.specs.Pages.{WhereSteady};
 ghost use Rattle.btree.specs.Views.{cell_data, payload_data};
 ghost use Rattle.integrity.specs.Keys.{HasCells};
 ghost use Rattle.integrity.specs.Reading.{value_in};
@@ -136,30 +135,6 @@ fn fits(table: &Table, row: &RowView<'_>) -> bool
     true
 }
 
-/// The row of a table that a record is, with its rowid where it has one. (Database File Format, section 2.3
-/// "Representation Of SQL Tables") The fault is `Changed` where the record has another number of values than the table has
-/// columns, or a value that isn't of its column; or `NoMemory`.
-pub fn row_of(
-    alloc: Global,
-    table: &Table,
-    rowid: Option<i64>,
-    fields: RecordView<'_>,
-) -> Result<Row, Fault>
-    ensures row { IfOk result (λ row. IsRowFrom table.now rowid fields.entry row) }
-    ensures fits { IfOk result (λ row. Fits table.now row) }
-    ensures changed { IfErr result (λ e. (e ≡ Fault.NoMemory)
-        ⊎ ((e ≡ Fault.Changed) × ((row : List Datum) → IsRowFrom table.now rowid fields.entry row → ¬ Fits table.now row))) }
-{
-    let Some(row) = RowView::new(table, rowid, fields) else {
-        return Err(Fault::Changed);
-    };
-    if !fits(table, &row) {
-        return Err(Fault::Changed);
-    }
-    let row = row.to_row(alloc)?;
-    Ok(row)
-}
-
 /// The fault of a record of page `n`.
 fn record_fault(fault: RecordFault, n: u32) -> Fault
     ensures { result ≡ fault_of fault n }
@@ -179,14 +154,11 @@ pub(crate) fn payload_of<'p, S: Source>(
     cell: &Cell<'p>,
     n: u32,
 ) -> Result<CowSlice<'p, u8>, Fault>
-    ensures bytes { IsTrue pager.old.state.source.steady
-        → IfOk result (λ bytes. HasBytes (pages_seen pager.old.state) (payload_data cell.now.payload) (cow_slice_items bytes)) }
-    ensures fault { IsTrue pager.old.state.source.steady
-        → IfErr result (λ e. (e ≡ Fault.ReadFailed) ⊎ (e ≡ Fault.NoMemory)
-        ⊎ ((e ≡ Fault.BadChain n) × ((bytes : List ℕ) → ¬ HasBytes (pages_seen pager.old.state) (payload_data cell.now.payload) bytes))) }
+    ensures bytes { WhereSteady pager.old.state (λ pages. IfOk result (λ bytes. HasBytes pages (payload_data cell.now.payload) (cow_slice_items bytes))) }
+    ensures fault { WhereSteady pager.old.state (λ pages. IfErr result (λ e. IsReadFault e
+        ⊎ ((e ≡ Fault.BadChain n) × ((bytes : List ℕ) → ¬ HasBytes pages (payload_data cell.now.payload) bytes)))) }
     ensures only { IfErr result IsRowFault }
-    ensures failures { Counts Fault.ReadFailed result pager.old.state.source.failures pager.new.state.source.failures }
-    ensures stays { Stays pager.old.state pager.new.state }
+    ensures reads { ReadsPages result pager.old.state pager.new.state }
 {
     payload(alloc, pager, cell)?.ok_or(Fault::BadChain(n))
 }
@@ -250,14 +222,11 @@ fn check_row<S: Source>(
     cell: &Cell<'_>,
     n: u32,
 ) -> Result<(), Fault>
-    ensures row { IsTrue pager.old.state.source.steady
-        → OnOk result ((row : List Datum) × IsRowOf (pages_seen pager.old.state) table.now (cell_data cell.now) row × Fits table.now row) }
-    ensures fault { IsTrue pager.old.state.source.steady
-        → IfErr result (λ e. (e ≡ Fault.ReadFailed) ⊎ (e ≡ Fault.NoMemory)
-        ⊎ IsCellFault (pages_seen pager.old.state) table.now n (cell_data cell.now) e) }
+    ensures row { WhereSteady pager.old.state (λ pages. OnOk result ((row : List Datum) × IsRowOf pages table.now (cell_data cell.now) row × Fits table.now row)) }
+    ensures fault { WhereSteady pager.old.state (λ pages. IfErr result (λ e. IsReadFault e
+        ⊎ IsCellFault pages table.now n (cell_data cell.now) e)) }
     ensures only { IfErr result IsRowFault }
-    ensures failures { Counts Fault.ReadFailed result pager.old.state.source.failures pager.new.state.source.failures }
-    ensures stays { Stays pager.old.state pager.new.state }
+    ensures reads { ReadsPages result pager.old.state pager.new.state }
 {
     let bytes = payload_of(alloc, pager, cell, n)?;
     if is_row(table, cell.rowid, bytes.as_slice()) {
@@ -284,14 +253,11 @@ pub(crate) fn check_rows<S: Source>(
     requires kind { view.now.kind ≡ kind.Table }
     requires level { view.now.level ≡ Leaf }
     requires cells { HasCells view.now.at most view.now.page Leaf }
-    ensures rows { IsTrue pager.old.state.source.steady
-        → OnOk result (AreRowsIn (pages_seen pager.old.state) table.now view.now.at most view.now.page) }
-    ensures fault { IsTrue pager.old.state.source.steady
-        → IfErr result (λ e. (e ≡ Fault.ReadFailed) ⊎ (e ≡ Fault.NoMemory)
-        ⊎ IsLeafFault (pages_seen pager.old.state) table.now n view.now.at most view.now.page e) }
+    ensures rows { WhereSteady pager.old.state (λ pages. OnOk result (AreRowsIn pages table.now view.now.at most view.now.page)) }
+    ensures fault { WhereSteady pager.old.state (λ pages. IfErr result (λ e. IsReadFault e
+        ⊎ IsLeafFault pages table.now n view.now.at most view.now.page e)) }
     ensures only { IfErr result IsRowFault }
-    ensures failures { Counts Fault.ReadFailed result pager.old.state.source.failures pager.new.state.source.failures }
-    ensures stays { Stays pager.old.state pager.new.state }
+    ensures reads { ReadsPages result pager.old.state pager.new.state }
 {
     for i in 0..u32::from(view.count()) {
         // The keys of the leaf were read, so that each of its cells is there.

@@ -1,11 +1,11 @@
 //! The trees of an image's tables, and the rows of its schema.
 ghost use Rattle.std.specs.Prelude.{◌≡◌, ◌⊎◌, All, Contains, IfErr, IfOk, IsTrue, OnOk};
 ghost use Rattle.std.specs.List.{AllZip};
-ghost use Rattle.pager.specs.PagerState.{IsPageNumber, Stays};
-ghost use Rattle.values.specs.Fault.{Counts};
+ghost use Rattle.pager.specs.Calls.{IsReadFault, ReadsPages};
+ghost use Rattle.pager.specs.PagerState.{IsPageNumber};
 ghost use Rattle.image.specs.declared.kind.TreeKind.TheVariants as kind;
 ghost use Rattle.image.specs.declared.kind.Level.TheVariants.{Leaf};
-ghost use Rattle.btree.specs.Rest.{pages_seen};
+ghost use Rattle.image.specs.Pages.{WhereSteady};
 ghost use Rattle.btree.specs.Views.{cell_data};
 ghost use Rattle.schema.specs.TableData.{TableData, schema_table};
 ghost use Rattle.integrity.specs.Checked.{HasCause, IsCheckedTree};
@@ -29,14 +29,11 @@ pub(crate) fn check_tables<S: Source>(
     tables: &[Table],
 ) -> Result<Vec<TreeCounts>, Fault>
     requires { All (λ table. IsPageNumber pager.old.state table.root) tables.now }
-    ensures checked { IsTrue pager.old.state.source.steady
-        → IfOk result (λ trees. AllZip (IsCheckedTree (pages_seen pager.old.state)) tables.now trees.items) }
-    ensures fault { IsTrue pager.old.state.source.steady
-        → IfErr result (λ e. (e ≡ Fault.ReadFailed) ⊎ (e ≡ Fault.NoMemory)
-        ⊎ ((table : TableData) × Contains tables.now table × IsBrokenTable (pages_seen pager.old.state) table e)) }
+    ensures checked { WhereSteady pager.old.state (λ pages. IfOk result (λ trees. AllZip (IsCheckedTree pages) tables.now trees.items)) }
+    ensures fault { WhereSteady pager.old.state (λ pages. IfErr result (λ e. IsReadFault e
+        ⊎ ((table : TableData) × Contains tables.now table × IsBrokenTable pages table e))) }
     ensures only { IfErr result IsWalkFault }
-    ensures failures { Counts Fault.ReadFailed result pager.old.state.source.failures pager.new.state.source.failures }
-    ensures stays { Stays pager.old.state pager.new.state }
+    ensures reads { ReadsPages result pager.old.state pager.new.state }
 {
     let mut trees = Vec::with_capacity(alloc, tables.len())?;
     for table in tables {
@@ -54,14 +51,11 @@ fn row_in<S: Source>(
     cell: &Cell<'_>,
     n: u32,
 ) -> Result<Row, Fault>
-    ensures row { IsTrue pager.old.state.source.steady
-        → IfOk result (λ row. IsRowOf (pages_seen pager.old.state) table.now (cell_data cell.now) row) }
-    ensures fault { IsTrue pager.old.state.source.steady
-        → IfErr result (λ e. (e ≡ Fault.ReadFailed) ⊎ (e ≡ Fault.NoMemory)
-        ⊎ IsCellFault (pages_seen pager.old.state) table.now n (cell_data cell.now) e) }
+    ensures row { WhereSteady pager.old.state (λ pages. IfOk result (λ row. IsRowOf pages table.now (cell_data cell.now) row)) }
+    ensures fault { WhereSteady pager.old.state (λ pages. IfErr result (λ e. IsReadFault e
+        ⊎ IsCellFault pages table.now n (cell_data cell.now) e)) }
     ensures only { IfErr result IsRowFault }
-    ensures failures { Counts Fault.ReadFailed result pager.old.state.source.failures pager.new.state.source.failures }
-    ensures stays { Stays pager.old.state pager.new.state }
+    ensures reads { ReadsPages result pager.old.state pager.new.state }
 {
     let bytes = payload_of(alloc, pager, cell, n)?;
     let view = read_row(alloc, table, cell.rowid, bytes.as_slice(), n)?;
@@ -80,13 +74,10 @@ fn leaf_rows<S: Source>(
 ) -> Result<Vec<Row>, Fault>
     requires kind { view.now.kind ≡ kind.Table }
     requires level { view.now.level ≡ Leaf }
-    ensures rows { IsTrue pager.old.state.source.steady
-        → IfOk result (λ rows. AreLeafRows (pages_seen pager.old.state) table.now view.now.at most view.now.page rows.items) }
-    ensures fault { IsTrue pager.old.state.source.steady
-        → IfErr result (IsRowsFault (pages_seen pager.old.state) table.now n view.now.at most view.now.page) }
+    ensures rows { WhereSteady pager.old.state (λ pages. IfOk result (λ rows. AreLeafRows pages table.now view.now.at most view.now.page rows.items)) }
+    ensures fault { WhereSteady pager.old.state (λ pages. IfErr result (IsRowsFault pages table.now n view.now.at most view.now.page)) }
     ensures only { IfErr result IsWalkFault }
-    ensures failures { Counts Fault.ReadFailed result pager.old.state.source.failures pager.new.state.source.failures }
-    ensures stays { Stays pager.old.state pager.new.state }
+    ensures reads { ReadsPages result pager.old.state pager.new.state }
 {
     let mut rows = Vec::with_capacity(alloc, view.count() as usize)?;
     for i in 0..u32::from(view.count()) {
@@ -109,14 +100,11 @@ pub(crate) fn read_schema<S: Source>(
     schema: &Table,
 ) -> Result<Vec<Row>, Fault>
     requires { schema.now ≡ schema_table }
-    ensures rows { IsTrue pager.old.state.source.steady
-        → IfOk result (λ rows. HoldsRows (pages_seen pager.old.state) schema_table rows.items) }
-    ensures checked { IsTrue pager.old.state.source.steady
-        → OnOk result ((counts : TreeCounts) × IsCheckedTree (pages_seen pager.old.state) schema_table counts) }
-    ensures fault { IsTrue pager.old.state.source.steady → IfErr result (HasCause (pages_seen pager.old.state)) }
+    ensures rows { WhereSteady pager.old.state (λ pages. IfOk result (λ rows. HoldsRows pages schema_table rows.items)) }
+    ensures checked { WhereSteady pager.old.state (λ pages. OnOk result ((counts : TreeCounts) × IsCheckedTree pages schema_table counts)) }
+    ensures fault { WhereSteady pager.old.state (λ pages. IfErr result (HasCause pages)) }
     ensures only { IfErr result IsCheckFault }
-    ensures failures { Counts Fault.ReadFailed result pager.old.state.source.failures pager.new.state.source.failures }
-    ensures stays { Stays pager.old.state pager.new.state }
+    ensures reads { ReadsPages result pager.old.state pager.new.state }
 {
     let header = pager.header();
     check_table(alloc, pager, schema)?;

@@ -1,14 +1,14 @@
 //! A walk over a table's tree, from its root down.
-ghost use Rattle.std.specs.Prelude.{All, ◌≡◌, ◌≢◌, ◌⊎◌, ◌+◌, ◌<◌, ◌≤◌, ℤ, Option, IfErr, IfNone, IfOk, IfSome, OnOk, IsFalse, IsTrue, None, Some, suc, ℕ};
+ghost use Rattle.std.specs.Prelude.{All, ◌≡◌, ◌≢◌, ◌⊎◌, ◌+◌, ◌<◌, ◌≤◌, ℤ, Option, IfErr, IfNone, IfOk, IfSome, IsFalse, IsTrue, MatchResult, None, Some, suc, ℕ};
 ghost use Rattle.image.specs.declared.kind.TreeKind.TheVariants as kind;
 ghost use Rattle.image.specs.declared.kind.Level.TheVariants.{Interior};
 ghost use Rattle.image.specs.Layout.{cell_count, child};
-ghost use Rattle.image.specs.Shape.{HasShape, places_under};
-ghost use Rattle.image.specs.Sound.{IsSoundTable};
-ghost use Rattle.pager.specs.PagerState.{IsPageNumber, Stays};
-ghost use Rattle.values.specs.Fault.{Counts};
-ghost use Rattle.btree.specs.Bytes.{IsDividerOf};
-ghost use Rattle.btree.specs.Rest.{IsCursorFault, pages_seen};
+ghost use Rattle.image.specs.Shape.{most_levels, places_under};
+ghost use Rattle.pager.specs.Calls.{IsReadFault, ReadsPages};
+ghost use Rattle.pager.specs.PagerState.{IsPageNumber};
+ghost use Rattle.btree.specs.Bytes.{IsDividerCell};
+ghost use Rattle.image.specs.Pages.{WhereSteady};
+ghost use Rattle.integrity.specs.Checked.{HasCheckedTable, IsTableFault};
 ghost use Rattle.integrity.specs.Keys.{HasCells, HasKeyAt};
 ghost use Rattle.integrity.specs.RowFaults.{IsBrokenTable};
 ghost use Rattle.integrity.specs.Stored.{HoldsRow};
@@ -18,14 +18,11 @@ use crate::keys::read_head;
 use crate::leaf::is_leaf_of_rows;
 use crate::rows::check_rows;
 use btree::{PageView, view_of};
-use image::Level;
+use image::{Level, MOST_LEVELS};
 use pager::{Pager, Source};
 use schema::Table;
 use std::alloc::Global;
 use values::Fault;
-
-/// The most levels that a tree may have.
-const MOST_LEVELS: u32 = 20;
 
 /// What a table's tree has. Counts stay at the greatest number.
 #[derive(Clone, Copy, Debug, PartialEq, Eq)]
@@ -45,7 +42,7 @@ fn low_bound(view: &PageView<'_>, low: Option<i64>, i: u32) -> Option<i64>
     requires within { i ≤ cell_count view.now.at view.now.page }
     ensures first { i ≡ 0 → result ≡ low }
     ensures inner { (most n : ℕ) → HasCells view.now.at most view.now.page Interior → i ≡ suc n
-        → (key : ℤ) × (result ≡ Some key) × IsDividerOf view.now.at view.now.page n key }
+        → (key : ℤ) × (result ≡ Some key) × IsDividerCell view.now.at view.now.page n key }
 {
     if i == 0 { low } else { view.divider(i - 1) }
 }
@@ -55,7 +52,7 @@ fn high_bound(view: &PageView<'_>, high: Option<i64>, i: u32) -> Option<i64>
     requires kind { view.now.kind ≡ kind.Table }
     requires level { view.now.level ≡ Interior }
     ensures inner { (most : ℕ) → HasCells view.now.at most view.now.page Interior → i < cell_count view.now.at view.now.page
-        → (key : ℤ) × (result ≡ Some key) × IsDividerOf view.now.at view.now.page i key }
+        → (key : ℤ) × (result ≡ Some key) × IsDividerCell view.now.at view.now.page i key }
     ensures last { cell_count view.now.at view.now.page ≤ i → result ≡ high }
 {
     if i < u32::from(view.count()) {
@@ -123,18 +120,14 @@ fn walk<S: Source>(
     high: Option<i64>,
 ) -> Result<TreeCounts, Fault>
     requires number { IsPageNumber pager.old.state n }
-    requires met { IsTrue pager.old.state.source.steady → IsMet (pages_seen pager.old.state) table.now.root depth low high n }
-    ensures deep { IfOk result (λ counts. counts.levels + depth ≤ 20) }
-    ensures tree { IsTrue pager.old.state.source.steady → IfOk result (λ counts. IsTree (pages_seen pager.old.state) table.now.root counts.levels low high n) }
-    ensures counts { IsTrue pager.old.state.source.steady
-        → IfOk result (λ counts. AreCounts (pages_seen pager.old.state) counts.levels n counts.rows counts.pages) }
-    ensures rows { IsTrue pager.old.state.source.steady
-        → IfOk result (λ counts. All (HoldsRow (pages_seen pager.old.state) table.now) (places_under (pages_seen pager.old.state) kind.Table counts.levels n)) }
-    ensures fault { IsTrue pager.old.state.source.steady
-        → IfErr result (λ e. (e ≡ Fault.ReadFailed) ⊎ (e ≡ Fault.NoMemory) ⊎ IsBrokenTable (pages_seen pager.old.state) table.now e) }
+    requires met { WhereSteady pager.old.state (λ pages. IsMet pages table.now.root depth low high n) }
+    ensures deep { IfOk result (λ counts. counts.levels + depth ≤ most_levels) }
+    ensures tree { WhereSteady pager.old.state (λ pages. IfOk result (λ counts. IsTree pages table.now.root counts.levels low high n)) }
+    ensures counts { WhereSteady pager.old.state (λ pages. IfOk result (λ counts. AreCounts pages counts.levels n counts.rows counts.pages)) }
+    ensures rows { WhereSteady pager.old.state (λ pages. IfOk result (λ counts. All (HoldsRow pages table.now) (places_under pages kind.Table counts.levels n))) }
+    ensures fault { WhereSteady pager.old.state (λ pages. IfErr result (λ e. IsReadFault e ⊎ IsBrokenTable pages table.now e)) }
     ensures only { IfErr result IsWalkFault }
-    ensures failures { Counts Fault.ReadFailed result pager.old.state.source.failures pager.new.state.source.failures }
-    ensures stays { Stays pager.old.state pager.new.state }
+    ensures reads { ReadsPages result pager.old.state pager.new.state }
 {
     if depth > MOST_LEVELS {
         return Err(Fault::BadDepth(table.root()));
@@ -182,18 +175,8 @@ pub fn check_table<S: Source>(
     table: &Table,
 ) -> Result<TreeCounts, Fault>
     requires { IsPageNumber pager.old.state table.now.root }
-    ensures sound { IsTrue pager.old.state.source.steady → OnOk result (IsSoundTable (pages_seen pager.old.state) table.now.root) }
-    ensures few { IfOk result (λ counts. counts.levels < 20) }
-    ensures shape { IsTrue pager.old.state.source.steady → IfOk result (λ counts. HasShape (pages_seen pager.old.state) kind.Table counts.levels table.now.root) }
-    ensures counts { IsTrue pager.old.state.source.steady
-        → IfOk result (λ counts. AreCounts (pages_seen pager.old.state) counts.levels table.now.root counts.rows counts.pages) }
-    ensures rows { IsTrue pager.old.state.source.steady
-        → IfOk result (λ counts. All (HoldsRow (pages_seen pager.old.state) table.now) (places_under (pages_seen pager.old.state) kind.Table counts.levels table.now.root)) }
-    ensures fault { IsTrue pager.old.state.source.steady
-        → IfErr result (λ e. (e ≡ Fault.ReadFailed) ⊎ (e ≡ Fault.NoMemory) ⊎ IsBrokenTable (pages_seen pager.old.state) table.now e) }
-    ensures only { IfErr result IsWalkFault }
-    ensures failures { Counts Fault.ReadFailed result pager.old.state.source.failures pager.new.state.source.failures }
-    ensures stays { Stays pager.old.state pager.new.state }
+    ensures outcome { MatchResult result (HasCheckedTable pager.old.state table.now) (IsTableFault pager.old.state table.now) }
+    ensures reads { ReadsPages result pager.old.state pager.new.state }
 {
     let counts = walk(alloc, pager, table, table.root(), 1, None, None)?;
     Ok(counts)

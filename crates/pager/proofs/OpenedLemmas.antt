@@ -6,7 +6,7 @@ use Rattle.pager.specs.Source.{SourceFacts, ChangesCount}
 use Rattle.pager.specs.Cached.{AddsNothing, AddsAtMost}
 use Rattle.pager.specs.Header.{header_of, KeepsAll}
 use Rattle.pager.specs.Page.{page_of}
-use Rattle.pager.specs.PagerState.{IsSound, Agrees}
+use Rattle.pager.specs.PagerState.{IsSoundHeader, Agrees}
 
 module _ (old new : SourceFacts) (header : Header) (capacity room : ℕ) where
   -- failures change nothing of it
@@ -15,7 +15,7 @@ module _ (old new : SourceFacts) (header : Header) (capacity room : ℕ) where
       rw same (record { sound = had.sound; room_is = had.room_is; few = had.few; cache_long = had.cache_long; header_is = had.header_is; kept = had.kept; cache_is = had.cache_is })
 
   -- a cache without pages
-  pub Agrees-nil : room ≡ capacity → ChangesCount old new → IsSound header → (IsTrue old.steady → header ≡ header_of old.bytes)
+  pub Agrees-nil : room ≡ capacity → ChangesCount old new → IsSoundHeader header → (IsTrue old.steady → header ≡ header_of old.bytes)
       → (IsTrue old.steady → KeepsAll old.bytes) → Agrees new header capacity room []
   Agrees-nil room_is same sound is kept = Agrees-failed [] same (record {
     sound = sound;

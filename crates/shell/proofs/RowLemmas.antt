@@ -3,7 +3,7 @@ use Rattle.std.proofs.Common.{◌≡◌, ◌∙◌, ◌⊎◌, ◌+◌, ◌<◌,
 use Rattle.std.proofs.lemmas.List.{map_push, take_more}
 use Rattle.std.proofs.lemmas.Option.{get_or_from_slice_get}
 use Rattle.std.specs.Cow.{cow_slice_items}
-use Rattle.std.specs.Option.{ok_or}
+use Rattle.std.specs.Option.{ok_or, option_map}
 use Rattle.std.specs.declared.borrow.CowSlice.{CowSlice}
 use Rattle.values.specs.Datum.{null, datum_of_ref}
 use Rattle.values.specs.declared.value.ValueRef.{ValueRef}
@@ -12,6 +12,7 @@ use Rattle.image.specs.Cell.{PayloadData}
 use Rattle.image.specs.Chain.{HasBytes}
 use Rattle.image.specs.Pages.{Pages}
 use Rattle.image.proofs.ChainLemmas.{one_payload}
+use Rattle.btree.specs.Calls.{IsBytesOf}
 use Rattle.values.specs.Row.{Row}
 use Rattle.meaning.specs.Sequence.{value_at}
 use Rattle.shell.specs.Stream.{shown}
@@ -29,7 +30,6 @@ shown-more row columns i values value within at before =
 
 -- a payload that has bytes is found, where nothing fails
 pub payload_found : (pages : Pages) (payload : PayloadData) (bytes : List ℕ) → HasBytes pages payload bytes → (found : Option (CowSlice ℕ Global))
-    → IfSome found (λ f. HasBytes pages payload (cow_slice_items f)) → IfNone found ((other : List ℕ) → ¬ HasBytes pages payload other)
-    → MatchResult (ok_or found Changed) (λ f. cow_slice_items f ≡ bytes) (λ e. (e ≡ ReadFailed) ⊎ (e ≡ NoMemory))
-payload_found pages payload bytes has (Some found) is none = one_payload pages payload (cow_slice_items found) bytes is has
-payload_found pages payload bytes has None is none = absurd (none bytes has)
+    → IsBytesOf pages payload (option_map cow_slice_items found) → MatchResult (ok_or found Changed) (λ f. cow_slice_items f ≡ bytes) (λ e. (e ≡ ReadFailed) ⊎ (e ≡ NoMemory))
+payload_found pages payload bytes has (Some found) is = one_payload pages payload (cow_slice_items found) bytes is has
+payload_found pages payload bytes has None none = absurd (none bytes has)

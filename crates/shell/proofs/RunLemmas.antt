@@ -14,8 +14,7 @@ use Rattle.pager.specs.declared.header.Header.{Header}
 use Rattle.pager.specs.Header.{header_of}
 use Rattle.pager.specs.PagerState.{PagerState, opened}
 use Rattle.pager.specs.Source.{SourceFacts}
-use Rattle.image.specs.Pages.{pages_in, pages_of}
-use Rattle.btree.specs.Rest.{pages_seen}
+use Rattle.image.specs.Pages.{pages_seen, pages_in, pages_of}
 use Rattle.expr.specs.Types.{IsOfType}
 use Rattle.meaning.specs.Typed.{FitTypes, IsTyped}
 use Rattle.meaning.specs.Typed as meant
@@ -29,7 +28,9 @@ use Rattle.integrity.specs.Stored.{Fits, FitsColumn, IsStored}
 use Rattle.integrity.proofs.DenotesLemmas.{HasDatabase, IsStoredAs, database_of}
 use Rattle.resolver.specs.Resolved.{ResolvedData, query_of}
 use Rattle.shell.specs.Answer.{Answers, Stops}
-use Rattle.shell.specs.State.{IsReady}
+use Rattle.integrity.specs.Walked.{IsCheckFault}
+use Rattle.pager.specs.Calls.{IsOpenFault, IsReadFault}
+use Rattle.shell.specs.State.{IsOpeningFault, IsReady}
 use Rattle.shell.specs.Stream.{Streams, StreamsUntil, shown}
 
 pub some_one : {X : Type 0} (x y : X) → Some x ≡ Some y → x ≡ y
@@ -148,3 +149,12 @@ pub pages_opened : (state : PagerState) (source : SourceFacts) (header : Header)
     → state.header ≡ header_of state.source.bytes → pages_seen state ≡ pages_of source.bytes
 pages_opened state source header capacity is header_is =
     ap (λ (h : Header). pages_in h state.source.bytes) header_is ∙ ap (λ (s : PagerState). pages_of s.source.bytes) is
+
+-- a source that wasn't opened
+read_check : (fault : Fault) → IsReadFault fault → IsCheckFault fault
+read_check fault (inl is) = subst (λ (x : Fault). IsCheckFault x) (sym is) tt
+read_check fault (inr is) = subst (λ (x : Fault). IsCheckFault x) (sym is) tt
+
+pub opening_fault : (source : SourceFacts) (fault : Fault) → IsOpenFault source fault → IsOpeningFault source fault
+opening_fault source fault (inl read) = record { only = inr (read_check fault read); cause = λ steady. inl read }
+opening_fault source fault (inr header) = record { only = inl header.0; cause = λ steady. inr (inl (header.1 steady)) }

@@ -8,14 +8,14 @@ use Rattle.values.specs.Sink.{SinkFacts, Writes}
 use Rattle.values.specs.declared.fault.Fault.{Fault}
 use Rattle.values.specs.declared.fault.Fault.TheVariants.{Changed, NoMemory, ReadFailed, WriteFailed}
 use Rattle.values.proofs.SinkLemmas.{Appends-none, Appends-then}
-use Rattle.pager.specs.PagerState.{IsChained, PagerState, Stays}
-use Rattle.pager.proofs.StaysLemmas.{Stays-trans}
+use Rattle.pager.specs.PagerState.{PagerState}
+use Rattle.pager.specs.Calls.{AsksChainsOnly, SameImage}
+use Rattle.pager.proofs.CallLemmas.{SameImage-trans}
 use Rattle.image.specs.Cell.{CellData}
-use Rattle.image.specs.Pages.{Pages, pages_in}
+use Rattle.image.specs.Pages.{pages_seen, Pages, pages_in}
 use Rattle.image.specs.Tree.{IsRowAt, Place}
 use Rattle.btree.specs.declared.cursor.Cursor.{Cursor}
 use Rattle.btree.specs.Listing.{IsAt, IsEntry}
-use Rattle.btree.specs.Rest.{pages_seen}
 use Rattle.values.specs.Row.{Row}
 use Rattle.schema.specs.TableData.{TableData}
 use Rattle.integrity.specs.Stored.{IsRowOf, IsStored, StoresRow}
@@ -134,7 +134,7 @@ pub record Given (pages : Pages) (table : TableData) (columns : List ℕ) (rows 
   pub counted : n ≡ min (length given) (2 ^ 64 - 1)
 
 -- a cell is the first of these rows, and the others stand at these places
-record IsFirst (pages : Pages) (table : TableData) (cell : CellData) (rest : List Row) (others : List Place) : Type 0 where
+record BeginsRows (pages : Pages) (table : TableData) (cell : CellData) (rest : List Row) (others : List Place) : Type 0 where
   row : Row
   more : List Row
   is : IsRowOf pages table cell row
@@ -142,7 +142,7 @@ record IsFirst (pages : Pages) (table : TableData) (cell : CellData) (rest : Lis
   stored : AllZip (StoresRow pages table) others more
 
 first_cell : (pages : Pages) (table : TableData) (cell : CellData) (places : List Place) (rest : List Row)
-    → AllZip (StoresRow pages table) places rest → IsEntry pages places (Some cell) → IsFirst pages table cell rest (drop 1 places)
+    → AllZip (StoresRow pages table) places rest → IsEntry pages places (Some cell) → BeginsRows pages table cell rest (drop 1 places)
 first_cell pages table cell [] rest stored entry = absurd cc
 first_cell pages table cell (place ∷ places) [] stored entry = absurd stored
 first_cell pages table cell (place ∷ places) (row ∷ more) stored entry = record {
@@ -185,7 +185,7 @@ module _ (pages : Pages) (table : TableData) (columns : List ℕ) (rows : List R
         counted_is = g.counted ∙ ap (λ k. min k (2 ^ 64 - 1)) (ap length whole ∙ sym (length-shown columns rows));
       }
 
-  module _ (cell : CellData) (first : IsFirst pages table cell g.rest (drop 1 g.places)) where
+  module _ (cell : CellData) (first : BeginsRows pages table cell g.rest (drop 1 g.places)) where
     Given-next : (next : Cursor) (asked' n' : ℕ) (new : SinkFacts) → IsAt pages next (drop 1 g.places) asked' budget
         → Appends mid.written new.written (row_text (shown columns first.row)) → n' ≡ min (n + 1) (2 ^ 64 - 1)
         → Given pages table columns rows all next asked' budget n' old new
@@ -218,7 +218,7 @@ module _ (pages : Pages) (table : TableData) (columns : List ℕ) (rows : List R
 
 -- what the loop keeps
 pub record Streaming (start now : PagerState) (table : TableData) (columns : List ℕ) (cursor : Cursor) (n : ℕ) (old new : SinkFacts) : Type 0 where
-  pub stays : Stays start now
+  pub stays : SameImage start now
   pub reads : now.source.failures ≡ start.source.failures
   pub writes : new.failures ≡ old.failures
   pub rows : IsTrue start.source.steady → (levels : ℕ) (rows : List Row) → IsStored (pages_seen start) table levels rows → levels < 20
@@ -226,11 +226,11 @@ pub record Streaming (start now : PagerState) (table : TableData) (columns : Lis
   pub unchained : IsTrue start.source.steady → (levels : ℕ) (rows : List Row) → IsStored (pages_seen start) table levels rows → levels < 20
       → IsUnchained (pages_seen start) table levels → now.chained ≡ start.chained
 
-seen_same : (start now : PagerState) → Stays start now → pages_seen now ≡ pages_seen start
+seen_same : (start now : PagerState) → SameImage start now → pages_seen now ≡ pages_seen start
 seen_same start now stays = λ k. pages_in (stays.header k) (stays.bytes k)
 
 pub Streaming-start : (start now : PagerState) (table : TableData) (columns : List ℕ) (cursor : Cursor) (n : ℕ) (old : SinkFacts)
-    → Stays start now → now.source.failures ≡ start.source.failures → now.chained ≡ start.chained
+    → SameImage start now → now.source.failures ≡ start.source.failures → now.chained ≡ start.chained
     → (IsTrue start.source.steady → (levels : ℕ) (rows : List Row) → IsStored (pages_seen start) table levels rows → levels < 20
     → IsAt (pages_seen start) cursor (cells_of (pages_seen start) table levels) now.asked (start.asked + size_of (pages_seen start) table levels))
     → n ≡ 0 → Streaming start now table columns cursor n old old
@@ -288,7 +288,7 @@ module _ (start now : PagerState) (table : TableData) (columns : List ℕ) (curs
     asked_most = let asks = now_given.at.stands.left.asks in omega arith
 
     now_first : (cell : CellData) → IsEntryOf cursor (Some cell)
-        → IsFirst (pages_seen start) table cell now_given.rest (drop 1 now_given.places)
+        → BeginsRows (pages_seen start) table cell now_given.rest (drop 1 now_given.places)
     now_first cell entry = first_cell (pages_seen start) table cell now_given.places now_given.rest now_given.stored (entry _ _ _ _ now_given.at)
 
     -- what was said of the cell
@@ -306,17 +306,17 @@ module _ (start now : PagerState) (table : TableData) (columns : List ℕ) (curs
         (said cell (λ row. StreamsUntil e columns (row ∷ []) mid new) written entry)
 
     -- the cursor stands where it stood, once overflow pages were read
-    still_at : (wrote : PagerState) → IsChained now wrote
+    still_at : (wrote : PagerState) → AsksChainsOnly now wrote
         → IsAt (pages_seen wrote) cursor now_given.places wrote.asked (start.asked + size_of (pages_seen start) table levels)
     still_at wrote chained =
-        subst (λ (a : ℕ). IsAt (pages_seen wrote) cursor now_given.places a (start.asked + size_of (pages_seen start) table levels)) (sym chained.asked)
+        subst (λ (a : ℕ). IsAt (pages_seen wrote) cursor now_given.places a (start.asked + size_of (pages_seen start) table levels)) (sym chained.unasked)
         (subst (λ (p : Pages). IsAt p cursor now_given.places now.asked (start.asked + size_of (pages_seen start) table levels))
-        (sym (seen_same start wrote (Stays-trans start now wrote s.stays chained.stays))) now_given.at)
+        (sym (seen_same start wrote (SameImage-trans start now wrote s.stays chained.image))) now_given.at)
 
-    wrote_steady : (wrote : PagerState) → IsChained now wrote → IsTrue wrote.source.steady
-    wrote_steady wrote chained = rw chained.stays.steady (is_steady steady)
+    wrote_steady : (wrote : PagerState) → AsksChainsOnly now wrote → IsTrue wrote.source.steady
+    wrote_steady wrote chained = rw chained.image.steady (is_steady steady)
 
-    pub Streaming-stopped : (wrote : PagerState) (cell : CellData) (e : Fault) (new : SinkFacts) → IsEntryOf cursor (Some cell) → IsChained now wrote
+    pub Streaming-stopped : (wrote : PagerState) (cell : CellData) (e : Fault) (new : SinkFacts) → IsEntryOf cursor (Some cell) → AsksChainsOnly now wrote
         → Says now table cell (λ row. Appends mid.written new.written (row_text (shown columns row)))
         → Steps wrote cursor (λ _ _. e ≢ Changed) → e ≢ WriteFailed → StreamsUntil e columns rows old new
     Streaming-stopped wrote cell e new entry chained written sound other =
@@ -330,14 +330,14 @@ module _ (start now : PagerState) (table : TableData) (columns : List ℕ) (curs
         first_local (pages_seen start) cell now_given.places (entry _ _ _ _ now_given.at) (now_given.local every)
 
   pub Streaming-next : (wrote then : PagerState) (cell : CellData) (next : Cursor) (n' : ℕ) (new : SinkFacts) → IsEntryOf cursor (Some cell)
-      → IsChained now wrote → wrote.source.failures ≡ now.source.failures → (cell.payload.overflow ≡ None → wrote ≡ now)
+      → AsksChainsOnly now wrote → wrote.source.failures ≡ now.source.failures → (cell.payload.overflow ≡ None → wrote ≡ now)
       → Says now table cell (λ row. Appends mid.written new.written (row_text (shown columns row)))
       → Steps wrote cursor (λ places budget. IsAt (pages_seen wrote) next (drop 1 places) then.asked budget)
-      → Stays wrote then → then.source.failures ≡ wrote.source.failures → then.chained ≡ wrote.chained → new.failures ≡ mid.failures
+      → SameImage wrote then → then.source.failures ≡ wrote.source.failures → then.chained ≡ wrote.chained → new.failures ≡ mid.failures
       → n' ≡ min (n + 1) (2 ^ 64 - 1)
       → Streaming start then table columns next n' old new
   Streaming-next wrote then cell next n' new entry chained kept unread written lists stays reads no_chain writes is = record {
-    stays = Stays-trans start wrote then (Stays-trans start now wrote s.stays chained.stays) stays;
+    stays = SameImage-trans start wrote then (SameImage-trans start now wrote s.stays chained.image) stays;
     reads = reads ∙ kept ∙ s.reads;
     writes = writes ∙ s.writes;
     rows = λ steady levels rows stored few.
@@ -345,7 +345,7 @@ module _ (start now : PagerState) (table : TableData) (columns : List ℕ) (curs
         let here = now_given steady levels rows stored few in
         let budget = start.asked + size_of (pages_seen start) table levels in
         let stands : IsAt (pages_seen start) next (drop 1 here.places) then.asked budget =
-        subst (λ (p : Pages). IsAt p next (drop 1 here.places) then.asked budget) (seen_same start wrote (Stays-trans start now wrote s.stays chained.stays))
+        subst (λ (p : Pages). IsAt p next (drop 1 here.places) then.asked budget) (seen_same start wrote (SameImage-trans start now wrote s.stays chained.image))
         (lists (wrote_steady steady levels rows stored few wrote chained) here.places budget (still_at steady levels rows stored few wrote chained)) in
         Given-next _ _ _ _ _ _ _ _ _ _ _ here cell first next then.asked n' new stands
         (said steady levels rows stored few cell (λ row. Appends mid.written new.written (row_text (shown columns row))) written entry) is;

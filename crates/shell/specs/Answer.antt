@@ -1,10 +1,10 @@
 -- What a run answers, of a query over the tables that an image denotes. (SELECT)
-use Rattle.std.specs.Prelude.{◌≡◌, ◌≢◌, ℕ, List}
+use Rattle.std.specs.Prelude.{◌≡◌, ◌≢◌, ◌⊎◌, ℕ, List}
 use Rattle.values.specs.Datum.{Datum}
 use Rattle.values.specs.Sink.{SinkFacts}
 use Rattle.values.specs.declared.value.Ty.{Ty}
 use Rattle.values.specs.declared.fault.Fault.{Fault}
-use Rattle.values.specs.declared.fault.Fault.TheVariants.{Changed, Overflow}
+use Rattle.values.specs.declared.fault.Fault.TheVariants.{Changed, NoMemory, Overflow, ReadFailed, WriteFailed}
 use Rattle.meaning.specs.Query.{QueryData}
 use Rattle.values.specs.Row.{Row}
 use Rattle.values.specs.Database.{Database}
@@ -15,6 +15,14 @@ use Rattle.schema.specs.ColumnTypes.{column_types}
 use Rattle.schema.specs.TableData.{TableData}
 use Rattle.integrity.specs.Denotes.{Denotes}
 use Rattle.shell.specs.Printed.{Prints, PrintsUntil}
+
+-- the faults of a run: those of reading, a changed image, and a failed write
+abbrev pub IsRunFault : Fault → Type 0
+IsRunFault fault = (fault ≡ ReadFailed) ⊎ (fault ≡ NoMemory) ⊎ (fault ≡ Changed) ⊎ (fault ≡ WriteFailed)
+
+-- those of reading the rows of a table
+abbrev pub IsScanFault : Fault → Type 0
+IsScanFault fault = (fault ≡ ReadFailed) ⊎ (fault ≡ NoMemory) ⊎ (fault ≡ Changed)
 
 -- Over the tables that the image denotes, the query permits these rows, whose values have the types of the query's columns
 -- or are NULL.

@@ -1,14 +1,11 @@
 //! An engine, which answers queries over one image.
-ghost use Rattle.std.specs.Prelude.{◌≡◌, ◌≢◌, ◌⊎◌, ◌-◌, ◌<◌, ◌≤◌, ℕ, IfErr, IfOk, IsTrue, List, OnOk, Some, slice_get};
+ghost use Rattle.std.specs.Prelude.{◌≡◌, ◌≢◌, ◌⊎◌, ◌-◌, ◌<◌, ◌≤◌, ℕ, IfErr, IfOk, IsTrue, List, MatchResult, Some, slice_get};
 ghost use Rattle.std.specs.NonZero.{non_zero_usize_get};
-ghost use Rattle.pager.specs.Header.{IsLeastBroken, KeepsAll};
-ghost use Rattle.pager.specs.Source.{ChangesCount};
+ghost use Rattle.pager.specs.Calls.{HandsBack};
 ghost use Rattle.sql_reader.specs.SelectTexts.{SpellsSelect};
 ghost use Rattle.syntax.specs.SelectTrees.{columns_of_select};
 ghost use Rattle.syntax.specs.SelectView.{select_of};
 ghost use Rattle.phrases.specs.Texts.{IsWithin};
-ghost use Rattle.integrity.specs.Checked.{HasCause, IsBrokenImage};
-ghost use Rattle.integrity.specs.Denotes.{HasTables};
 ghost use Rattle.resolver.specs.Resolved.{query_of};
 ghost use Rattle.shell.specs.Prepared.{IsUnserved, Means, Refuses};
 ghost use Rattle.values.specs.Fault.{Counts};
@@ -16,8 +13,8 @@ ghost use Rattle.image.specs.Pages.{pages_of};
 ghost use Rattle.values.specs.Row.{Row};
 ghost use Rattle.schema.specs.TableData.{TableData};
 ghost use Rattle.integrity.specs.Stored.{IsStored};
-ghost use Rattle.shell.specs.Answer.{Answers, Stops};
-ghost use Rattle.shell.specs.State.{IsPreparedFor, IsReady, Keeps};
+ghost use Rattle.shell.specs.Answer.{Answers, IsRunFault, Stops};
+ghost use Rattle.shell.specs.State.{IsOpenedOver, IsOpeningFault, IsPreparedFor, ReadsTables};
 ghost use Rattle.shell.specs.Stream.{IsUnchained, size_of};
 
 use crate::query::run_query;
@@ -70,16 +67,8 @@ impl<S: Source> Engine<S> {
     /// The least condition of the header that is broken; then those of the image's tables and rows, and `NotYet` where the
     /// image has what isn't served; `ReadFailed` where the source failed, and `NoMemory`. The source is handed back.
     pub fn open(alloc: Global, source: S, cache: NonZeroUsize) -> Result<Engine<S>, (Fault, S)>
-        ensures source { IfOk result (λ engine. engine.pager.source ≡ S.facts source) }
-        ensures capacity { IfOk result (λ engine. engine.pager.capacity ≡ non_zero_usize_get cache) }
-        ensures header { IsTrue (S.facts source).steady → OnOk result (KeepsAll (S.facts source).bytes) }
-        ensures tables { IsTrue (S.facts source).steady → IfOk result (λ engine. HasTables (pages_of (S.facts source).bytes) engine.tables) }
-        ensures unbroken { IsTrue (S.facts source).steady
-            → OnOk result ((fault : Fault) → ¬ IsBrokenImage (pages_of (S.facts source).bytes) fault) }
-        ensures back { IfErr result (λ e. ChangesCount (S.facts source) (S.facts e.1)) }
-        ensures read { IfErr result (λ e. e.0 ≡ Fault.ReadFailed → (S.facts e.1).failures ≢ (S.facts source).failures) }
-        ensures cause { IsTrue (S.facts source).steady
-            → IfErr result (λ e. IsLeastBroken (S.facts source).bytes e.0 ⊎ HasCause (pages_of (S.facts source).bytes) e.0) }
+        ensures outcome { MatchResult result (IsOpenedOver (S.facts source) (non_zero_usize_get cache)) (λ e. IsOpeningFault (S.facts source) e.0) }
+        ensures back { IfErr result (λ e. HandsBack e.0 (S.facts source) (S.facts e.1)) }
     {
         let mut pager = Pager::open(alloc, source, cache)?;
         match check(alloc, &mut pager) {
@@ -99,9 +88,8 @@ impl<S: Source> Engine<S> {
     /// `Limit`; `NotYet` for a text that spells no SELECT that is served; `UnknownTable`, `UnknownColumn`, `Ambiguous`, and
     /// `NoMemory`.
     pub fn prepare(&self, text: &str) -> Result<Prepared, Fault>
-        ensures of { IfOk result (IsPreparedFor self.now.tables) }
-        ensures means { IfOk result (Means self.now.tables text.now) }
-        ensures refuses { IfErr result (Refuses self.now.tables text.now) }
+        ensures { MatchResult result (λ prepared. IsPreparedFor self.now.tables prepared × Means self.now.tables text.now prepared)
+            (Refuses self.now.tables text.now) }
     {
         let select = served_select(self.alloc, text)?;
         let query = resolve(self.alloc, self.checked.tables(), &select)?;
@@ -118,26 +106,19 @@ impl<S: Source> Engine<S> {
     /// only where the source no longer has the bytes that were checked.
     pub fn run<W: Sink>(&mut self, prepared: &Prepared, out: &mut W) -> Result<Report, Fault>
         requires { IsPreparedFor self.old.tables prepared.now }
-        ensures answer { IsTrue self.old.pager.source.steady
-            → IfOk result (λ report. Answers self.old.pager.source.bytes self.old.tables (query_of prepared.now) report.rows
-            (W.facts out.old) (W.facts out.new)) }
-        ensures stops { IsTrue self.old.pager.source.steady
-            → IfErr result (λ e. Stops e self.old.pager.source.bytes self.old.tables (query_of prepared.now)
-            (W.facts out.old) (W.facts out.new)) }
+        ensures answer { IsTrue self.old.pager.source.steady → MatchResult result
+            (λ report. Answers self.old.pager.source.bytes self.old.tables (query_of prepared.now) report.rows (W.facts out.old) (W.facts out.new))
+            (λ e. Stops e self.old.pager.source.bytes self.old.tables (query_of prepared.now) (W.facts out.old) (W.facts out.new)) }
         ensures pages { IsTrue self.old.pager.source.steady → (stored : TableData) (levels : ℕ) (rows : List Row)
             → slice_get self.old.tables prepared.now.table ≡ Some stored
             → IsStored (pages_of self.old.pager.source.bytes) stored levels rows → levels < 20
-            → IfOk result (λ report. report.asked ≤ size_of (pages_of self.old.pager.source.bytes) stored levels) }
-        ensures unchained { IsTrue self.old.pager.source.steady → (stored : TableData) (levels : ℕ) (rows : List Row)
-            → slice_get self.old.tables prepared.now.table ≡ Some stored
-            → IsStored (pages_of self.old.pager.source.bytes) stored levels rows → levels < 20
-            → IsUnchained (pages_of self.old.pager.source.bytes) stored levels → IfOk result (λ report. report.chained ≡ 0) }
-        ensures only { IfErr result (λ e. (e ≡ Fault.ReadFailed) ⊎ (e ≡ Fault.NoMemory) ⊎ (e ≡ Fault.Changed) ⊎ (e ≡ Fault.WriteFailed)) }
-        ensures reads { Counts Fault.ReadFailed result self.old.pager.source.failures self.new.pager.source.failures }
+            → IfOk result (λ report. (report.asked ≤ size_of (pages_of self.old.pager.source.bytes) stored levels)
+            × (IsUnchained (pages_of self.old.pager.source.bytes) stored levels → report.chained ≡ 0)) }
+        ensures counts { IfOk result (λ report. (report.asked ≡ self.new.pager.asked - self.old.pager.asked)
+            × (report.chained ≡ self.new.pager.chained - self.old.pager.chained)) }
+        ensures only { IfErr result IsRunFault }
+        ensures reads { ReadsTables result self.old self.new }
         ensures writes { Counts Fault.WriteFailed result (W.facts out.old).failures (W.facts out.new).failures }
-        ensures asked { IfOk result (λ report. report.asked ≡ self.new.pager.asked - self.old.pager.asked) }
-        ensures chained { IfOk result (λ report. report.chained ≡ self.new.pager.chained - self.old.pager.chained) }
-        ensures keeps { Keeps self.old self.new }
     {
         run_query(
             self.alloc,

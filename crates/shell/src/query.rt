@@ -1,7 +1,7 @@
 //! The run of a query.
-ghost use Rattle.std.specs.Prelude.{◌≡◌, ◌⊎◌, ◌-◌, ◌<◌, ◌≤◌, ℕ, IfErr, IfOk, IsTrue, List, Some, length, slice_get};
+ghost use Rattle.std.specs.Prelude.{◌≡◌, ◌-◌, ◌<◌, ◌≤◌, ℕ, IfErr, IfOk, IsTrue, List, MatchResult, Some, length, slice_get};
 ghost use Rattle.values.specs.Fault.{Counts};
-ghost use Rattle.pager.specs.PagerState.{Stays};
+ghost use Rattle.pager.specs.Calls.{ReadsPages};
 ghost use Rattle.image.specs.Pages.{pages_of};
 ghost use Rattle.values.specs.Row.{Row};
 ghost use Rattle.meaning.specs.Typed.{IsTyped};
@@ -9,7 +9,7 @@ ghost use Rattle.schema.specs.ColumnTypes.{column_types};
 ghost use Rattle.schema.specs.TableData.{TableData};
 ghost use Rattle.integrity.specs.Stored.{IsStored};
 ghost use Rattle.resolver.specs.Resolved.{query_of};
-ghost use Rattle.shell.specs.Answer.{Answers, Stops};
+ghost use Rattle.shell.specs.Answer.{Answers, IsRunFault, Stops};
 ghost use Rattle.shell.specs.State.{IsReady};
 ghost use Rattle.shell.specs.Stream.{IsUnchained, size_of};
 
@@ -51,24 +51,20 @@ pub(crate) fn run_query<S: Source, W: Sink>(
 ) -> Result<Report, Fault>
     requires ready { IsReady pager.old.state tables.now }
     requires typed { IsTyped (column_types tables.now) (query_of query.now) }
-    ensures answer { IsTrue pager.old.state.source.steady
-        → IfOk result (λ report. Answers pager.old.state.source.bytes tables.now (query_of query.now) report.rows
-        (W.facts out.old) (W.facts out.new)) }
-    ensures stops { IsTrue pager.old.state.source.steady
-        → IfErr result (λ e. Stops e pager.old.state.source.bytes tables.now (query_of query.now)
-        (W.facts out.old) (W.facts out.new)) }
+    ensures answer { IsTrue pager.old.state.source.steady → MatchResult result
+        (λ report. Answers pager.old.state.source.bytes tables.now (query_of query.now) report.rows (W.facts out.old) (W.facts out.new))
+        (λ e. Stops e pager.old.state.source.bytes tables.now (query_of query.now) (W.facts out.old) (W.facts out.new)) }
     ensures pages { IsTrue pager.old.state.source.steady → (table : TableData) (levels : ℕ) (rows : List Row)
         → slice_get tables.now query.now.table ≡ Some table → IsStored (pages_of pager.old.state.source.bytes) table levels rows → levels < 20
         → IfOk result (λ report. report.asked ≤ size_of (pages_of pager.old.state.source.bytes) table levels) }
     ensures unchained { IsTrue pager.old.state.source.steady → (table : TableData) (levels : ℕ) (rows : List Row)
         → slice_get tables.now query.now.table ≡ Some table → IsStored (pages_of pager.old.state.source.bytes) table levels rows → levels < 20
         → IsUnchained (pages_of pager.old.state.source.bytes) table levels → IfOk result (λ report. report.chained ≡ 0) }
-    ensures only { IfErr result (λ e. (e ≡ Fault.ReadFailed) ⊎ (e ≡ Fault.NoMemory) ⊎ (e ≡ Fault.Changed) ⊎ (e ≡ Fault.WriteFailed)) }
-    ensures reads { Counts Fault.ReadFailed result pager.old.state.source.failures pager.new.state.source.failures }
+    ensures only { IfErr result IsRunFault }
+    ensures reads { ReadsPages result pager.old.state pager.new.state }
     ensures writes { Counts Fault.WriteFailed result (W.facts out.old).failures (W.facts out.new).failures }
-    ensures asked { IfOk result (λ report. report.asked ≡ pager.new.state.asked - pager.old.state.asked) }
-    ensures chained { IfOk result (λ report. report.chained ≡ pager.new.state.chained - pager.old.state.chained) }
-    ensures stays { Stays pager.old.state pager.new.state }
+    ensures counts { IfOk result (λ report. (report.asked ≡ pager.new.state.asked - pager.old.state.asked)
+        × (report.chained ≡ pager.new.state.chained - pager.old.state.chained)) }
 {
     let (asked, chained) = (pager.asked(), pager.chained());
     let table = table_of(tables, query.source());

@@ -4,17 +4,18 @@ ghost use Rattle.std.specs.Io.KnownBytes.{Appends};
 ghost use Rattle.values.specs.Datum.{datum_of_ref};
 ghost use Rattle.values.specs.Fault.{Counts};
 ghost use Rattle.std.specs.Cow.{cow_slice_items};
-ghost use Rattle.pager.specs.PagerState.{IsChained, IsPageNumber, Stays};
+ghost use Rattle.pager.specs.Calls.{IsReadFault, ReadsChainPages, ReadsPages, ReadsTreePages};
+ghost use Rattle.pager.specs.PagerState.{IsPageNumber};
 ghost use Rattle.image.specs.Chain.{HasBytes};
-ghost use Rattle.image.specs.Pages.{Pages};
+ghost use Rattle.image.specs.Pages.{Pages, WhereSteady};
 ghost use Rattle.image.specs.Tree.{Place};
 ghost use Rattle.btree.specs.Left.{steps_left};
 ghost use Rattle.btree.specs.Listing.{IsAt, IsEntry};
-ghost use Rattle.btree.specs.Rest.{pages_seen};
 ghost use Rattle.btree.specs.Views.{cell_data, payload_data};
 ghost use Rattle.values.specs.Row.{Row};
 ghost use Rattle.explain.specs.Text.{row_text};
 ghost use Rattle.integrity.specs.Stored.{IsRowOf, IsRowRecord, IsStored};
+ghost use Rattle.shell.specs.Answer.{IsRunFault, IsScanFault};
 ghost use Rattle.shell.specs.Stream.{IsUnchained, Streams, StreamsUntil, cells_of, shown, size_of};
 
 use btree::{Cell, Cursor, payload};
@@ -33,13 +34,12 @@ fn payload_of<'p, S: Source>(
     pager: &mut Pager<S>,
     cell: &Cell<'p>,
 ) -> Result<CowSlice<'p, u8>, Fault>
-    ensures bytes { IsTrue pager.old.state.source.steady → (bytes : List ℕ)
-        → HasBytes (pages_seen pager.old.state) (payload_data cell.now.payload) bytes
-        → MatchResult result (λ found. cow_slice_items found ≡ bytes) (λ e. (e ≡ Fault.ReadFailed) ⊎ (e ≡ Fault.NoMemory)) }
-    ensures only { IfErr result (λ e. (e ≡ Fault.ReadFailed) ⊎ (e ≡ Fault.NoMemory) ⊎ (e ≡ Fault.Changed)) }
-    ensures reads { Counts Fault.ReadFailed result pager.old.state.source.failures pager.new.state.source.failures }
+    ensures bytes { WhereSteady pager.old.state (λ pages. (bytes : List ℕ)
+        → HasBytes pages (payload_data cell.now.payload) bytes
+        → MatchResult result (λ found. cow_slice_items found ≡ bytes) IsReadFault) }
+    ensures only { IfErr result IsScanFault }
+    ensures reads { ReadsChainPages result pager.old.state pager.new.state }
     ensures unread { cell.now.payload.overflow ≡ None → pager.new.state ≡ pager.old.state }
-    ensures chained { IsChained pager.old.state pager.new.state }
 {
     payload(alloc, pager, cell)?.ok_or(Fault::Changed)
 }
@@ -81,16 +81,15 @@ fn write_cell<S: Source, W: Sink>(
     out: &mut W,
 ) -> Result<(), Fault>
     requires { All (λ at. at < length table.now.columns) columns.now }
-    ensures rows { IsTrue pager.old.state.source.steady → (row : Row)
-        → IsRowOf (pages_seen pager.old.state) table.now (cell_data cell.now) row
+    ensures rows { WhereSteady pager.old.state (λ pages. (row : Row)
+        → IsRowOf pages table.now (cell_data cell.now) row
         → MatchResult result
         (λ _. Appends (W.facts out.old).written (W.facts out.new).written (row_text (shown columns.now row)))
-        (λ e. StreamsUntil e columns.now (row ∷ []) (W.facts out.old) (W.facts out.new)) }
-    ensures only { IfErr result (λ e. (e ≡ Fault.ReadFailed) ⊎ (e ≡ Fault.NoMemory) ⊎ (e ≡ Fault.Changed) ⊎ (e ≡ Fault.WriteFailed)) }
-    ensures reads { Counts Fault.ReadFailed result pager.old.state.source.failures pager.new.state.source.failures }
+        (λ e. StreamsUntil e columns.now (row ∷ []) (W.facts out.old) (W.facts out.new))) }
+    ensures only { IfErr result IsRunFault }
+    ensures reads { ReadsChainPages result pager.old.state pager.new.state }
     ensures writes { Counts Fault.WriteFailed result (W.facts out.old).failures (W.facts out.new).failures }
     ensures unread { cell.now.payload.overflow ≡ None → pager.new.state ≡ pager.old.state }
-    ensures chained { IsChained pager.old.state pager.new.state }
 {
     let bytes = payload_of(alloc, pager, cell)?;
     let values = shown_values(alloc, table, cell.rowid, bytes.as_slice(), columns)?;
@@ -99,9 +98,10 @@ fn write_cell<S: Source, W: Sink>(
 
 /// A cursor's fault, as a run answers it: a tree that was sound and is not has changed.
 fn cursor_fault(fault: Fault) -> Fault
-    ensures only { (result ≡ Fault.ReadFailed) ⊎ (result ≡ Fault.NoMemory) ⊎ (result ≡ Fault.Changed) }
-    ensures sound { (fault ≡ Fault.ReadFailed) ⊎ (fault ≡ Fault.NoMemory) → result ≢ Fault.Changed }
+    ensures only { IsScanFault result }
+    ensures sound { IsReadFault fault → result ≢ Fault.Changed }
     ensures read { result ≡ Fault.ReadFailed → fault ≡ Fault.ReadFailed }
+    ensures told { fault ≡ Fault.ReadFailed → result ≡ Fault.ReadFailed }
 {
     match fault {
         Fault::ReadFailed => Fault::ReadFailed,
@@ -113,16 +113,14 @@ fn cursor_fault(fault: Fault) -> Fault
 /// A cursor at the first row of a table.
 fn first_row<S: Source>(alloc: Global, pager: &mut Pager<S>, table: &Table) -> Result<Cursor, Fault>
     requires { IsPageNumber pager.old.state table.now.root }
-    ensures lists { IsTrue pager.old.state.source.steady → (levels : ℕ) (rows : List Row)
-        → IsStored (pages_seen pager.old.state) table.now levels rows → levels < 20
+    ensures lists { WhereSteady pager.old.state (λ pages. (levels : ℕ) (rows : List Row)
+        → IsStored pages table.now levels rows → levels < 20
         → MatchResult result
-        (λ cursor. IsAt (pages_seen pager.old.state) cursor (cells_of (pages_seen pager.old.state) table.now levels)
-        pager.new.state.asked (pager.old.state.asked + size_of (pages_seen pager.old.state) table.now levels))
-        (λ e. e ≢ Fault.Changed) }
-    ensures only { IfErr result (λ e. (e ≡ Fault.ReadFailed) ⊎ (e ≡ Fault.NoMemory) ⊎ (e ≡ Fault.Changed)) }
-    ensures reads { Counts Fault.ReadFailed result pager.old.state.source.failures pager.new.state.source.failures }
-    ensures unchained { pager.new.state.chained ≡ pager.old.state.chained }
-    ensures stays { Stays pager.old.state pager.new.state }
+        (λ cursor. IsAt pages cursor (cells_of pages table.now levels)
+        pager.new.state.asked (pager.old.state.asked + size_of pages table.now levels))
+        (λ e. e ≢ Fault.Changed)) }
+    ensures only { IfErr result IsScanFault }
+    ensures reads { ReadsTreePages result pager.old.state pager.new.state }
 {
     match Cursor::first(alloc, pager, table.root()) {
         Ok(cursor) => Ok(cursor),
@@ -132,16 +130,14 @@ fn first_row<S: Source>(alloc: Global, pager: &mut Pager<S>, table: &Table) -> R
 
 /// Goes on to the next row; past the last the cursor stays.
 fn next_row<S: Source>(cursor: &mut Cursor, pager: &mut Pager<S>) -> Result<(), Fault>
-    ensures lists { IsTrue pager.old.state.source.steady → (places : List Place) (budget : ℕ)
-        → IsAt (pages_seen pager.old.state) cursor.old places pager.old.state.asked budget
+    ensures lists { WhereSteady pager.old.state (λ pages. (places : List Place) (budget : ℕ)
+        → IsAt pages cursor.old places pager.old.state.asked budget
         → MatchResult result
-        (λ _. IsAt (pages_seen pager.old.state) cursor.new (drop 1 places) pager.new.state.asked budget)
-        (λ e. e ≢ Fault.Changed) }
+        (λ _. IsAt pages cursor.new (drop 1 places) pager.new.state.asked budget)
+        (λ e. e ≢ Fault.Changed)) }
     ensures left { IfOk result (λ _. 0 < steps_left cursor.old → steps_left cursor.new < steps_left cursor.old) }
-    ensures only { IfErr result (λ e. (e ≡ Fault.ReadFailed) ⊎ (e ≡ Fault.NoMemory) ⊎ (e ≡ Fault.Changed)) }
-    ensures reads { Counts Fault.ReadFailed result pager.old.state.source.failures pager.new.state.source.failures }
-    ensures unchained { pager.new.state.chained ≡ pager.old.state.chained }
-    ensures stays { Stays pager.old.state pager.new.state }
+    ensures only { IfErr result IsScanFault }
+    ensures reads { ReadsTreePages result pager.old.state pager.new.state }
 {
     if let Err(fault) = cursor.next(pager) {
         return Err(cursor_fault(fault));
@@ -174,21 +170,20 @@ pub(crate) fn write_rows<S: Source, W: Sink>(
 ) -> Result<u64, Fault>
     requires root { IsPageNumber pager.old.state table.now.root }
     requires columns { All (λ at. at < length table.now.columns) columns.now }
-    ensures rows { IsTrue pager.old.state.source.steady → (levels : ℕ) (rows : List Row)
-        → IsStored (pages_seen pager.old.state) table.now levels rows → levels < 20
+    ensures rows { WhereSteady pager.old.state (λ pages. (levels : ℕ) (rows : List Row)
+        → IsStored pages table.now levels rows → levels < 20
         → MatchResult result (λ counted. Streams columns.now rows counted (W.facts out.old) (W.facts out.new))
-        (λ e. StreamsUntil e columns.now rows (W.facts out.old) (W.facts out.new)) }
-    ensures pages { IsTrue pager.old.state.source.steady → (levels : ℕ) (rows : List Row)
-        → IsStored (pages_seen pager.old.state) table.now levels rows → levels < 20
-        → IfOk result (λ _. pager.new.state.asked ≤ pager.old.state.asked + size_of (pages_seen pager.old.state) table.now levels) }
-    ensures unchained { IsTrue pager.old.state.source.steady → (levels : ℕ) (rows : List Row)
-        → IsStored (pages_seen pager.old.state) table.now levels rows → levels < 20
-        → IsUnchained (pages_seen pager.old.state) table.now levels
-        → IfOk result (λ _. pager.new.state.chained ≡ pager.old.state.chained) }
-    ensures only { IfErr result (λ e. (e ≡ Fault.ReadFailed) ⊎ (e ≡ Fault.NoMemory) ⊎ (e ≡ Fault.Changed) ⊎ (e ≡ Fault.WriteFailed)) }
-    ensures reads { Counts Fault.ReadFailed result pager.old.state.source.failures pager.new.state.source.failures }
+        (λ e. StreamsUntil e columns.now rows (W.facts out.old) (W.facts out.new))) }
+    ensures pages { WhereSteady pager.old.state (λ pages. (levels : ℕ) (rows : List Row)
+        → IsStored pages table.now levels rows → levels < 20
+        → IfOk result (λ _. pager.new.state.asked ≤ pager.old.state.asked + size_of pages table.now levels)) }
+    ensures unchained { WhereSteady pager.old.state (λ pages. (levels : ℕ) (rows : List Row)
+        → IsStored pages table.now levels rows → levels < 20
+        → IsUnchained pages table.now levels
+        → IfOk result (λ _. pager.new.state.chained ≡ pager.old.state.chained)) }
+    ensures only { IfErr result IsRunFault }
+    ensures reads { ReadsPages result pager.old.state pager.new.state }
     ensures writes { Counts Fault.WriteFailed result (W.facts out.old).failures (W.facts out.new).failures }
-    ensures stays { Stays pager.old.state pager.new.state }
 {
     let mut cursor = first_row(alloc, pager, table)?;
     let mut count = 0u64;

@@ -1,10 +1,10 @@
 use Rattle.std.proofs.Common.{rules, ◌≡◌, ℕ, List, ◌-◌, ◌++◌, length, ap, ◌∙◌, subst}
 use Rattle.image.specs.Chain.{IsChain, joined}
-use Rattle.btree.specs.Rest.{pages_seen}
+use Rattle.image.specs.Pages.{pages_seen}
 use Rattle.btree.proofs.chains.payload.Goals as goal
 
-pub returns-clause-found : goal.returns-clause-found
-returns-clause-found g c = λ steady.
+pub returns-clause-outcome : goal.returns-clause-outcome
+returns-clause-outcome g c = λ steady.
     let told = c.in_ok-append_chain.ensures.joined steady (search rules) in
     let start : c.extend_from_slice.new.self.items ≡ c.args.cell.now.payload.local.now = search rules in
     let left : c.saturating_sub-left.result ≡ c.args.cell.now.payload.size - length c.args.cell.now.payload.local.now = search rules in

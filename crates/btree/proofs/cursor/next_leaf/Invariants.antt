@@ -1,8 +1,10 @@
 use Rattle.std.proofs.Common.{◌≡◌, ℕ, ◌≤◌, List, vec_len, IsTrue}
 use Rattle.image.specs.Tree.{Place}
+use Rattle.image.specs.Pages.{pages_seen}
 use Rattle.btree.specs.Left.{frames_left}
-use Rattle.btree.specs.Rest.{IsLeft, pages_seen}
+use Rattle.btree.specs.Rest.{IsLeft}
 use Rattle.btree.proofs.HeldLemmas.{IsUp}
+use Rattle.btree.specs.Way.{IsWay}
 use Rattle.btree.proofs.cursor.next_leaf.Given as goal
 
 abbrev pub invariant-loop-frame : goal.invariant-loop-frame
@@ -11,6 +13,8 @@ invariant-loop-frame g l = record {
   left : IsTrue l.pager.state.source.steady → (rest : List Place) (budget : ℕ)
       → IsLeft (pages_seen l.pager.state) 0 l.fn.frames.items rest l.pager.state.asked budget
       → (levels : ℕ) × IsLeft (pages_seen l.pager.state) levels l.frames.items rest l.pager.state.asked budget;
+  way : IsTrue l.pager.state.source.steady → IsWay (pages_seen l.pager.state) l.root l.fn.frames.items
+      → IsWay (pages_seen l.pager.state) l.root l.frames.items;
   less : frames_left 20 l.frames.items ≤ frames_left 20 l.fn.frames.items;
   up : IsUp l.fn.frames.items l.frames.items;
 }

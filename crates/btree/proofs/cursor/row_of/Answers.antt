@@ -12,7 +12,7 @@ returns-in_err-view-clause-sure c = λ image holds readable usable size page wit
 
 pub returns-clause-sure : goal.returns-clause-sure
 returns-clause-sure c = λ image holds readable usable size page within.
-    let view = c.in_ok-view.ensures.found in
+    let view = c.in_ok-view.ensures.found.0.is in
     let at : c.in_ok-view.view.at ≡ header_at c.args.frame.now.number = ap (λ v. v.at) view in
     let bytes : c.in_ok-view.view.page ≡ take c.args.usable c.args.frame.now.page = ap (λ v. v.page) view in
     let count : c.args.frame.now.count ≡ count_at image c.args.frame.now.number = holds.count in
@@ -25,7 +25,7 @@ returns-in_err-view-clause-none c = IfNone-always c.from_residual.result (λ cel
 
 pub returns-clause-none : goal.returns-clause-none
 returns-clause-none c =
-    let view = c.in_ok-view.ensures.found in
+    let view = c.in_ok-view.ensures.found.0.is in
     let at : c.in_ok-view.view.at ≡ header_at c.args.frame.now.number = ap (λ v. v.at) view in
     let bytes : c.in_ok-view.view.page ≡ take c.args.usable c.args.frame.now.page = ap (λ v. v.page) view in
     IfNone-weaker c.row.result (λ none cell h. none cell h.row) (rw (at, bytes) at c.row.ensures.none)

@@ -1,7 +1,8 @@
 use Rattle.std.proofs.Common.{drop, Option, subst}
 use Rattle.std.proofs.lemmas.Result.{err_from_is_err_and}
+use Rattle.image.specs.Pages.{pages_seen}
 use Rattle.btree.specs.declared.cursor.Frame.{Frame}
-use Rattle.btree.specs.Rest.{GoesOn, pages_seen}
+use Rattle.btree.specs.Rest.{GoesOn}
 use Rattle.btree.proofs.RestLemmas.{standing_stays, standing_step, standing_left, standing_end}
 use Rattle.btree.proofs.cursor.step.Goals as goal
 
@@ -13,11 +14,16 @@ pub returns-then-next-clause-stands : goal.returns-then-next-clause-stands
 returns-then-next-clause-stands g c = λ steady places budget stands.
     standing_step _ _ _ _ _ _ stands c.if-next.true
 
-pub returns-in_err-leaf-clause-sound : goal.returns-in_err-leaf-clause-sound
-returns-in_err-leaf-clause-sound g c = λ steady places budget stands.
+pub returns-in_err-leaf-clause-stands : goal.returns-in_err-leaf-clause-stands
+returns-in_err-leaf-clause-stands g c = λ steady places budget stands.
     let p = err_from_is_err_and c.from_residual.result c.from_residual.ensures.1 in
     rw (p.1, p.2)
-    (c.in_err-leaf.ensures.sound steady (drop 1 places) budget (standing_left _ _ _ _ _ _ stands c.if-next.false))
+    (c.in_err-leaf.ensures.goes steady (drop 1 places) budget (standing_left _ _ _ _ _ _ stands c.if-next.false))
+
+pub returns-in_err-leaf-clause-way : goal.returns-in_err-leaf-clause-way
+returns-in_err-leaf-clause-way g c = λ steady way.
+    let p = err_from_is_err_and c.from_residual.result c.from_residual.ensures.1 in
+    rw (p.1, p.2) (c.in_err-leaf.ensures.way steady way)
 
 pub returns-in-Some-clause-stands : goal.returns-in-Some-clause-stands
 returns-in-Some-clause-stands g c = λ steady places budget stands.

@@ -1,7 +1,7 @@
-use Rattle.std.proofs.Common.{rules, inr}
+use Rattle.image.specs.Pages.{pages_seen}
+use Rattle.std.proofs.Common.{rules, inl, inr, ⊎_elim}
 use Rattle.std.specs.Cow.{cow_slice_items}
 use Rattle.std.proofs.lemmas.Result.{err_from_is_err_and}
-use Rattle.btree.specs.Rest.{pages_seen}
 use Rattle.btree.specs.Views.{cell_data}
 use Rattle.integrity.proofs.CellLemmas.{record_breaks, row_is}
 use Rattle.integrity.proofs.rows.check_row.Goals as goal
@@ -18,14 +18,14 @@ returns-in_err-row-clause-fault g c = λ steady.
     let p = err_from_is_err_and c.from_residual-in_err-row.result c.from_residual-in_err-row.ensures.1 in
     let broken = c.in_err-row.ensures.fault in
     rw (p.1, p.2)
-    (inr (record_breaks (pages_seen c.args.pager.now.state) c.args.table.now c.args.n (cell_data c.args.cell.now) (cow_slice_items c.in_ok-bytes.bytes) c.as_slice-2.result.now
+    (⊎_elim (λ memory. inl (inr memory)) inr (record_breaks (pages_seen c.args.pager.now.state) c.args.table.now c.args.n (cell_data c.args.cell.now) (cow_slice_items c.in_ok-bytes.bytes) c.as_slice-2.result.now
     (c.in_ok-bytes.ensures.bytes steady) (search rules) _ broken.0 broken.1 broken.2))
 
 pub returns-then-not-fits-clause-fault : goal.returns-then-not-fits-clause-fault
 returns-then-not-fits-clause-fault g c = λ steady.
     let is = row_is (pages_seen c.args.pager.now.state) c.args.table.now c.args.n (cell_data c.args.cell.now) (cow_slice_items c.in_ok-bytes.bytes) c.as_slice-2.result.now
     c.in_ok-row.row (c.in_ok-bytes.ensures.bytes steady) (search rules) c.in_ok-row.ensures.row in
-    inr (inr (search rules, (c.in_ok-row.row, is, search rules)))
+    inr (search rules, (c.in_ok-row.row, is, search rules))
 
 pub returns-clause-row : goal.returns-clause-row
 returns-clause-row g c = λ steady.

@@ -1,8 +1,7 @@
 use Rattle.std.proofs.Common.{◌<◌, ◌∙◌, rules, below_more, subst}
-use Rattle.pager.proofs.StaysLemmas.{Stays-trans}
+use Rattle.pager.proofs.CallLemmas.{SameImage-trans}
 use Rattle.image.specs.Layout.{cell_count}
-use Rattle.image.specs.Pages.{Pages}
-use Rattle.btree.specs.Rest.{pages_seen}
+use Rattle.image.specs.Pages.{pages_seen, Pages}
 use Rattle.btree.specs.Views.{cell_data}
 use Rattle.btree.proofs.SeenLemmas.{same_pages, still_steady}
 use Rattle.integrity.specs.RowFaults.{IsRowIn}
@@ -20,8 +19,8 @@ loop-i-preserved g c =
     let inv = c.loop-i.invariant in
     let told = c.in_ok-check_row.ensures in
     record {
-      stays = Stays-trans _ _ _ inv.stays told.stays;
-      failures = told.failures ∙ inv.failures;
+      stays = SameImage-trans _ _ _ inv.stays told.reads.image;
+      failures = told.reads.failures ∙ inv.failures;
       rows = λ steady.
           let row = told.row (still_steady _ _ inv.stays steady) in
           below_more (λ j. IsRowIn (pages_seen c.args.pager.now.state) c.args.table.now c.args.view.now.at c.args.most c.args.view.now.page j) c.loop-i.i (inv.rows steady)

@@ -1,12 +1,12 @@
+use Rattle.image.specs.Pages.{pages_seen}
 use Rattle.std.proofs.Common.{◌≡◌, ◌<◌, ℕ, IsTrue}
-use Rattle.pager.specs.PagerState.{Stays}
-use Rattle.btree.specs.Rest.{pages_seen}
+use Rattle.pager.specs.Calls.{SameImage}
 use Rattle.integrity.specs.RowFaults.{IsRowIn}
 use Rattle.integrity.proofs.rows.check_rows.Given as goal
 
 abbrev pub invariant-loop-i : goal.invariant-loop-i
 invariant-loop-i g l = record {
-  stays : Stays l.fn.pager.state l.pager.state;
+  stays : SameImage l.fn.pager.state l.pager.state;
   failures : l.pager.state.source.failures ≡ l.fn.pager.state.source.failures;
   rows : IsTrue l.fn.pager.state.source.steady → (j : ℕ) → j < l.i
       → IsRowIn (pages_seen l.fn.pager.state) l.table l.view.at l.most l.view.page j;

@@ -1,8 +1,7 @@
 use Rattle.std.proofs.Common.{◌<◌, length, rules, ◌∙◌, subst, inl, inr, ⊎_elim}
 use Rattle.std.proofs.lemmas.Result.{err_from_is_err_and}
-use Rattle.pager.proofs.StaysLemmas.{Stays-trans}
-use Rattle.image.specs.Pages.{Pages}
-use Rattle.btree.specs.Rest.{pages_seen}
+use Rattle.pager.proofs.CallLemmas.{SameImage-trans}
+use Rattle.image.specs.Pages.{pages_seen, Pages}
 use Rattle.btree.proofs.SeenLemmas.{still_steady, same_pages}
 use Rattle.integrity.specs.Checked.{IsCheckedTree}
 use Rattle.integrity.specs.RowFaults.{IsBrokenTable}
@@ -15,9 +14,9 @@ returns-in_err-counts-clause-fault g c = λ steady.
     let now = still_steady _ _ inv.stays steady in
     let p = err_from_is_err_and c.from_residual-in_err-counts.result c.from_residual-in_err-counts.ensures.1 in
     rw (p.1, p.2)
-    (⊎_elim inl (λ other. ⊎_elim (λ memory. inr (inl memory))
-    (λ broken. inr (inr (c.table-item.result, search rules, subst (λ (q : Pages). IsBrokenTable q c.table-item.result c.in_err-counts.field-0.0) (same_pages _ _ inv.stays) broken))) other)
-    (c.in_err-counts.ensures.fault now))
+    (⊎_elim inl
+    (λ broken. inr (c.table-item.result, search rules, subst (λ (q : Pages). IsBrokenTable q c.table-item.result c.in_err-counts.field-0.0) (same_pages _ _ inv.stays) broken))
+    (c.in_err-counts.ensures.outcome.cause now))
 
 pub loop-table-preserved : goal.loop-table-preserved
 loop-table-preserved g c =
@@ -25,13 +24,13 @@ loop-table-preserved g c =
     let within : c.loop-table.table-index < length c.args.tables.now = search rules in
     let here = get_at c.args.tables.now c.loop-table.table-index c.table-item.result within (search rules) in
     record {
-      stays = Stays-trans _ _ _ inv.stays c.check_table.ensures.stays;
-      failures = c.in_ok-counts.ensures.failures ∙ inv.failures;
+      stays = SameImage-trans _ _ _ inv.stays c.check_table.ensures.reads.image;
+      failures = c.in_ok-counts.ensures.reads.failures ∙ inv.failures;
       checked = λ steady.
           let now = still_steady _ _ inv.stays steady in
           let told = c.in_ok-counts.ensures in
           let tree : IsCheckedTree (pages_seen c.loop-table.pager.state) c.table-item.result c.in_ok-counts.counts =
-          record { few = told.few; sound = told.sound now; shape = told.shape now; rows = told.rows now; counts_are = told.counts now } in
+          told.outcome.tree now in
           let one = subst (λ (q : Pages). IsCheckedTree q c.table-item.result c.in_ok-counts.counts) (same_pages _ _ inv.stays) tree in
           all_next (IsCheckedTree (pages_seen c.args.pager.now.state)) c.args.tables.now c.loop-table.trees.items c.push.new.self.items c.loop-table.table-index
           c.table-item.result c.in_ok-counts.counts here c.in_ok-push.ensures.items (inv.checked steady) one;

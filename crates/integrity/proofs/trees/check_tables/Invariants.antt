@@ -1,13 +1,13 @@
+use Rattle.image.specs.Pages.{pages_seen}
 use Rattle.std.proofs.Common.{◌≡◌, IsTrue, take}
 use Rattle.std.specs.List.{AllZip}
-use Rattle.pager.specs.PagerState.{Stays}
-use Rattle.btree.specs.Rest.{pages_seen}
+use Rattle.pager.specs.Calls.{SameImage}
 use Rattle.integrity.specs.Checked.{IsCheckedTree}
 use Rattle.integrity.proofs.trees.check_tables.Given as goal
 
 abbrev pub invariant-loop-table : goal.invariant-loop-table
 invariant-loop-table g l = record {
-  stays : Stays l.fn.pager.state l.pager.state;
+  stays : SameImage l.fn.pager.state l.pager.state;
   failures : l.pager.state.source.failures ≡ l.fn.pager.state.source.failures;
   checked : IsTrue l.fn.pager.state.source.steady
       → AllZip (IsCheckedTree (pages_seen l.fn.pager.state)) (take l.table-index l.tables) l.trees.items;

@@ -1,8 +1,8 @@
-use Rattle.std.proofs.Common.{List, sym, subst, inr}
+use Rattle.image.specs.Pages.{pages_seen}
+use Rattle.std.proofs.Common.{List, sym, subst, inl, inr, ⊎_elim}
 use Rattle.std.specs.Cow.{cow_slice_items}
 use Rattle.std.proofs.lemmas.Result.{err_from_is_err_and}
 use Rattle.values.specs.Datum.{Datum}
-use Rattle.btree.specs.Rest.{pages_seen}
 use Rattle.btree.specs.Views.{cell_data}
 use Rattle.integrity.specs.Stored.{IsRowOf}
 use Rattle.integrity.proofs.CellLemmas.{record_breaks, row_is}
@@ -13,7 +13,7 @@ returns-in_err-view-clause-fault g c = λ steady.
     let p = err_from_is_err_and c.from_residual-in_err-view.result c.from_residual-in_err-view.ensures.1 in
     let broken = c.in_err-view.ensures.fault in
     rw (p.1, p.2)
-    (inr (record_breaks (pages_seen c.args.pager.now.state) c.args.table.now c.args.n (cell_data c.args.cell.now) (cow_slice_items c.in_ok-bytes.bytes) c.as_slice.result.now
+    (⊎_elim (λ memory. inl (inr memory)) inr (record_breaks (pages_seen c.args.pager.now.state) c.args.table.now c.args.n (cell_data c.args.cell.now) (cow_slice_items c.in_ok-bytes.bytes) c.as_slice.result.now
     (c.in_ok-bytes.ensures.bytes steady) c.as_slice.ensures.value _ broken.0 broken.1 broken.2))
 
 pub returns-clause-row : goal.returns-clause-row

@@ -1,11 +1,11 @@
 use Rattle.std.proofs.Common.{All, ◌≡◌, ◌+◌, ◌*◌, ◌<◌, ◌≤◌, ℕ, rules, arith, sym, ◌∙◌, ap, subst, inl, inr, ⊎_elim, IsTrue, add-one}
 use Rattle.std.proofs.lemmas.Result.{err_from_is_err_and}
 use Rattle.pager.specs.declared.header.Header.{Header}
-use Rattle.pager.proofs.StaysLemmas.{Stays-trans}
+use Rattle.pager.proofs.CallLemmas.{SameImage-trans}
 use Rattle.image.specs.declared.kind.Level.TheVariants.{Leaf, Interior}
 use Rattle.image.specs.Layout.{cell_count, child}
 use Rattle.image.specs.Tree.{child_at}
-use Rattle.image.specs.Pages.{Pages}
+use Rattle.image.specs.Pages.{pages_seen, Pages}
 use Rattle.image.specs.declared.kind.Level.{Level}
 use Rattle.image.specs.declared.kind.TreeKind.TheVariants.{Table}
 use Rattle.image.specs.Broken.{IsBroken}
@@ -17,7 +17,6 @@ use Rattle.integrity.specs.RowFaults.{AreRowsIn, IsLeafFault}
 use Rattle.integrity.specs.Stored.{HoldsRow}
 use Rattle.integrity.proofs.HeldLemmas.{held_leaf, held_more, held_under, leaf_fault}
 use Rattle.integrity.proofs.WalkLemmas.{see, seen_child}
-use Rattle.btree.specs.Rest.{pages_seen}
 use Rattle.btree.proofs.SeenLemmas.{still_steady, same_pages}
 use Rattle.integrity.specs.Walked.{IsMet, IsTree, AreCounts, counted}
 use Rattle.integrity.proofs.WalkLemmas.{broken_header, broken_head, leaf_tree, leaf_counts, inner, broken_child, step_met, step_branch, step_under, here_within, uneven, more_branches, end_is, inner_tree}
@@ -26,8 +25,8 @@ use Rattle.integrity.proofs.walk.+walk.Goals as goal
 
 pub returns-in_default-clause-fault : goal.returns-in_default-clause-fault
 returns-in_default-clause-fault g t c = λ steady.
-    inr (inr (inl (broken_header c.args.pager.now.state c.header-header.result c.header-header.ensures.value c.header-header.ensures.sound c.args.n c.in_ok-page.page
-    (c.in_ok-page.ensures.page steady) c.in_ok-page.ensures.long c.args.table.now.root c.args.depth c.args.low c.args.high (c.requires.met steady) c.in_default.ensures.none)))
+    inr (inl (broken_header c.args.pager.now.state c.header-header.result c.header-header.ensures.is c.header-header.ensures.sound c.args.n c.in_ok-page.page
+    (c.in_ok-page.ensures.outcome.is steady) c.in_ok-page.ensures.outcome.long c.args.table.now.root c.args.depth c.args.low c.args.high (c.requires.met steady) c.in_default.ensures.none))
 
 pub returns-then-is_leaf_of_rows-clause-tree : goal.returns-then-is_leaf_of_rows-clause-tree
 returns-then-is_leaf_of_rows-clause-tree g t c = λ steady.
@@ -35,22 +34,22 @@ returns-then-is_leaf_of_rows-clause-tree g t c = λ steady.
     let head = subst (λ (l : Level). IsHead c.in-Some.view.at (c.header-header.result.pages * c.header-header.result.page_size) c.in-Some.view.page l c.args.table.now.root c.args.n c.args.low c.args.high) (sym leaf)
     (c.is_leaf_of_rows.ensures.head c.if-is_leaf_of_rows.true) in
     subst (λ (counts : TreeCounts). IsTree (pages_seen c.args.pager.now.state) c.args.table.now.root counts.levels c.args.low c.args.high c.args.n) (sym c.counts_of_page.ensures)
-    (leaf_tree c.args.pager.now.state c.header-header.result c.header-header.ensures.value c.header-header.ensures.sound c.args.n c.in_ok-page.page
-    (c.in_ok-page.ensures.page steady) c.in_ok-page.ensures.long c.args.table.now.root c.args.depth c.args.low c.args.high (c.requires.met steady)
-    c.in-Some.view c.in-Some.ensures.found c.in-Some.ensures.header head leaf)
+    (leaf_tree c.args.pager.now.state c.header-header.result c.header-header.ensures.is c.header-header.ensures.sound c.args.n c.in_ok-page.page
+    (c.in_ok-page.ensures.outcome.is steady) c.in_ok-page.ensures.outcome.long c.args.table.now.root c.args.depth c.args.low c.args.high (c.requires.met steady)
+    c.in-Some.view c.in-Some.ensures.found.0.is c.in-Some.ensures.found.0.header head leaf)
 
 pub returns-then-is_leaf_of_rows-clause-counts : goal.returns-then-is_leaf_of_rows-clause-counts
 returns-then-is_leaf_of_rows-clause-counts g t c = λ steady.
     subst (λ (counts : TreeCounts). AreCounts (pages_seen c.args.pager.now.state) counts.levels c.args.n counts.rows counts.pages) (sym c.counts_of_page.ensures)
-    (leaf_counts c.args.pager.now.state c.header-header.result c.header-header.ensures.value c.header-header.ensures.sound c.args.n c.in_ok-page.page
-    (c.in_ok-page.ensures.page steady) c.in_ok-page.ensures.long c.args.table.now.root c.args.depth c.args.low c.args.high (c.requires.met steady)
-    c.in-Some.view c.in-Some.ensures.found c.in-Some.ensures.header c.from.result (search rules) (search rules))
+    (leaf_counts c.args.pager.now.state c.header-header.result c.header-header.ensures.is c.header-header.ensures.sound c.args.n c.in_ok-page.page
+    (c.in_ok-page.ensures.outcome.is steady) c.in_ok-page.ensures.outcome.long c.args.table.now.root c.args.depth c.args.low c.args.high (c.requires.met steady)
+    c.in-Some.view c.in-Some.ensures.found.0.is c.in-Some.ensures.found.0.header c.from.result (search rules) (search rules))
 
 pub returns-then-is_leaf_of_rows-clause-rows : goal.returns-then-is_leaf_of_rows-clause-rows
 returns-then-is_leaf_of_rows-clause-rows g t c = λ steady.
-    let seen = see c.args.pager.now.state c.header-header.result c.header-header.ensures.value c.header-header.ensures.sound c.args.n c.in_ok-page.page
-    (c.in_ok-page.ensures.page steady) c.in_ok-page.ensures.long c.args.table.now.root c.args.depth c.args.low c.args.high (c.requires.met steady)
-    c.in-Some.view c.in-Some.ensures.found c.in-Some.ensures.header in
+    let seen = see c.args.pager.now.state c.header-header.result c.header-header.ensures.is c.header-header.ensures.sound c.args.n c.in_ok-page.page
+    (c.in_ok-page.ensures.outcome.is steady) c.in_ok-page.ensures.outcome.long c.args.table.now.root c.args.depth c.args.low c.args.high (c.requires.met steady)
+    c.in-Some.view c.in-Some.ensures.found.0.is c.in-Some.ensures.found.0.header in
     let rows = c.is_leaf_of_rows.ensures.rows c.if-is_leaf_of_rows.true (pages_seen c.args.pager.now.state) in
     subst (λ (counts : TreeCounts). All (HoldsRow (pages_seen c.args.pager.now.state) c.args.table.now) (places_under (pages_seen c.args.pager.now.state) Table counts.levels c.args.n)) (sym c.counts_of_page.ensures)
     (held_leaf (pages_seen c.args.pager.now.state) c.args.table.now c.args.n _ _ _ seen rows)
@@ -59,39 +58,39 @@ pub returns-in_err-level-clause-fault : goal.returns-in_err-level-clause-fault
 returns-in_err-level-clause-fault g t c = λ steady.
     let p = err_from_is_err_and c.from_residual-in_err-level.result c.from_residual-in_err-level.ensures.1 in
     rw (p.1, p.2)
-    (inr (inr (inl (broken_head c.args.pager.now.state c.header-header.result c.header-header.ensures.value c.header-header.ensures.sound c.args.n c.in_ok-page.page
-    (c.in_ok-page.ensures.page steady) c.in_ok-page.ensures.long c.args.table.now.root c.args.depth c.args.low c.args.high (c.requires.met steady)
-    c.in-Some.view c.in-Some.ensures.found c.in-Some.ensures.header _ c.in_err-level.ensures.fault))))
+    (inr (inl (broken_head c.args.pager.now.state c.header-header.result c.header-header.ensures.is c.header-header.ensures.sound c.args.n c.in_ok-page.page
+    (c.in_ok-page.ensures.outcome.is steady) c.in_ok-page.ensures.outcome.long c.args.table.now.root c.args.depth c.args.low c.args.high (c.requires.met steady)
+    c.in-Some.view c.in-Some.ensures.found.0.is c.in-Some.ensures.found.0.header _ c.in_err-level.ensures.fault)))
 
 pub returns-then-eq-clause-tree : goal.returns-then-eq-clause-tree
 returns-then-eq-clause-tree g t c = λ steady.
     let leaf : c.in-Some.view.level ≡ Leaf = sym c.in_ok-level.ensures.level ∙ search rules in
     subst (λ (counts : TreeCounts). IsTree (pages_seen c.args.pager.now.state) c.args.table.now.root counts.levels c.args.low c.args.high c.args.n) (sym c.counts_of_page-then-eq.ensures)
-    (leaf_tree c.args.pager.now.state c.header-header.result c.header-header.ensures.value c.header-header.ensures.sound c.args.n c.in_ok-page.page
-    (c.in_ok-page.ensures.page steady) c.in_ok-page.ensures.long c.args.table.now.root c.args.depth c.args.low c.args.high (c.requires.met steady)
-    c.in-Some.view c.in-Some.ensures.found c.in-Some.ensures.header c.in_ok-level.ensures.head leaf)
+    (leaf_tree c.args.pager.now.state c.header-header.result c.header-header.ensures.is c.header-header.ensures.sound c.args.n c.in_ok-page.page
+    (c.in_ok-page.ensures.outcome.is steady) c.in_ok-page.ensures.outcome.long c.args.table.now.root c.args.depth c.args.low c.args.high (c.requires.met steady)
+    c.in-Some.view c.in-Some.ensures.found.0.is c.in-Some.ensures.found.0.header c.in_ok-level.ensures.head leaf)
 
 pub returns-then-eq-clause-counts : goal.returns-then-eq-clause-counts
 returns-then-eq-clause-counts g t c = λ steady.
     subst (λ (counts : TreeCounts). AreCounts (pages_seen c.args.pager.now.state) counts.levels c.args.n counts.rows counts.pages) (sym c.counts_of_page-then-eq.ensures)
-    (leaf_counts c.args.pager.now.state c.header-header.result c.header-header.ensures.value c.header-header.ensures.sound c.args.n c.in_ok-page.page
-    (c.in_ok-page.ensures.page steady) c.in_ok-page.ensures.long c.args.table.now.root c.args.depth c.args.low c.args.high (c.requires.met steady)
-    c.in-Some.view c.in-Some.ensures.found c.in-Some.ensures.header c.from-then-eq.result (search rules) (search rules))
+    (leaf_counts c.args.pager.now.state c.header-header.result c.header-header.ensures.is c.header-header.ensures.sound c.args.n c.in_ok-page.page
+    (c.in_ok-page.ensures.outcome.is steady) c.in_ok-page.ensures.outcome.long c.args.table.now.root c.args.depth c.args.low c.args.high (c.requires.met steady)
+    c.in-Some.view c.in-Some.ensures.found.0.is c.in-Some.ensures.found.0.header c.from-then-eq.result (search rules) (search rules))
 
 pub returns-in_default-child_within-clause-fault : goal.returns-in_default-child_within-clause-fault
 returns-in_default-child_within-clause-fault g t c = λ steady.
     let interior : c.in-Some.view.level ≡ Interior = search rules in
     let within : c.loop-i.i ≤ cell_count c.in-Some.view.at c.in-Some.view.page = search rules in
-    let all = inner c.args.pager.now.state c.header-header.result c.header-header.ensures.value c.header-header.ensures.sound c.args.n c.in_ok-page.page
-    (c.in_ok-page.ensures.page steady) c.in_ok-page.ensures.long c.args.table.now.root c.args.depth c.args.low c.args.high (c.requires.met steady)
-    c.in-Some.view c.in-Some.ensures.found c.in-Some.ensures.header c.in_ok-level.ensures.head interior in
-    let header : c.header-header.result ≡ c.args.pager.now.state.header = c.header-header.ensures.value in
-    inr (inr (inl (broken_child _ _ _ _ _ _ _ _ _ all c.loop-i.i within (subst (λ (h : Header). ¬ ((1 ≤ child c.in-Some.view.at c.in-Some.view.page c.loop-i.i) × (child c.in-Some.view.at c.in-Some.view.page c.loop-i.i ≤ h.pages))) header (c.in_default-child_within.ensures.none (c.header-header.result.pages * c.header-header.result.page_size) all.cells)))))
+    let all = inner c.args.pager.now.state c.header-header.result c.header-header.ensures.is c.header-header.ensures.sound c.args.n c.in_ok-page.page
+    (c.in_ok-page.ensures.outcome.is steady) c.in_ok-page.ensures.outcome.long c.args.table.now.root c.args.depth c.args.low c.args.high (c.requires.met steady)
+    c.in-Some.view c.in-Some.ensures.found.0.is c.in-Some.ensures.found.0.header c.in_ok-level.ensures.head interior in
+    let header : c.header-header.result ≡ c.args.pager.now.state.header = c.header-header.ensures.is in
+    inr (inl (broken_child _ _ _ _ _ _ _ _ _ all c.loop-i.i within (subst (λ (h : Header). ¬ ((1 ≤ child c.in-Some.view.at c.in-Some.view.page c.loop-i.i) × (child c.in-Some.view.at c.in-Some.view.page c.loop-i.i ≤ h.pages))) header (c.in_default-child_within.ensures.none (c.header-header.result.pages * c.header-header.result.page_size) all.cells))))
 
 pub walk-requires : goal.walk-requires
 walk-requires g t c κs within =
     let inv = c.loop-i.invariant in
-    let header : c.header-header.result ≡ c.args.pager.now.state.header = c.header-header.ensures.value in
+    let header : c.header-header.result ≡ c.args.pager.now.state.header = c.header-header.ensures.is in
     let kid = c.in-Some-child_within.ensures.found in (
       omega arith,
       (
@@ -102,9 +101,9 @@ walk-requires g t c κs within =
               let steady : IsTrue c.args.pager.now.state.source.steady = sym inv.stays.steady ∙ now in
               let interior : c.in-Some.view.level ≡ Interior = search rules in
               let in_count : c.loop-i.i ≤ cell_count c.in-Some.view.at c.in-Some.view.page = search rules in
-              let all = inner c.args.pager.now.state c.header-header.result c.header-header.ensures.value c.header-header.ensures.sound c.args.n c.in_ok-page.page
-              (c.in_ok-page.ensures.page steady) c.in_ok-page.ensures.long c.args.table.now.root c.args.depth c.args.low c.args.high (c.requires.met steady)
-              c.in-Some.view c.in-Some.ensures.found c.in-Some.ensures.header c.in_ok-level.ensures.head interior in
+              let all = inner c.args.pager.now.state c.header-header.result c.header-header.ensures.is c.header-header.ensures.sound c.args.n c.in_ok-page.page
+              (c.in_ok-page.ensures.outcome.is steady) c.in_ok-page.ensures.outcome.long c.args.table.now.root c.args.depth c.args.low c.args.high (c.requires.met steady)
+              c.in-Some.view c.in-Some.ensures.found.0.is c.in-Some.ensures.found.0.header c.in_ok-level.ensures.head interior in
               subst (λ (p : Pages). IsMet p c.args.table.now.root (c.args.depth + 1) c.low_bound-low.result c.high_bound-high.result c.in-Some-child_within.child) (sym (same_pages _ _ inv.stays))
               (step_met _ _ _ _ _ _ _ _ _ all c.loop-i.i in_count c.in-Some-child_within.child c.low_bound-low.result c.high_bound-high.result kid.0
               (kid.1, subst (λ (h : Header). c.in-Some-child_within.child ≤ h.pages) header kid.2)
@@ -116,14 +115,14 @@ walk-requires g t c κs within =
 pub returns-then-is_uneven-clause-fault : goal.returns-then-is_uneven-clause-fault
 returns-then-is_uneven-clause-fault g t c = λ steady.
     let inv = c.loop-i.invariant in
-    let header : c.header-header.result ≡ c.args.pager.now.state.header = c.header-header.ensures.value in
+    let header : c.header-header.result ≡ c.args.pager.now.state.header = c.header-header.ensures.is in
     let kid = c.in-Some-child_within.ensures.found in
     let now = still_steady _ _ inv.stays steady in
     let interior : c.in-Some.view.level ≡ Interior = search rules in
     let in_count : c.loop-i.i ≤ cell_count c.in-Some.view.at c.in-Some.view.page = search rules in
-    let all = inner c.args.pager.now.state c.header-header.result c.header-header.ensures.value c.header-header.ensures.sound c.args.n c.in_ok-page.page
-    (c.in_ok-page.ensures.page steady) c.in_ok-page.ensures.long c.args.table.now.root c.args.depth c.args.low c.args.high (c.requires.met steady)
-    c.in-Some.view c.in-Some.ensures.found c.in-Some.ensures.header c.in_ok-level.ensures.head interior in
+    let all = inner c.args.pager.now.state c.header-header.result c.header-header.ensures.is c.header-header.ensures.sound c.args.n c.in_ok-page.page
+    (c.in_ok-page.ensures.outcome.is steady) c.in_ok-page.ensures.outcome.long c.args.table.now.root c.args.depth c.args.low c.args.high (c.requires.met steady)
+    c.in-Some.view c.in-Some.ensures.found.0.is c.in-Some.ensures.found.0.header c.in_ok-level.ensures.head interior in
     let tree = subst (λ (p : Pages). IsTree p c.args.table.now.root c.in_ok-below.below.levels c.low_bound-low.result c.high_bound-high.result c.in-Some-child_within.child) (same_pages _ _ inv.stays) (c.in_ok-below.ensures.tree now) in
     let later = step_branch _ _ _ _ _ _ _ _ _ all c.loop-i.i in_count c.in-Some-child_within.child c.low_bound-low.result c.high_bound-high.result kid.0
     (kid.1, subst (λ (h : Header). c.in-Some-child_within.child ≤ h.pages) header kid.2)
@@ -131,8 +130,8 @@ returns-then-is_uneven-clause-fault g t c = λ steady.
     c.in_ok-below.below.levels tree in
     let odd = c.is_uneven.ensures.uneven c.if-is_uneven.true in
     let here : c.loop-i.i ≤ _ = here_within _ _ _ _ _ _ _ _ _ all c.loop-i.i in_count in
-    inr (inr (inl (subst (λ (r : ℕ). IsBroken (pages_seen c.args.pager.now.state) c.args.table.now.root (BadDepth r)) (sym c.root-then-is_uneven.ensures)
-    (uneven _ _ _ _ _ _ all.met c.loop-i.i c.loop-i.counts.levels c.in_ok-below.below.levels all.page_is here (inv.branches steady 0 odd.0) later odd.1))))
+    inr (inl (subst (λ (r : ℕ). IsBroken (pages_seen c.args.pager.now.state) c.args.table.now.root (BadDepth r)) (sym c.root-then-is_uneven.ensures)
+    (uneven _ _ _ _ _ _ all.met c.loop-i.i c.loop-i.counts.levels c.in_ok-below.below.levels all.page_is here (inv.branches steady 0 odd.0) later odd.1)))
 
 pub loop-i-preserved : goal.loop-i-preserved
 loop-i-preserved g t c =
@@ -141,19 +140,19 @@ loop-i-preserved g t c =
     let deep = c.in_ok-below.ensures.deep in
     let levels : c.join-counts.result.levels ≡ c.in_ok-below.below.levels = c.join-counts.ensures.levels in
     let same : 0 < c.loop-i.i → c.loop-i.counts.levels ≡ c.join-counts.result.levels = λ some. even some ∙ sym levels in
-    let header : c.header-header.result ≡ c.args.pager.now.state.header = c.header-header.ensures.value in
+    let header : c.header-header.result ≡ c.args.pager.now.state.header = c.header-header.ensures.is in
     let kid = c.in-Some-child_within.ensures.found in
     let interior : c.in-Some.view.level ≡ Interior = search rules in
     let in_count : c.loop-i.i ≤ cell_count c.in-Some.view.at c.in-Some.view.page = search rules in
     record {
-      stays = Stays-trans _ _ _ inv.stays c.walk.ensures.stays;
-      failures = c.in_ok-below.ensures.failures ∙ inv.failures;
+      stays = SameImage-trans _ _ _ inv.stays c.walk.ensures.reads.image;
+      failures = c.in_ok-below.ensures.reads.failures ∙ inv.failures;
       shallow = λ some. omega (arith, deep, levels);
       branches = λ steady.
           let now = still_steady _ _ inv.stays steady in
-          let all = inner c.args.pager.now.state c.header-header.result c.header-header.ensures.value c.header-header.ensures.sound c.args.n c.in_ok-page.page
-          (c.in_ok-page.ensures.page steady) c.in_ok-page.ensures.long c.args.table.now.root c.args.depth c.args.low c.args.high (c.requires.met steady)
-          c.in-Some.view c.in-Some.ensures.found c.in-Some.ensures.header c.in_ok-level.ensures.head interior in
+          let all = inner c.args.pager.now.state c.header-header.result c.header-header.ensures.is c.header-header.ensures.sound c.args.n c.in_ok-page.page
+          (c.in_ok-page.ensures.outcome.is steady) c.in_ok-page.ensures.outcome.long c.args.table.now.root c.args.depth c.args.low c.args.high (c.requires.met steady)
+          c.in-Some.view c.in-Some.ensures.found.0.is c.in-Some.ensures.found.0.header c.in_ok-level.ensures.head interior in
           let tree = subst (λ (l : ℕ). IsTree (pages_seen c.args.pager.now.state) c.args.table.now.root l c.low_bound-low.result c.high_bound-high.result c.in-Some-child_within.child) (sym levels)
           (subst (λ (p : Pages). IsTree p c.args.table.now.root c.in_ok-below.below.levels c.low_bound-low.result c.high_bound-high.result c.in-Some-child_within.child) (same_pages _ _ inv.stays) (c.in_ok-below.ensures.tree now)) in
           let later = step_branch _ _ _ _ _ _ _ _ _ all c.loop-i.i in_count c.in-Some-child_within.child c.low_bound-low.result c.high_bound-high.result kid.0
@@ -164,9 +163,9 @@ loop-i-preserved g t c =
       held = λ steady.
           let now = still_steady _ _ inv.stays steady in
           let at : c.in-Some-child_within.child ≡ child_at (pages_seen c.args.pager.now.state) c.args.n c.loop-i.i =
-          let all = inner c.args.pager.now.state c.header-header.result c.header-header.ensures.value c.header-header.ensures.sound c.args.n c.in_ok-page.page
-          (c.in_ok-page.ensures.page steady) c.in_ok-page.ensures.long c.args.table.now.root c.args.depth c.args.low c.args.high (c.requires.met steady)
-          c.in-Some.view c.in-Some.ensures.found c.in-Some.ensures.header c.in_ok-level.ensures.head interior in
+          let all = inner c.args.pager.now.state c.header-header.result c.header-header.ensures.is c.header-header.ensures.sound c.args.n c.in_ok-page.page
+          (c.in_ok-page.ensures.outcome.is steady) c.in_ok-page.ensures.outcome.long c.args.table.now.root c.args.depth c.args.low c.args.high (c.requires.met steady)
+          c.in-Some.view c.in-Some.ensures.found.0.is c.in-Some.ensures.found.0.header c.in_ok-level.ensures.head interior in
           seen_child _ _ _ _ _ all.seen c.loop-i.i c.in-Some-child_within.child kid.0 in
           let under = subst (λ (p : Pages). All (HoldsRow p c.args.table.now) (places_under p Table c.in_ok-below.below.levels c.in-Some-child_within.child)) (same_pages _ _ inv.stays) (c.in_ok-below.ensures.rows now) in
           let here = subst (λ (l : ℕ). All (HoldsRow (pages_seen c.args.pager.now.state) c.args.table.now) (places_under (pages_seen c.args.pager.now.state) Table l (child_at (pages_seen c.args.pager.now.state) c.args.n c.loop-i.i))) (sym levels)
@@ -174,9 +173,9 @@ loop-i-preserved g t c =
           held_more (pages_seen c.args.pager.now.state) c.args.table.now c.args.n c.loop-i.i c.loop-i.counts.levels c.join-counts.result.levels same (inv.held steady) here;
       rows = λ steady.
           let now = still_steady _ _ inv.stays steady in
-          let all = inner c.args.pager.now.state c.header-header.result c.header-header.ensures.value c.header-header.ensures.sound c.args.n c.in_ok-page.page
-          (c.in_ok-page.ensures.page steady) c.in_ok-page.ensures.long c.args.table.now.root c.args.depth c.args.low c.args.high (c.requires.met steady)
-          c.in-Some.view c.in-Some.ensures.found c.in-Some.ensures.header c.in_ok-level.ensures.head interior in
+          let all = inner c.args.pager.now.state c.header-header.result c.header-header.ensures.is c.header-header.ensures.sound c.args.n c.in_ok-page.page
+          (c.in_ok-page.ensures.outcome.is steady) c.in_ok-page.ensures.outcome.long c.args.table.now.root c.args.depth c.args.low c.args.high (c.requires.met steady)
+          c.in-Some.view c.in-Some.ensures.found.0.is c.in-Some.ensures.found.0.header c.in_ok-level.ensures.head interior in
           let under = subst (λ (p : Pages). AreCounts p c.in_ok-below.below.levels c.in-Some-child_within.child c.in_ok-below.below.rows c.in_ok-below.below.pages) (same_pages _ _ inv.stays) (c.in_ok-below.ensures.counts now) in
           let at = subst (λ (l : ℕ). AreCounts (pages_seen c.args.pager.now.state) l (child_at (pages_seen c.args.pager.now.state) c.args.n c.loop-i.i) c.in_ok-below.below.rows c.in_ok-below.below.pages) (sym levels)
           (step_under _ _ _ _ _ _ _ _ _ all c.loop-i.i in_count c.in-Some-child_within.child c.low_bound-low.result c.high_bound-high.result kid.0
@@ -186,9 +185,9 @@ loop-i-preserved g t c =
           rows_step (pages_seen c.args.pager.now.state) c.args.n c.loop-i.i c.loop-i.counts.levels c.join-counts.result.levels same _ _ _ (inv.rows steady) at.rows_is c.join-counts.ensures.rows;
       size = λ steady.
           let now = still_steady _ _ inv.stays steady in
-          let all = inner c.args.pager.now.state c.header-header.result c.header-header.ensures.value c.header-header.ensures.sound c.args.n c.in_ok-page.page
-          (c.in_ok-page.ensures.page steady) c.in_ok-page.ensures.long c.args.table.now.root c.args.depth c.args.low c.args.high (c.requires.met steady)
-          c.in-Some.view c.in-Some.ensures.found c.in-Some.ensures.header c.in_ok-level.ensures.head interior in
+          let all = inner c.args.pager.now.state c.header-header.result c.header-header.ensures.is c.header-header.ensures.sound c.args.n c.in_ok-page.page
+          (c.in_ok-page.ensures.outcome.is steady) c.in_ok-page.ensures.outcome.long c.args.table.now.root c.args.depth c.args.low c.args.high (c.requires.met steady)
+          c.in-Some.view c.in-Some.ensures.found.0.is c.in-Some.ensures.found.0.header c.in_ok-level.ensures.head interior in
           let under = subst (λ (p : Pages). AreCounts p c.in_ok-below.below.levels c.in-Some-child_within.child c.in_ok-below.below.rows c.in_ok-below.below.pages) (same_pages _ _ inv.stays) (c.in_ok-below.ensures.counts now) in
           let at = subst (λ (l : ℕ). AreCounts (pages_seen c.args.pager.now.state) l (child_at (pages_seen c.args.pager.now.state) c.args.n c.loop-i.i) c.in_ok-below.below.rows c.in_ok-below.below.pages) (sym levels)
           (step_under _ _ _ _ _ _ _ _ _ all c.loop-i.i in_count c.in-Some-child_within.child c.low_bound-low.result c.high_bound-high.result kid.0
@@ -203,9 +202,9 @@ returns-clause-tree g t c = λ steady.
     let inv = c.loop-i.invariant in
     let interior : c.in-Some.view.level ≡ Interior = search rules in
     let end : c.loop-i.i ≡ cell_count c.in-Some.view.at c.in-Some.view.page + 1 = search rules in
-    let all = inner c.args.pager.now.state c.header-header.result c.header-header.ensures.value c.header-header.ensures.sound c.args.n c.in_ok-page.page
-    (c.in_ok-page.ensures.page steady) c.in_ok-page.ensures.long c.args.table.now.root c.args.depth c.args.low c.args.high (c.requires.met steady)
-    c.in-Some.view c.in-Some.ensures.found c.in-Some.ensures.header c.in_ok-level.ensures.head interior in
+    let all = inner c.args.pager.now.state c.header-header.result c.header-header.ensures.is c.header-header.ensures.sound c.args.n c.in_ok-page.page
+    (c.in_ok-page.ensures.outcome.is steady) c.in_ok-page.ensures.outcome.long c.args.table.now.root c.args.depth c.args.low c.args.high (c.requires.met steady)
+    c.in-Some.view c.in-Some.ensures.found.0.is c.in-Some.ensures.found.0.header c.in_ok-level.ensures.head interior in
     rw add-one (inner_tree _ _ _ _ _ _ _ _ _ all c.loop-i.i c.loop-i.counts.levels end (inv.branches steady))
 
 pub returns-clause-counts : goal.returns-clause-counts
@@ -213,9 +212,9 @@ returns-clause-counts g t c = λ steady.
     let inv = c.loop-i.invariant in
     let interior : c.in-Some.view.level ≡ Interior = search rules in
     let end : c.loop-i.i ≡ cell_count c.in-Some.view.at c.in-Some.view.page + 1 = search rules in
-    let all = inner c.args.pager.now.state c.header-header.result c.header-header.ensures.value c.header-header.ensures.sound c.args.n c.in_ok-page.page
-    (c.in_ok-page.ensures.page steady) c.in_ok-page.ensures.long c.args.table.now.root c.args.depth c.args.low c.args.high (c.requires.met steady)
-    c.in-Some.view c.in-Some.ensures.found c.in-Some.ensures.header c.in_ok-level.ensures.head interior in
+    let all = inner c.args.pager.now.state c.header-header.result c.header-header.ensures.is c.header-header.ensures.sound c.args.n c.in_ok-page.page
+    (c.in_ok-page.ensures.outcome.is steady) c.in_ok-page.ensures.outcome.long c.args.table.now.root c.args.depth c.args.low c.args.high (c.requires.met steady)
+    c.in-Some.view c.in-Some.ensures.found.0.is c.in-Some.ensures.found.0.header c.in_ok-level.ensures.head interior in
     let done = end_is _ _ _ _ _ _ _ _ _ all c.loop-i.i c.loop-i.counts.levels end in
     rw add-one (record {
       rows_is = inv.rows steady ∙ ap counted (rows_all (pages_seen c.args.pager.now.state) c.args.n c.loop-i.counts.levels c.loop-i.i done);
@@ -229,28 +228,28 @@ check_rows-requires-clause-cells g t c =
 
 pub returns-in_err-check_rows-clause-fault : goal.returns-in_err-check_rows-clause-fault
 returns-in_err-check_rows-clause-fault g t c = λ steady.
-    let read = c.page.ensures.used.stays in
+    let read = c.page.ensures.reads.image in
     let leaf : c.in-Some.view.level ≡ Leaf = sym c.in_ok-level.ensures.level ∙ search rules in
     let met = c.requires.met steady in
-    let seen = see c.args.pager.now.state c.header-header.result c.header-header.ensures.value c.header-header.ensures.sound c.args.n c.in_ok-page.page
-    (c.in_ok-page.ensures.page steady) c.in_ok-page.ensures.long c.args.table.now.root c.args.depth c.args.low c.args.high met
-    c.in-Some.view c.in-Some.ensures.found c.in-Some.ensures.header in
-    let tree = leaf_tree c.args.pager.now.state c.header-header.result c.header-header.ensures.value c.header-header.ensures.sound c.args.n c.in_ok-page.page
-    (c.in_ok-page.ensures.page steady) c.in_ok-page.ensures.long c.args.table.now.root c.args.depth c.args.low c.args.high met
-    c.in-Some.view c.in-Some.ensures.found c.in-Some.ensures.header c.in_ok-level.ensures.head leaf in
+    let seen = see c.args.pager.now.state c.header-header.result c.header-header.ensures.is c.header-header.ensures.sound c.args.n c.in_ok-page.page
+    (c.in_ok-page.ensures.outcome.is steady) c.in_ok-page.ensures.outcome.long c.args.table.now.root c.args.depth c.args.low c.args.high met
+    c.in-Some.view c.in-Some.ensures.found.0.is c.in-Some.ensures.found.0.header in
+    let tree = leaf_tree c.args.pager.now.state c.header-header.result c.header-header.ensures.is c.header-header.ensures.sound c.args.n c.in_ok-page.page
+    (c.in_ok-page.ensures.outcome.is steady) c.in_ok-page.ensures.outcome.long c.args.table.now.root c.args.depth c.args.low c.args.high met
+    c.in-Some.view c.in-Some.ensures.found.0.is c.in-Some.ensures.found.0.header c.in_ok-level.ensures.head leaf in
     let p = err_from_is_err_and c.from_residual-in_err-check_rows.result c.from_residual-in_err-check_rows.ensures.1 in
     rw (p.1, p.2)
-    (⊎_elim inl (λ other. inr (⊎_elim inl
+    (⊎_elim inl
     (λ broken. inr (inr (leaf_fault (pages_seen c.args.pager.now.state) c.args.table.now c.args.n _ _ _ seen c.args.depth tree.0 met.stands _
-    (subst (λ (p : Pages). IsLeafFault p c.args.table.now c.args.n c.in-Some.view.at (c.header-header.result.pages * c.header-header.result.page_size) c.in-Some.view.page c.in_err-check_rows.field-0.0) (same_pages _ _ read) broken)))) other))
+    (subst (λ (p : Pages). IsLeafFault p c.args.table.now c.args.n c.in-Some.view.at (c.header-header.result.pages * c.header-header.result.page_size) c.in-Some.view.page c.in_err-check_rows.field-0.0) (same_pages _ _ read) broken))))
     (c.in_err-check_rows.ensures.fault (still_steady _ _ read steady)))
 
 pub returns-then-eq-clause-rows : goal.returns-then-eq-clause-rows
 returns-then-eq-clause-rows g t c = λ steady.
-    let read = c.page.ensures.used.stays in
-    let seen = see c.args.pager.now.state c.header-header.result c.header-header.ensures.value c.header-header.ensures.sound c.args.n c.in_ok-page.page
-    (c.in_ok-page.ensures.page steady) c.in_ok-page.ensures.long c.args.table.now.root c.args.depth c.args.low c.args.high (c.requires.met steady)
-    c.in-Some.view c.in-Some.ensures.found c.in-Some.ensures.header in
+    let read = c.page.ensures.reads.image in
+    let seen = see c.args.pager.now.state c.header-header.result c.header-header.ensures.is c.header-header.ensures.sound c.args.n c.in_ok-page.page
+    (c.in_ok-page.ensures.outcome.is steady) c.in_ok-page.ensures.outcome.long c.args.table.now.root c.args.depth c.args.low c.args.high (c.requires.met steady)
+    c.in-Some.view c.in-Some.ensures.found.0.is c.in-Some.ensures.found.0.header in
     let rows = subst (λ (p : Pages). AreRowsIn p c.args.table.now c.in-Some.view.at (c.header-header.result.pages * c.header-header.result.page_size) c.in-Some.view.page) (same_pages _ _ read)
     (c.in_ok-check_rows.ensures.rows (still_steady _ _ read steady)) in
     subst (λ (counts : TreeCounts). All (HoldsRow (pages_seen c.args.pager.now.state) c.args.table.now) (places_under (pages_seen c.args.pager.now.state) Table counts.levels c.args.n)) (sym c.counts_of_page-then-eq.ensures)
@@ -261,9 +260,9 @@ returns-clause-rows g t c = λ steady.
     let inv = c.loop-i.invariant in
     let interior : c.in-Some.view.level ≡ Interior = search rules in
     let end : c.loop-i.i ≡ cell_count c.in-Some.view.at c.in-Some.view.page + 1 = search rules in
-    let all = inner c.args.pager.now.state c.header-header.result c.header-header.ensures.value c.header-header.ensures.sound c.args.n c.in_ok-page.page
-    (c.in_ok-page.ensures.page steady) c.in_ok-page.ensures.long c.args.table.now.root c.args.depth c.args.low c.args.high (c.requires.met steady)
-    c.in-Some.view c.in-Some.ensures.found c.in-Some.ensures.header c.in_ok-level.ensures.head interior in
+    let all = inner c.args.pager.now.state c.header-header.result c.header-header.ensures.is c.header-header.ensures.sound c.args.n c.in_ok-page.page
+    (c.in_ok-page.ensures.outcome.is steady) c.in_ok-page.ensures.outcome.long c.args.table.now.root c.args.depth c.args.low c.args.high (c.requires.met steady)
+    c.in-Some.view c.in-Some.ensures.found.0.is c.in-Some.ensures.found.0.header c.in_ok-level.ensures.head interior in
     let done = end_is _ _ _ _ _ _ _ _ _ all c.loop-i.i c.loop-i.counts.levels end in
     rw add-one (held_under (pages_seen c.args.pager.now.state) c.args.table.now c.loop-i.counts.levels c.args.n
     (λ k within. inv.held steady k (omega (arith, within, done))))

@@ -1,6 +1,6 @@
+use Rattle.image.specs.Pages.{pages_seen}
 use Rattle.std.proofs.Common.{All, ◌≡◌, ℕ, suc, ◌+◌, ◌-◌, ◌<◌, ◌≤◌, IsTrue}
-use Rattle.pager.specs.PagerState.{Stays}
-use Rattle.btree.specs.Rest.{pages_seen}
+use Rattle.pager.specs.Calls.{SameImage}
 use Rattle.image.specs.declared.kind.TreeKind.TheVariants.{Table}
 use Rattle.image.specs.Shape.{places_under}
 use Rattle.image.specs.Tree.{child_at}
@@ -13,7 +13,7 @@ decreases-walk g l = 21 - l.depth
 
 abbrev pub invariant-loop-i : goal.invariant-loop-i
 invariant-loop-i g l = record {
-  stays : Stays l.fn.pager.state l.pager.state;
+  stays : SameImage l.fn.pager.state l.pager.state;
   failures : l.pager.state.source.failures ≡ l.fn.pager.state.source.failures;
   shallow : 0 < l.i → suc l.counts.levels + l.depth ≤ 20;
   branches : IsTrue l.fn.pager.state.source.steady → (k : ℕ) → k < l.i

@@ -10,7 +10,7 @@ returns-clause-served g c = λ steady.
       tables = c.in_ok-engine.engine.tables;
       prepared = c.in_ok-prepared.prepared;
       has = c.in_ok-engine.ensures.tables steady;
-      means = c.in_ok-prepared.ensures.means;
+      means = c.in_ok-prepared.ensures.1;
       lines = lines_handed _ _ _ _ _ _ c.write_lines-written.new.out lines (rw c.in_ok-handed_on.was at c.finish-out.ensures.writes).written;
     }
 

@@ -1,7 +1,6 @@
 use Rattle.std.proofs.Common.{◌≡◌, ◌∙◌, sym, subst, arith}
 use Rattle.std.proofs.lemmas.Result.{err_from_is_err_and}
-use Rattle.image.specs.Pages.{Pages, pages_in, pages_of}
-use Rattle.btree.specs.Rest.{pages_seen}
+use Rattle.image.specs.Pages.{pages_seen, Pages, pages_in, pages_of}
 use Rattle.schema.specs.TableData.{TableData}
 use Rattle.integrity.specs.Stored.{IsStored}
 use Rattle.shell.specs.Stream.{IsUnchained}
@@ -15,8 +14,8 @@ pub write_rows-requires-clause-columns : goal.write_rows-requires-clause-columns
 write_rows-requires-clause-columns g c =
     rw (sym c.columns.ensures) (columns_within c.args.tables.now c.args.query.now c.table_of-table.result.now c.requires.typed (rw c.source.ensures c.table_of-table.ensures))
 
-pub returns-in_err-rows-clause-stops : goal.returns-in_err-rows-clause-stops
-returns-in_err-rows-clause-stops g c = λ steady.
+pub returns-in_err-rows-clause-answer : goal.returns-in_err-rows-clause-answer
+returns-in_err-rows-clause-answer g c = λ steady.
     let p = err_from_is_err_and c.from_residual.result c.from_residual.ensures.1 in
     let streams = rw (← c.columns.ensures) at (c.in_err-rows.ensures.rows steady) in
     rw (p.1, p.2)

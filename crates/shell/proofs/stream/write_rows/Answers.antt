@@ -12,7 +12,7 @@ returns-in_err-cursor-clause-rows g c = λ steady levels rows stored few.
 
 pub loop-cursor-init : goal.loop-cursor-init
 loop-cursor-init g c =
-    Streaming-start _ _ _ _ _ 0 _ c.in_ok-cursor.ensures.stays c.in_ok-cursor.ensures.reads c.in_ok-cursor.ensures.unchained c.in_ok-cursor.ensures.lists refl
+    Streaming-start _ _ _ _ _ 0 _ c.in_ok-cursor.ensures.reads.image c.in_ok-cursor.ensures.reads.failures c.in_ok-cursor.ensures.reads.unchained c.in_ok-cursor.ensures.lists refl
 
 pub returns-in_err-cell-clause-rows : goal.returns-in_err-cell-clause-rows
 returns-in_err-cell-clause-rows g c = λ steady levels rows stored few.
@@ -30,14 +30,14 @@ returns-in_err-next_row-clause-rows g c = λ steady levels rows stored few.
     let p = err_from_is_err_and c.from_residual-in_err-next_row.result c.from_residual-in_err-next_row.ensures.1 in
     rw (p.1, p.2)
     (Streaming-stopped _ _ _ _ _ _ _ _ c.loop-cursor.invariant steady levels rows stored few _ _ _ (g.W.Sink.facts c.write_cell.new.out)
-    (rw c.in-Some.is at c.in_ok-cell.ensures.entry) c.write_cell.ensures.chained
+    (rw c.in-Some.is at c.in_ok-cell.ensures.entry) c.write_cell.ensures.reads.chains
     c.in_ok-write_cell.ensures.rows c.in_err-next_row.ensures.lists (not_write _ c.in_err-next_row.ensures.only))
 
 pub loop-cursor-preserved : goal.loop-cursor-preserved
 loop-cursor-preserved g c =
-    Streaming-next _ _ _ _ _ _ _ _ c.loop-cursor.invariant _ _ _ _ _ _ (rw c.in-Some.is at c.in_ok-cell.ensures.entry) c.in_ok-write_cell.ensures.chained
-    c.in_ok-write_cell.ensures.reads c.in_ok-write_cell.ensures.unread c.in_ok-write_cell.ensures.rows
-    c.in_ok-next_row.ensures.lists c.in_ok-next_row.ensures.stays c.in_ok-next_row.ensures.reads c.in_ok-next_row.ensures.unchained
+    Streaming-next _ _ _ _ _ _ _ _ c.loop-cursor.invariant _ _ _ _ _ _ (rw c.in-Some.is at c.in_ok-cell.ensures.entry) c.in_ok-write_cell.ensures.reads.chains
+    c.in_ok-write_cell.ensures.reads.failures c.in_ok-write_cell.ensures.unread c.in_ok-write_cell.ensures.rows
+    c.in_ok-next_row.ensures.lists c.in_ok-next_row.ensures.reads.image c.in_ok-next_row.ensures.reads.failures c.in_ok-next_row.ensures.reads.unchained
     c.in_ok-write_cell.ensures.writes c.saturating_add-count.ensures
 
 pub returns-clause-rows : goal.returns-clause-rows

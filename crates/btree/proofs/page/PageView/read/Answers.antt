@@ -20,7 +20,9 @@ invariant_of-result c = record {
   most = search rules;
 }
 
-pub returns-clause-header : goal.returns-clause-header
-returns-clause-header c =
-    rw (← c.header_place-at.ensures.place)
-    (has_header _ _ _ _ _ _ _ c.flag_at.ensures c.in_ok-level.ensures.found c.size_of_header.ensures c.count_of.ensures c.if-at-places.false)
+pub returns-clause-found : goal.returns-clause-found
+returns-clause-found c = record {
+  is = search rules;
+  header = rw (← c.header_place-at.ensures.place)
+      (has_header _ _ _ _ _ _ _ c.flag_at.ensures c.in_ok-level.ensures.found c.size_of_header.ensures c.count_of.ensures c.if-at-places.false);
+}

@@ -6,8 +6,8 @@ use Rattle.resolver.specs.Resolved.{IsRefused}
 use Rattle.shell.specs.State.{EngineState}
 use Rattle.shell.proofs.engine.Engine.prepare.Goals as goal
 
-pub returns-in_err-query-clause-refuses : goal.returns-in_err-query-clause-refuses
-returns-in_err-query-clause-refuses g c =
+pub returns-in_err-query : goal.returns-in_err-query
+returns-in_err-query g c =
     let tables = c.tables.ensures ∙ ap (λ (e : EngineState). e.tables) c.self.view_is in
     let p = err_from_is_err_and c.from_residual-in_err-query.result c.from_residual-in_err-query.ensures.1 in
     rw (p.1, p.2)

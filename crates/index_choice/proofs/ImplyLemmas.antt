@@ -1,0 +1,134 @@
+-- The steps of a search for the conjuncts that imply a condition, and that a condition is true where one is.
+use Rattle.std.proofs.Common.{◌≡◌, ◌<◌, ℕ, ◌+◌, Bool, true, false, List, [], ◌∷◌, ◌++◌, length, get_or, refl, sym, ◌∙◌, arith, subst, inl, inr, Option, Some, None, option_map}
+use Rattle.std.specs.Prelude.{◌⊎◌, ◌↔◌, ◌||◌, if◌then◌else◌, nat_lt, slice_index_or}
+use Rattle.std.specs.List.{Contains, HoldsAt}
+use Rattle.std.proofs.lemmas.List.Elements.{Contains-append_left, Contains-push, Contains-push_cases, at_read}
+use Rattle.std.proofs.lemmas.Bool.{eqb-true, ltb-false, ltb-true}
+use Rattle.std.specs.declared.cmp.Ordering.{Ordering}
+use Rattle.values.specs.Datum.{Datum, null, int, text, blob}
+use Rattle.values.specs.Order.{datum_cmp}
+use Rattle.expr.specs.declared.tree.Comparison.{Comparison}
+use Rattle.expr.specs.declared.tree.Function.TheVariants.{Not}
+use Rattle.expr.specs.Conjuncts.{is_true}
+use Rattle.expr.specs.Functions.{call_of}
+use Rattle.expr.specs.Meaning.{compared, run}
+use Rattle.expr.specs.Operations.{condition, same, test_of, truth}
+use Rattle.expr.specs.Term.{Term, call, column, compare, is, literal}
+use Rattle.key_ranges.specs.Ranges.{holds, is_null}
+use Rattle.index_choice.specs.ColumnBounds.{column_of}
+use Rattle.index_choice.specs.Conditions.{ImpliedIsTrue, Implies, compares, compares_some, is_column, is_null_literal, not_null_column, null_column}
+use Rattle.index_choice.proofs.BoundLemmas.{compare_holds}
+
+abbrev pub AreImplyingBelow : ℕ → List Term → Term → List ℕ → Type 0
+AreImplyingBelow n conjuncts condition places =
+    (at : ℕ) → Contains places at ↔ ((at < n) × HoldsAt (λ conjunct. Implies conjunct condition) conjuncts at)
+
+module _ (conjuncts : List Term) (condition : Term) (places : List ℕ) (i : ℕ) (x : Term) (lt : i < length conjuncts) (is : x ≡ get_or conjuncts i x)
+    (so-far : AreImplyingBelow i conjuncts condition places) where
+  abbrev IsImplying : ℕ → Type 0
+  IsImplying at = HoldsAt (λ conjunct. Implies conjunct condition) conjuncts at
+
+  here : IsImplying i → Implies x condition
+  here h = let P : Term → Type 0 = λ t. Implies t condition in subst P (sym is) (h x)
+
+  last_or_below : (k : ℕ) → k < i + 1 → (k < i) ⊎ (k ≡ i)
+  last_or_below k h = by-test (nat_lt k i) refl
+    where
+      by-test : (t : Bool) → nat_lt k i ≡ t → (k < i) ⊎ (k ≡ i)
+      by-test true e = inl (ltb-true k i e)
+      by-test false e = inr (omega (arith, h, ltb-false k i e))
+
+  pub passes : (Implies x condition → ⊥) → AreImplyingBelow (i + 1) conjuncts condition places
+  passes none k = (
+    λ c. let h = (so-far k).0 c in (omega (arith, h.0), h.1),
+    λ h. elim (last_or_below k h.0) [ inl b ↦ (so-far k).1 (b, h.1) | inr e ↦ absurd (none (here (subst IsImplying e h.1))) ],
+  )
+
+  pub grows : Implies x condition → AreImplyingBelow (i + 1) conjuncts condition (places ++ i ∷ [])
+  grows some k = (
+    λ c. elim (Contains-push_cases places i k c) [
+      | inl b ↦ let h = (so-far k).0 b in (omega (arith, h.0), h.1)
+      | inr e ↦ (omega (arith, e), subst IsImplying e (at_read conjuncts (λ conjunct. Implies conjunct condition) i x lt is some))
+    ],
+    λ h. elim (last_or_below k h.0) [
+      | inl b ↦ Contains-append_left places (i ∷ []) k ((so-far k).1 (b, h.1))
+      | inr e ↦ subst (Contains (places ++ i ∷ [])) (sym e) (Contains-push places i)
+    ],
+  )
+
+-- ---- what is implied is true
+
+holds_left : (test : Ordering → Bool) (x v : Datum) → holds test x v ≡ true → is_null x ≡ false
+holds_left test x v h = by-null (is_null x) (is_null v) h
+  where
+    by-null : (s t : Bool) → (if s || t then false else test (datum_cmp x v)) ≡ true → s ≡ false
+    by-null true t h = cc
+    by-null false t h = refl
+
+holds_right : (test : Ordering → Bool) (x v : Datum) → holds test x v ≡ true → is_null v ≡ false
+holds_right test x v h = by-null (is_null x) (is_null v) h
+  where
+    by-null : (s t : Bool) → (if s || t then false else test (datum_cmp x v)) ≡ true → t ≡ false
+    by-null true t h = cc
+    by-null false true h = cc
+    by-null false false h = refl
+
+left_not_null : (op : Comparison) (x : Datum) (m : Option Datum) → is_true (option_map condition (compared op (Some x) m)) ≡ true → is_null x ≡ false
+left_not_null op x None h = cc
+left_not_null op x (Some v) h = holds_left (test_of op) x v (sym (compare_holds op x v) ∙ h)
+
+right_not_null : (op : Comparison) (m : Option Datum) (x : Datum) → is_true (option_map condition (compared op m (Some x))) ≡ true → is_null x ≡ false
+right_not_null op None x h = cc
+right_not_null op (Some v) x h = holds_right (test_of op) v x (sym (compare_holds op v x) ∙ h)
+
+-- a comparison that is true compares no NULL
+module _ (o : Option Datum) (row : List Datum) (c : ℕ) where
+  abbrev IsThere : Type 0
+  IsThere = is_null (slice_index_or row c null) ≡ false
+
+  left_there : (op : Comparison) (a b : Term) → is_column c (column_of a) ≡ true → is_true (run o row (compare op a b)) ≡ true → IsThere
+  left_there op (column i) b e h = let same : i ≡ c = eqb-true i c e in subst (λ k. is_null (slice_index_or row k null) ≡ false) same (left_not_null op (slice_index_or row i null) (run o row b) h)
+  left_there op a b e h = cc
+
+  right_there : (op : Comparison) (a b : Term) → is_column c (column_of b) ≡ true → is_true (run o row (compare op a b)) ≡ true → IsThere
+  right_there op a (column i) e h = let same : i ≡ c = eqb-true i c e in subst (λ k. is_null (slice_index_or row k null) ≡ false) same (right_not_null op (run o row a) (slice_index_or row i null) h)
+  right_there op a b e h = cc
+
+  compared_there : (t : Term) → compares c t ≡ true → is_true (run o row t) ≡ true → IsThere
+  compared_there (compare op a b) e h = by-side (is_column c (column_of a)) refl e
+    where
+      by-side : (s : Bool) → is_column c (column_of a) ≡ s → (s || is_column c (column_of b)) ≡ true → IsThere
+      by-side true l e = left_there op a b l h
+      by-side false l e = right_there op a b e h
+  compared_there t e h = cc
+
+  null_parts : (b a : Term) → (if is_null_literal b then column_of a else None) ≡ Some c → (a ≡ column c) × (b ≡ literal null)
+  null_parts (literal null) (column i) e = (cc, refl)
+  null_parts (literal null) a e = cc
+  null_parts b a e = cc
+
+  null_value : (t : Term) → null_column t ≡ Some c → run o row t ≡ Some (condition (Some (same (slice_index_or row c null) null)))
+  null_value (is a b) e = let parts = null_parts b a e in rw (parts.0, parts.1) refl
+  null_value t e = cc
+
+  not_null_holds : IsThere → is_true (call_of o Not (condition (Some (same (slice_index_or row c null) null)))) ≡ true
+  unfolding call_of same truth condition
+  not_null_holds there = by-value (slice_index_or row c null) there
+    where
+      by-value : (x : Datum) → is_null x ≡ false → is_true (call_of o Not (condition (Some (same x null)))) ≡ true
+      by-value null h = cc
+      by-value (int n) h = refl
+      by-value (text s) h = refl
+      by-value (blob s) h = refl
+
+  not_null_is_true : (t : Term) → not_null_column t ≡ Some c → IsThere → is_true (run o row t) ≡ true
+  not_null_is_true (call Not t) e there = rw (null_value t e) (not_null_holds there)
+  not_null_is_true t e there = cc
+
+pub implied_is_true : ImpliedIsTrue
+implied_is_true conjunct implied (inl e) o row h = subst (λ t. is_true (run o row t) ≡ true) e h
+implied_is_true conjunct implied (inr e) o row h = by-column (not_null_column implied) refl e
+  where
+    by-column : (found : Option ℕ) → not_null_column implied ≡ found → compares_some found conjunct ≡ true → is_true (run o row implied) ≡ true
+    by-column None found e = cc
+    by-column (Some c) found e = not_null_is_true o row c implied found (compared_there o row c conjunct e h)

@@ -1,0 +1,4 @@
+pub mod RangeLemmas
+pub mod BagLemmas
+pub mod RunLemmas
+pub mod NullLemmas
