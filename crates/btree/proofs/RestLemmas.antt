@@ -12,7 +12,7 @@ use Rattle.image.specs.Pages.{Pages, IsNumber}
 use Rattle.image.specs.Tree.{Place, count_at, child_at, IsPageOf}
 use Rattle.image.specs.Shape.{HasShape, IsFilled, place_at, places_in, places_under, size_under}
 use Rattle.btree.specs.declared.cursor.Frame.{Frame}
-use Rattle.btree.specs.Rest.{places_from, size_from, Holds, IsStep, IsStack, bottom, inner, IsLeft, IsHeading, IsStanding}
+use Rattle.btree.specs.Rest.{places_from, size_from, Holds, IsStep, IsStack, bottom, inner, IsLeft, HasCellsFrom, IsStanding}
 
 module _ (pages : Pages) where
   pub not_both : (n : ℕ) → IsPageOf pages Table Leaf n → IsPageOf pages Table Interior n → ⊥
@@ -56,7 +56,7 @@ module _ (pages : Pages) where
       let e : length all ≡ length frames + 1 = ap length is ∙ length_push frames frame in
       omega arith
 
-  pub heading_short : (frames : List Frame) (n : ℕ) (places : List Place) (asked budget : ℕ) → IsHeading pages frames n places asked budget → length frames < 20
+  pub heading_short : (frames : List Frame) (n : ℕ) (places : List Place) (asked budget : ℕ) → HasCellsFrom pages frames n places asked budget → length frames < 20
   heading_short frames n places asked budget h =
       let l : h.levels + length frames ≡ h.left.total = stack_length h.left.total h.left.stack in let s : h.left.total < 20 = h.left.shallow in omega arith
 
@@ -120,7 +120,7 @@ module _ (pages : Pages) where
       → IsLeft pages levels frames rest (asked + size_under pages levels frame.number) budget → HasShape pages Table levels frame.number
       → places ≡ places_under pages Table levels frame.number ++ rest
       → IsPageOf pages Table Interior frame.number → Holds pages frame → frame.at ≡ 0 → now ≤ asked + 1
-      → IsHeading pages (frames ++ frame ∷ []) (child_at pages frame.number 0) places now budget
+      → HasCellsFrom pages (frames ++ frame ∷ []) (child_at pages frame.number 0) places now budget
   down_at frames places frame zero rest asked now budget left shape places_is page holds at more = absurd (not_both frame.number shape page)
   down_at frames places frame (suc levels) rest asked now budget left shape places_is page holds at more =
       let step : IsStep pages levels frame = record { holds = holds; page = page; within = omega arith; children = shape.1 } in
@@ -150,15 +150,15 @@ module _ (pages : Pages) where
       }
 
   pub heading_down : (frames : List Frame) (places : List Place) (frame : Frame) (asked now budget : ℕ)
-      → IsHeading pages frames frame.number places asked budget → IsPageOf pages Table Interior frame.number → Holds pages frame → frame.at ≡ 0 → now ≤ asked + 1
-      → IsHeading pages (frames ++ frame ∷ []) (child_at pages frame.number 0) places now budget
+      → HasCellsFrom pages frames frame.number places asked budget → IsPageOf pages Table Interior frame.number → Holds pages frame → frame.at ≡ 0 → now ≤ asked + 1
+      → HasCellsFrom pages (frames ++ frame ∷ []) (child_at pages frame.number 0) places now budget
   heading_down frames places frame asked now budget h page holds at more =
       down_at frames places frame h.levels h.rest asked now budget h.left h.shape h.places_is page holds at more
 
   -- up to the next child of the last frame
   pub left_next : (levels : ℕ) (all frames : List Frame) (frame : Frame) (rest : List Place) (asked budget : ℕ)
       → IsLeft pages levels all rest asked budget → all ≡ frames ++ frame ∷ [] → frame.at < count_at pages frame.number
-      → IsHeading pages (frames ++ (record frame { at = frame.at + 1 }) ∷ []) (child_at pages frame.number (frame.at + 1)) rest asked budget
+      → HasCellsFrom pages (frames ++ (record frame { at = frame.at + 1 }) ∷ []) (child_at pages frame.number (frame.at + 1)) rest asked budget
   left_next levels all frames frame rest asked budget left e more =
       let p = popped left.total frames frame left.stack e in
       let here = p.step.children (frame.at + 1) (omega arith) in
@@ -222,14 +222,14 @@ module _ (pages : Pages) where
         holds = holds;
         page = page;
         places_is = places_is ∙ ap (λ x. x ++ rest) (sym first);
-        settled = λ past. elim (empty_or_not frames) [
+        past_is_end = λ past. elim (empty_or_not frames) [
           | inl none ↦ stack_end left.total left.stack none
           | inr some ↦ absurd (let l : 0 < count_at pages leaf.number = filled some in let c : leaf.count ≡ count_at pages leaf.number = holds.count in omega arith)
         ];
       }
 
   pub heading_leaf : (frames : List Frame) (leaf : Frame) (places : List Place) (asked now budget : ℕ)
-      → IsHeading pages frames leaf.number places asked budget → IsPageOf pages Table Leaf leaf.number → Holds pages leaf → leaf.at ≡ 0 → now ≤ asked + 1
+      → HasCellsFrom pages frames leaf.number places asked budget → IsPageOf pages Table Leaf leaf.number → Holds pages leaf → leaf.at ≡ 0 → now ≤ asked + 1
       → IsStanding pages frames leaf places now budget
   heading_leaf frames leaf places asked now budget h page holds at more =
       leaf_at frames leaf places h.levels h.rest asked now budget h.left h.shape h.filled h.places_is page holds at more
@@ -239,7 +239,7 @@ module _ (pages : Pages) where
   filled_at (suc levels) n shape filled page = absurd (not_both n page shape.0)
 
   pub heading_filled : (frames : List Frame) (n : ℕ) (places : List Place) (asked budget : ℕ)
-      → IsHeading pages frames n places asked budget → frames ≢ [] → IsPageOf pages Table Leaf n → 0 < count_at pages n
+      → HasCellsFrom pages frames n places asked budget → frames ≢ [] → IsPageOf pages Table Leaf n → 0 < count_at pages n
   heading_filled frames n places asked budget h some page = filled_at h.levels n h.shape (h.filled some) page
 
   -- one cell on in the leaf
@@ -253,14 +253,14 @@ module _ (pages : Pages) where
         holds = record { long = stands.holds.long; page = stands.holds.page; count = stands.holds.count };
         page = stands.page;
         places_is = ap (λ x. drop 1 x) (stands.places_is ∙ ap (λ x. x ++ stands.rest) (places_more leaf.number leaf.at (omega arith)));
-        settled = λ past. absurd (omega arith);
+        past_is_end = λ past. absurd (omega arith);
       }
 
   pub none_left : (frames : List Frame) (leaf : Frame) (places : List Place) (asked budget : ℕ)
       → IsStanding pages frames leaf places asked budget → leaf.count ≤ leaf.at → places ≡ []
   none_left frames leaf places asked budget stands past =
       let c : leaf.count ≡ count_at pages leaf.number = stands.holds.count in
-      stands.places_is ∙ ap (λ x. x ++ stands.rest) (places_end leaf.number leaf.at (omega arith)) ∙ stands.settled past
+      stands.places_is ∙ ap (λ x. x ++ stands.rest) (places_end leaf.number leaf.at (omega arith)) ∙ stands.past_is_end past
 
   -- the cell that a cursor stands at, and those behind it
   pub first_place : (frames : List Frame) (leaf : Frame) (places : List Place) (asked budget : ℕ)
@@ -279,7 +279,7 @@ module _ (pages : Pages) where
       let is : drop 1 places ≡ stands.rest = ⊎_elim
       (λ (within : leaf.at < count_at pages leaf.number). ap (λ x. drop 1 x) (stands.places_is ∙ ap (λ x. x ++ stands.rest) (places_more leaf.number leaf.at within))
       ∙ ap (λ x. x ++ stands.rest) (places_end leaf.number (leaf.at + 1) (omega arith)))
-      (λ (past : count_at pages leaf.number ≤ leaf.at). ap (λ x. drop 1 x) (none_left frames leaf places asked budget stands (omega arith)) ∙ sym (stands.settled (omega arith)))
+      (λ (past : count_at pages leaf.number ≤ leaf.at). ap (λ x. drop 1 x) (none_left frames leaf places asked budget stands (omega arith)) ∙ sym (stands.past_is_end (omega arith)))
       (cases_lt leaf.at (count_at pages leaf.number)) in
       subst (λ (x : List Place). IsLeft pages 0 frames x asked budget) (sym is) stands.left
 
@@ -295,7 +295,7 @@ module _ (pages : Pages) where
         holds = holds;
         page = page;
         places_is = none ∙ sym (ap (λ x. x ++ []) (places_end leaf.number leaf.at (omega arith)));
-        settled = λ h. refl;
+        past_is_end = λ h. refl;
       }
 
   pub standing_stays : (frames : List Frame) (leaf : Frame) (places : List Place) (asked budget : ℕ)
@@ -306,7 +306,7 @@ module _ (pages : Pages) where
 
   -- a cursor that begins at a root
   pub heading_first : (levels n : ℕ) (frames : List Frame) (asked : ℕ) → levels < 20 → HasShape pages Table levels n → IsNumber pages n → frames ≡ []
-      → IsHeading pages frames n (places_under pages Table levels n) asked (asked + size_under pages levels n)
+      → HasCellsFrom pages frames n (places_under pages Table levels n) asked (asked + size_under pages levels n)
   heading_first levels n frames asked shallow shape number none = record {
     levels = levels;
     rest = [];

@@ -11,7 +11,7 @@ use Rattle.image.specs.declared.kind.Level.TheVariants.{Leaf, Interior}
 use Rattle.image.specs.Pages.{pages_seen, Pages, IsNumber, pages_in}
 use Rattle.image.specs.Tree.{Place, HasHeader, IsPageOf, child_at, count_at}
 use Rattle.btree.specs.declared.cursor.Frame.{Frame}
-use Rattle.btree.specs.Rest.{AreReadable, Holds, IsHeading, IsLeft, IsStanding, IsStep}
+use Rattle.btree.specs.Rest.{AreReadable, Holds, HasCellsFrom, IsLeft, IsStanding, IsStep}
 use Rattle.btree.proofs.PageLemmas.{flag_of-same}
 use Rattle.btree.proofs.RestLemmas.{IsTurn, ends, goes, turn_at, heading_filled, heading_leaf, heading_down, left_next, left_step, left_up}
 
@@ -50,7 +50,7 @@ module _ (pages : Pages) where
   interior_of levels n (ends page is) header = let e : Interior ≡ Leaf = same_level n Interior Leaf header page.header in cc
   interior_of levels n (goes below page is) header = page
 
-  module _ (frames : List Frame) (n : ℕ) (places : List Place) (asked budget : ℕ) (h : IsHeading pages frames n places asked budget) where
+  module _ (frames : List Frame) (n : ℕ) (places : List Place) (asked budget : ℕ) (h : HasCellsFrom pages frames n places asked budget) where
     pub heading_header : (level : Level) × HasHeader pages Table level n
     heading_header = shape_header h.levels n (turn_at pages h.levels n h.shape)
 
@@ -62,9 +62,9 @@ module _ (pages : Pages) where
 
 -- What is learnt of a page that was asked for on the way down: it was seen as these pages have it.
 module _ (pages seen : Pages) (same : seen ≡ pages) (frames : List Frame) (n : ℕ) (frame : Frame) (number : frame.number ≡ n)
-    (places : List Place) (asked now budget : ℕ) (h : IsHeading pages frames n places asked budget) (holds : Holds seen frame) (more : now ≤ asked + 1) where
-  heads : IsHeading seen frames frame.number places asked budget
-  heads = subst (λ (x : Pages). IsHeading x frames frame.number places asked budget) (sym same) (subst (λ (x : ℕ). IsHeading pages frames x places asked budget) (sym number) h)
+    (places : List Place) (asked now budget : ℕ) (h : HasCellsFrom pages frames n places asked budget) (holds : Holds seen frame) (more : now ≤ asked + 1) where
+  heads : HasCellsFrom seen frames frame.number places asked budget
+  heads = subst (λ (x : Pages). HasCellsFrom x frames frame.number places asked budget) (sym same) (subst (λ (x : ℕ). HasCellsFrom pages frames x places asked budget) (sym number) h)
 
   at_number : (level : Level) → HasHeader seen Table level n → HasHeader seen Table level frame.number
   at_number level header = subst (λ (x : ℕ). HasHeader seen Table level x) (sym number) header
@@ -86,17 +86,17 @@ module _ (pages seen : Pages) (same : seen ≡ pages) (frames : List Frame) (n :
     pub interior_page : IsPageOf seen Table Interior frame.number
     interior_page = heading_interior_page seen frames frame.number places asked budget heads (at_number Interior header)
 
-    down_heads : frame.at ≡ 0 → IsHeading seen (frames ++ frame ∷ []) (child_at seen frame.number 0) places now budget
+    down_heads : frame.at ≡ 0 → HasCellsFrom seen (frames ++ frame ∷ []) (child_at seen frame.number 0) places now budget
     down_heads at = heading_down seen frames places frame asked now budget heads interior_page holds at more
 
     pub first_child : frame.at ≡ 0 → IsNumber seen (child_at seen frame.number 0)
     first_child at = (down_heads at).number
 
-    pub goes_down : (m : ℕ) → m ≡ child_at seen frame.number 0 → (all : List Frame) → all ≡ frames ++ frame ∷ [] → frame.at ≡ 0 → IsHeading pages all m places now budget
+    pub goes_down : (m : ℕ) → m ≡ child_at seen frame.number 0 → (all : List Frame) → all ≡ frames ++ frame ∷ [] → frame.at ≡ 0 → HasCellsFrom pages all m places now budget
     goes_down m m_is all all_is at =
-        subst (λ (x : Pages). IsHeading x all m places now budget) same
-        (subst (λ (x : List Frame). IsHeading seen x m places now budget) (sym all_is)
-        (subst (λ (x : ℕ). IsHeading seen (frames ++ frame ∷ []) x places now budget) (sym m_is) (down_heads at)))
+        subst (λ (x : Pages). HasCellsFrom x all m places now budget) same
+        (subst (λ (x : List Frame). HasCellsFrom seen x m places now budget) (sym all_is)
+        (subst (λ (x : ℕ). HasCellsFrom seen (frames ++ frame ∷ []) x places now budget) (sym m_is) (down_heads at)))
 
 -- The child after the one that the last frame has taken.
 module _ (pages : Pages) (levels : ℕ) (all frames : List Frame) (frame : Frame) (rest : List Place) (asked budget : ℕ) (left : IsLeft pages levels all rest asked budget)
@@ -117,8 +117,8 @@ module _ (pages : Pages) (levels : ℕ) (all frames : List Frame) (frame : Frame
     next_number = (last_step.children (frame.at + 1) next_within).0
 
     pub next_heads : (m : ℕ) → m ≡ child_at pages frame.number (frame.at + 1) → (now : List Frame) → now ≡ frames ++ (record frame { at = frame.at + 1 }) ∷ []
-        → IsHeading pages now m rest asked budget
+        → HasCellsFrom pages now m rest asked budget
     next_heads m m_is now now_is =
         let here = left_next pages levels all frames frame rest asked budget left is (let w : frame.at + 1 ≤ count_at pages frame.number = next_within in omega arith) in
-        subst (λ (x : List Frame). IsHeading pages x m rest asked budget) (sym now_is)
-        (subst (λ (x : ℕ). IsHeading pages (frames ++ (record frame { at = frame.at + 1 }) ∷ []) x rest asked budget) (sym m_is) here)
+        subst (λ (x : List Frame). HasCellsFrom pages x m rest asked budget) (sym now_is)
+        (subst (λ (x : ℕ). HasCellsFrom pages (frames ++ (record frame { at = frame.at + 1 }) ∷ []) x rest asked budget) (sym m_is) here)

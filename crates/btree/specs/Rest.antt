@@ -55,7 +55,7 @@ pub record IsLeft (pages : Pages) (levels : ℕ) (frames : List Frame) (rest : L
   pub asks : asked + ahead ≤ budget
 
 -- the frames lead to page n, which is asked for next, and these cells are those of page n and of what comes after it
-pub record IsHeading (pages : Pages) (frames : List Frame) (n : ℕ) (places : List Place) (asked budget : ℕ) : Type 0 where
+pub record HasCellsFrom (pages : Pages) (frames : List Frame) (n : ℕ) (places : List Place) (asked budget : ℕ) : Type 0 where
   pub levels : ℕ
   pub rest : List Place
   pub left : IsLeft pages levels frames rest (asked + size_under pages levels n) budget
@@ -71,7 +71,7 @@ pub record IsStanding (pages : Pages) (frames : List Frame) (leaf : Frame) (plac
   pub holds : Holds pages leaf
   pub page : IsPageOf pages Table Leaf leaf.number
   pub places_is : places ≡ drop leaf.at (places_in pages leaf.number) ++ rest
-  pub settled : leaf.count ≤ leaf.at → rest ≡ []
+  pub past_is_end : leaf.count ≤ leaf.at → rest ≡ []
 
 -- what comes next of a cursor that goes on to the next leaf
 abbrev pub GoesOn : Pages → List Frame → List Place → ℕ → ℕ → Option Frame → Type 0

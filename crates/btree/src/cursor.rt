@@ -14,7 +14,7 @@ ghost use Rattle.btree.specs.Calls.{GivesEntry, HasFailed, HasStepped, IsCursorF
 ghost use Rattle.btree.specs.Held.{GoesDown, HasRowHere, IsLast, IsPassed, TakesNext};
 ghost use Rattle.btree.specs.Left.{IsLess, frame_left, frames_left, worth};
 ghost use Rattle.btree.specs.Listing.{IsAt, IsEnded, IsEntry};
-ghost use Rattle.btree.specs.Rest.{AreReadable, GoesOn, Holds, IsHeading, IsLeft, IsStanding};
+ghost use Rattle.btree.specs.Rest.{AreReadable, GoesOn, Holds, HasCellsFrom, IsLeft, IsStanding};
 ghost use Rattle.btree.specs.Views.{cell_data};
 ghost use Rattle.btree.specs.Way.{IsWay, LeadsTo};
 
@@ -108,7 +108,7 @@ fn descend<S: Source>(
 ) -> Result<Frame, Fault>
     requires { IsPageNumber pager.old.state n }
     ensures stands { WhereSteady pager.old.state (λ pages. (places : List Place) (budget : ℕ)
-        → IsHeading pages frames.old.items n places pager.old.state.asked budget
+        → HasCellsFrom pages frames.old.items n places pager.old.state.asked budget
         → MatchResult result (λ leaf. IsStanding pages frames.new.items leaf places pager.new.state.asked budget) IsReadFault) }
     ensures way { WhereSteady pager.old.state (λ pages. LeadsTo pages root frames.old.items n
         → MatchResult result (λ _. IsWay pages root frames.new.items) (λ e. IsReadFault e ⊎ BlamesMet pages Table root e)) }

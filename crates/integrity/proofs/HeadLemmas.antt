@@ -14,7 +14,7 @@ use Rattle.image.proofs.RowidLemmas.{one_rowid}
 use Rattle.btree.proofs.PageLemmas.{flag_of-same}
 use Rattle.image.specs.Layout.{HasHeaderAt}
 use Rattle.integrity.specs.Keys.{IsAbove, IsAtMost, HasKeyAt, HasCells, KeysFit, IsHeadFault}
-use Rattle.integrity.specs.Walked.{IsMet}
+use Rattle.integrity.specs.Walked.{StandsWithin}
 
 module _ (pages : Pages) (n : ℕ) (long : length (pages.page n) ≡ pages.usable) where
   cell_here : (level : Level) (i : ℕ) (key : ℤ) → HasKeyAt (header_at n) pages.size (pages.page n) level i key
@@ -86,7 +86,7 @@ module _ (pages : Pages) (n : ℕ) (long : length (pages.page n) ≡ pages.usabl
   one_level level other header page = flag_of-same Table other level (sym page.header.flag_is ∙ header.flag_is)
 
   -- a page that is met, and isn't what it must be
-  module _ (root depth : ℕ) (low high : Option ℤ) (met : IsMet pages root depth low high n) where
+  module _ (root depth : ℕ) (low high : Option ℤ) (met : StandsWithin pages root depth low high n) where
     pub no_header : ((level : Level) → ¬ HasHeaderAt (header_at n) Table level (pages.page n)) → IsBroken pages root (BadPage n)
     no_header none = ((depth, met.stands), λ sound. none sound.level (record { flag_is = sound.page.header.flag_is; places = sound.page.header.places }))
 

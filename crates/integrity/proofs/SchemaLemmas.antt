@@ -22,7 +22,7 @@ use Rattle.schema.specs.TableData.{schema_table}
 use Rattle.integrity.specs.Checked.{HasCause, IsBeyond, IsCheckedTree, levels, schema}
 use Rattle.integrity.specs.RowFaults.{AreLeafRows, IsRowsFault, LacksCell}
 use Rattle.integrity.specs.Stored.{HoldsRows, StoresRow}
-use Rattle.integrity.specs.Walked.{IsMet, IsSeen}
+use Rattle.integrity.specs.Walked.{StandsWithin, IsSeen}
 use Rattle.integrity.specs.declared.walk.TreeCounts.{TreeCounts}
 use Rattle.integrity.proofs.HeadLemmas.{has_cells, one_level}
 use Rattle.integrity.proofs.HeldLemmas.{leaf_fault, seen_row, seen_cells}
@@ -106,5 +106,5 @@ module _ (state : PagerState) (header : Header) (header_is : header ≡ state.he
       let some : header.pages ≡ state.header.pages = ap (λ (h : Header). h.pages) header_is in
       (omega arith, omega (arith, sound.some, some))
 
-  pub first_met : IsMet (pages_seen state) 1 1 None None 1
+  pub first_met : StandsWithin (pages_seen state) 1 1 None None 1
   first_met = start_met (pages_seen state) 1 first_number

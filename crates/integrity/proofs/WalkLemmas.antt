@@ -15,7 +15,7 @@ use Rattle.image.proofs.ShapeLemmas.{one_level}
 use Rattle.image.specs.Layout.{HasHeaderAt}
 use Rattle.btree.specs.Bytes.{IsDividerCell}
 use Rattle.integrity.specs.Keys.{IsHead, IsHeadFault, KeysFit, HasCells}
-use Rattle.integrity.specs.Walked.{IsLowAt, IsHighAt, IsTree, IsBranch, IsMet, IsSeen}
+use Rattle.integrity.specs.Walked.{IsLowAt, IsHighAt, IsTree, IsBranch, StandsWithin, IsSeen}
 use Rattle.std.proofs.Common.{take, length-take, ◌*◌}
 use Rattle.std.proofs.lemmas.List.FromFn.{length-map-range_with_len}
 use Rattle.pager.specs.declared.header.Header.{Header}
@@ -28,10 +28,10 @@ use Rattle.integrity.specs.Walked.{AreCounts}
 use Rattle.integrity.proofs.HeadLemmas.{is_page, fit_here, no_header, head_fault}
 
 module _ (pages : Pages) (root : ℕ) where
-  pub start_met : IsNumber pages root → IsMet pages root 1 None None root
+  pub start_met : IsNumber pages root → StandsWithin pages root 1 None None root
   start_met number = record { number = number; stands = top; low_from = λ k e. cc; high_from = λ k e. cc }
 
-  module _ (depth : ℕ) (low high : Option ℤ) (n : ℕ) (met : IsMet pages root depth low high n) where
+  module _ (depth : ℕ) (low high : Option ℤ) (n : ℕ) (met : StandsWithin pages root depth low high n) where
     pub too_deep : 20 < depth → IsBroken pages root (BadDepth root)
     too_deep deep = (refl, inr (record { page = n; depth = depth; stands = met.stands; deep = deep }))
 
@@ -50,7 +50,7 @@ module _ (pages : Pages) (root : ℕ) where
 
     -- a child is met a level deeper, with the keys beside it as its bounds
     pub child_met : (i : ℕ) (l h : Option ℤ) → IsPageOf pages Table Interior n → i ≤ count_at pages n → IsNumber pages (child_at pages n i)
-        → IsLowAt pages n low i l → IsHighAt pages n high i h → IsMet pages root (depth + 1) l h (child_at pages n i)
+        → IsLowAt pages n low i l → IsHighAt pages n high i h → StandsWithin pages root (depth + 1) l h (child_at pages n i)
     child_met i l h page within number low_is high_is = record {
       number = number;
       stands = rw add-one (below i met.stands c);
@@ -156,7 +156,7 @@ module _ (pages : Pages) (n at most : ℕ) (page : List ℕ) (seen : IsSeen page
     last = here (λ a m b. cell_count a b ≤ i → h ≡ high) last;
   }
 
-  module _ (root depth : ℕ) (low high : Option ℤ) (met : IsMet pages root depth low high n) where
+  module _ (root depth : ℕ) (low high : Option ℤ) (met : StandsWithin pages root depth low high n) where
     pub seen_none : ((level : Level) → ¬ HasHeaderAt at Table level page) → IsBroken pages root (BadPage n)
     seen_none none = no_header pages n long_here root depth low high met (here (λ a m b. (level : Level) → ¬ HasHeaderAt a Table level b) none)
 
@@ -167,7 +167,7 @@ module _ (pages : Pages) (n at most : ℕ) (page : List ℕ) (seen : IsSeen page
 -- an interior page of the tree as its used bytes tell it
 pub record IsInner (pages : Pages) (root depth : ℕ) (low high : Option ℤ) (n at most : ℕ) (page : List ℕ) : Type 0 where
   pub seen : IsSeen pages n at most page
-  pub met : IsMet pages root depth low high n
+  pub met : StandsWithin pages root depth low high n
   pub cells : HasCells at most page Interior
   pub page_is : IsPageOf pages Table Interior n
   pub fit : KeysFit (HasRowid pages Interior n) (count_at pages n) low high
@@ -191,7 +191,7 @@ module _ (state : PagerState) (header : Header) (header_is : header ≡ state.he
     long = used_long ∙ ap (λ (h : Header). h.usable) header_is;
   }
 
-  module _ (root depth : ℕ) (low high : Option ℤ) (met : IsMet (pages_seen state) root depth low high n) where
+  module _ (root depth : ℕ) (low high : Option ℤ) (met : StandsWithin (pages_seen state) root depth low high n) where
     pub broken_header : (480 ≤ header.usable → header.usable ≤ 65536 → header.usable ≤ length bytes → (level : Level) → ¬ HasHeaderAt (header_at n) Table level (take header.usable bytes))
         → IsBroken (pages_seen state) root (BadPage n)
     broken_header none =
@@ -268,8 +268,8 @@ module _ (pages : Pages) (root depth : ℕ) (low high : Option ℤ) (n at most :
     high_is : IsHighAt pages n high i h
     high_is = seen_high pages n at most page inner_is.seen high h i high_inner last
 
-    pub step_met : IsMet pages root (depth + 1) l h m
-    step_met = subst (λ (x : ℕ). IsMet pages root (depth + 1) l h x) (sym child_is)
+    pub step_met : StandsWithin pages root (depth + 1) l h m
+    step_met = subst (λ (x : ℕ). StandsWithin pages root (depth + 1) l h x) (sym child_is)
         (child_met pages root depth low high n inner_is.met i l h inner_is.page_is here_within (subst (λ (x : ℕ). IsNumber pages x) child_is number) low_is high_is)
 
     pub step_branch : (levels : ℕ) → IsTree pages root levels l h m → IsBranch pages root levels low high n i

@@ -41,7 +41,7 @@ IsBranch pages root height low high n i =
     × IsTree pages root height l h (child_at pages n i))
 
 -- page n stands in the tree at this depth, and each bound is a key of an interior page above it
-pub record IsMet (pages : Pages) (root depth : ℕ) (low high : Option ℤ) (n : ℕ) : Type 0 where
+pub record StandsWithin (pages : Pages) (root depth : ℕ) (low high : Option ℤ) (n : ℕ) : Type 0 where
   pub number : IsNumber pages n
   pub stands : StandsAt pages Table root depth n
   pub low_from : (key : ℤ) → low ≡ Some key

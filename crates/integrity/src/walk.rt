@@ -12,7 +12,7 @@ ghost use Rattle.integrity.specs.Checked.{HasCheckedTable, IsTableFault};
 ghost use Rattle.integrity.specs.Keys.{HasCells, HasKeyAt};
 ghost use Rattle.integrity.specs.RowFaults.{IsBrokenTable};
 ghost use Rattle.integrity.specs.Stored.{HoldsRow};
-ghost use Rattle.integrity.specs.Walked.{AreCounts, IsMet, IsTree, IsWalkFault, counted};
+ghost use Rattle.integrity.specs.Walked.{AreCounts, StandsWithin, IsTree, IsWalkFault, counted};
 
 use crate::keys::read_head;
 use crate::leaf::is_leaf_of_rows;
@@ -120,7 +120,7 @@ fn walk<S: Source>(
     high: Option<i64>,
 ) -> Result<TreeCounts, Fault>
     requires number { IsPageNumber pager.old.state n }
-    requires met { WhereSteady pager.old.state (λ pages. IsMet pages table.now.root depth low high n) }
+    requires met { WhereSteady pager.old.state (λ pages. StandsWithin pages table.now.root depth low high n) }
     ensures deep { IfOk result (λ counts. counts.levels + depth ≤ most_levels) }
     ensures tree { WhereSteady pager.old.state (λ pages. IfOk result (λ counts. IsTree pages table.now.root counts.levels low high n)) }
     ensures counts { WhereSteady pager.old.state (λ pages. IfOk result (λ counts. AreCounts pages counts.levels n counts.rows counts.pages)) }

@@ -4,7 +4,7 @@ use Rattle.pager.specs.Calls.{SameImage}
 use Rattle.image.specs.Tree.{Place}
 use Rattle.image.specs.Pages.{pages_seen}
 use Rattle.btree.specs.Left.{frames_left, worth}
-use Rattle.btree.specs.Rest.{IsHeading}
+use Rattle.btree.specs.Rest.{HasCellsFrom}
 use Rattle.btree.proofs.HeldLemmas.{IsDown}
 use Rattle.btree.specs.Way.{LeadsTo}
 use Rattle.btree.proofs.cursor.descend.Given as goal
@@ -16,8 +16,8 @@ invariant-loop-pager g l = record {
   chained : l.pager.state.chained ≡ l.fn.pager.state.chained;
   number : IsPageNumber l.pager.state l.number;
   heads : IsTrue l.fn.pager.state.source.steady → (places : List Place) (budget : ℕ)
-      → IsHeading (pages_seen l.fn.pager.state) l.fn.frames.items l.n places l.fn.pager.state.asked budget
-      → IsHeading (pages_seen l.fn.pager.state) l.frames.items l.number places l.pager.state.asked budget;
+      → HasCellsFrom (pages_seen l.fn.pager.state) l.fn.frames.items l.n places l.fn.pager.state.asked budget
+      → HasCellsFrom (pages_seen l.fn.pager.state) l.frames.items l.number places l.pager.state.asked budget;
   way : IsTrue l.fn.pager.state.source.steady → LeadsTo (pages_seen l.fn.pager.state) l.root l.fn.frames.items l.n
       → LeadsTo (pages_seen l.fn.pager.state) l.root l.frames.items l.number;
   left : frames_left 20 l.frames.items + worth (21 - length l.frames.items) ≤ frames_left 20 l.fn.frames.items + worth (21 - length l.fn.frames.items);

@@ -18,7 +18,7 @@ use Rattle.integrity.specs.Stored.{HoldsRow}
 use Rattle.integrity.proofs.HeldLemmas.{held_leaf, held_more, held_under, leaf_fault}
 use Rattle.integrity.proofs.WalkLemmas.{see, seen_child}
 use Rattle.btree.proofs.SeenLemmas.{still_steady, same_pages}
-use Rattle.integrity.specs.Walked.{IsMet, IsTree, AreCounts, counted}
+use Rattle.integrity.specs.Walked.{StandsWithin, IsTree, AreCounts, counted}
 use Rattle.integrity.proofs.WalkLemmas.{broken_header, broken_head, leaf_tree, leaf_counts, inner, broken_child, step_met, step_branch, step_under, here_within, uneven, more_branches, end_is, inner_tree}
 use Rattle.integrity.proofs.CountLemmas.{rows_step, size_step, rows_all, size_all}
 use Rattle.integrity.proofs.walk.+walk.Goals as goal
@@ -104,7 +104,7 @@ walk-requires g t c κs within =
               let all = inner c.args.pager.now.state c.header-header.result c.header-header.ensures.is c.header-header.ensures.sound c.args.n c.in_ok-page.page
               (c.in_ok-page.ensures.outcome.is steady) c.in_ok-page.ensures.outcome.long c.args.table.now.root c.args.depth c.args.low c.args.high (c.requires.met steady)
               c.in-Some.view c.in-Some.ensures.found.0.is c.in-Some.ensures.found.0.header c.in_ok-level.ensures.head interior in
-              subst (λ (p : Pages). IsMet p c.args.table.now.root (c.args.depth + 1) c.low_bound-low.result c.high_bound-high.result c.in-Some-child_within.child) (sym (same_pages _ _ inv.stays))
+              subst (λ (p : Pages). StandsWithin p c.args.table.now.root (c.args.depth + 1) c.low_bound-low.result c.high_bound-high.result c.in-Some-child_within.child) (sym (same_pages _ _ inv.stays))
               (step_met _ _ _ _ _ _ _ _ _ all c.loop-i.i in_count c.in-Some-child_within.child c.low_bound-low.result c.high_bound-high.result kid.0
               (kid.1, subst (λ (h : Header). c.in-Some-child_within.child ≤ h.pages) header kid.2)
               c.low_bound-low.ensures.first (λ k. c.low_bound-low.ensures.inner (c.header-header.result.pages * c.header-header.result.page_size) k all.cells) (c.high_bound-high.ensures.inner (c.header-header.result.pages * c.header-header.result.page_size) all.cells) c.high_bound-high.ensures.last),

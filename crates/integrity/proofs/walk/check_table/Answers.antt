@@ -3,14 +3,14 @@ use Rattle.std.proofs.Common.{All, ℕ, rules, sym, subst, None}
 use Rattle.image.specs.declared.kind.TreeKind.TheVariants.{Table}
 use Rattle.image.specs.Shape.{places_under}
 use Rattle.integrity.specs.Stored.{HoldsRow}
-use Rattle.integrity.specs.Walked.{AreCounts, IsMet, IsTree}
+use Rattle.integrity.specs.Walked.{AreCounts, StandsWithin, IsTree}
 use Rattle.integrity.proofs.TreeLemmas.{root_shape, sound_table}
 use Rattle.integrity.proofs.WalkLemmas.{start_met}
 use Rattle.integrity.proofs.walk.check_table.Goals as goal
 
 pub walk-requires-clause-met : goal.walk-requires-clause-met
 walk-requires-clause-met g c = λ steady.
-    subst (λ (n : ℕ). IsMet (pages_seen c.args.pager.now.state) c.args.table.now.root 1 None None n) (sym c.root.ensures)
+    subst (λ (n : ℕ). StandsWithin (pages_seen c.args.pager.now.state) c.args.table.now.root 1 None None n) (sym c.root.ensures)
     (start_met (pages_seen c.args.pager.now.state) c.args.table.now.root c.requires)
 
 pub returns-clause-outcome : goal.returns-clause-outcome
