@@ -8,7 +8,5 @@
 pub mod laws;
 mod lines;
 mod shown;
-#[cfg(test)]
-mod tests;
 
 pub use lines::{row_text, rows_text};

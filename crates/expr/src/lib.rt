@@ -16,8 +16,6 @@ pub mod laws;
 mod like_operator;
 mod names;
 mod operations;
-#[cfg(test)]
-mod tests;
 mod tree;
 
 pub use conditions::{conjuncts, copy, is_true};

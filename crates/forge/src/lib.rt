@@ -30,8 +30,6 @@ mod pages;
 mod record;
 mod script_sink;
 mod script_source;
-#[cfg(test)]
-mod tests;
 mod tree;
 mod tree_page;
 mod varint;

@@ -20,5 +20,3 @@ pub use fields::FieldReader;
 pub use varints::varint;
 pub use view::RecordView;
 
-#[cfg(test)]
-mod tests;

@@ -17,5 +17,3 @@ mod tables;
 
 pub use resolved::{Query, resolve};
 
-#[cfg(test)]
-mod tests;

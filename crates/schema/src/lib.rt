@@ -16,5 +16,3 @@ mod table;
 pub use catalog::Catalog;
 pub use table::{Column, Table};
 
-#[cfg(test)]
-mod tests;

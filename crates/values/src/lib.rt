@@ -14,8 +14,6 @@ mod literal;
 mod row;
 mod sink;
 mod sinks;
-#[cfg(test)]
-mod tests;
 mod value;
 
 pub use fault::Fault;
