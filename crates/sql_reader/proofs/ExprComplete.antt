@@ -10,6 +10,7 @@ use Rattle.tokens.specs.declared.token.Quoting.TheVariants as q
 use Rattle.sql_reader.specs.ExprGrammar.{level_of, level_of_prefix, nowhere, Expresses, ExpressesAll, ExpressesItem, ExpressesOperand, ExpressesArms, ExpressesElse}
 use Rattle.phrases.specs.Outcomes.{Refusal, Outcome, ◌>>=◌, needed, kept_if, Read, read, others, put, series}
 use Rattle.sql_reader.specs.ExprReading.{Opening, opening, Joint, joint, level_of_joint, binds, Inside, inside, after_and, after_when, after_then, after_else, after_end, loosely, item, list, arm, arms, operand_of_case, otherwise, choice, bare_call, arguments, called, named, operand_at, operand, members, extended_at, climb, expr_by, raised, inner, expr}
+use Rattle.syntax.specs.ExprTree.{plain_call, plain_count}
 use Rattle.syntax.specs.ExprTree.{ExprTree, ExprTrees, MaybeExpr, ArmTrees, trees_of, arms_of, count}
 use Rattle.syntax.specs.Functions.{function_of, takes, takes_number}
 use Rattle.phrases.specs.Steps.{Rest, after_close, after_comma}
@@ -190,25 +191,25 @@ bare_call_reads d e after = elim (cases_lt 0 d) [
 ]
 
 count_rows_reads : (word : Name) (after : Rest) → function_of word ≡ Some f.Count
-    → Reads 11 1 ExprTree.CountRows
+    → Reads 11 1 plain_count
     (Lexeme.Name q.Bare word ∷ Lexeme.Punctuation s.Open ∷ Lexeme.Punctuation s.Star ∷ Lexeme.Punctuation s.Close
     ∷ after) after
 unfolding operand_at
 count_rows_reads word after is d p one below stop =
-    by_operand d p 1 ExprTree.CountRows _ after
+    by_operand d p 1 plain_count _ after
     (ap (λ o. called (inner d) d o (Lexeme.Punctuation s.Star ∷ Lexeme.Punctuation s.Close ∷ after)) is
-    ∙ bare_call_reads d ExprTree.CountRows after)
+    ∙ bare_call_reads d plain_count after)
 
 call_none_reads : (word : Name) (function : Function) (after : Rest) → function_of word ≡ Some function
     → takes function 0 ≡ true
-    → Reads 11 1 (ExprTree.Call function ExprTrees.No_more)
+    → Reads 11 1 (plain_call function ExprTrees.No_more)
     (Lexeme.Name q.Bare word ∷ Lexeme.Punctuation s.Open ∷ Lexeme.Punctuation s.Close ∷ after) after
 unfolding operand_at
 call_none_reads word function after is takes_none d p one below stop =
-    by_operand d p 1 (ExprTree.Call function ExprTrees.No_more) _ after
+    by_operand d p 1 (plain_call function ExprTrees.No_more) _ after
     (ap (λ o. called (inner d) d o (Lexeme.Punctuation s.Close ∷ after)) is
-    ∙ (ap (λ b. kept_if b after >>= bare_call (inner d) d (ExprTree.Call function ExprTrees.No_more)) takes_none
-    ∙ bare_call_reads d (ExprTree.Call function ExprTrees.No_more) after))
+    ∙ (ap (λ b. kept_if b after >>= bare_call (inner d) d (plain_call function ExprTrees.No_more)) takes_none
+    ∙ bare_call_reads d (plain_call function ExprTrees.No_more) after))
 
 -- Lists
 
@@ -309,20 +310,20 @@ in_list_reads n h i e es from mid rest after j begins x xs d p one below stop =
 call_reads : (word : Name) (function : Function) (h : ℕ) (es : ExprTrees) (from after : Rest)
     → function_of word ≡ Some function → inside from ≡ Inside.Arguments → takes function (count es) ≡ true
     → ReadsAll (takes_number function) 0 h es from (Lexeme.Punctuation s.Close ∷ after)
-    → Reads 11 (suc h) (ExprTree.Call function es) (Lexeme.Name q.Bare word ∷ Lexeme.Punctuation s.Open ∷ from) after
+    → Reads 11 (suc h) (plain_call function es) (Lexeme.Name q.Bare word ∷ Lexeme.Punctuation s.Open ∷ from) after
 unfolding operand_at
 call_reads word function h es from after is some enough xs d p one below stop =
-    by_operand d p (suc h) (ExprTree.Call function es) _ after
+    by_operand d p (suc h) (plain_call function es) _ after
     (ap (λ o. called (inner d) d o from) is
     ∙ (ap (arguments (inner d) d function from) some
     ∙ step_last d (suc h) (list (inner d) (takes_number function) (suc (length from)) 0 from)
     (read (list_of es) (suc h) (Lexeme.Punctuation s.Close ∷ after))
     (λ zs. needed (after_close zs.rest) >>= λ rest. kept_if (takes function (length zs.tree)) rest
-    >>= λ rest. Ok (read (ExprTree.Call function (trees_of zs.tree)) zs.levels rest))
-    (read (ExprTree.Call function es) (suc h) after) (xs d (suc (length from)) (omega arith) (close_ends after))
-    (ap (λ b. kept_if b after >>= λ rest. Ok (read (ExprTree.Call function (trees_of (list_of es))) (suc h) rest))
+    >>= λ rest. Ok (read (plain_call function (trees_of zs.tree)) zs.levels rest))
+    (read (plain_call function es) (suc h) after) (xs d (suc (length from)) (omega arith) (close_ends after))
+    (ap (λ b. kept_if b after >>= λ rest. Ok (read (plain_call function (trees_of (list_of es))) (suc h) rest))
     (ap (takes function) (count_of_list es) ∙ enough)
-    ∙ ap (λ es. Ok (read (ExprTree.Call function es) (suc h) after)) (trees_of_list es))))
+    ∙ ap (λ es. Ok (read (plain_call function es) (suc h) after)) (trees_of_list es))))
 
 -- CASE
 

@@ -10,6 +10,7 @@ use Rattle.tokens.specs.declared.token.Quoting.TheVariants as q
 use Rattle.sql_reader.specs.ExprGrammar.{level_of, level_of_prefix, nowhere, MaybeNot, IsLiteral, Expresses, ExpressesAll, ExpressesItem, ExpressesOperand, ExpressesArms, ExpressesElse}
 use Rattle.phrases.specs.Outcomes.{Refusal, Outcome, ◌>>=◌, needed, kept_if, Read, read, others, put, series}
 use Rattle.sql_reader.specs.ExprReading.{Opening, opening, Joint, joint, level_of_joint, binds, Following, following, Inside, inside, after_and, after_when, after_then, after_else, after_end, loosely, alone, Inner, item, list, arm, arms, operand_of_case, otherwise, choice, bare_call, starred, arguments, called, named, operand_at, operand, members, extended_at, extended, climb, inner, expr}
+use Rattle.syntax.specs.ExprTree.{plain_call, plain_count}
 use Rattle.syntax.specs.ExprTree.{ExprTree, ExprTrees, MaybeExpr, ArmTrees, trees_of, arms_of}
 use Rattle.syntax.specs.Functions.{function_of, takes, takes_number}
 use Rattle.phrases.specs.Steps.{Rest, name, after_close, after_comma, after_open}
@@ -352,10 +353,10 @@ module _ (inner : Inner) (d : ℕ) (inside_is : SoundInner inner d) where
       → Stands d p
       (Lexeme.Name q.Bare word ∷ Lexeme.Punctuation s.Open ∷ Lexeme.Punctuation s.Star ∷ ts) x
   sound_starred p word f.Count ts x small is h =
-      let a = bind_ok (needed (after_close ts)) (bare_call inner d ExprTree.CountRows) x h in
-      sound_bare p ExprTree.CountRows _ a.0 x small
+      let a = bind_ok (needed (after_close ts)) (bare_call inner d plain_count) x h in
+      sound_bare p plain_count _ a.0 x small
       (subst
-      (λ r. Expresses 11 1 ExprTree.CountRows
+      (λ r. Expresses 11 1 plain_count
       (Lexeme.Name q.Bare word ∷ Lexeme.Punctuation s.Open ∷ Lexeme.Punctuation s.Star ∷ r) a.0)
       (sym (needs_sign s.Close ts a.0 a.1)) (Expresses.count_rows is))
       a.2
@@ -366,26 +367,26 @@ module _ (inner : Inner) (d : ℕ) (inside_is : SoundInner inner d) where
       → Stands d p (Lexeme.Name q.Bare word ∷ Lexeme.Punctuation s.Open ∷ ts) x
   sound_arguments p word function _ _ x small is (Holds.closed {after = after}) h =
       let a = bind_ok (kept_if (takes function 0) after)
-      (bare_call inner d (ExprTree.Call function ExprTrees.No_more)) x h in
+      (bare_call inner d (plain_call function ExprTrees.No_more)) x h in
       let t = kept (takes function 0) after a.0 a.1 in
-      sound_bare p (ExprTree.Call function ExprTrees.No_more) _ after x small (Expresses.call_none is t.0)
-      (ap (bare_call inner d (ExprTree.Call function ExprTrees.No_more)) t.1 ∙ a.2)
+      sound_bare p (plain_call function ExprTrees.No_more) _ after x small (Expresses.call_none is t.0)
+      (ap (bare_call inner d (plain_call function ExprTrees.No_more)) t.1 ∙ a.2)
   sound_arguments p word function _ _ x small is (Holds.star {after = after}) h =
       sound_starred p word function after x small is h
   sound_arguments p word function ts _ x small is Holds.arguments h =
       let a = bind_ok (list inner (takes_number function) (suc (length ts)) 0 ts)
       (λ xs. needed (after_close xs.rest) >>= λ rest. kept_if (takes function (length xs.tree)) rest
-      >>= λ rest. Ok (read (ExprTree.Call function (trees_of xs.tree)) xs.levels rest)) x h in
+      >>= λ rest. Ok (read (plain_call function (trees_of xs.tree)) xs.levels rest)) x h in
       let b = bind_ok (needed (after_close a.0.rest))
       (λ rest. kept_if (takes function (length a.0.tree)) rest
-      >>= λ rest. Ok (read (ExprTree.Call function (trees_of a.0.tree)) a.0.levels rest)) x a.2 in
+      >>= λ rest. Ok (read (plain_call function (trees_of a.0.tree)) a.0.levels rest)) x a.2 in
       let c = bind_ok (kept_if (takes function (length a.0.tree)) b.0)
-      (λ rest. Ok (read (ExprTree.Call function (trees_of a.0.tree)) a.0.levels rest)) x b.2 in
+      (λ rest. Ok (read (plain_call function (trees_of a.0.tree)) a.0.levels rest)) x b.2 in
       let t = kept (takes function (length a.0.tree)) b.0 c.0 c.1 in
       let i = sound_list (takes_number function) (suc (length ts)) 0 ts a.0 a.1 in
       let from : Rest = Lexeme.Name q.Bare word ∷ Lexeme.Punctuation s.Open ∷ ts in
-      subst (Stands d p from) (ap (λ r. read (ExprTree.Call function (trees_of a.0.tree)) a.0.levels r) t.1 ∙ ok_inj _ x c.2)
-      (stands_alone d p from (read (ExprTree.Call function (trees_of a.0.tree)) a.0.levels b.0) small
+      subst (Stands d p from) (ap (λ r. read (plain_call function (trees_of a.0.tree)) a.0.levels r) t.1 ∙ ok_inj _ x c.2)
+      (stands_alone d p from (read (plain_call function (trees_of a.0.tree)) a.0.levels b.0) small
       (with_levels (sym i.is)
       (Expresses.call is
       (subst (λ r. ExpressesAll (takes_number function) 0 i.h (trees_of a.0.tree) ts r) (needs_sign s.Close a.0.rest b.0 b.1) i.spelt)

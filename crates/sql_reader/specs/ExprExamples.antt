@@ -7,6 +7,7 @@ use Rattle.tokens.specs.declared.sign.Sign.{Sign}
 use Rattle.tokens.specs.declared.sign.Sign.TheVariants as s
 use Rattle.tokens.specs.declared.token.Quoting.TheVariants as q
 use Rattle.sql_reader.specs.ExprGrammar.{Expresses}
+use Rattle.syntax.specs.ExprTree.{plain_call, plain_count}
 use Rattle.syntax.specs.ExprTree.{ExprTree, ExprTrees, MaybeExpr, ArmTrees}
 use Rattle.syntax.specs.Tree.{Name}
 use Rattle.syntax.specs.declared.expr.BinaryOperator.TheVariants as o
@@ -86,7 +87,7 @@ pub record Examples : Type 0 where
   pub calls : IsSpelt
       (word (codes "Count") ∷ sign s.Open ∷ sign s.Star ∷ sign s.Close ∷ sign s.Greater ∷ word (codes "lag")
       ∷ sign s.Open ∷ word a ∷ sign s.Comma ∷ number 2 ∷ sign s.Close ∷ [])
-      (ExprTree.Binary o.Greater ExprTree.CountRows (ExprTree.Call f.Lag (ExprTrees.More (column a) (one (whole 2)))))
+      (ExprTree.Binary o.Greater plain_count (plain_call f.Lag (ExprTrees.More (column a) (one (whole 2)))))
       2
   -- a ISNULL + 1
   pub no_tighter : IsNothing (word a ∷ keyword k.IsNull ∷ sign s.Plus ∷ number 1 ∷ [])

@@ -10,6 +10,7 @@ use Rattle.tokens.specs.declared.keyword.Keyword.TheVariants as k
 use Rattle.tokens.specs.declared.sign.Sign.TheVariants as s
 use Rattle.tokens.specs.declared.token.Quoting.{Quoting}
 use Rattle.tokens.specs.declared.token.Quoting.TheVariants as q
+use Rattle.syntax.specs.ExprTree.{plain_call, plain_count}
 use Rattle.syntax.specs.ExprTree.{ExprTree, ExprTrees, MaybeExpr, ArmTrees, count}
 use Rattle.syntax.specs.Functions.{function_of, takes, takes_number}
 use Rattle.syntax.specs.Tree.{Name}
@@ -149,20 +150,20 @@ mutual
         → Expresses 11 (suc h) e (Lexeme.Punctuation s.Open ∷ from) after
     -- count "(" "*" ")"
     count_rows : {word : Name} {after : List Lexeme} → function_of word ≡ Some f.Count
-        → Expresses 11 1 ExprTree.CountRows
+        → Expresses 11 1 plain_count
         (Lexeme.Name q.Bare word ∷ Lexeme.Punctuation s.Open ∷ Lexeme.Punctuation s.Star ∷ Lexeme.Punctuation s.Close
         ∷ after) after
     -- function "(" ")"
     call_none : {word : Name} {function : Function} {after : List Lexeme} → function_of word ≡ Some function
         → takes function 0 ≡ true
-        → Expresses 11 1 (ExprTree.Call function ExprTrees.No_more)
+        → Expresses 11 1 (plain_call function ExprTrees.No_more)
         (Lexeme.Name q.Bare word ∷ Lexeme.Punctuation s.Open ∷ Lexeme.Punctuation s.Close ∷ after) after
     -- function "(" argument {"," argument} ")"
     call : {h : ℕ} {word : Name} {function : Function} {es : ExprTrees} {from after : List Lexeme}
         → function_of word ≡ Some function
         → ExpressesAll (takes_number function) 0 h es from (Lexeme.Punctuation s.Close ∷ after)
         → takes function (count es) ≡ true
-        → Expresses 11 (suc h) (ExprTree.Call function es)
+        → Expresses 11 (suc h) (plain_call function es)
         (Lexeme.Name q.Bare word ∷ Lexeme.Punctuation s.Open ∷ from) after
     -- CASE [expr] WHEN expr THEN expr {WHEN expr THEN expr} [ELSE expr] END
     choice : {h i j : ℕ} {base other : MaybeExpr} {arms : ArmTrees} {from whens rest after : List Lexeme}

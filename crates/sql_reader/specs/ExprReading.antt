@@ -9,6 +9,7 @@ use Rattle.tokens.specs.declared.sign.Sign.TheVariants as s
 use Rattle.tokens.specs.declared.token.Quoting.{Quoting}
 use Rattle.tokens.specs.declared.token.Quoting.TheVariants as q
 use Rattle.sql_reader.specs.ExprGrammar.{level_of, level_of_prefix, nowhere}
+use Rattle.syntax.specs.ExprTree.{plain_call, plain_count}
 use Rattle.syntax.specs.ExprTree.{ExprTree, ExprTrees, MaybeExpr, trees_of, arms_of}
 use Rattle.syntax.specs.Functions.{function_of, takes, takes_number}
 use Rattle.phrases.specs.Outcomes.{Outcome, Read, Refusal, ◌>>=◌, kept_if, needed, read, series}
@@ -230,18 +231,18 @@ module _ (inner : Inner) (d : ℕ) where
   bare_call e ts = if nat_lt 0 d then Ok (read e 1 ts) else Err Refusal.Limit
 
   abbrev pub starred : Function → Rest → Outcome (Read ExprTree)
-  starred f.Count ts = needed (after_close ts) >>= bare_call ExprTree.CountRows
+  starred f.Count ts = needed (after_close ts) >>= bare_call plain_count
   starred _ ts = Err Refusal.Syntax
 
   abbrev pub arguments : Function → Rest → Inside → Outcome (Read ExprTree)
   arguments function ts (Inside.Closed rest) =
-      kept_if (takes function 0) rest >>= bare_call (ExprTree.Call function ExprTrees.No_more)
+      kept_if (takes function 0) rest >>= bare_call (plain_call function ExprTrees.No_more)
   arguments function ts (Inside.Star rest) = starred function rest
   arguments function ts Inside.Arguments =
       list inner (takes_number function) (suc (length ts)) 0 ts
       >>= λ xs. needed (after_close xs.rest)
       >>= λ rest. kept_if (takes function (length xs.tree)) rest
-      >>= λ rest. Ok (read (ExprTree.Call function (trees_of xs.tree)) xs.levels rest)
+      >>= λ rest. Ok (read (plain_call function (trees_of xs.tree)) xs.levels rest)
 
   abbrev pub called : Option Function → Rest → Outcome (Read ExprTree)
   called None ts = Err Refusal.Syntax

@@ -1,5 +1,6 @@
 //! Expressions of expressions.
 ghost use Rattle.std.specs.Prelude.{◌≡◌, IfOk, map, option_map, string_bytes};
+ghost use Rattle.syntax.specs.ExprTree.{plain_call, plain_count};
 ghost use Rattle.syntax.specs.ExprTree.{ExprTree, arms_of, trees_of};
 ghost use Rattle.syntax.specs.ExprView.{arm_of, expr_of, maybe_of};
 ghost use Rattle.sql_reader.specs.ExprView.{literal_of};
@@ -87,13 +88,13 @@ pub(crate) fn membership(
 }
 
 pub(crate) fn call(function: Function, arguments: Vec<Expr>) -> Expr
-    ensures { expr_of result ≡ ExprTree.Call function (trees_of (map expr_of arguments.items)) }
+    ensures { expr_of result ≡ plain_call function (trees_of (map expr_of arguments.items)) }
 {
     Expr::Call(function, arguments)
 }
 
 pub(crate) fn count_rows() -> Expr
-    ensures { expr_of result ≡ ExprTree.CountRows }
+    ensures { expr_of result ≡ plain_count }
 {
     Expr::CountRows
 }

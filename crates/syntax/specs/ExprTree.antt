@@ -1,10 +1,19 @@
--- The tree of an expression, without where it lies in memory. Parentheses are gone.
+-- The trees of expressions and of the queries in them, without where they lie in memory. Parentheses are gone.
 use Rattle.std.specs.Prelude.{ℕ, suc, ℤ, Bool, List, [], ◌∷◌, Option}
 use Rattle.syntax.specs.Tree.{Name}
 use Rattle.syntax.specs.declared.expr.BinaryOperator.{BinaryOperator}
 use Rattle.syntax.specs.declared.expr.Function.{Function}
 use Rattle.syntax.specs.declared.expr.PostfixOperator.{PostfixOperator}
 use Rattle.syntax.specs.declared.expr.PrefixOperator.{PrefixOperator}
+use Rattle.syntax.specs.declared.query.CompoundOperator.{CompoundOperator}
+use Rattle.syntax.specs.declared.query.Direction.{Direction}
+use Rattle.syntax.specs.declared.query.Frame.{Frame}
+use Rattle.syntax.specs.declared.query.Join.{Join}
+
+-- what a result column is called: by its alias, or else by its source text
+pub data NameTree : Type 0 where
+  Alias : Name → NameTree
+  SourceText : List ℕ → NameTree
 
 mutual
   pub data ExprTree : Type 0 where
@@ -21,9 +30,12 @@ mutual
     Between : Bool → ExprTree → ExprTree → ExprTree → ExprTree
     -- whether NOT is written, the value, the members
     In : Bool → ExprTree → ExprTrees → ExprTree
+    -- whether NOT is written, the value, the query
+    InQuery : Bool → ExprTree → QueryTree → ExprTree
+    Exists : QueryTree → ExprTree
     -- count(*)
-    CountRows : ExprTree
-    Call : Function → ExprTrees → ExprTree
+    CountRows : BehindTree → ExprTree
+    Call : Function → ExprTrees → BehindTree → ExprTree
     -- the operand if there is one, the arms, and what stands behind ELSE
     Case : MaybeExpr → ArmTrees → MaybeExpr → ExprTree
 
@@ -39,6 +51,76 @@ mutual
   pub data ArmTrees : Type 0 where
     No_arm : ArmTrees
     Arm : ExprTree → ExprTree → ArmTrees → ArmTrees
+
+  -- what stands behind a call: the condition of FILTER, and OVER
+  pub data BehindTree : Type 0 where
+    Behind : MaybeExpr → OverTree → BehindTree
+
+  pub data OverTree : Type 0 where
+    No_over : OverTree
+    OverName : Name → OverTree
+    Over : WindowTree → OverTree
+
+  -- PARTITION BY, ORDER BY, and the frame if one is written
+  pub data WindowTree : Type 0 where
+    Window : ExprTrees → TermTrees → Option Frame → WindowTree
+
+  -- what stands behind ORDER BY
+  pub data TermTrees : Type 0 where
+    No_term : TermTrees
+    Term : ExprTree → Direction → TermTrees → TermTrees
+
+  -- every column, every column of one source, or an expression
+  pub data ResultTree : Type 0 where
+    All : ResultTree
+    AllOf : Name → ResultTree
+    Value : ExprTree → NameTree → ResultTree
+
+  pub data ResultTrees : Type 0 where
+    No_result : ResultTrees
+    Result : ResultTree → ResultTrees → ResultTrees
+
+  -- a table or an item of WITH, or a query; and its alias
+  pub data SourceTree : Type 0 where
+    Named : Name → Option Name → SourceTree
+    Derived : QueryTree → Option Name → SourceTree
+
+  -- the condition of a join
+  pub data OnTree : Type 0 where
+    Always : OnTree
+    On : ExprTree → OnTree
+    Using : List Name → OnTree
+
+  -- the sources of FROM, joined from the left
+  pub data FromTree : Type 0 where
+    No_source : FromTree
+    First : SourceTree → FromTree
+    Joined : FromTree → Join → SourceTree → OnTree → FromTree
+
+  -- the windows that are named behind WINDOW
+  pub data DefinitionTrees : Type 0 where
+    No_definition : DefinitionTrees
+    Definition : Name → WindowTree → DefinitionTrees → DefinitionTrees
+
+  -- whether DISTINCT is written, the result columns, FROM, WHERE, GROUP BY, HAVING, WINDOW
+  pub data CoreTree : Type 0 where
+    Select : Bool → ResultTrees → FromTree → MaybeExpr → ExprTrees → MaybeExpr → DefinitionTrees → CoreTree
+
+  -- SELECTs, joined from the left
+  pub data QueryTree : Type 0 where
+    Core : CoreTree → QueryTree
+    Compound : QueryTree → CompoundOperator → CoreTree → QueryTree
+
+-- behind a call without FILTER and OVER
+abbrev pub plain : BehindTree
+plain = Behind Absent No_over
+
+-- such calls
+abbrev pub plain_count : ExprTree
+plain_count = CountRows plain
+
+abbrev pub plain_call : Function → ExprTrees → ExprTree
+plain_call function es = Call function es plain
 
 abbrev pub trees_of : List ExprTree → ExprTrees
 trees_of [] = No_more

@@ -1,6 +1,6 @@
 -- What the program's expressions are.
-use Rattle.std.specs.Prelude.{Option, Some, None, map, option_map, string_bytes}
-use Rattle.syntax.specs.ExprTree.{ExprTree, MaybeExpr, trees_of, arms_of}
+use Rattle.std.specs.Prelude.{Option, Some, None, option_map, string_bytes}
+use Rattle.syntax.specs.ExprTree.{ExprTree, MaybeExpr, arms_of, plain, trees_of}
 use Rattle.syntax.specs.declared.expr.Arm.{Arm}
 use Rattle.syntax.specs.declared.expr.Expr.{Expr}
 use Rattle.syntax.specs.declared.expr.Expr.TheFolds.{fold-Expr, fold-Arm}
@@ -22,8 +22,8 @@ node (Expr-F.Binary op x y) = ExprTree.Binary op x.value y.value
 node (Expr-F.Postfix op e) = ExprTree.Postfix op e.value
 node (Expr-F.Between negated e x y) = ExprTree.Between negated e.value x.value y.value
 node (Expr-F.In negated e es) = ExprTree.In negated e.value (trees_of es.items)
-node Expr-F.CountRows = ExprTree.CountRows
-node (Expr-F.Call function es) = ExprTree.Call function (trees_of es.items)
+node Expr-F.CountRows = ExprTree.CountRows plain
+node (Expr-F.Call function es) = ExprTree.Call function (trees_of es.items) plain
 node (Expr-F.Case operand arms otherwise) =
     ExprTree.Case (maybe_of (option_map (λ e. e.value) operand)) (arms_of arms.items)
     (maybe_of (option_map (λ e. e.value) otherwise))

@@ -1,0 +1,11 @@
+pub mod Got
+pub mod Shape
+pub mod Room
+pub mod Stages
+pub mod Turns
+pub mod Clauses
+pub mod CompleteExprs
+pub mod CompleteQueries
+pub mod Complete
+pub mod StatementLemmas
+pub mod Examples

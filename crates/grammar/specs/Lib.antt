@@ -1,0 +1,7 @@
+pub mod Operators
+pub mod Clauses
+pub mod Queries
+pub mod Statements
+pub mod Fronts
+pub mod Reading
+pub mod Examples

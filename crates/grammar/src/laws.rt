@@ -1,0 +1,17 @@
+//! What holds of the definitions alone.
+ghost use Rattle.std.specs.Prelude.{◌≡◌, List, ℕ};
+ghost use Rattle.grammar.specs.Clauses.{Tokens};
+ghost use Rattle.grammar.specs.Examples.{Examples};
+ghost use Rattle.grammar.specs.Statements.{States};
+ghost use Rattle.syntax.specs.StatementTree.{StatementTree};
+
+/// Tokens spell at most one statement, whatever levels it has; `source` tells the source text of each phrase.
+pub fn one_statement()
+    ensures { (source : ℕ → ℕ → List ℕ) (levels others : ℕ) (first second : StatementTree) (tokens : Tokens)
+        → States source levels first tokens → States source others second tokens → first ≡ second }
+{}
+
+/// Worked statements.
+pub fn examples()
+    ensures { Examples }
+{}
