@@ -151,7 +151,7 @@ fn tables_that_are_not_served(rt: HostRuntime) -> Result<(), Fail> {
         // Not STRICT; a constraint, a type and an option that aren't served; a key that isn't the rowid.
         ("t", "CREATE TABLE t(a INT)"),
         ("t", "CREATE TABLE t(a INT UNIQUE) STRICT"),
-        ("t", "CREATE TABLE t(a INT DEFAULT 7) STRICT"),
+        ("t", "CREATE TABLE t(a TEXT COLLATE NOCASE) STRICT"),
         ("t", "CREATE TABLE t(a REAL) STRICT"),
         (
             "t",
@@ -169,7 +169,11 @@ fn tables_that_are_not_served(rt: HostRuntime) -> Result<(), Fail> {
         assert_eq!(rt; fault_of(alloc, &image)?, Some(Fault::NotYet), "{sql}");
     }
     let mut image = shop(alloc)?;
-    image.push_table(bare(alloc, "items", "CREATE TABLE items(A INT) STRICT")?)?;
+    image.push_table(bare(
+        alloc,
+        "items",
+        "CREATE TABLE items(A INT CONSTRAINT c NOT NULL CHECK (A > 0) DEFAULT 7 REFERENCES item) STRICT",
+    )?)?;
     assert_eq!(rt; fault_of(alloc, &image)?, None);
     Ok(())
 }

@@ -4,7 +4,7 @@ use Rattle.std.proofs.lemmas.Bool.{cond-true, cond-false}
 use Rattle.values.specs.declared.fault.Fault.{Fault}
 use Rattle.values.specs.declared.fault.Fault.TheVariants as f
 use Rattle.tokens.specs.Lexeme.{Lexeme}
-use Rattle.create_reader.proofs.CreateLemmas.{constraint_shortens}
+use Rattle.create_reader.proofs.ConstraintLemmas.{constraint_shortens}
 use Rattle.phrases.proofs.ListLemmas.{GoesOn, goes_end, goes_wrong}
 use Rattle.phrases.specs.Steps.{Rest, IsMissing, name}
 use Rattle.create_reader.specs.CreateReading.{column_type, begins_constraint, at_constraint, constraint, constraints, constrained, typed, column}

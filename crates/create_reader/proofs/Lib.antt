@@ -1,3 +1,7 @@
+pub mod WordLemmas
+pub mod BodyLemmas
+pub mod ReferenceLemmas
+pub mod ConstraintLemmas
 pub mod CreateLemmas
 pub mod ColumnLemmas
 pub mod CreateTexts

@@ -7,12 +7,13 @@ ghost use Rattle.phrases.specs.Steps.{Gives};
 ghost use Rattle.phrases.specs.Texts.{IsRefused, IsWithin, max_text};
 ghost use Rattle.syntax.specs.CreateTrees.{columns_of_table};
 ghost use Rattle.tokens.specs.Content.{lexeme_of};
-ghost use Rattle.syntax.specs.CreateView.{column_of, constraint_of, table_of, type_of};
+ghost use Rattle.syntax.specs.CreateView.{column_of, table_of, type_of};
 ghost use Rattle.phrases.specs.Texts.{lexemes_of};
 
+use crate::constraints::{begins_constraint, constraint};
 use phrases::{MAX_COLUMNS, MAX_TEXT, after_keyword, after_sign, after_word, name, syntax_at};
 use std::alloc::Global;
-use syntax::{Column, ColumnConstraint, ColumnType, CreateTable};
+use syntax::{Column, ColumnType, CreateTable};
 use tokens::{Grammar, Keyword, Sign, Token, TokenKind, read_tokens};
 use values::Fault;
 
@@ -50,46 +51,6 @@ fn column_type<'t>(
     }
 }
 
-/// Whether a constraint begins here.
-fn begins_constraint(tokens: &[Token<'_>]) -> bool
-    ensures { result ≡ spec.begins_constraint (lexemes_of tokens.now) }
-{
-    matches!(
-        tokens,
-        [
-            Token {
-                kind: TokenKind::Keyword(Keyword::Primary | Keyword::Not),
-                ..
-            },
-            ..
-        ]
-    )
-}
-
-/// The constraint at the front, and what is behind it.
-fn constraint<'t>(
-    tokens: &'t [Token<'t>],
-    end: usize,
-) -> Result<(ColumnConstraint, &'t [Token<'t>]), Fault>
-    ensures value { Gives (λ r. (constraint_of r.0, lexemes_of r.1.now)) result
-        (spec.constraint (lexemes_of tokens.now)) }
-    ensures shorter { IfOk result (λ r. length r.1.now < length tokens.now) }
-{
-    if let Some(rest) = after_keyword(tokens, Keyword::Primary) {
-        return match after_word(rest, "KEY") {
-            Some(after) => Ok((ColumnConstraint::PrimaryKey, after)),
-            None => Err(syntax_at(rest, end)),
-        };
-    }
-    let Some(rest) = after_keyword(tokens, Keyword::Not) else {
-        return Err(syntax_at(tokens, end));
-    };
-    match after_keyword(rest, Keyword::Null) {
-        Some(after) => Ok((ColumnConstraint::NotNull, after)),
-        None => Err(syntax_at(rest, end)),
-    }
-}
-
 /// The column at the front, and what is behind it.
 fn column<'t>(
     alloc: Global,
@@ -103,7 +64,7 @@ fn column<'t>(
     let (ty, mut rest) = column_type(rest, end)?;
     let mut constraints = Vec::new(alloc);
     while begins_constraint(rest) {
-        let (next, after) = constraint(rest, end)?;
+        let (next, after) = constraint(alloc, rest, end)?;
         constraints.push(next)?;
         rest = after;
     }

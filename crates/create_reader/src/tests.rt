@@ -1,5 +1,7 @@
 //! Worked texts.
-use crate::{Column, ColumnConstraint, ColumnType, CreateTable, read_create};
+use crate::{
+    Column, ColumnConstraint, ColumnType, CreateTable, DefaultValue, KeyOrder, read_create,
+};
 use std::alloc::Global;
 use std::process::Abort;
 use std::test::Fail;
@@ -14,6 +16,35 @@ fn padded(alloc: Global, text: &str, len: usize) -> Result<String, Fail> {
     Ok(padded)
 }
 
+/// What stands behind DEFAULT in a form of the tests' own.
+fn default_word(value: &DefaultValue) -> &'static str {
+    match value {
+        DefaultValue::Null => " else null",
+        DefaultValue::Number(7) => " else 7",
+        DefaultValue::Number(_) => " else a number",
+        DefaultValue::Negative(1) => " else -1",
+        DefaultValue::Negative(_) => " else a negative number",
+        DefaultValue::Text(_) => " else a text",
+        DefaultValue::Blob(_) => " else a blob",
+        DefaultValue::Expression => " else computed",
+    }
+}
+
+/// A constraint in a form of the tests' own.
+fn constraint_word(constraint: &ColumnConstraint) -> &'static str {
+    match constraint {
+        ColumnConstraint::PrimaryKey(KeyOrder::Ascending, false) => " key",
+        ColumnConstraint::PrimaryKey(KeyOrder::Descending, false) => " falling key",
+        ColumnConstraint::PrimaryKey(_, true) => " counting key",
+        ColumnConstraint::NotNull => " filled",
+        ColumnConstraint::Unique => " unique",
+        ColumnConstraint::Check => " checked",
+        ColumnConstraint::Default(value) => default_word(value),
+        ColumnConstraint::Collate(_) => " collated",
+        ColumnConstraint::References => " referring",
+    }
+}
+
 /// A column in a form of the tests' own: its name, its type and its constraints.
 fn write_column(text: &mut String, column: &Column) -> Result<(), Fail> {
     text.push_str(" | ")?;
@@ -25,10 +56,7 @@ fn write_column(text: &mut String, column: &Column) -> Result<(), Fail> {
         ColumnType::Blob => ": blob",
     })?;
     for constraint in &column.constraints {
-        text.push_str(match constraint {
-            ColumnConstraint::PrimaryKey => " key",
-            ColumnConstraint::NotNull => " filled",
-        })?;
+        text.push_str(constraint_word(constraint))?;
     }
     Ok(())
 }
@@ -55,7 +83,7 @@ fn expect_table(rt: &impl Abort, alloc: Global, text: &str, expected: &str) -> R
 }
 
 /// Texts of tables as SQLite keeps them in its schema, with the names, types and constraints that it reports.
-const TABLES: [(&str, &str); 21] = [
+const TABLES: [(&str, &str); 26] = [
     ("CREATE TABLE t(a INT) STRICT", "t | a: int"),
     ("CREATE TABLE t (a int) strict", "t | a: int"),
     (
@@ -128,6 +156,27 @@ const TABLES: [(&str, &str); 21] = [
         "T | A: int | B: int | C: int",
     ),
     (
+        "CREATE TABLE t(a INT CONSTRAINT c NOT NULL CHECK (a > (0) AND ')' <> a) DEFAULT -1) STRICT",
+        "t | a: int filled checked else -1",
+    ),
+    (
+        "CREATE TABLE t(a TEXT COLLATE binary DEFAULT 'x' UNIQUE, b BLOB DEFAULT x'00') STRICT",
+        "t | a: text collated else a text unique | b: blob else a blob",
+    ),
+    (
+        "CREATE TABLE t(a INT REFERENCES u(x, y) ON DELETE SET NULL ON UPDATE NO ACTION CHECK(a), \
+         b INT CONSTRAINT r REFERENCES u ON DELETE CASCADE, c INT REFERENCES u(x)) STRICT",
+        "t | a: int referring checked | b: int referring | c: int referring",
+    ),
+    (
+        "CREATE TABLE t(a INTEGER PRIMARY KEY DESC, b INT DEFAULT +7 DEFAULT (1 + (1)) DEFAULT NULL) STRICT",
+        "t | a: integer falling key | b: int else 7 else computed else null",
+    ),
+    (
+        "CREATE TABLE t(a INTEGER PRIMARY KEY ASC AUTOINCREMENT, asc INT PRIMARY KEY ASC) STRICT",
+        "t | a: integer counting key | asc: int key",
+    ),
+    (
         "CREATE TABLE key(no INT, action TEXT, rows BLOB) STRICT",
         "key | no: int | action: text | rows: blob",
     ),
@@ -150,7 +199,7 @@ fn expect_no_table(rt: &impl Abort, alloc: Global, text: &str, place: usize) {
 }
 
 /// Texts that spell no table, with the place of the token that can't stand there.
-const NO_TABLES: [(&str, usize); 29] = [
+const NO_TABLES: [(&str, usize); 36] = [
     ("", 0),
     ("CREATE", 6),
     ("SELECT * FROM t", 0),
@@ -177,6 +226,19 @@ const NO_TABLES: [(&str, usize); 29] = [
     ("CREATE TABLE t(a INT NOT, b INT) STRICT", 24),
     ("CREATE TABLE t(a INT KEY) STRICT", 21),
     ("CREATE TABLE t(a INT NULL) STRICT", 21),
+    ("CREATE TABLE t(a INT CHECK (a > (0) STRICT", 42),
+    ("CREATE TABLE t(a INT CHECK a > 0) STRICT", 27),
+    ("CREATE TABLE t(a INT DEFAULT a) STRICT", 29),
+    ("CREATE TABLE t(a INT DEFAULT - -1) STRICT", 31),
+    ("CREATE TABLE t(a INT CONSTRAINT NOT NULL) STRICT", 32),
+    (
+        "CREATE TABLE t(a INT REFERENCES u ON DELETE SET 0) STRICT",
+        48,
+    ),
+    (
+        "CREATE TABLE t(a INT REFERENCES u(x ON DELETE CASCADE) STRICT",
+        36,
+    ),
     ("CREATE TABLE t(select INT) STRICT", 15),
     ("CREATE TABLE größe(a INT b) STRICT", 27),
     ("CREATE TABLE t(a INT) STRICT /*", 29),

@@ -2,24 +2,21 @@
 use Rattle.std.proofs.Common.{◌≡◌, ◌<◌, Bool, true, false, Contains, IsTrue, ◌↔◌, List, [], ◌∷◌, ◌++◌, length, map, refl, sym, ap, ◌∙◌, subst, arith}
 use Rattle.std.proofs.lemmas.List.{get_or-map, length-map, map_push}
 use Rattle.std.specs.List.{AllZip, Any}
-use denote.Enum.Bare.{sameb}
 use Rattle.syntax.specs.CreateTrees.{ConstraintTree}
 use Rattle.syntax.specs.CreateView.{column_of, constraint_of}
-use Rattle.syntax.specs.contracts.create.ColumnConstraint.{the_type}
 use Rattle.syntax.specs.declared.create.Column.{Column}
 use Rattle.syntax.specs.declared.create.ColumnConstraint.{ColumnConstraint}
-use Rattle.syntax.specs.declared.create.ColumnConstraint.TheVariants as c
 use Rattle.schema.proofs.ListLemmas.{all_zip_push, any_at}
-use Rattle.schema.specs.Created.{IsColumn}
+use Rattle.schema.specs.Created.{IsColumn, is_not_null}
 use Rattle.schema.specs.TableData.{ColumnData}
 
-pub is_not_null : (x : ColumnConstraint) → sameb the_type x c.NotNull ≡ true → constraint_of x ≡ ConstraintTree.NotNull
-is_not_null c.PrimaryKey e = absurd cc
-is_not_null c.NotNull e = refl
+pub not_null_is : (t : ConstraintTree) → is_not_null t ≡ true → t ≡ ConstraintTree.NotNull
+not_null_is ConstraintTree.NotNull e = refl
+not_null_is _ e = absurd cc
 
-pub is_other : (x : ColumnConstraint) → sameb the_type x c.NotNull ≡ false → ¬ (constraint_of x ≡ ConstraintTree.NotNull)
-is_other c.PrimaryKey e h = absurd cc
-is_other c.NotNull e h = absurd cc
+pub not_null_other : (t : ConstraintTree) → is_not_null t ≡ false → ¬ (t ≡ ConstraintTree.NotNull)
+not_null_other t e h =
+    let here : is_not_null t ≡ true = ap is_not_null h in absurd (let clash = sym e ∙ here in cc)
 
 -- a test of the constraints found one that is the constraint
 pub contains_constraint : (constraints : List ColumnConstraint) (tree : ConstraintTree) (found : Bool)

@@ -1,14 +1,16 @@
 -- The table that a CREATE TABLE makes.
-use Rattle.std.proofs.Common.{◌≡◌, ℕ, Bool, true, false, IsTrue, ◌↔◌, inl, inr, List, [], ◌∷◌, length, map, string_bytes, Option, None, Some, refl, sym, ap, subst, arith}
+use Rattle.std.proofs.Common.{◌≡◌, ℕ, Bool, true, false, IsTrue, ◌↔◌, All, inl, inr, List, [], ◌∷◌, length, map, string_bytes, Option, None, Some, refl, sym, ap, subst, arith}
 use Rattle.std.proofs.lemmas.Option.{slice_get_within}
+use Rattle.std.proofs.lemmas.List.Elements.{All-map}
 use Rattle.std.specs.List.{AllZip}
 use Rattle.values.specs.declared.fault.Fault.{Fault}
 use Rattle.syntax.specs.CreateTrees.{ColumnTree}
 use Rattle.syntax.specs.Tree.{Name}
-use Rattle.syntax.specs.CreateView.{column_of, table_of}
+use Rattle.syntax.specs.CreateView.{column_of, constraint_of, table_of}
 use Rattle.syntax.specs.declared.create.Column.{Column}
 use Rattle.syntax.specs.declared.create.CreateTable.{CreateTable}
-use Rattle.schema.specs.Created.{AreKeys, IsColumn, IsKeyPlace, IsTable}
+use Rattle.schema.proofs.ListLemmas.{all_from_map}
+use Rattle.schema.specs.Created.{AreKeys, AreServed, IsColumn, IsKeyPlace, IsServed, IsTable}
 use Rattle.schema.specs.Names.{AreDistinct, IsReserved}
 use Rattle.schema.specs.Refused.{IsRefused}
 use Rattle.schema.specs.TableData.{ColumnData, IsPlaceIn, TableData}
@@ -58,6 +60,20 @@ module _ (created : CreateTable) where
     pub distinct_names : distinct ≡ true → AreDistinct (map (λ c. c.name) (map column_of created.columns.items))
     distinct_names one =
         subst (λ cs. AreDistinct (map (λ c. c.name) (map column_of cs))) e (subst AreDistinct (sym (names_of columns)) (tested.0 one))
+
+  module _ (found : Bool) (columns : List Column) (e : columns ≡ created.columns.items)
+      (tested : IsTrue found ↔ All (λ (c : Column). All (λ x. IsServed (constraint_of x)) c.constraints.items) columns) where
+    pub served_constraints : found ≡ true → All AreServed (map column_of created.columns.items)
+    served_constraints all =
+        subst (λ cs. All AreServed (map column_of cs)) e
+        (All-map AreServed column_of columns (λ k c within. All-map IsServed constraint_of _ (tested.0 all k c within)))
+
+    pub unserved_refused : found ≡ false → (table : TableData) → ¬ IsTable (table_of created) table
+    unserved_refused none table is =
+        let all = subst (λ cs. All AreServed (map column_of cs)) (sym e) is.served in
+        let h : found ≡ true = tested.1 (λ k c within.
+        all_from_map IsServed constraint_of _ (all_from_map AreServed column_of columns all k c within)) in
+        absurd cc
 
   module _ (columns : List Column) (e : columns ≡ created.columns.items) where
     pub keys_refused : (fault : Fault) → IsRefused (AreKeys (map column_of columns)) fault → IsRefused (IsTable (table_of created)) fault

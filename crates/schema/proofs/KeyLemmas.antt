@@ -1,9 +1,11 @@
 -- The PRIMARY KEY among columns.
-use Rattle.std.proofs.Common.{◌≡◌, ℕ, suc, ◌+◌, ◌<◌, ◌≤◌, All, Contains, List, [], ◌∷◌, ◌++◌, length, get_or, slice_get, sum_by, IsSome, Option, None, Some, refl, subst, arith}
+use Rattle.std.proofs.Common.{◌≡◌, Bool, true, false, ℕ, suc, ◌+◌, ◌<◌, ◌≤◌, All, Contains, List, [], ◌∷◌, ◌++◌, length, get_or, slice_get, sum_by, IsSome, Option, None, Some, refl, ap, ◌∙◌, subst, arith}
+use Rattle.std.proofs.lemmas.Bool.{cond-true, cond-false}
 use Rattle.std.proofs.lemmas.List.Elements.{All-nil, All-push, All-contains, Contains-append_right}
 use Rattle.std.proofs.lemmas.List.Sums.{sum_by-append, sum_by-cons, sum_by_push, get_or-le-sum_by}
 use Rattle.syntax.specs.CreateTrees.{TypeTree, ConstraintTree, ColumnTree}
-use Rattle.schema.specs.Created.{AreKeys, IsKey, IsKeyPlace, key_count, keys_of}
+use Rattle.std.specs.List.{Any}
+use Rattle.schema.specs.Created.{AreKeys, IsKey, IsKeyPlace, is_key, key_count, keys_of}
 use Rattle.schema.proofs.ListLemmas.{get_front, get_middle}
 
 -- how many columns a place is that of
@@ -25,21 +27,29 @@ IsFit column = IsKey column → column.ty ≡ TypeTree.Integer
 
 -- where the column is the key, PRIMARY KEY is written
 pub key_written : (column : ColumnTree) → IsKey column → 1 ≤ written column
-key_written column (k, within, is) =
-    subst (λ c. keys_of c ≤ written column) is
-    (get_or-le-sum_by keys_of column.constraints k ConstraintTree.PrimaryKey within)
+key_written column key =
+    let here = get_or-le-sum_by keys_of column.constraints key.0 key.1 key.2 in
+    let one : keys_of (get_or column.constraints key.0 key.1) ≡ 1 =
+    ap keys_of key.3 ∙ cond-true _ _ _ key.4 in
+    omega (arith, here, one)
 
 no_key : (column : ColumnTree) → written column ≡ 0 → ¬ IsKey column
 no_key column none key = let one = key_written column key in absurd (omega (arith, none, one))
 
-has_key : (constraints : List ConstraintTree) → 0 < sum_by keys_of constraints → Contains constraints ConstraintTree.PrimaryKey
+has_key : (constraints : List ConstraintTree) → 0 < sum_by keys_of constraints
+    → Any (λ c. is_key c ≡ true) constraints
 has_key [] some = absurd (omega (arith, some))
-has_key (ConstraintTree.PrimaryKey ∷ constraints) some = (0, omega arith, refl)
-has_key (ConstraintTree.NotNull ∷ constraints) some =
-    let sum = sum_by-cons keys_of ConstraintTree.NotNull constraints in
-    let rest : (k : ℕ) × (k < length constraints) × (get_or constraints k ConstraintTree.PrimaryKey ≡ ConstraintTree.PrimaryKey) =
-    has_key constraints (omega (arith, sum, some)) in
-    (suc rest.0, omega (arith, rest.1), rest.2)
+has_key (c ∷ constraints) some = go (is_key c) refl (has_key constraints)
+  where
+    go : (b : Bool) → is_key c ≡ b
+        → (0 < sum_by keys_of constraints → Any (λ c. is_key c ≡ true) constraints)
+        → Any (λ c. is_key c ≡ true) (c ∷ constraints)
+    go true e others = (0, c, omega arith, refl, e)
+    go false e others =
+        let none : keys_of c ≡ 0 = cond-false _ _ _ e in
+        let sum = sum_by-cons keys_of c constraints in
+        let rest = others (omega (arith, sum, some, none)) in
+        (suc rest.0, rest.1, omega (arith, rest.2), rest.3, rest.4)
 
 pub keys_none : KeysSoFar [] None
 keys_none = record { place_is = All-nil _; count_is = refl; integer = All-nil _ }

@@ -1,6 +1,7 @@
 -- Elements of lists, and what a test of each finds.
-use Rattle.std.proofs.Common.{◌≡◌, ℕ, suc, zero, ◌+◌, ◌<◌, ◌⊎◌, inl, inr, Bool, true, false, IsTrue, ◌↔◌, MatchBool, List, [], ◌∷◌, ◌++◌, length, get_or, map, take, drop, slice_get, Some, refl, sym, ap, ◌∙◌, subst, arith}
-use Rattle.std.proofs.lemmas.List.{drop_more, map-append, map_more, take-append-drop}
+use Rattle.std.proofs.Common.{◌≡◌, ℕ, suc, zero, ◌+◌, ◌<◌, ◌⊎◌, inl, inr, Bool, true, false, IsTrue, ◌↔◌, All, MatchBool, List, [], ◌∷◌, ◌++◌, length, get_or, map, take, drop, slice_get, Some, refl, sym, ap, ◌∙◌, subst, arith}
+use Rattle.std.proofs.lemmas.List.{get_or-map, length-map, drop_more, map-append, map_more, take-append-drop}
+use Rattle.std.proofs.lemmas.List.Elements.{All-from_all_within}
 use Rattle.std.specs.List.{AllWithin, AllZip, Any, HoldsAt}
 
 pub any_at : {X : Type 0} (P : X → Type 0) (xs : List X) (k : ℕ) → k < length xs → HoldsAt P xs k → Any P xs
@@ -15,6 +16,20 @@ pub any_is : {X : Type 0} (P : X → Type 0) (xs : List X) (r : Bool)
     → MatchBool r ((k : ℕ) × (k < length xs) × HoldsAt P xs k) (AllWithin (λ x. ¬ P x) xs 0 (length xs)) → IsTrue r ↔ Any P xs
 any_is P xs true h = ((λ e. any_at P xs h.0 h.1 h.2), λ a. refl)
 any_is P xs false h = ((λ e. absurd cc), λ a. absurd (h a.0 a.1 (omega arith) a.2 (subst P (sym a.3) a.4)))
+
+-- a test of each element found that all have P
+pub all_is : {X : Type 0} (P : X → Type 0) (xs : List X) (r : Bool)
+    → MatchBool r (AllWithin P xs 0 (length xs)) ((k : ℕ) × (k < length xs) × HoldsAt (λ x. ¬ P x) xs k) → IsTrue r ↔ All P xs
+all_is P xs true h = ((λ e. All-from_all_within P xs h), λ a. refl)
+all_is {X = X} P xs false h =
+    let other : Any (λ x. ¬ P x) xs = any_at (λ x. ¬ P x) xs h.0 h.1 h.2 in
+    ((λ e. absurd cc), λ (a : All P xs). absurd (other.4 (subst P other.3 (a other.0 other.1 other.2))))
+
+-- what holds of all that a function makes
+pub all_from_map : {X Y : Type 0} (P : X → Type 0) (f : Y → X) (ys : List Y) → All P (map f ys) → All (λ y. P (f y)) ys
+all_from_map P f ys all = λ k y within.
+    subst P (get_or-map f ys k y (f y) within)
+    (all k (f y) (let l = length-map ys f in omega (arith, l, within)))
 
 -- the elements of lists in a row
 pub get_front : {X : Type 0} (xs ys : List X) (i : ℕ) (a : X) → slice_get xs i ≡ Some a → slice_get (xs ++ ys) i ≡ Some a

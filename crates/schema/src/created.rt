@@ -1,17 +1,17 @@
 //! The table that a CREATE TABLE makes.
-ghost use Rattle.std.specs.Prelude.{◌≡◌, ◌↔◌, Contains, IfErr, IfOk, IsTrue, map, sum_by};
+ghost use Rattle.std.specs.Prelude.{◌≡◌, ◌↔◌, All, Contains, IfErr, IfOk, IsTrue, map, sum_by};
 ghost use Rattle.std.specs.List.{AllZip, Any};
 ghost use Rattle.syntax.specs.CreateTrees.{ConstraintTree, TypeTree};
 ghost use Rattle.syntax.specs.CreateView as view;
-ghost use Rattle.syntax.specs.CreateView.{column_of, table_of};
+ghost use Rattle.syntax.specs.CreateView.{column_of, constraint_of, table_of};
 ghost use Rattle.schema.specs.Created as spec;
-ghost use Rattle.schema.specs.Created.{AreKeys, IsColumn, IsTable, keys_of};
+ghost use Rattle.schema.specs.Created.{AreKeys, AreServed, IsColumn, IsServed, IsTable, keys_of};
 ghost use Rattle.schema.specs.Names.{AreDistinct, IsReserved, IsSameName};
 ghost use Rattle.schema.specs.Refused.{IsRefused};
 
 use crate::{Column, Table};
 use std::alloc::{AllocError, Global};
-use syntax::{Column as ColumnDefinition, ColumnConstraint, ColumnType, CreateTable};
+use syntax::{Column as ColumnDefinition, ColumnConstraint, ColumnType, CreateTable, KeyOrder};
 use values::{Fault, Ty};
 
 /// What the name of an object begins with that only SQLite makes.
@@ -55,6 +55,53 @@ fn are_distinct(columns: &[ColumnDefinition]) -> bool
     true
 }
 
+/// Whether a constraint needs no index, and no order but that of values. (CREATE TABLE)
+fn is_served(constraint: &ColumnConstraint) -> bool
+    ensures { IsTrue result ↔ IsServed (constraint_of constraint.now) }
+{
+    match constraint {
+        ColumnConstraint::PrimaryKey(order, automatic) => {
+            *order == KeyOrder::Ascending && !*automatic
+        }
+        ColumnConstraint::Unique => false,
+        ColumnConstraint::Collate(name) => is_same_name(name.as_str(), "BINARY"),
+        ColumnConstraint::NotNull
+        | ColumnConstraint::Check
+        | ColumnConstraint::Default(_)
+        | ColumnConstraint::References => true,
+    }
+}
+
+/// Whether each of these constraints does.
+fn are_served(constraints: &[ColumnConstraint]) -> bool
+    ensures { IsTrue result ↔ All (λ c. IsServed (constraint_of c)) constraints.now }
+{
+    constraints.iter().all(|constraint| is_served(constraint))
+}
+
+/// Whether each constraint of these columns does.
+fn columns_are_served(columns: &[ColumnDefinition]) -> bool
+    ensures { IsTrue result ↔ All (λ c. All (λ x. IsServed (constraint_of x)) c.constraints.items) columns.now }
+{
+    columns
+        .iter()
+        .all(|column| are_served(column.constraints.as_slice()))
+}
+
+/// Whether a constraint is PRIMARY KEY.
+fn is_key(constraint: &ColumnConstraint) -> bool
+    ensures { result ≡ spec.is_key (constraint_of constraint.now) }
+{
+    matches!(constraint, ColumnConstraint::PrimaryKey(_, _))
+}
+
+/// Whether a constraint is NOT NULL.
+fn demands_value(constraint: &ColumnConstraint) -> bool
+    ensures { result ≡ spec.is_not_null (constraint_of constraint.now) }
+{
+    matches!(constraint, ColumnConstraint::NotNull)
+}
+
 /// How often PRIMARY KEY is written at a column.
 fn count_keys(column: &ColumnDefinition) -> usize
     ensures { result ≡ sum_by keys_of (column_of column.now).constraints }
@@ -62,7 +109,7 @@ fn count_keys(column: &ColumnDefinition) -> usize
     column
         .constraints
         .iter()
-        .filter(|constraint| **constraint == ColumnConstraint::PrimaryKey)
+        .filter(|constraint| is_key(constraint))
         .count()
 }
 
@@ -110,7 +157,7 @@ fn is_not_null(column: &ColumnDefinition) -> bool
     column
         .constraints
         .iter()
-        .any(|constraint| *constraint == ColumnConstraint::NotNull)
+        .any(|constraint| demands_value(constraint))
 }
 
 /// The column that a definition declares.
@@ -140,7 +187,8 @@ fn columns_from(
 }
 
 /// The table that a CREATE TABLE makes, whose tree has this root. (CREATE TABLE) The fault is `NotYet` where it makes
-/// none: its name is reserved, two columns have one name, or a PRIMARY KEY isn't the rowid; or `NoMemory`.
+/// none: its name is reserved, two columns have one name, a constraint isn't served, or a PRIMARY KEY isn't the rowid; or
+/// `NoMemory`.
 pub(crate) fn table_from(alloc: Global, created: CreateTable, root: u32) -> Result<Table, Fault>
     ensures made { IfOk result (λ table. IsTable (table_of created) table) }
     ensures root { IfOk result (λ table. table.root ≡ root) }
@@ -148,6 +196,9 @@ pub(crate) fn table_from(alloc: Global, created: CreateTable, root: u32) -> Resu
 {
     let CreateTable { name, columns } = created;
     if is_reserved(name.as_str()) || !are_distinct(columns.as_slice()) {
+        return Err(Fault::NotYet);
+    }
+    if !columns_are_served(columns.as_slice()) {
         return Err(Fault::NotYet);
     }
     let rowid = key_place(columns.as_slice())?;

@@ -2,7 +2,7 @@
 //! the rows say, that rows say at most one list of tables, and that, want of memory aside, rows are refused only where
 //! they say none.
 //! Today each row has to be that of a table whose text `create_reader` reads, without a column of PRIMARY KEY that isn't
-//! the rowid; every other schema is not served yet.
+//! the rowid, UNIQUE, DESC, AUTOINCREMENT, and a collation other than BINARY; every other schema is not served yet.
 //!
 //! The modules, in the order in which data passes them: `table` (tables and columns), `created` (the table of a text),
 //! `catalog` (the rows of the schema), and `laws`.

@@ -1,6 +1,7 @@
 -- The tree of a CREATE TABLE, without where it lies in memory.
-use Rattle.std.specs.Prelude.{ℕ, List, length}
+use Rattle.std.specs.Prelude.{Bool, ℕ, ℤ, List, length}
 use Rattle.syntax.specs.Tree.{Name}
+use Rattle.syntax.specs.declared.create.KeyOrder.{KeyOrder}
 
 pub data TypeTree : Type 0 where
   Int : TypeTree
@@ -8,9 +9,28 @@ pub data TypeTree : Type 0 where
   Text : TypeTree
   Blob : TypeTree
 
+-- what stands behind DEFAULT
+pub data DefaultTree : Type 0 where
+  Null : DefaultTree
+  Number : ℤ → DefaultTree
+  -- a number behind a minus, without it
+  Negative : ℤ → DefaultTree
+  Text : List ℕ → DefaultTree
+  Blob : List ℕ → DefaultTree
+  -- a parenthesis, whose expression isn't kept
+  Expression : DefaultTree
+
+-- a constraint, without its own name
 pub data ConstraintTree : Type 0 where
-  PrimaryKey : ConstraintTree
+  -- the order, and whether AUTOINCREMENT is written
+  PrimaryKey : KeyOrder → Bool → ConstraintTree
   NotNull : ConstraintTree
+  Unique : ConstraintTree
+  Check : ConstraintTree
+  Default : DefaultTree → ConstraintTree
+  -- the name of the collation
+  Collate : Name → ConstraintTree
+  References : ConstraintTree
 
 -- a column, with its constraints as they are written
 pub record ColumnTree : Type 0 where

@@ -1,12 +1,14 @@
 -- What the program's CREATE TABLEs are.
 use Rattle.std.specs.Prelude.{map, string_bytes}
-use Rattle.syntax.specs.CreateTrees.{TypeTree, ConstraintTree, ColumnTree, TableTree}
+use Rattle.syntax.specs.CreateTrees.{TypeTree, DefaultTree, ConstraintTree, ColumnTree, TableTree}
 use Rattle.syntax.specs.declared.create.Column.{Column}
 use Rattle.syntax.specs.declared.create.ColumnConstraint.{ColumnConstraint}
 use Rattle.syntax.specs.declared.create.ColumnConstraint.TheVariants as c
 use Rattle.syntax.specs.declared.create.ColumnType.{ColumnType}
 use Rattle.syntax.specs.declared.create.ColumnType.TheVariants as t
 use Rattle.syntax.specs.declared.create.CreateTable.{CreateTable}
+use Rattle.syntax.specs.declared.create.DefaultValue.{DefaultValue}
+use Rattle.syntax.specs.declared.create.DefaultValue.TheVariants as d
 
 abbrev pub type_of : ColumnType → TypeTree
 type_of t.Int = TypeTree.Int
@@ -14,9 +16,22 @@ type_of t.Integer = TypeTree.Integer
 type_of t.Text = TypeTree.Text
 type_of t.Blob = TypeTree.Blob
 
+abbrev pub default_of : DefaultValue → DefaultTree
+default_of d.Null = DefaultTree.Null
+default_of (d.Number n) = DefaultTree.Number n
+default_of (d.Negative n) = DefaultTree.Negative n
+default_of (d.Text content) = DefaultTree.Text (string_bytes content)
+default_of (d.Blob bytes) = DefaultTree.Blob bytes.items
+default_of d.Expression = DefaultTree.Expression
+
 abbrev pub constraint_of : ColumnConstraint → ConstraintTree
-constraint_of c.PrimaryKey = ConstraintTree.PrimaryKey
+constraint_of (c.PrimaryKey order automatic) = ConstraintTree.PrimaryKey order automatic
 constraint_of c.NotNull = ConstraintTree.NotNull
+constraint_of c.Unique = ConstraintTree.Unique
+constraint_of c.Check = ConstraintTree.Check
+constraint_of (c.Default value) = ConstraintTree.Default (default_of value)
+constraint_of (c.Collate name) = ConstraintTree.Collate (string_bytes name)
+constraint_of c.References = ConstraintTree.References
 
 abbrev pub column_of : Column → ColumnTree
 column_of c = record {

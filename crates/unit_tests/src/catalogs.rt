@@ -12,7 +12,7 @@ const SQL: &str = "CREATE TABLE item(id INTEGER PRIMARY KEY, name TEXT NOT NULL,
 const ITEM: Object = ("table", "item", "item", 2, SQL);
 
 /// Rows of the schema, and the tables that they say, in a form of the tests' own.
-const CATALOGS: [(&[Object], &str); 5] = [
+const CATALOGS: [(&[Object], &str); 6] = [
     (&[], ""),
     (
         &[ITEM],
@@ -27,6 +27,18 @@ const CATALOGS: [(&[Object], &str); 5] = [
             "CREATE TABLE \"My Pets\"([a b] BLOB, n integer NOT NULL PRIMARY KEY NOT NULL) strict",
         )],
         "My Pets at 9 by the second | a b: blob | n: int filled\n",
+    ),
+    (
+        &[(
+            "table",
+            "stock",
+            "stock",
+            4,
+            "CREATE TABLE stock(id INTEGER CONSTRAINT pk PRIMARY KEY ASC, \
+             qty INT DEFAULT 0 CHECK (qty >= 0), note TEXT COLLATE binary DEFAULT 'none' NOT NULL, \
+             item INT REFERENCES item(id) ON DELETE CASCADE) STRICT",
+        )],
+        "stock at 4 by the first | id: int | qty: int | note: text filled | item: int\n",
     ),
     (
         &[(
@@ -75,7 +87,7 @@ const REFUSED: [&[Object]; 10] = [
 ];
 
 /// Tables that are not served, with their names.
-const NO_TABLES: [(&str, &str); 9] = [
+const NO_TABLES: [(&str, &str); 13] = [
     ("t", "CREATE TABLE t(a INT PRIMARY KEY) STRICT"),
     ("t", "CREATE TABLE t(a TEXT PRIMARY KEY) STRICT"),
     (
@@ -89,6 +101,13 @@ const NO_TABLES: [(&str, &str); 9] = [
     ("t", "CREATE TABLE t(a INT, b INT, A TEXT) STRICT"),
     ("sqlite_x", "CREATE TABLE sqlite_x(a INT) STRICT"),
     ("SQLite_", "CREATE TABLE \"SQLite_\"(a INT) STRICT"),
+    ("t", "CREATE TABLE t(a INT UNIQUE) STRICT"),
+    ("t", "CREATE TABLE t(a INTEGER PRIMARY KEY DESC) STRICT"),
+    (
+        "t",
+        "CREATE TABLE t(a INTEGER PRIMARY KEY AUTOINCREMENT) STRICT",
+    ),
+    ("t", "CREATE TABLE t(a TEXT COLLATE NOCASE) STRICT"),
     ("t", "CREATE TABLE t(a INT)"),
     ("t", "CREATE TABLE t(a REAL) STRICT"),
 ];

@@ -2,7 +2,7 @@ use Rattle.std.proofs.Common.{rules, tests, ◌≡◌}
 use Rattle.std.proofs.lemmas.Iterator.{YieldsList-from_slice, cases_from_any}
 use Rattle.syntax.specs.CreateTrees.{ConstraintTree}
 use Rattle.syntax.specs.CreateView.{constraint_of}
-use Rattle.schema.proofs.ColumnLemmas.{contains_constraint, is_not_null, is_other}
+use Rattle.schema.proofs.ColumnLemmas.{contains_constraint, not_null_is, not_null_other}
 use Rattle.schema.proofs.ListLemmas.{any_is}
 use Rattle.schema.proofs.created.is_not_null.Goals as goal
 
@@ -12,5 +12,5 @@ returns c =
     contains_constraint constraints ConstraintTree.NotNull c.any.result
     (any_is (λ x. constraint_of x ≡ ConstraintTree.NotNull) constraints c.any.result
     (cases_from_any _ _ _ (λ x. constraint_of x ≡ ConstraintTree.NotNull) (λ x. ¬ (constraint_of x ≡ ConstraintTree.NotNull))
-    c.any.ensures.ran (YieldsList-from_slice constraints cc) (λ x q k. is_not_null x.now (search (rules, tests)))
-    (λ x q k. (search (rules, tests), is_other x.now (search (rules, tests))))))
+    c.any.ensures.ran (YieldsList-from_slice constraints cc) (λ x q k. not_null_is (constraint_of x.now) (search (rules, tests)))
+    (λ x q k. (search (rules, tests), not_null_other (constraint_of x.now) (search (rules, tests))))))
