@@ -69,7 +69,7 @@ fn search_key(
     at: usize,
     key: &Key,
 ) -> Result<Search, AllocError>
-    ensures { IfOk result (λ search. search_data search ≡ search_of known.now conjuncts.now at key.now) }
+    ensures { IfOk result (λ found. search_data found ≡ search_of known.now conjuncts.now at key.now) }
 {
     let equal = run_of_equal(alloc, known, conjuncts, &key.columns)?;
     let lower = bound_behind(known, conjuncts, Side::Lower, &key.columns, equal.len());
@@ -122,16 +122,16 @@ fn has_bound(search: &Search) -> bool
 }
 
 /// A search with what it is expected to give and to cost.
-fn path_by(key: &Key, search: Search) -> Path
-    ensures { path_data result ≡ path_of key.now (search_data search) }
+fn path_by(key: &Key, found: Search) -> Path
+    ensures { path_data result ≡ path_of key.now (search_data found) }
 {
-    let ranges = count_bound(search.lower) + count_bound(search.upper);
+    let ranges = count_bound(found.lower) + count_bound(found.upper);
     let rows = let_through(
-        agreeing(key.entries, &key.distinct, search.equal.len()),
+        agreeing(key.entries, &key.distinct, found.equal.len()),
         ranges,
     );
     Path {
-        search: Some(search),
+        search: Some(found),
         cost: cost_of(key.depth, key.fetch, rows),
         rows,
     }
