@@ -19,4 +19,3 @@ pub use fault::RecordFault;
 pub use fields::FieldReader;
 pub use varints::varint;
 pub use view::RecordView;
-

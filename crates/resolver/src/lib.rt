@@ -16,4 +16,3 @@ mod resolved;
 mod tables;
 
 pub use resolved::{Query, resolve};
-

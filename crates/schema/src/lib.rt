@@ -15,4 +15,3 @@ mod table;
 
 pub use catalog::Catalog;
 pub use table::{Column, Table};
-
