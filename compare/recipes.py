@@ -220,7 +220,7 @@ SPELLINGS = [
     "CREATE TABLE t(a INT CONSTRAINT x NOT NULL, b TEXT) STRICT",
     "CREATE TABLE t(a INTEGER CONSTRAINT k PRIMARY KEY ASC, b TEXT) STRICT",
     "CREATE TABLE t(a INT DEFAULT -1 CHECK (1 OR (a > 0)), b TEXT DEFAULT 'x' COLLATE binary) STRICT",
-    "CREATE TABLE t(a INT REFERENCES u(x, y) ON DELETE SET NULL, b TEXT DEFAULT (1 || ')')) STRICT",
+    "CREATE TABLE t(a INT REFERENCES u(x) ON DELETE SET NULL, b TEXT DEFAULT (1 || ')')) STRICT",
 ]
 
 # Spellings that SQLite takes too, which the program may refuse as not served yet.

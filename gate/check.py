@@ -31,8 +31,13 @@ from turns import changed_crates
 TOP = Path(__file__).resolve().parent.parent
 # What stands beside the sources and is no part of them.
 MADE = ("out", ".git", "__pycache__")
-# The programs that the scripts of compare/ run.
-PROGRAMS = ("forge_images", "seleq", "table_counts", "table_rows")
+# The programs that the scripts of compare/ run, with the words of a run: the first writes into a folder.
+PROGRAMS = {
+    "forge_images": ["{folder}"],
+    "seleq": ["data/shop.db", "SELECT name FROM item"],
+    "table_counts": ["data/shop.db"],
+    "table_rows": ["data/item.db", "2"],
+}
 COUNTS = re.compile(r"(\d+) passed, (\d+) failed")
 
 
@@ -138,8 +143,9 @@ def check_quick(total: Sum) -> None:
     total.add_one("the layout", all(laid_out))
     is_proved = passes(["rt", "all", "check", "--jobs", str(rt.processors())], TOP)
     total.add_one("the proofs", is_proved)
-    # Run without its words, a program is built, and refuses them.
-    built = is_proved and all(is_built(TOP / "crates" / name) for name in PROGRAMS)
+    with tempfile.TemporaryDirectory(prefix="check-") as room:
+        runs = {name: [word.format(folder=room) for word in words] for name, words in PROGRAMS.items()}
+        built = is_proved and all(passes(["rt", "run", "--", *words], TOP / "crates" / name) for name, words in runs.items())
     total.add_one("the programs", built)
     if not built:
         return
@@ -156,14 +162,6 @@ def test_crates(crates: list, total: Sum) -> None:
     """Proves and runs the tests of crates, one after the other, since each of them may build the libraries below."""
     for crate in crates:
         total.add_one(f"the tests of {crate.name}", passes(["rt", "test", "--jobs", "1"], Path(crate.folder)))
-
-
-def is_built(folder: Path) -> bool:
-    """Builds a program, by a run without words, which it may refuse."""
-    program = folder / "out" / folder.name
-    program.unlink(missing_ok=True)
-    passes(["rt", "run"], folder)
-    return program.exists()
 
 
 def passes(words: list[str], folder: Path) -> bool:

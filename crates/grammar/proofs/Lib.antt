@@ -9,3 +9,9 @@ pub mod CompleteQueries
 pub mod Complete
 pub mod StatementLemmas
 pub mod Examples
+pub mod SoundSteps
+pub mod Sound
+pub mod SoundParts
+pub mod SoundFronts
+pub mod SoundExprs
+pub mod SoundQueries
