@@ -303,10 +303,10 @@ module _ (source : ℕ → ℕ → List ℕ) (inner : Inner) (d : ℕ) (inside :
   names_sound : (ts : Rest) → Sound 0 (λ h ns from after. (h ≡ 0) × Listed Names ns from after) d (names ts) ts
   names_sound ts x e =
       let w = sound_series 0 (λ place. Flat Names) (λ place h ns from after. (h ≡ 0) × Listed Names ns from after) d
-          (λ place. a_name) after_comma (Lexeme.Punctuation s.Comma) finds_comma (λ place from. name_sound d from)
-          (λ place h x from after y. (y.0, Listed.listed y.1 Many.none))
-          (λ place h i x xs from rest after y ys. (let a = y.0 in let b = ys.0 in omega (arith, a, b), further x xs from rest after y.1 ys.1))
-          (suc (length ts)) 0 ts x e in w
+      (λ place. a_name) after_comma (Lexeme.Punctuation s.Comma) finds_comma (λ place from. name_sound d from)
+      (λ place h x from after y. (y.0, Listed.listed y.1 Many.none))
+      (λ place h i x xs from rest after y ys. (let a = y.0 in let b = ys.0 in omega (arith, a, b), further x xs from rest after y.1 ys.1))
+      (suc (length ts)) 0 ts x e in w
     where
       further : (n : Name) (ns : List Name) (from rest after : Rest) → Names n from (Lexeme.Punctuation s.Comma ∷ rest)
           → Listed Names ns rest after → Listed Names (n ∷ ns) from after
@@ -354,7 +354,7 @@ module _ (source : ℕ → ℕ → List ℕ) (inner : Inner) (d : ℕ) (inside :
       let a = bind_ok r (λ x. Ok (read (OnTree.Using x.tree) x.levels x.rest)) x e in
       let b = bind_ok (needed (after_open rest)) (λ rest. closed after_close (names rest)) a.0 a.1 in
       let w = sound_closed 0 (λ h ns from after. (h ≡ 0) × Listed Names ns from after) d after_close
-          (Lexeme.Punctuation s.Close) (names b.0) b.0 (λ us vs h. at_sign s.Close us vs h) (names_sound b.0) a.0 b.2 in
+      (Lexeme.Punctuation s.Close) (names b.0) b.0 (λ us vs h. at_sign s.Close us vs h) (names_sound b.0) a.0 b.2 in
       let z = w.spelt.0 in
       subst (Within 0 (Ons source wants) d ts) (ok_inj (read (OnTree.Using a.0.tree) a.0.levels a.0.rest) x a.2) (record {
         h = w.h;
