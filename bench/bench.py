@@ -37,7 +37,7 @@ PAYLOAD = 5 + 2 * 8 + TEXT
 
 # The targets: parts of the time that sqlite3's SELECT takes alone; bytes; and how much more than its part of the rows a
 # longer table may take.
-ALL_TARGET, ONE_TARGET = 0.6, 0.8
+ALL_TARGET, ONE_TARGET = 0.5, 0.8
 MEMORY_TARGET = (16 << 20) + CACHE * PAGE + 2 * PAYLOAD
 GROWTH_TARGET = 1.25
 
