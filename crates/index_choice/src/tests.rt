@@ -98,6 +98,22 @@ fn big(alloc: Global, exprs: &[Expr]) -> Result<Source, AllocError> {
     Ok(Source::table(3, table, keys))
 }
 
+/// `item(id INTEGER PRIMARY KEY, name, qty)` of four rows, with an index on `qty`, which has three values, NULL among
+/// them; each tree is one page.
+fn item(alloc: Global) -> Result<Source, AllocError> {
+    let tree = TreeCounts {
+        entries: 4,
+        pages: 1,
+        depth: 1,
+    };
+    let columns = Vec::from_slice(alloc, &[2])?;
+    let distinct = Vec::from_slice(alloc, &[3])?;
+    let mut keys = Vec::new(alloc);
+    keys.push(Key::rowid(alloc, 0, tree)?)?;
+    keys.push(Key::index(columns, Vec::new(alloc), distinct, tree, tree))?;
+    Ok(Source::table(3, tree, keys))
+}
+
 fn are_costs(found: &[Path], paths: &[(u64, u64)]) -> bool {
     found.len() == paths.len()
         && found.iter().zip(paths).all(|(path, (cost, rows))| path.cost == *cost
@@ -129,6 +145,13 @@ const TAG: Case = Case {
         Written::Number(Comparison::Gt, 2, 5),
     ],
     paths: &[(1, 3), (4, 2), (4, 1)],
+    best: 0,
+};
+
+/// `qty` is column 2.
+const ITEM: Case = Case {
+    written: &[Written::Number(Comparison::Lt, 2, 40)],
+    paths: &[(1, 4), (4, 1)],
     best: 0,
 };
 
@@ -169,6 +192,8 @@ fn paths_of_worked_tables(rt: HostRuntime) -> Result<(), Fail> {
     let alloc = rt.alloc();
     let exprs = conjuncts(alloc, TAG.written)?;
     assert!(rt; has_paths(alloc, &tag(alloc)?, &exprs, &TAG)?);
+    let exprs = conjuncts(alloc, ITEM.written)?;
+    assert!(rt; has_paths(alloc, &item(alloc)?, &exprs, &ITEM)?);
     for case in &BIG {
         let exprs = conjuncts(alloc, case.written)?;
         assert!(rt; has_paths(alloc, &big(alloc, &exprs)?, &exprs, case)?);

@@ -1,59 +1,13 @@
 //! The least order of worked sources, and of two hundred tables of counts by a second answerer.
-ghost use Rattle.join_order.specs.Examples.{example_price};
-ghost use Rattle.std.specs.Prelude.{◌≡◌};
-
 mod tables;
 
-use crate::{Joined, Price, Pricing, least_order};
+use crate::{Joined, Pricing, least_order};
 use expr::{Comparison, Expr};
 use index_choice::{Conjunct, Key, Source, TreeCounts};
 use itertools::Itertools;
 use std::alloc::{AllocError, Global};
 use std::test::Fail;
 use tables::TABLES;
-
-/// `big` and tables `a`, `b` .. of four rows, in the order in which they were written: so many sources in all.
-#[derive(Clone, Copy)]
-struct Chain(usize);
-
-impl Pricing for Chain {
-    ghost count_of = { λ chain. chain.0 };
-
-    ghost price_of = { λ chain placed source. example_price placed source };
-
-    fn count(&self) -> usize {
-        self.0
-    }
-
-    fn price(&self, _alloc: Global, placed: &[usize], source: usize) -> Result<Price, AllocError> {
-        if source != 0 {
-            return Ok(Price { cost: 1, rows: 4 });
-        }
-        if placed.contains(&1) {
-            Ok(Price { cost: 6, rows: 1 })
-        } else {
-            Ok(Price {
-                cost: 201,
-                rows: 2000,
-            })
-        }
-    }
-}
-
-fn is_least(alloc: Global, count: usize, cost: u64, places: &[usize]) -> bool {
-    match least_order(alloc, &Chain(count)) {
-        Ok(order) => order.cost == cost && order.places.as_slice() == places,
-        Err(_) => false,
-    }
-}
-
-#[test]
-fn a_search_behind_a_small_table(rt: HostRuntime) -> Result<(), Fail> {
-    let alloc = rt.alloc();
-    assert!(rt; is_least(alloc, 2, 25, &[1, 0]));
-    assert!(rt; is_least(alloc, 7, 1389, &[1, 0, 2, 3, 4, 5, 6]));
-    Ok(())
-}
 
 /// The pages, the rows and the levels of a table of one column, its rowid, and the table whose rowid this equals, or
 /// itself where it equals none.
@@ -131,6 +85,41 @@ fn cost_of(
         rows = rows.saturating_mul(u128::from(price.rows));
     }
     Ok(Some(cost.min(1 << 62)))
+}
+
+/// Whether the least order of a table is this one and costs so much, where the written order costs so much.
+fn is_least(
+    alloc: Global,
+    line: &str,
+    cost: u64,
+    places: &[usize],
+    written: u128,
+) -> Result<bool, AllocError> {
+    let table = table_of(alloc, line)?;
+    let sources = sources(alloc, &table)?;
+    let conjuncts = conjuncts(alloc, &table)?;
+    let prices = Joined {
+        sources: &sources,
+        conjuncts: &conjuncts,
+    };
+    let order = least_order(alloc, &prices)?;
+    let in_turn = (0..prices.count()).collect::<Vec<usize>>(alloc)?;
+    Ok(
+        order.cost == cost
+            && order.places.as_slice() == places
+            && cost_of(alloc, &prices, &in_turn)? == Some(written),
+    )
+}
+
+/// `big` of 2,000 rows, written first, and `item` of four rows, once or more: `big.id = a.id AND a.id = b.id AND ..`.
+#[test]
+fn a_search_behind_a_small_table(rt: HostRuntime) -> Result<(), Fail> {
+    let alloc = rt.alloc();
+    let two = "201 2000 2 1;1 4 1 1";
+    assert!(rt; is_least(alloc, two, 25, &[1, 0], 2201)?);
+    let seven = "201 2000 2 1;1 4 1 2;1 4 1 3;1 4 1 4;1 4 1 5;1 4 1 6;1 4 1 6";
+    assert!(rt; is_least(alloc, seven, 1389, &[1, 0, 2, 3, 4, 5, 6], 2730201)?);
+    Ok(())
 }
 
 /// The first of the cheapest of all permutations.
