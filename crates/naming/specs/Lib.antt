@@ -1,0 +1,11 @@
+pub mod Outcome
+pub mod Expression
+pub mod Scope
+pub mod Same
+pub mod Places
+pub mod Sources
+pub mod Parts
+pub mod Statement
+pub mod Types
+pub mod Typed
+pub mod Examples

@@ -1,0 +1,31 @@
+//! What holds of the definitions alone, and examples of them.
+ghost use Rattle.std.specs.Prelude.{◌≡◌, ◌≢◌, List};
+ghost use Rattle.values.specs.declared.fault.Fault.{Fault};
+ghost use Rattle.values.specs.declared.fault.Fault.TheVariants.{NoMemory};
+ghost use Rattle.syntax.specs.StatementTree.{StatementTree};
+ghost use Rattle.naming.specs.Examples.{RefusedNames, RefusedPlaces, TakenStatements};
+ghost use Rattle.naming.specs.Statement.{Named};
+ghost use Rattle.naming.specs.Typed.{IsRefused, Table, Types};
+
+/// Statements over two tables that are refused, each by its fault.
+pub fn refused_statements()
+    ensures names { RefusedNames }
+    ensures places { RefusedPlaces }
+{}
+
+/// Statements over two tables, and the queries that they are.
+pub fn taken_statements()
+    ensures { TakenStatements }
+{}
+
+/// A statement is one query at most.
+pub fn one_query()
+    ensures { (tables : List Table) (tree : StatementTree) (first second : Named)
+        → Types tables tree first → Types tables tree second → first ≡ second }
+{}
+
+/// A statement that is refused for another reason than want of memory is no query.
+pub fn refused_is_no_query()
+    ensures { (tables : List Table) (tree : StatementTree) (fault : Fault) (query : Named)
+        → IsRefused tables tree fault → fault ≢ NoMemory → ¬ Types tables tree query }
+{}
