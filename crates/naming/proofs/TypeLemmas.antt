@@ -1,20 +1,21 @@
 -- What is typed by computing is typed as the meaning of queries says.
-use Rattle.std.proofs.Common.{◌≡◌, ◌⊎◌, inl, inr, Bool, true, false, not, ◌&&◌, ◌||◌, cond, if◌then◌else◌, ℕ, ◌<◌, List, [], ◌∷◌, ◌++◌, length, map, Option, Some, None, Result, Ok, Err, All, slice_get, refl, sym, subst, ◌∙◌, arith, nat_lt, nat_le, nat_eq}
+use Rattle.std.proofs.Common.{◌≡◌, ◌⊎◌, inl, inr, Bool, true, false, not, ◌&&◌, ◌||◌, if◌then◌else◌, List, [], ◌∷◌, ◌++◌, length, Option, Some, None, Ok, slice_get, refl, sym, subst, ◌∙◌, arith, nat_lt, nat_le, nat_eq}
 use Rattle.std.specs.List.{AllZip}
 use Rattle.std.proofs.lemmas.Bool.{eqb-true, leb-true, ltb-true}
 use Rattle.std.proofs.lemmas.Option.{slice_get_within}
-use Rattle.std.proofs.lemmas.List.Elements.{All-cons, All-nil}
-use Rattle.values.specs.declared.fault.Fault.{Fault}
 use Rattle.values.specs.declared.fault.Fault.TheVariants.{BadFrame, ColumnCount, TypeMismatch, WrongPlace}
 use Rattle.values.specs.declared.value.Ty.{Ty}
 use Rattle.values.specs.declared.value.Ty.TheVariants.{Int, Text, Blob, Null}
 use Rattle.expr.specs.Term.{Term}
 use Rattle.expr.specs.TermType.{Finds, one_of, one_type, type_of_term, wanted}
-use Rattle.expr.specs.Types.{FitsType, HasType}
+use Rattle.expr.specs.Types.{FitsType}
 use Rattle.expr.proofs.TermTypeLemmas.{types_are_found}
-use Rattle.meaning.specs.Query.{Aggregate, AggregateFunction, Body, Edge, Frame, FrameUnit, From, Grouping, InnerQuery, Key, KeyTerm, QueryData, Select, SortTerm, Source, Window, WindowCall, WindowFunction}
-use Rattle.meaning.specs.Typed.{AggregateGives, AnswersHaveTypes, BodyHasTypes, CallHasType, ComputedHasTypes, FromHasTypes, FunctionHasType, GroupedHasTypes, HasTypes, InnerHasType, IsDistance, IsFrame, IsKeyTerm, IsOneNumber, IsTerm, IsTermOf, IsWindow, SelectHasTypes, SourceHasTypes, UnitFits, edge_rank}
-use Rattle.naming.specs.Outcome.{also, both, checked, each, followed, found_or}
+use Rattle.meaning.specs.Query.{AggregateFunction, Body, Edge, Frame, FrameUnit, From, Grouping, InnerQuery, KeyTerm, QueryData, Select, SortTerm, Source, Window, WindowCall, WindowFunction}
+use Rattle.meaning.specs.Typed.{AggregateGives, AnswersHaveTypes, BodyHasTypes, CallHasType, ComputedHasTypes, FromHasTypes, FunctionHasType, GroupedHasTypes, HasTypes, InnerHasType, IsTyped, IsDistance, IsFrame, IsKeyTerm, IsOneNumber, IsTerm, IsTermOf, IsWindow, SelectHasTypes, SourceHasTypes, UnitFits, edge_rank}
+use Rattle.naming.specs.Outcome.{each, found_or}
+use Rattle.naming.specs.Statement.{Named, named}
+use Rattle.naming.specs.Typed.{Table, Types, column_types, known_tables, with_types}
+use Rattle.syntax.specs.StatementTree.{StatementTree}
 use Rattle.naming.specs.Types.{aggregate_type, answer_types, body_types, both_type, call_type, computed_types, condition_type, from_types, function_type, grouped_types, inner_type, is_distance, is_frame, is_one_number, is_whole, key_type, measure_type, of_width, one_types, query_types, select_types, single_type, source_types, term_type, typed, unit_fits, window_types}
 use Rattle.naming.proofs.OutcomeLemmas.{also-ok, both-ok, checked-ok, each-all, each-zip, followed-ok, found-ok}
 
@@ -180,3 +181,190 @@ module _ (answers columns : List Ty) where
   call_is call ty e =
       let (types, over, function) = followed-ok (window_types answers columns call.window) _ ty e in
       (window_is call.window types over, function_is call.function ty function)
+
+-- ---- one SELECT
+
+module _ (answers row : List Ty) where
+  grouping_is : (g : Option Grouping) (types : List Ty) → grouped_types answers row g ≡ Ok types → GroupedHasTypes answers row g types
+  grouping_is None types e = cc
+  grouping_is (Some g) types e =
+      let (keys, by, more) = followed-ok (each (term_type answers row) g.by) _ types e in
+      let (values, aggregates, last) = followed-ok (each (aggregate_type answers row) g.aggregates) _ types more in
+      let (ty, having, same) = also-ok (λ _. keys ++ values) (condition_type answers (keys ++ values) g.having) types last in
+      record {
+        keys = keys;
+        values = values;
+        by = each-zip (term_type answers row) (IsTermOf answers row) (term_is answers row) g.by keys by;
+        aggregates = each-zip (aggregate_type answers row) (λ a ty. AggregateGives answers row a.function a.argument ty) (λ a ty is. aggregate_is answers row a.function a.argument ty is) g.aggregates values aggregates;
+        types_are = sym same;
+        having = subst (λ columns. IsTermOf answers columns g.having Int) same (number_is answers (keys ++ values) g.having ty having);
+      }
+
+  computed_is : (s : Select) (types : List Ty) → computed_types answers row s ≡ Ok types → ComputedHasTypes answers row s types
+  computed_is s types e =
+      let (ty, condition, more) = followed-ok (condition_type answers row s.condition) _ types e in
+      let (inputs, grouped, last) = followed-ok (grouped_types answers row s.grouping) _ types more in
+      let (values, calls, same) = also-ok (λ calls. inputs ++ calls) (each (call_type answers inputs) s.windows) types last in
+      record {
+        inputs = inputs;
+        values = values;
+        condition = number_is answers row s.condition ty condition;
+        grouped = grouping_is s.grouping inputs grouped;
+        windows = each-zip (call_type answers inputs) (CallHasType answers inputs) (call_is answers inputs) s.windows values calls;
+        types_are = sym same;
+      }
+
+  select_is : (s : Select) (types : List Ty) → select_types answers row s ≡ Ok types → SelectHasTypes answers row s types
+  select_is s types e =
+      let (computed, is, columns) = followed-ok (computed_types answers row s) _ types e in
+      (computed, computed_is s computed is, each-zip (term_type answers computed) (IsTermOf answers computed) (term_is answers computed) s.columns types columns)
+
+  -- the columns of a SELECT have the types that theirs may stand for
+  columns_more : (computed : List Ty) (ts : List Term) (first types : List Ty) → AllZip (IsTermOf answers computed) ts first → AllZip FitsType first types → AllZip (IsTermOf answers computed) ts types
+  columns_more computed [] [] [] is fit = tt
+  columns_more computed [] [] (ty ∷ types) is fit = absurd fit
+  columns_more computed [] (of ∷ first) types is fit = absurd is
+  columns_more computed (t ∷ ts) [] types is fit = absurd is
+  columns_more computed (t ∷ ts) (of ∷ first) [] is fit = absurd fit
+  columns_more computed (t ∷ ts) (of ∷ first) (ty ∷ types) is fit =
+      (fits_more answers computed t of ty is.0 fit.0, columns_more computed ts first types is.1 fit.1)
+
+  select_more : (s : Select) (first types : List Ty) → SelectHasTypes answers row s first → AllZip FitsType first types → SelectHasTypes answers row s types
+  select_more s first types (computed, is, columns) fit = (computed, is, columns_more computed s.columns first types columns fit)
+
+-- ---- queries
+
+all_fit : (first second types : List Ty) → one_types first second ≡ Ok types → AllZip FitsType first types × AllZip FitsType second types
+all_fit [] [] [] e = (tt, tt)
+all_fit [] [] (ty ∷ types) e = absurd cc
+all_fit [] (b ∷ second) types e = absurd cc
+all_fit (a ∷ first) [] types e = absurd cc
+all_fit (a ∷ first) (b ∷ second) types e =
+    parts types (both-ok ◌∷◌ (typed (one_type a b)) (one_types first second) types e) (all_fit first second)
+  where
+    parts : (zs : List Ty) → (c : Ty) × (rest : List Ty) × (typed (one_type a b) ≡ Ok c) × (one_types first second ≡ Ok rest) × (c ∷ rest ≡ zs)
+        → ((rest : List Ty) → one_types first second ≡ Ok rest → AllZip FitsType first rest × AllZip FitsType second rest)
+        → AllZip FitsType (a ∷ first) zs × AllZip FitsType (b ∷ second) zs
+    parts [] (c, rest, one, others, same) more = absurd cc
+    parts (z ∷ zs) (c, rest, one, others, same) more =
+        let head : c ≡ z = cc in
+        let tail : rest ≡ zs = cc in
+        let (l, r) = both_fit a b z (found-ok TypeMismatch (one_type a b) z (subst (λ v. typed (one_type a b) ≡ Ok v) head one)) in
+        let (ls, rs) = more zs (subst (λ v. one_types first second ≡ Ok v) tail others) in
+        ((l, ls), (r, rs))
+
+module _ (tables : List (List Ty)) where
+  -- a query has the types that its own may stand for
+  body_more : (body : Body) (first types : List Ty) → BodyHasTypes tables body first → AllZip FitsType first types → BodyHasTypes tables body types
+  body_more (Body.select from s) first types (answers, row, given, shown, select) fit =
+      (answers, row, given, shown, select_more answers row s first types select fit)
+  body_more (Body.compound left operator from s) first types (body, (answers, row, given, shown, select)) fit =
+      (body_more left first types body fit, (answers, row, given, shown, select_more answers row s first types select fit))
+
+  one_column : (types : List Ty) (ty : Ty) → single_type types ≡ Ok ty → types ≡ ty ∷ []
+  one_column [] ty e = absurd cc
+  one_column (of ∷ []) ty e = cc
+  one_column (of ∷ other ∷ rest) ty e = absurd cc
+
+  mutual
+    source_is : (source : Source) (types : List Ty) → source_types tables source ≡ Ok types → SourceHasTypes tables source types
+    source_is (Source.table at width) types e =
+        let (found, there, sized) = followed-ok (found_or TypeMismatch (slice_get tables at)) (of_width width) types e in
+        let (wide, same) = checked-ok (nat_eq width (length found)) ColumnCount (Ok found) types sized in
+        let are : found ≡ types = cc in (
+          subst (λ v. slice_get tables at ≡ Some v) are (found-ok TypeMismatch (slice_get tables at) found there),
+          subst (λ v. width ≡ length v) are (eqb-true width (length found) wide),
+        )
+    source_is Source.schema types e = cc
+    source_is (Source.derived body) types e = body_is body types e
+
+    from_is : (answers : List Ty) (from : From) (types : List Ty) → from_types tables answers from ≡ Ok types → FromHasTypes tables answers from types
+    from_is answers From.nothing types e = cc
+    from_is answers (From.joined from kind source on) types e =
+        let (l, left, more) = followed-ok (from_types tables answers from) _ types e in
+        let (r, right, last) = followed-ok (source_types tables source) _ types more in
+        let (ty, condition, same) = also-ok (λ _. l ++ r) (condition_type answers (l ++ r) on) types last in (
+          l,
+          r,
+          from_is answers from l left,
+          source_is source r right,
+          sym same,
+          subst (λ row. IsTermOf answers row on Int) same (number_is answers (l ++ r) on ty condition),
+        )
+    from_is answers (From.with_inner from query) types e = from_is answers from types e
+
+    inner_is : (query : InnerQuery) (ty : Ty) → inner_type tables query ≡ Ok ty → InnerHasType tables query ty
+    inner_is (InnerQuery.values_of body) ty e =
+        let (types, is, one) = followed-ok (body_types tables body) single_type ty e in
+        subst (BodyHasTypes tables body) (one_column types ty one) (body_is body types is)
+    inner_is (InnerQuery.exists body) ty e =
+        let (types, is, same) = also-ok (λ types. Int) (body_types tables body) ty e in
+        ((types, body_is body types is), sym same)
+
+    answers_are : (from : From) (types : List Ty) → answer_types tables from ≡ Ok types → AnswersHaveTypes tables from types
+    answers_are From.nothing types e = cc
+    answers_are (From.joined from kind source on) types e = answers_are from types e
+    answers_are (From.with_inner from query) types e =
+        let (before, ty, earlier, inner, same) = both-ok (λ before ty. before ++ ty ∷ []) (answer_types tables from) (inner_type tables query) types e in
+        (before, ty, answers_are from before earlier, inner_is query ty inner, sym same)
+
+    body_is : (body : Body) (types : List Ty) → body_types tables body ≡ Ok types → BodyHasTypes tables body types
+    body_is (Body.select from s) types e =
+        let (answers, given, more) = followed-ok (answer_types tables from) _ types e in
+        let (row, shown, select) = followed-ok (from_types tables answers from) _ types more in
+        (answers, row, answers_are from answers given, from_is answers from row shown, select_is answers row s types select)
+    body_is (Body.compound left operator from s) types e =
+        let (first, body, others) = followed-ok (body_types tables left) _ types e in
+        let (answers, given, more) = followed-ok (answer_types tables from) _ types others in
+        let (row, shown, last) = followed-ok (from_types tables answers from) _ types more in
+        let (second, select, one) = followed-ok (select_types answers row s) (one_types first) types last in
+        let (l, r) = all_fit first second types one in (
+          body_more left first types (body_is left first body) l,
+          (
+            answers,
+            row,
+            answers_are from answers given,
+            from_is answers from row shown,
+            select_more answers row s second types (select_is answers row s second select) r,
+          ),
+        )
+
+  not_true : (b : Bool) → not b ≡ true → b ≡ false
+  not_true true e = absurd cc
+  not_true false e = refl
+
+  key_is : (body : Body) (types : List Ty) (key : KeyTerm) (ty : Ty) → key_type tables body types key ≡ Ok ty → IsKeyTerm tables body types key
+  key_is body types (KeyTerm.result at) ty e = slice_get_within types at ty (found-ok TypeMismatch (slice_get types at) ty e)
+  key_is (Body.select from s) types (KeyTerm.term t) ty e =
+      let (plain, more) = checked-ok (not s.distinct) WrongPlace _ ty e in
+      let (answers, given, others) = followed-ok (answer_types tables from) _ ty more in
+      let (row, shown, rest) = followed-ok (from_types tables answers from) _ ty others in
+      let (computed, is, last) = followed-ok (computed_types answers row s) _ ty rest in (
+        not_true s.distinct plain,
+        (
+          answers,
+          row,
+          computed,
+          answers_are from answers given,
+          from_is answers from row shown,
+          computed_is answers row s computed is,
+          (ty, term_is answers computed t ty last),
+        ),
+      )
+  key_is (Body.compound left operator from s) types (KeyTerm.term t) ty e = absurd cc
+
+  pub query_is : (query : QueryData) (types : List Ty) → query_types tables query ≡ Ok types → HasTypes tables query types
+  query_is query types e =
+      let (of, is, more) = followed-ok (body_types tables query.body) _ types e in
+      let (keys, order, same) = also-ok (λ _. of) (each (λ k. key_type tables query.body of k.by) query.order) types more in
+      subst (HasTypes tables query) same (record {
+        body = body_is query.body of is;
+        order = each-all (λ k. key_type tables query.body of k.by) (λ k. IsKeyTerm tables query.body of k.by) (λ k ty is. key_is query.body of k.by ty is) query.order keys order;
+      })
+
+pub statement_is : (tables : List Table) (tree : StatementTree) (n : Named) → Types tables tree n → IsTyped (column_types tables) n.query
+statement_is tables tree n e =
+    let (found, names, typed) = followed-ok (named (known_tables tables) tree) (with_types (column_types tables)) n e in
+    let (beside, all, last) = followed-ok (each (body_types (column_types tables)) found.beside) _ n typed in
+    let (types, is, same) = also-ok (λ _. found) (query_types (column_types tables) found.query) n last in
+    subst (λ n. IsTyped (column_types tables) n.query) same (types, query_is (column_types tables) found.query types is)

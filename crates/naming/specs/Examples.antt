@@ -1,12 +1,12 @@
 -- item(id INTEGER PRIMARY KEY, name TEXT NOT NULL, qty INT), sale(item INT, n INT), and statements over them.
-use Rattle.std.specs.Prelude.{◌≡◌, Bool, true, false, ℕ, pos, List, [], ◌∷◌, codes, Option, Some, None, Result, Ok, Err}
-use Rattle.values.specs.Datum.{int, text}
+use Rattle.std.specs.Prelude.{◌≡◌, true, false, ℕ, pos, List, [], ◌∷◌, codes, Some, None, Ok, Err}
+use Rattle.values.specs.Datum.{int}
 use Rattle.values.specs.declared.fault.Fault.{Fault}
 use Rattle.values.specs.declared.fault.Fault.TheVariants as f
 use Rattle.values.specs.declared.value.Ty.TheVariants.{Int, Text}
-use Rattle.expr.specs.Term.{Term, among, answer, coalesce, column, compare, literal, more, none}
+use Rattle.expr.specs.Term.{among, answer, coalesce, column, compare, literal, more, none}
 use Rattle.expr.specs.declared.tree.Comparison.TheVariants.{Eq, Gt}
-use Rattle.syntax.specs.ExprTree.{ExprTree, ExprTrees, MaybeExpr, BehindTree, CoreTree, DefinitionTrees, FromTree, NameTree, OnTree, OverTree, QueryTree, ResultTree, ResultTrees, SourceTree, TermTrees, WindowTree, plain, plain_count, plain_call, trees_of}
+use Rattle.syntax.specs.ExprTree.{ExprTree, ExprTrees, MaybeExpr, BehindTree, CoreTree, DefinitionTrees, FromTree, NameTree, OnTree, OverTree, QueryTree, ResultTree, ResultTrees, SourceTree, TermTrees, WindowTree, plain_count, trees_of}
 use Rattle.syntax.specs.StatementTree.{ItemTree, StatementTree}
 use Rattle.syntax.specs.Tree.{Name}
 use Rattle.syntax.specs.declared.expr.BinaryOperator.TheVariants.{Add, Equal, Greater}
@@ -18,7 +18,7 @@ use Rattle.syntax.specs.declared.query.Exclusion.TheVariants.{NoOthers}
 use Rattle.syntax.specs.declared.query.Frame as frames
 use Rattle.syntax.specs.declared.query.FrameUnit.TheVariants.{Rows}
 use Rattle.syntax.specs.declared.query.Join.TheVariants as joins
-use Rattle.meaning.specs.Query.{always, aggregate, AggregateFunction, Body, From, Grouping, InnerQuery, JoinKind, Key, KeyTerm, Select, Source, of_columns, only}
+use Rattle.meaning.specs.Query.{always, AggregateFunction, Body, From, Grouping, InnerQuery, JoinKind, Key, KeyTerm, Source, of_columns, only}
 use Rattle.naming.specs.Outcome.{also}
 use Rattle.naming.specs.Statement.{Named}
 use Rattle.naming.specs.Typed.{Column, Table, typed_query}

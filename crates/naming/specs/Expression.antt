@@ -7,7 +7,7 @@ use Rattle.std.specs.Prelude.{Bool, true, false, List, [], ◌∷◌, pos, Optio
 use Rattle.values.specs.Datum.{null, int, text, blob}
 use Rattle.values.specs.declared.fault.Fault.{Fault}
 use Rattle.values.specs.declared.fault.Fault.TheVariants.{WrongPlace}
-use Rattle.expr.specs.Term.{Term, Terms, Arms, literal, call, arithmetic, concat, compare, is, and, or, between, among, coalesce, choice, choice_of, if_null, iif, null_if, like}
+use Rattle.expr.specs.Term.{Term, Terms, literal, call, arithmetic, concat, compare, is, and, or, between, among, coalesce, choice, choice_of, if_null, iif, null_if, like}
 use Rattle.expr.specs.View.{terms, arms}
 use Rattle.expr.specs.declared.tree.Arithmetic.TheVariants as a
 use Rattle.expr.specs.declared.tree.Comparison.TheVariants as c

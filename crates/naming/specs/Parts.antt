@@ -1,7 +1,7 @@
 -- The parts of expressions, in the order in which they are written. (SQL Language Expressions)
-use Rattle.std.specs.Prelude.{List, [], ◌∷◌, ◌++◌, Option, Some, None, option_to_list, flat_map}
+use Rattle.std.specs.Prelude.{List, [], ◌∷◌, ◌++◌, Option, Some, None}
 use Rattle.std.specs.List.{filter_map}
-use Rattle.syntax.specs.ExprTree.{ExprTree, ExprTrees, MaybeExpr, ArmTrees, BehindTree, CoreTree, DefinitionTrees, FromTree, OnTree, OverTree, QueryTree, ResultTree, ResultTrees, TermTrees, WindowTree}
+use Rattle.syntax.specs.ExprTree.{ExprTree, ExprTrees, MaybeExpr, ArmTrees, BehindTree, CoreTree, DefinitionTrees, FromTree, OnTree, OverTree, ResultTree, ResultTrees, TermTrees, WindowTree}
 use Rattle.naming.specs.Expression.{InnerTree}
 
 abbrev mutual

@@ -1,5 +1,5 @@
 -- The places of a SELECT at which an expression may stand, and what each says of a part of it. (SELECT; Window Functions)
-use Rattle.std.specs.Prelude.{Bool, true, false, ℕ, ◌+◌, suc, pos, negsuc, List, [], ◌∷◌, length, Option, Some, None, option_map, Result, Ok, Err, if◌then◌else◌}
+use Rattle.std.specs.Prelude.{Bool, ℕ, ◌+◌, suc, pos, List, [], ◌∷◌, length, Option, Some, None, option_map, Result, Ok, Err, if◌then◌else◌}
 use Rattle.std.specs.Str.{str_eq_ignore_ascii_case}
 use Rattle.values.specs.Datum.{null}
 use Rattle.values.specs.declared.fault.Fault.{Fault}

@@ -1,5 +1,5 @@
 -- The sources of a FROM and the columns that they show together. (SELECT, "Determination of input data"; WITH)
-use Rattle.std.specs.Prelude.{Bool, true, false, ◌||◌, ℕ, suc, List, [], ◌∷◌, ◌++◌, length, map, Option, Some, None, Result, Ok, Err, if◌then◌else◌}
+use Rattle.std.specs.Prelude.{Bool, false, ℕ, suc, List, [], ◌∷◌, ◌++◌, length, map, Option, Some, None, Result, Ok, Err, if◌then◌else◌}
 use Rattle.std.specs.List.{list_any}
 use Rattle.std.specs.Str.{str_eq_ignore_ascii_case}
 use Rattle.values.specs.declared.fault.Fault.{Fault}
@@ -14,7 +14,7 @@ use Rattle.naming.specs.Expression.{Answers, term_of}
 use Rattle.naming.specs.Outcome.{also, followed}
 use Rattle.naming.specs.Places.{columns_say}
 use Rattle.meaning.specs.Query.{always, Body, JoinKind, Source, From}
-use Rattle.naming.specs.Scope.{Shown, Scope, bare_term, is_called, places_of}
+use Rattle.naming.specs.Scope.{Scope, bare_term, is_called, places_of}
 
 -- A name that FROM may mention: the table of the catalog, or the item of WITH, and its columns' names. An item of more
 -- sources than a query may have gives a fault where it is mentioned.

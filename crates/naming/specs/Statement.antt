@@ -16,7 +16,7 @@ use Rattle.naming.specs.Outcome.{also, both, checked, each, followed}
 use Rattle.naming.specs.Parts.{inner_trees, parts_behind_groups}
 use Rattle.naming.specs.Places.{Defined, aggregate_of, call_of, columns_say, direction_of, groups_say, key_column, place_of, window_of, windows_say}
 use Rattle.naming.specs.Same.{is_same_aggregate, is_same_call, is_same_inner}
-use Rattle.naming.specs.Scope.{Shown, Scope, bare_term, is_bare, is_called, is_source}
+use Rattle.naming.specs.Scope.{Scope, bare_term, is_bare, is_called, is_source}
 use Rattle.naming.specs.Sources.{Known, known_as, Given, Sources, joined, kind_of, no_sources}
 
 -- ---- names

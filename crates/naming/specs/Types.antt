@@ -1,12 +1,12 @@
 -- The types of a query's terms and columns. NULL fits any type. (STRICT Tables)
-use Rattle.std.specs.Prelude.{Bool, true, false, not, ◌&&◌, ◌||◌, ℕ, List, [], ◌∷◌, ◌++◌, length, map, Option, Some, None, Result, Ok, Err, if◌then◌else◌, nat_eq, nat_le, nat_lt, slice_get}
+use Rattle.std.specs.Prelude.{Bool, true, false, not, ◌&&◌, ◌||◌, ℕ, List, [], ◌∷◌, ◌++◌, length, Option, Some, None, Result, Ok, Err, if◌then◌else◌, nat_eq, nat_le, nat_lt, slice_get}
 use Rattle.values.specs.declared.fault.Fault.{Fault}
 use Rattle.values.specs.declared.fault.Fault.TheVariants.{BadFrame, ColumnCount, TypeMismatch, WrongPlace}
 use Rattle.values.specs.declared.value.Ty.{Ty}
-use Rattle.values.specs.declared.value.Ty.TheVariants.{Int, Text, Blob, Null}
+use Rattle.values.specs.declared.value.Ty.TheVariants.{Int, Null}
 use Rattle.expr.specs.Term.{Term}
-use Rattle.expr.specs.TermType.{giving, one_of, one_type, type_of_term, wanted}
-use Rattle.meaning.specs.Query.{AggregateFunction, Aggregate, Body, Edge, Frame, FrameUnit, From, Grouping, InnerQuery, Key, KeyTerm, QueryData, Select, SortTerm, Source, Window, WindowCall, WindowFunction}
+use Rattle.expr.specs.TermType.{one_of, one_type, type_of_term, wanted}
+use Rattle.meaning.specs.Query.{AggregateFunction, Aggregate, Body, Edge, Frame, FrameUnit, From, Grouping, InnerQuery, KeyTerm, QueryData, Select, SortTerm, Source, Window, WindowCall, WindowFunction}
 use Rattle.meaning.specs.Typed.{edge_rank, schema_types}
 use Rattle.naming.specs.Outcome.{also, both, checked, each, found_or, followed}
 

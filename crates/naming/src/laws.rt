@@ -2,10 +2,11 @@
 ghost use Rattle.std.specs.Prelude.{◌≡◌, ◌≢◌, List};
 ghost use Rattle.values.specs.declared.fault.Fault.{Fault};
 ghost use Rattle.values.specs.declared.fault.Fault.TheVariants.{NoMemory};
+ghost use Rattle.meaning.specs.Typed.{IsTyped};
 ghost use Rattle.syntax.specs.StatementTree.{StatementTree};
 ghost use Rattle.naming.specs.Examples.{RefusedNames, RefusedPlaces, TakenStatements};
 ghost use Rattle.naming.specs.Statement.{Named};
-ghost use Rattle.naming.specs.Typed.{IsRefused, Table, Types};
+ghost use Rattle.naming.specs.Typed.{IsRefused, Table, Types, column_types};
 
 /// Statements over two tables that are refused, each by its fault.
 pub fn refused_statements()
@@ -28,4 +29,10 @@ pub fn one_query()
 pub fn refused_is_no_query()
     ensures { (tables : List Table) (tree : StatementTree) (fault : Fault) (query : Named)
         → IsRefused tables tree fault → fault ≢ NoMemory → ¬ Types tables tree query }
+{}
+
+/// The query of a statement is typed as the meaning of queries says, over the types of the tables' columns.
+pub fn typed_as_meaning()
+    ensures { (tables : List Table) (tree : StatementTree) (query : Named)
+        → Types tables tree query → IsTyped (column_types tables) query.query }
 {}
