@@ -1,3 +1,5 @@
 mod OneLemmas
 mod OutcomeLemmas
 mod TypeLemmas
+mod ScopeLemmas
+mod SourceLemmas

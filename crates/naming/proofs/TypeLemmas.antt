@@ -1,5 +1,5 @@
 -- What is typed by computing is typed as the meaning of queries says.
-use Rattle.std.proofs.Common.{◌≡◌, ◌⊎◌, inl, inr, Bool, true, false, not, ◌&&◌, ◌||◌, if◌then◌else◌, List, [], ◌∷◌, ◌++◌, length, Option, Some, None, Ok, slice_get, refl, sym, subst, ◌∙◌, arith, nat_lt, nat_le, nat_eq}
+use Rattle.std.proofs.Common.{◌≡◌, ◌⊎◌, inl, inr, Bool, true, false, not, ◌&&◌, ◌||◌, if◌then◌else◌, List, [], ◌∷◌, ◌++◌, length, Option, Some, None, Ok, Err, slice_get, refl, sym, subst, ◌∙◌, arith, nat_lt, nat_le, nat_eq}
 use Rattle.std.specs.List.{AllZip}
 use Rattle.std.proofs.lemmas.Bool.{eqb-true, leb-true, ltb-true}
 use Rattle.std.proofs.lemmas.Option.{slice_get_within}
@@ -12,6 +12,7 @@ use Rattle.expr.specs.Types.{FitsType}
 use Rattle.expr.proofs.TermTypeLemmas.{types_are_found}
 use Rattle.meaning.specs.Query.{AggregateFunction, Body, Edge, Frame, FrameUnit, From, Grouping, InnerQuery, KeyTerm, QueryData, Select, SortTerm, Source, Window, WindowCall, WindowFunction}
 use Rattle.meaning.specs.Typed.{AggregateGives, AnswersHaveTypes, BodyHasTypes, CallHasType, ComputedHasTypes, FromHasTypes, FunctionHasType, GroupedHasTypes, HasTypes, InnerHasType, IsTyped, IsDistance, IsFrame, IsKeyTerm, IsOneNumber, IsTerm, IsTermOf, IsWindow, SelectHasTypes, SourceHasTypes, UnitFits, edge_rank}
+use Rattle.naming.specs.Laws.{MismatchIsUntyped}
 use Rattle.naming.specs.Outcome.{each, found_or}
 use Rattle.naming.specs.Statement.{Named, named}
 use Rattle.naming.specs.Typed.{Table, Types, column_types, known_tables, with_types}
@@ -368,3 +369,19 @@ statement_is tables tree n e =
     let (beside, all, last) = followed-ok (each (body_types (column_types tables)) found.beside) _ n typed in
     let (types, is, same) = also-ok (λ _. found) (query_types (column_types tables) found.query) n last in
     subst (λ n. IsTyped (column_types tables) n.query) same (types, query_is (column_types tables) found.query types is)
+
+-- ---- terms without a type
+
+none_found : (o : Option Ty) → typed o ≡ Err TypeMismatch → (ty : Ty) → Finds o ty → ⊥
+none_found None e ty found = found
+none_found (Some of) e ty found = absurd cc
+
+found_some : (o : Option Ty) → ((ty : Ty) → Finds o ty → ⊥) → typed o ≡ Err TypeMismatch
+found_some None untyped = refl
+found_some (Some of) untyped = absurd (untyped of (inr refl))
+
+pub mismatch_is_untyped : MismatchIsUntyped
+mismatch_is_untyped answers columns t = (
+  (λ e is. none_found (type_of_term columns answers t) e is.0 ((types_are_found columns answers t is.0).0 is.1)),
+  (λ untyped. found_some (type_of_term columns answers t) (λ ty found. untyped (ty, has_type answers columns t ty found))),
+)

@@ -8,4 +8,5 @@ pub mod Parts
 pub mod Statement
 pub mod Types
 pub mod Typed
+pub mod Laws
 pub mod Examples

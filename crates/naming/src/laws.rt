@@ -5,6 +5,7 @@ ghost use Rattle.values.specs.declared.fault.Fault.TheVariants.{NoMemory};
 ghost use Rattle.meaning.specs.Typed.{IsTyped};
 ghost use Rattle.syntax.specs.StatementTree.{StatementTree};
 ghost use Rattle.naming.specs.Examples.{RefusedNames, RefusedPlaces, TakenStatements};
+ghost use Rattle.naming.specs.Laws.{AmbiguousIsTwo, MismatchIsUntyped, NameIsColumn, NameIsSource, UnknownIsNone, UnknownSourceIsNone};
 ghost use Rattle.naming.specs.Statement.{Named};
 ghost use Rattle.naming.specs.Typed.{IsRefused, Table, Types, column_types};
 
@@ -35,4 +36,22 @@ pub fn refused_is_no_query()
 pub fn typed_as_meaning()
     ensures { (tables : List Table) (tree : StatementTree) (query : Named)
         → Types tables tree query → IsTyped (column_types tables) query.query }
+{}
+
+/// A column's name is the one column that is called so; it is unknown where none is, and ambiguous where two are.
+pub fn names_are_columns()
+    ensures one { NameIsColumn }
+    ensures none { UnknownIsNone }
+    ensures two { AmbiguousIsTwo }
+{}
+
+/// A source's name is the first item of WITH, or else the table, that is named so; it is unknown where none is.
+pub fn names_are_sources()
+    ensures first { NameIsSource }
+    ensures none { UnknownSourceIsNone }
+{}
+
+/// Types don't agree in a term exactly where it has none.
+pub fn mismatch_is_untyped()
+    ensures { MismatchIsUntyped }
 {}

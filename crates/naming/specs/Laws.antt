@@ -1,0 +1,74 @@
+-- What names stand for, in the words of FROM and its columns. (SELECT, "Determination of input data")
+use Rattle.std.specs.Prelude.{◌≡◌, ◌≢◌, ◌↔◌, ◌<◌, ℕ, List, [], Option, Some, None, Ok, Err, slice_get, true}
+use Rattle.std.specs.Str.{str_eq_ignore_ascii_case}
+use Rattle.values.specs.declared.fault.Fault.TheVariants.{Ambiguous, TypeMismatch, UnknownColumn, UnknownTable}
+use Rattle.values.specs.declared.value.Ty.{Ty}
+use Rattle.expr.specs.Term.{Term}
+use Rattle.meaning.specs.Typed.{IsTerm}
+use Rattle.syntax.specs.Tree.{Name}
+use Rattle.naming.specs.Scope.{Scope, Shown, bare_term, column_of, shown_places}
+use Rattle.naming.specs.Sources.{Known, known_as}
+use Rattle.naming.specs.Types.{term_type}
+
+-- two names are the same where they differ in ASCII case alone
+abbrev pub IsSameName : Name → Name → Type 0
+IsSameName a b = str_eq_ignore_ascii_case a b ≡ true
+
+-- ---- columns
+
+-- a column is called so by its bare name, where it has one, or behind the name of its source
+abbrev pub IsCalled : Option Name → Name → Shown → Type 0
+IsCalled None name shown = (shown.places ≢ []) × IsSameName shown.name name
+IsCalled (Some table) name shown = (source : Name) × (shown.source ≡ Some source) × IsSameName source table × IsSameName shown.name name
+
+-- the column at a place of the row is
+abbrev pub IsCalledAt : Scope → Option Name → Name → ℕ → Type 0
+IsCalledAt scope table name at = (shown : Shown) × (slice_get scope at ≡ Some shown) × IsCalled table name shown
+
+-- the name stands for the column at this place: no other one is called so
+pub record IsColumn (scope : Scope) (table : Option Name) (name : Name) (at : ℕ) (shown : Shown) : Type 0 where
+  pub there : slice_get scope at ≡ Some shown
+  pub called : IsCalled table name shown
+  pub alone : (other : ℕ) → IsCalledAt scope table name other → other ≡ at
+
+-- A name is a term exactly where it stands for one column, and the term is that column; of a bare name behind USING it is
+-- the first of the columns of both sides that isn't NULL.
+abbrev pub NameIsColumn : Type 0
+NameIsColumn = (scope : Scope) (table : Option Name) (name : Name) (t : Term)
+    → (column_of scope table name ≡ Ok t) ↔ ((at : ℕ) × (shown : Shown) × IsColumn scope table name at shown × (t ≡ bare_term (shown_places table at shown)))
+
+-- it is unknown exactly where no column is called so
+abbrev pub UnknownIsNone : Type 0
+UnknownIsNone = (scope : Scope) (table : Option Name) (name : Name)
+    → (column_of scope table name ≡ Err UnknownColumn) ↔ ((at : ℕ) → ¬ IsCalledAt scope table name at)
+
+-- it is ambiguous exactly where two are
+abbrev pub AmbiguousIsTwo : Type 0
+AmbiguousIsTwo = (scope : Scope) (table : Option Name) (name : Name)
+    → (column_of scope table name ≡ Err Ambiguous)
+    ↔ ((first second : ℕ) × (first < second) × IsCalledAt scope table name first × IsCalledAt scope table name second)
+
+-- ---- sources
+
+abbrev pub IsNamedAt : List Known → Name → ℕ → Type 0
+IsNamedAt known name at = (k : Known) × (slice_get known at ≡ Some k) × IsSameName k.name name
+
+-- the first that is named so, so that an item of WITH hides a table
+pub record IsFirst (known : List Known) (name : Name) (at : ℕ) (k : Known) : Type 0 where
+  pub there : slice_get known at ≡ Some k
+  pub named : IsSameName k.name name
+  pub first : (other : ℕ) → other < at → ¬ IsNamedAt known name other
+
+abbrev pub NameIsSource : Type 0
+NameIsSource = (known : List Known) (name : Name) (k : Known) → known_as known name ≡ Ok k → (at : ℕ) × IsFirst known name at k
+
+-- a source is unknown exactly where nothing is named so
+abbrev pub UnknownSourceIsNone : Type 0
+UnknownSourceIsNone = (known : List Known) (name : Name)
+    → (known_as known name ≡ Err UnknownTable) ↔ ((at : ℕ) → ¬ IsNamedAt known name at)
+
+-- ---- types
+
+-- a term has no type exactly where it is none that is typed
+abbrev pub MismatchIsUntyped : Type 0
+MismatchIsUntyped = (answers columns : List Ty) (t : Term) → (term_type answers columns t ≡ Err TypeMismatch) ↔ (¬ IsTerm answers columns t)
