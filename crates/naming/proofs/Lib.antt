@@ -3,3 +3,4 @@ mod OutcomeLemmas
 mod TypeLemmas
 mod ScopeLemmas
 mod SourceLemmas
+mod FoundLemmas

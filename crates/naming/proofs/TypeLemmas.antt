@@ -309,7 +309,7 @@ module _ (tables : List (List Ty)) where
         let (before, ty, earlier, inner, same) = both-ok (λ before ty. before ++ ty ∷ []) (answer_types tables from) (inner_type tables query) types e in
         (before, ty, answers_are from before earlier, inner_is query ty inner, sym same)
 
-    body_is : (body : Body) (types : List Ty) → body_types tables body ≡ Ok types → BodyHasTypes tables body types
+    pub body_is : (body : Body) (types : List Ty) → body_types tables body ≡ Ok types → BodyHasTypes tables body types
     body_is (Body.select from s) types e =
         let (answers, given, more) = followed-ok (answer_types tables from) _ types e in
         let (row, shown, select) = followed-ok (from_types tables answers from) _ types more in

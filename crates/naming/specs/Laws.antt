@@ -1,13 +1,17 @@
 -- What names stand for, in the words of FROM and its columns. (SELECT, "Determination of input data")
-use Rattle.std.specs.Prelude.{◌≡◌, ◌≢◌, ◌↔◌, ◌<◌, ℕ, List, [], Option, Some, None, Ok, Err, slice_get, true}
+use Rattle.std.specs.Prelude.{◌≡◌, ◌≢◌, ◌↔◌, ◌<◌, ℕ, List, [], Option, Some, None, Ok, Err, slice_get, true, All}
 use Rattle.std.specs.Str.{str_eq_ignore_ascii_case}
 use Rattle.values.specs.declared.fault.Fault.TheVariants.{Ambiguous, TypeMismatch, UnknownColumn, UnknownTable}
 use Rattle.values.specs.declared.value.Ty.{Ty}
 use Rattle.expr.specs.Term.{Term}
-use Rattle.meaning.specs.Typed.{IsTerm}
+use Rattle.meaning.specs.Query.{Body}
+use Rattle.meaning.specs.Typed.{BodyHasTypes, IsTerm, IsTyped}
+use Rattle.syntax.specs.StatementTree.{StatementTree}
 use Rattle.syntax.specs.Tree.{Name}
 use Rattle.naming.specs.Scope.{Scope, Shown, bare_term, column_of, shown_places}
 use Rattle.naming.specs.Sources.{Known, known_as}
+use Rattle.naming.specs.Statement.{Named, named}
+use Rattle.naming.specs.Typed.{Table, Types, column_types, known_tables}
 use Rattle.naming.specs.Types.{term_type}
 
 -- two names are the same where they differ in ASCII case alone
@@ -72,3 +76,14 @@ UnknownSourceIsNone = (known : List Known) (name : Name)
 -- a term has no type exactly where it is none that is typed
 abbrev pub MismatchIsUntyped : Type 0
 MismatchIsUntyped = (answers columns : List Ty) (t : Term) → (term_type answers columns t ≡ Err TypeMismatch) ↔ (¬ IsTerm answers columns t)
+
+-- a query is typed
+abbrev pub IsTypedBody : List (List Ty) → Body → Type 0
+IsTypedBody tables body = (types : List Ty) × BodyHasTypes tables body types
+
+-- A statement is a query exactly where its names make it one and it is typed as its meaning wants it, and so is what else is
+-- written in it.
+abbrev pub TypedIsTaken : Type 0
+TypedIsTaken = (tables : List Table) (tree : StatementTree) (n : Named)
+    → Types tables tree n
+    ↔ ((named (known_tables tables) tree ≡ Ok n) × IsTyped (column_types tables) n.query × All (IsTypedBody (column_types tables)) n.beside)

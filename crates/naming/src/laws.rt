@@ -5,7 +5,7 @@ ghost use Rattle.values.specs.declared.fault.Fault.TheVariants.{NoMemory};
 ghost use Rattle.meaning.specs.Typed.{IsTyped};
 ghost use Rattle.syntax.specs.StatementTree.{StatementTree};
 ghost use Rattle.naming.specs.Examples.{RefusedNames, RefusedPlaces, TakenStatements};
-ghost use Rattle.naming.specs.Laws.{AmbiguousIsTwo, MismatchIsUntyped, NameIsColumn, NameIsSource, UnknownIsNone, UnknownSourceIsNone};
+ghost use Rattle.naming.specs.Laws.{AmbiguousIsTwo, MismatchIsUntyped, NameIsColumn, NameIsSource, TypedIsTaken, UnknownIsNone, UnknownSourceIsNone};
 ghost use Rattle.naming.specs.Statement.{Named};
 ghost use Rattle.naming.specs.Typed.{IsRefused, Table, Types, column_types};
 
@@ -36,6 +36,11 @@ pub fn refused_is_no_query()
 pub fn typed_as_meaning()
     ensures { (tables : List Table) (tree : StatementTree) (query : Named)
         → Types tables tree query → IsTyped (column_types tables) query.query }
+{}
+
+/// A statement is a query exactly where its names make it one that is typed, and all else is that is written in it.
+pub fn typed_is_taken()
+    ensures { TypedIsTaken }
 {}
 
 /// A column's name is the one column that is called so; it is unknown where none is, and ambiguous where two are.
