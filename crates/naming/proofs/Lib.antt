@@ -4,3 +4,4 @@ mod TypeLemmas
 mod ScopeLemmas
 mod SourceLemmas
 mod FoundLemmas
+mod SameLemmas

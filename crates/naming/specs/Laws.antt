@@ -4,10 +4,11 @@ use Rattle.std.specs.Str.{str_eq_ignore_ascii_case}
 use Rattle.values.specs.declared.fault.Fault.TheVariants.{Ambiguous, TypeMismatch, UnknownColumn, UnknownTable}
 use Rattle.values.specs.declared.value.Ty.{Ty}
 use Rattle.expr.specs.Term.{Term}
-use Rattle.meaning.specs.Query.{Body}
+use Rattle.meaning.specs.Query.{Aggregate, Body, InnerQuery, WindowCall}
 use Rattle.meaning.specs.Typed.{BodyHasTypes, IsTerm, IsTyped}
 use Rattle.syntax.specs.StatementTree.{StatementTree}
 use Rattle.syntax.specs.Tree.{Name}
+use Rattle.naming.specs.Same.{is_same_aggregate, is_same_call, is_same_inner, is_same_term}
 use Rattle.naming.specs.Scope.{Scope, Shown, bare_term, column_of, shown_places}
 use Rattle.naming.specs.Sources.{Known, known_as}
 use Rattle.naming.specs.Statement.{Named, named}
@@ -87,3 +88,12 @@ abbrev pub TypedIsTaken : Type 0
 TypedIsTaken = (tables : List Table) (tree : StatementTree) (n : Named)
     → Types tables tree n
     ↔ ((named (known_tables tables) tree ≡ Ok n) × IsTyped (column_types tables) n.query × All (IsTypedBody (column_types tables)) n.beside)
+
+-- ---- equal trees
+
+-- terms, aggregates, windowed functions and inner queries are told to be the same exactly where they are equal
+pub record SameIsEqual : Type 0 where
+  pub terms : (x y : Term) → (is_same_term x y ≡ true) ↔ (x ≡ y)
+  pub aggregates : (x y : Aggregate) → (is_same_aggregate x y ≡ true) ↔ (x ≡ y)
+  pub calls : (x y : WindowCall) → (is_same_call x y ≡ true) ↔ (x ≡ y)
+  pub inner_queries : (x y : InnerQuery) → (is_same_inner x y ≡ true) ↔ (x ≡ y)

@@ -5,7 +5,7 @@ ghost use Rattle.values.specs.declared.fault.Fault.TheVariants.{NoMemory};
 ghost use Rattle.meaning.specs.Typed.{IsTyped};
 ghost use Rattle.syntax.specs.StatementTree.{StatementTree};
 ghost use Rattle.naming.specs.Examples.{RefusedNames, RefusedPlaces, TakenStatements};
-ghost use Rattle.naming.specs.Laws.{AmbiguousIsTwo, MismatchIsUntyped, NameIsColumn, NameIsSource, TypedIsTaken, UnknownIsNone, UnknownSourceIsNone};
+ghost use Rattle.naming.specs.Laws.{AmbiguousIsTwo, MismatchIsUntyped, NameIsColumn, NameIsSource, SameIsEqual, TypedIsTaken, UnknownIsNone, UnknownSourceIsNone};
 ghost use Rattle.naming.specs.Statement.{Named};
 ghost use Rattle.naming.specs.Typed.{IsRefused, Table, Types, column_types};
 
@@ -59,4 +59,9 @@ pub fn names_are_sources()
 /// Types don't agree in a term exactly where it has none.
 pub fn mismatch_is_untyped()
     ensures { MismatchIsUntyped }
+{}
+
+/// Terms, aggregates, windowed functions and inner queries are told to be the same exactly where they are equal.
+pub fn same_is_equal()
+    ensures { SameIsEqual }
 {}
