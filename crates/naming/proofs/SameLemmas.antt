@@ -1,5 +1,5 @@
 -- What is told to be the same is equal.
-use Rattle.std.proofs.Common.{◌≡◌, ◌↔◌, Less, Equal, Greater, Bool, true, false, ◌&&◌, ◌==◌, ℕ, List, [], ◌∷◌, Option, Some, None, nat_eq, refl, sym, subst, ap, ◌∙◌}
+use Rattle.std.proofs.Common.{◌≡◌, ◌↔◌, Less, Equal, Greater, Bool, true, false, ◌&&◌, ℕ, List, [], ◌∷◌, Option, Some, None, nat_eq, refl, sym, subst, ap, ◌∙◌}
 use Rattle.std.specs.Ordering.{is_eq}
 use Rattle.std.specs.Cmp.{tied_itself}
 use Rattle.std.proofs.lemmas.Bool.{eq-eqb, eqb-true}
@@ -352,7 +352,7 @@ select-reads s t e =
     let (d, h) = both_are (are_same is_same_call s.windows t.windows) _ o in
     let (k, l) = both_are (are_same is_same_term s.columns t.columns) _ h in
     let make : Term → Option Grouping → List WindowCall → List Term → Bool → Select =
-        λ condition grouping windows columns distinct. record { condition = condition; grouping = grouping; windows = windows; columns = columns; distinct = distinct } in
+    λ condition grouping windows columns distinct. record { condition = condition; grouping = grouping; windows = windows; columns = columns; distinct = distinct } in
     ap3 (λ condition grouping windows. make condition grouping windows s.columns s.distinct) s.condition t.condition s.grouping t.grouping s.windows t.windows
     (same_term s.condition t.condition p) (option-reads is_same_grouping grouping-reads s.grouping t.grouping q) (are_same-reads is_same_call call-reads s.windows t.windows d)
     ∙ ap2 (make t.condition t.grouping t.windows) s.columns t.columns s.distinct t.distinct (are_same-reads is_same_term same_term s.columns t.columns k)

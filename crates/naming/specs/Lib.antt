@@ -9,4 +9,6 @@ pub mod Statement
 pub mod Types
 pub mod Typed
 pub mod Laws
-pub mod Examples
+pub mod Worked
+pub mod RefusedExamples
+pub mod TakenExamples

@@ -4,15 +4,18 @@ ghost use Rattle.values.specs.declared.fault.Fault.{Fault};
 ghost use Rattle.values.specs.declared.fault.Fault.TheVariants.{NoMemory};
 ghost use Rattle.meaning.specs.Typed.{IsTyped};
 ghost use Rattle.syntax.specs.StatementTree.{StatementTree};
-ghost use Rattle.naming.specs.Examples.{RefusedNames, RefusedPlaces, TakenStatements};
 ghost use Rattle.naming.specs.Laws.{AmbiguousIsTwo, MismatchIsUntyped, NameIsColumn, NameIsSource, SameIsEqual, TypedIsTaken, UnknownIsNone, UnknownSourceIsNone};
+ghost use Rattle.naming.specs.RefusedExamples.{RefusedFrames, RefusedNames, RefusedPlaces, RefusedTypes};
 ghost use Rattle.naming.specs.Statement.{Named};
+ghost use Rattle.naming.specs.TakenExamples.{TakenStatements};
 ghost use Rattle.naming.specs.Typed.{IsRefused, Table, Types, column_types};
 
 /// Statements over two tables that are refused, each by its fault.
 pub fn refused_statements()
     ensures names { RefusedNames }
+    ensures types { RefusedTypes }
     ensures places { RefusedPlaces }
+    ensures frames { RefusedFrames }
 {}
 
 /// Statements over two tables, and the queries that they are.
