@@ -5,3 +5,4 @@ mod ScopeLemmas
 mod SourceLemmas
 mod FoundLemmas
 mod SameLemmas
+mod LimitLemmas

@@ -1,17 +1,21 @@
 -- What names stand for, in the words of FROM and its columns. (SELECT, "Determination of input data")
-use Rattle.std.specs.Prelude.{◌≡◌, ◌≢◌, ◌↔◌, ◌<◌, ℕ, List, [], Option, Some, None, Ok, Err, slice_get, true, All}
+use Rattle.std.specs.Prelude.{◌≡◌, ◌≢◌, ◌↔◌, ◌<◌, ◌≤◌, length, ℕ, List, [], Option, Some, None, Result, Ok, Err, slice_get, true, All}
+use Rattle.std.specs.List.{AllPairs}
 use Rattle.std.specs.Str.{str_eq_ignore_ascii_case}
+use Rattle.values.specs.declared.fault.Fault.{Fault}
 use Rattle.values.specs.declared.fault.Fault.TheVariants.{Ambiguous, TypeMismatch, UnknownColumn, UnknownTable}
 use Rattle.values.specs.declared.value.Ty.{Ty}
 use Rattle.expr.specs.Term.{Term}
-use Rattle.meaning.specs.Query.{Aggregate, Body, InnerQuery, WindowCall}
+use Rattle.meaning.specs.Query.{Aggregate, Body, InnerQuery, WindowCall, body_width}
 use Rattle.meaning.specs.Typed.{BodyHasTypes, IsTerm, IsTyped}
+use Rattle.syntax.specs.ExprTree.{FromTree, QueryTree}
 use Rattle.syntax.specs.StatementTree.{StatementTree}
 use Rattle.syntax.specs.Tree.{Name}
 use Rattle.naming.specs.Same.{is_same_aggregate, is_same_call, is_same_inner, is_same_term}
 use Rattle.naming.specs.Scope.{Scope, Shown, bare_term, column_of, shown_places}
-use Rattle.naming.specs.Sources.{Known, known_as}
-use Rattle.naming.specs.Statement.{Named, named}
+use Rattle.naming.specs.Expression.{Answers}
+use Rattle.naming.specs.Sources.{Known, Sources, known_as}
+use Rattle.naming.specs.Statement.{Named, Queried, are_distinct, from_of, max_columns, max_sources, named, sources_of_body}
 use Rattle.naming.specs.Typed.{Table, Types, column_types, known_tables}
 use Rattle.naming.specs.Types.{term_type}
 
@@ -97,3 +101,33 @@ pub record SameIsEqual : Type 0 where
   pub aggregates : (x y : Aggregate) → (is_same_aggregate x y ≡ true) ↔ (x ≡ y)
   pub calls : (x y : WindowCall) → (is_same_call x y ≡ true) ↔ (x ≡ y)
   pub inner_queries : (x y : InnerQuery) → (is_same_inner x y ≡ true) ↔ (x ≡ y)
+
+-- ---- limits, and names that stand twice
+
+-- A query has one name for each column, at most 100 of them, and at most 64 sources, each mention of an item of WITH with
+-- those of the item.
+pub record IsWithinLimits (n : Named) : Type 0 where
+  pub named : length n.names ≡ body_width n.query.body
+  pub columns : length n.names ≤ max_columns
+  pub sources : sources_of_body n.query.body ≤ max_sources
+
+abbrev pub TakenIsWithin : Type 0
+TakenIsWithin = (tables : List Table) (tree : StatementTree) (n : Named) → Types tables tree n → IsWithinLimits n
+
+-- no two of the names are the same
+abbrev pub AreDistinct : List Name → Type 0
+AreDistinct = AllPairs (λ a b. ¬ IsSameName b a)
+
+-- the items of WITH, the columns of an item and the windows of a SELECT pass exactly where no two have one name
+abbrev pub DistinctIsSaid : Type 0
+DistinctIsSaid = (names : List Name) → (are_distinct names ≡ true) ↔ AreDistinct names
+
+-- two sources are called the same, where both have names
+abbrev pub AreSameSources : Option Name → Option Name → Type 0
+AreSameSources (Some a) (Some b) = IsSameName b a
+AreSameSources a b = ⊥
+
+-- no two sources of a FROM that is taken are called the same
+abbrev pub SourcesAreDistinct : Type 0
+SourcesAreDistinct = (known : List Known) (queries : QueryTree → Result Queried Fault) (answers : Answers) (tree : FromTree) (f : Sources)
+    → from_of known queries answers tree ≡ Ok f → AllPairs (λ a b. ¬ AreSameSources a b) f.names

@@ -4,7 +4,8 @@ ghost use Rattle.values.specs.declared.fault.Fault.{Fault};
 ghost use Rattle.values.specs.declared.fault.Fault.TheVariants.{NoMemory};
 ghost use Rattle.meaning.specs.Typed.{IsTyped};
 ghost use Rattle.syntax.specs.StatementTree.{StatementTree};
-ghost use Rattle.naming.specs.Laws.{AmbiguousIsTwo, MismatchIsUntyped, NameIsColumn, NameIsSource, SameIsEqual, TypedIsTaken, UnknownIsNone, UnknownSourceIsNone};
+ghost use Rattle.naming.specs.Laws.{AmbiguousIsTwo, NameIsColumn, NameIsSource, UnknownIsNone, UnknownSourceIsNone};
+ghost use Rattle.naming.specs.Laws.{DistinctIsSaid, MismatchIsUntyped, SameIsEqual, SourcesAreDistinct, TakenIsWithin, TypedIsTaken};
 ghost use Rattle.naming.specs.RefusedExamples.{RefusedFrames, RefusedNames, RefusedPlaces, RefusedTypes};
 ghost use Rattle.naming.specs.Statement.{Named};
 ghost use Rattle.naming.specs.TakenExamples.{TakenStatements};
@@ -67,4 +68,15 @@ pub fn mismatch_is_untyped()
 /// Terms, aggregates, windowed functions and inner queries are told to be the same exactly where they are equal.
 pub fn same_is_equal()
     ensures { SameIsEqual }
+{}
+
+/// A query has a name for each of its columns, and is within the limits of columns and of sources.
+pub fn taken_is_within()
+    ensures { TakenIsWithin }
+{}
+
+/// No two items of WITH, columns of an item, windows of a SELECT or sources of a FROM have one name.
+pub fn names_are_distinct()
+    ensures names { DistinctIsSaid }
+    ensures sources { SourcesAreDistinct }
 {}
