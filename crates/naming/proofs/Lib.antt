@@ -6,3 +6,4 @@ mod SourceLemmas
 mod FoundLemmas
 mod SameLemmas
 mod LimitLemmas
+mod PlaceLemmas

@@ -78,7 +78,7 @@ same_function f h e = absurd cc
 -- ---- terms
 
 mutual
-  same_term : (t u : Term) → is_same_term t u ≡ true → t ≡ u
+  pub same_term : (t u : Term) → is_same_term t u ≡ true → t ≡ u
   same_term (Term.literal v) (Term.literal u) e = ap Term.literal (same_datum v u e)
   same_term (Term.column i) (Term.column j) e = ap Term.column (eqb-true i j e)
   same_term (Term.call f x) (Term.call h y) e =
@@ -134,7 +134,7 @@ mutual
   same_arms xs ys e = absurd cc
 
 mutual
-  itself_term : (t : Term) → is_same_term t t ≡ true
+  pub itself_term : (t : Term) → is_same_term t t ≡ true
   itself_term (Term.literal v) = itself_datum v
   itself_term (Term.column i) = itself_nat i
   itself_term (Term.call f x) = both_hold (nat_eq (function_place f) (function_place f)) _ (itself_nat (function_place f)) (itself_term x)

@@ -1,19 +1,23 @@
 -- What names stand for, in the words of FROM and its columns. (SELECT, "Determination of input data")
-use Rattle.std.specs.Prelude.{◌≡◌, ◌≢◌, ◌↔◌, ◌<◌, ◌≤◌, length, ℕ, List, [], Option, Some, None, Result, Ok, Err, slice_get, true, All}
+use Rattle.std.specs.Prelude.{◌≡◌, ◌≢◌, ◌↔◌, ◌<◌, ◌≤◌, length, ℕ, List, [], Option, Some, None, Result, Ok, Err, slice_get, Bool, true, false, All, ⊤}
 use Rattle.std.specs.List.{AllPairs}
 use Rattle.std.specs.Str.{str_eq_ignore_ascii_case}
 use Rattle.values.specs.declared.fault.Fault.{Fault}
-use Rattle.values.specs.declared.fault.Fault.TheVariants.{Ambiguous, TypeMismatch, UnknownColumn, UnknownTable}
+use Rattle.values.specs.declared.fault.Fault.TheVariants.{Ambiguous, BareColumn, TypeMismatch, UnknownColumn, UnknownTable}
 use Rattle.values.specs.declared.value.Ty.{Ty}
 use Rattle.expr.specs.Term.{Term}
 use Rattle.meaning.specs.Query.{Aggregate, Body, InnerQuery, WindowCall, body_width}
 use Rattle.meaning.specs.Typed.{BodyHasTypes, IsTerm, IsTyped}
-use Rattle.syntax.specs.ExprTree.{FromTree, QueryTree}
+use Rattle.syntax.specs.ExprTree.{ExprTree, FromTree, QueryTree, plain}
 use Rattle.syntax.specs.StatementTree.{StatementTree}
 use Rattle.syntax.specs.Tree.{Name}
+use Rattle.syntax.specs.declared.expr.Function.{Function}
+use Rattle.syntax.specs.declared.expr.Function.TheVariants as w
 use Rattle.naming.specs.Same.{is_same_aggregate, is_same_call, is_same_inner, is_same_term}
 use Rattle.naming.specs.Scope.{Scope, Shown, bare_term, column_of, shown_places}
-use Rattle.naming.specs.Expression.{Answers}
+use Rattle.naming.specs.Expression.{Answers, term_of}
+use Rattle.naming.specs.Parts.{parts}
+use Rattle.naming.specs.Places.{columns_say, groups_say}
 use Rattle.naming.specs.Sources.{Known, Sources, known_as}
 use Rattle.naming.specs.Statement.{Named, Queried, are_distinct, from_of, max_columns, max_sources, named, sources_of_body}
 use Rattle.naming.specs.Typed.{Table, Types, column_types, known_tables}
@@ -131,3 +135,36 @@ AreSameSources a b = ⊥
 abbrev pub SourcesAreDistinct : Type 0
 SourcesAreDistinct = (known : List Known) (queries : QueryTree → Result Queried Fault) (answers : Answers) (tree : FromTree) (f : Sources)
     → from_of known queries answers tree ≡ Ok f → AllPairs (λ a b. ¬ AreSameSources a b) f.names
+
+-- ---- places of a SELECT
+
+-- Behind groups a column is bare exactly where it is one of FROM's that no expression of GROUP BY is.
+abbrev pub BareIsBeside : Type 0
+BareIsBeside = (answers : Answers) (scope : Scope) (by : List Term) (aggregates : List Aggregate) (table : Option Name) (name : Name)
+    → (groups_say answers scope by aggregates (ExprTree.Column table name) ≡ Err BareColumn)
+    ↔ ((t : Term) × (column_of scope table name ≡ Ok t) × All (λ key. key ≢ t) by)
+
+-- a function of the values of one row; an aggregate and a window function is none
+abbrev pub is_scalar : Function → Bool
+is_scalar w.Abs = true
+is_scalar w.Coalesce = true
+is_scalar w.Hex = true
+is_scalar w.IfNull = true
+is_scalar w.Iif = true
+is_scalar w.Length = true
+is_scalar w.Lower = true
+is_scalar w.NullIf = true
+is_scalar w.TypeOf = true
+is_scalar w.Upper = true
+is_scalar _ = false
+
+-- if it is a call, it is one of such a function, without FILTER and OVER
+abbrev pub IsScalar : ExprTree → Type 0
+IsScalar (ExprTree.CountRows behind) = ⊥
+IsScalar (ExprTree.Call function items behind) = (behind ≡ plain) × (is_scalar function ≡ true)
+IsScalar e = ⊤
+
+-- In WHERE, ON, GROUP BY and the arguments of aggregates, whose terms speak of the columns of FROM, stands neither an
+-- aggregate nor a window function.
+abbrev pub ColumnsAreScalar : Type 0
+ColumnsAreScalar = (answers : Answers) (scope : Scope) (e : ExprTree) (t : Term) → term_of answers (columns_say scope) e ≡ Ok t → All IsScalar (parts e)

@@ -142,6 +142,10 @@ scalar_filter =
 abbrev pub order_out_of_range : StatementTree
 order_out_of_range = ordered (select (shown id ∷ []) item) (by_term (number 2))
 
+-- SELECT id FROM item ORDER BY 0
+abbrev pub order_by_zero : StatementTree
+order_by_zero = ordered (select (shown id ∷ []) item) (by_term (number 0))
+
 -- SELECT 1 FROM item GROUP BY 1
 abbrev pub group_by_number : StatementTree
 group_by_number = statement (select_by (shown (number 1) ∷ []) item (number 1 ∷ []))
@@ -194,6 +198,7 @@ RefusedPlaces =
     IsFault bare f.BareColumn × IsFault star_beside_aggregate f.BareColumn
     × IsFault aggregate_in_where f.WrongPlace × IsFault hidden_order f.WrongPlace × IsFault window_in_window f.WrongPlace × IsFault aggregate_in_aggregate f.WrongPlace
     × IsFault rank_without_over f.WrongPlace × IsFault scalar_over f.WrongPlace × IsFault scalar_filter f.WrongPlace × IsFault order_out_of_range f.WrongPlace
+    × IsFault order_by_zero f.WrongPlace
     × IsFault group_by_number f.WrongPlace × IsFault star_of_nothing f.WrongPlace × IsFault sum_behind_compound f.WrongPlace
 
 abbrev pub RefusedFrames : Type 0

@@ -4,7 +4,7 @@ ghost use Rattle.values.specs.declared.fault.Fault.{Fault};
 ghost use Rattle.values.specs.declared.fault.Fault.TheVariants.{NoMemory};
 ghost use Rattle.meaning.specs.Typed.{IsTyped};
 ghost use Rattle.syntax.specs.StatementTree.{StatementTree};
-ghost use Rattle.naming.specs.Laws.{AmbiguousIsTwo, NameIsColumn, NameIsSource, UnknownIsNone, UnknownSourceIsNone};
+ghost use Rattle.naming.specs.Laws.{AmbiguousIsTwo, BareIsBeside, ColumnsAreScalar, NameIsColumn, NameIsSource, UnknownIsNone, UnknownSourceIsNone};
 ghost use Rattle.naming.specs.Laws.{DistinctIsSaid, MismatchIsUntyped, SameIsEqual, SourcesAreDistinct, TakenIsWithin, TypedIsTaken};
 ghost use Rattle.naming.specs.RefusedExamples.{RefusedFrames, RefusedNames, RefusedPlaces, RefusedTypes};
 ghost use Rattle.naming.specs.Statement.{Named};
@@ -79,4 +79,11 @@ pub fn taken_is_within()
 pub fn names_are_distinct()
     ensures names { DistinctIsSaid }
     ensures sources { SourcesAreDistinct }
+{}
+
+/// Behind groups a column is bare exactly where no expression of GROUP BY is it; and where expressions speak of the columns
+/// of FROM, neither an aggregate nor a window function stands in them.
+pub fn places_are_kept()
+    ensures bare { BareIsBeside }
+    ensures scalar { ColumnsAreScalar }
 {}
