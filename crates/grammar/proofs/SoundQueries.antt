@@ -300,7 +300,7 @@ module _ (source : ℕ → ℕ → List ℕ) (inner : Inner) (d : ℕ) (inside :
 
   -- Sources
 
-  names_sound : (ts : Rest) → Sound 0 (λ h ns from after. (h ≡ 0) × Listed Names ns from after) d (names ts) ts
+  pub names_sound : (ts : Rest) → Sound 0 (λ h ns from after. (h ≡ 0) × Listed Names ns from after) d (names ts) ts
   names_sound ts x e =
       let w = sound_series 0 (λ place. Flat Names) (λ place h ns from after. (h ≡ 0) × Listed Names ns from after) d
       (λ place. a_name) after_comma (Lexeme.Punctuation s.Comma) finds_comma (λ place from. name_sound d from)
