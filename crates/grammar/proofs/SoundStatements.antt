@@ -282,7 +282,7 @@ module _ (source : ℕ → ℕ → List ℕ) where
       (IsItem.item b.front.front.1
       (subst (λ us. Columns t.0.1 b.front.mid (Lexeme.Reserved k.As ∷ us)) b.rest.1 b.front.rest.1) b.rest.2)
 
-  item_sound : (d : ℕ) (ts : Rest) → Sound 0 (IsItem source) (suc d) (an_item source d ts) ts
+  pub item_sound : (d : ℕ) (ts : Rest) → Sound 0 (IsItem source) (suc d) (an_item source d ts) ts
   item_sound d ts =
       sound_made 0 (Both (Before (Lexeme.Reserved k.As) IsHeading) IsQuery) (IsItem source) (suc d) (item_of source)
       (both (heading source ts) (item_query source d)) ts (λ h t after b. item_is h t ts after b)
