@@ -15,3 +15,4 @@ pub mod SoundParts
 pub mod SoundFronts
 pub mod SoundExprs
 pub mod SoundQueries
+pub mod SoundStatements

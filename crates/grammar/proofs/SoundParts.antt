@@ -101,7 +101,7 @@ module _ (source : ℕ → ℕ → List ℕ) where
 
     -- Lists of expressions
 
-    item_sound : (b : Bool) (ts : Rest) → Sound 1 (ExpressesItem source b) d (item source inner d b ts) ts
+    pub item_sound : (b : Bool) (ts : Rest) → Sound 1 (ExpressesItem source b) d (item source inner d b ts) ts
     item_sound false ts x e =
         let w = one_sound ts x e in
         record { h = w.h; is = w.is; least = w.least; within = w.within; spelt = ExpressesItem.expression w.spelt }
@@ -165,7 +165,7 @@ module _ (source : ℕ → ℕ → List ℕ) where
         → Terms source i t from after
     with_levels h i t from after e x = subst (λ n. Terms source n t from after) e x
 
-    term_sound : (ts : Rest) → Sound 1 IsTerm d (term source inner d ts) ts
+    pub term_sound : (ts : Rest) → Sound 1 IsTerm d (term source inner d ts) ts
     term_sound ts x e =
         sound_less (max 1 0) 1 IsTerm d ts x (omega arith)
         (sound_both 1 0 (Expresses source 1) (Flat Directs) d (one source inner d ts) direction ts (one_sound ts)
@@ -303,7 +303,7 @@ module _ (source : ℕ → ℕ → List ℕ) where
     abbrev pub IsArm : Phrase (ExprTree × ExprTree)
     IsArm = Both (Before (Lexeme.Reserved k.Then) (Expresses source 1)) (Expresses source 1)
 
-    arm_sound : (ts : Rest) → Sound 1 IsArm d (arm source inner d ts) ts
+    pub arm_sound : (ts : Rest) → Sound 1 IsArm d (arm source inner d ts) ts
     arm_sound ts x e =
         sound_less (max 1 1) 1 IsArm d ts x (omega arith)
         (sound_both 1 1 (Before (Lexeme.Reserved k.Then) (Expresses source 1)) (Expresses source 1) d

@@ -69,7 +69,7 @@ module _ (source : ℕ → ℕ → List ℕ) (inner : Inner) (d : ℕ) (inside :
   abbrev pub IsDefinition : Phrase (Name × WindowTree)
   IsDefinition = Both (Before (Lexeme.Reserved k.As) (Flat Names)) (Windows source)
 
-  definition_sound : (ts : Rest) → Sound 0 IsDefinition d (definition source inner d ts) ts
+  pub definition_sound : (ts : Rest) → Sound 0 IsDefinition d (definition source inner d ts) ts
   definition_sound ts x e =
       sound_less (max 0 0) 0 IsDefinition d ts x (omega arith)
       (sound_both 0 0 (Before (Lexeme.Reserved k.As) (Flat Names)) (Windows source) d
@@ -138,7 +138,7 @@ module _ (source : ℕ → ℕ → List ℕ) (inner : Inner) (d : ℕ) (inside :
         spelt = IsResult.value w.spelt (title_found (source (length ts) (length a.0.rest)) a.0.rest b.0 b.1);
       })
 
-  result_sound : (ts : Rest) → Sound 0 (IsResult source) d (result source inner d ts) ts
+  pub result_sound : (ts : Rest) → Sound 0 (IsResult source) d (result source inner d ts) ts
   result_sound (Lexeme.Punctuation s.Star ∷ ts) x e = sound_flat (IsResult source) d _ ts ResultTree.All x e IsResult.all
   result_sound (Lexeme.Name q n ∷ Lexeme.Punctuation s.Dot ∷ Lexeme.Punctuation s.Star ∷ ts) x e =
       sound_flat (IsResult source) d _ ts (ResultTree.AllOf n) x e IsResult.all_of
@@ -300,7 +300,7 @@ module _ (source : ℕ → ℕ → List ℕ) (inner : Inner) (d : ℕ) (inside :
 
   -- Sources
 
-  names_sound : (ts : Rest) → Sound 0 (λ h ns from after. (h ≡ 0) × Listed Names ns from after) d (names ts) ts
+  pub names_sound : (ts : Rest) → Sound 0 (λ h ns from after. (h ≡ 0) × Listed Names ns from after) d (names ts) ts
   names_sound ts x e =
       let w = sound_series 0 (λ place. Flat Names) (λ place h ns from after. (h ≡ 0) × Listed Names ns from after) d
       (λ place. a_name) after_comma (Lexeme.Punctuation s.Comma) finds_comma (λ place from. name_sound d from)

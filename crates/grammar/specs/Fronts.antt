@@ -247,11 +247,16 @@ unit_at (Lexeme.Reserved k.Range ∷ ts) = Some (u.Range, ts)
 unit_at (Lexeme.Reserved k.Groups ∷ ts) = Some (u.Groups, ts)
 unit_at _ = None
 
+-- behind EXCLUDE; all are the tokens from EXCLUDE on
+abbrev pub excluded : Rest → Rest → Exclusion × Rest
+excluded all (Lexeme.Reserved k.No ∷ Lexeme.Reserved k.Others ∷ ts) = (x.NoOthers, ts)
+excluded all (Lexeme.Reserved k.Current ∷ Lexeme.Reserved k.Row ∷ ts) = (x.CurrentRow, ts)
+excluded all (Lexeme.Reserved k.Group ∷ ts) = (x.Group, ts)
+excluded all (Lexeme.Reserved k.Ties ∷ ts) = (x.Ties, ts)
+excluded all _ = (x.NoOthers, all)
+
 abbrev pub exclusion : Rest → Exclusion × Rest
-exclusion (Lexeme.Reserved k.Exclude ∷ Lexeme.Reserved k.No ∷ Lexeme.Reserved k.Others ∷ ts) = (x.NoOthers, ts)
-exclusion (Lexeme.Reserved k.Exclude ∷ Lexeme.Reserved k.Current ∷ Lexeme.Reserved k.Row ∷ ts) = (x.CurrentRow, ts)
-exclusion (Lexeme.Reserved k.Exclude ∷ Lexeme.Reserved k.Group ∷ ts) = (x.Group, ts)
-exclusion (Lexeme.Reserved k.Exclude ∷ Lexeme.Reserved k.Ties ∷ ts) = (x.Ties, ts)
+exclusion (Lexeme.Reserved k.Exclude ∷ ts) = excluded (Lexeme.Reserved k.Exclude ∷ ts) ts
 exclusion ts = (x.NoOthers, ts)
 
 -- what is behind PARTITION BY, ORDER BY, GROUP BY

@@ -5,3 +5,4 @@ pub mod Statements
 pub mod Fronts
 pub mod Reading
 pub mod Examples
+pub mod Read

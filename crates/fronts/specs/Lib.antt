@@ -1,0 +1,2 @@
+pub mod ExpressionFronts
+pub mod QueryFronts

@@ -1,0 +1,2 @@
+pub mod TreeView
+pub mod StatementView

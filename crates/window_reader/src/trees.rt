@@ -1,0 +1,66 @@
+//! The trees of these phrases.
+ghost use Rattle.statement_trees.specs.TreeView.{behind_of, expr_of, over_of, term_of, window_of};
+ghost use Rattle.std.specs.Prelude.{◌≡◌, IfOk, option_map, string_bytes};
+ghost use Rattle.syntax.specs.ExprTree.{BehindTree, OverTree, WindowTree};
+ghost use Rattle.window_reader.specs.Views.{order_of, present_of, some_of};
+
+use statement_trees::{Behind, Expr, Over, Term, Window};
+use std::alloc::{AllocError, Global};
+use syntax::{Direction, Frame};
+
+/// An expression that may be absent, behind a pointer.
+pub fn boxed(alloc: Global, inner: Option<Expr>) -> Result<Option<Box<Expr>>, AllocError>
+    ensures { IfOk result (λ b. option_map (λ e. expr_of e.value) b ≡ option_map expr_of inner) }
+{
+    match inner {
+        None => Ok(None),
+        Some(tree) => Ok(Some(Box::new(alloc, tree)?)),
+    }
+}
+
+pub(crate) fn standing(
+    alloc: Global,
+    filter: Option<Expr>,
+    over: Over,
+) -> Result<Behind, AllocError>
+    ensures { IfOk result (λ b. behind_of b ≡ BehindTree.Behind (present_of filter) (over_of over)) }
+{
+    Ok(Behind {
+        filter: boxed(alloc, filter)?,
+        over,
+    })
+}
+
+pub(crate) fn over_nothing() -> Over
+    ensures { over_of result ≡ OverTree.No_over }
+{
+    Over::Absent
+}
+
+pub(crate) fn over_name(name: String) -> Over
+    ensures { over_of result ≡ OverTree.OverName (string_bytes name) }
+{
+    Over::Name(name)
+}
+
+pub(crate) fn over_window(alloc: Global, window: Window) -> Result<Over, AllocError>
+    ensures { IfOk result (λ o. over_of o ≡ OverTree.Over (window_of window)) }
+{
+    Ok(Over::Window(Box::new(alloc, window)?))
+}
+
+pub(crate) fn windowed(partition: Vec<Expr>, order: Vec<Term>, frame: Option<Frame>) -> Window
+    ensures { window_of result ≡ WindowTree.Window (some_of partition) (order_of order) frame }
+{
+    Window {
+        partition,
+        order,
+        frame,
+    }
+}
+
+pub(crate) fn directed(value: Expr, direction: Direction) -> Term
+    ensures { term_of result ≡ (expr_of value, direction) }
+{
+    Term { value, direction }
+}
