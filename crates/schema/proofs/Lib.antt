@@ -4,5 +4,6 @@ pub mod KeyLemmas
 pub mod KeyStepLemmas
 pub mod ColumnLemmas
 pub mod CreatedLemmas
+pub mod ServedLemmas
 pub mod CatalogLemmas
 pub mod OneLemmas

@@ -9,6 +9,7 @@ ghost use Rattle.schema.specs.Created.{AreKeys, AreServed, IsColumn, IsServed, I
 ghost use Rattle.schema.specs.Names.{AreDistinct, IsReserved, IsSameName};
 ghost use Rattle.schema.specs.Refused.{IsRefused};
 
+use crate::served::{constraints_are_served, has_rowids};
 use crate::{Column, Table};
 use std::alloc::{AllocError, Global};
 use syntax::{Column as ColumnDefinition, ColumnConstraint, ColumnType, CreateTable, KeyOrder};
@@ -35,7 +36,7 @@ pub(crate) fn is_same_name(a: &str, b: &str) -> bool
 }
 
 /// Whether one of the columns has this name.
-fn is_named(columns: &[ColumnDefinition], name: &str) -> bool
+pub(crate) fn is_named(columns: &[ColumnDefinition], name: &str) -> bool
     ensures { IsTrue result ↔ Any (λ c. IsSameName (column_of c).name name.now) columns.now }
 {
     columns
@@ -187,18 +188,28 @@ fn columns_from(
 }
 
 /// The table that a CREATE TABLE makes, whose tree has this root. (CREATE TABLE) The fault is `NotYet` where it makes
-/// none: its name is reserved, two columns have one name, a constraint isn't served, or a PRIMARY KEY isn't the rowid; or
-/// `NoMemory`.
+/// none: its name is reserved, two columns have one name, a constraint or an option isn't served, or a PRIMARY KEY isn't the
+/// rowid; or `NoMemory`.
 pub(crate) fn table_from(alloc: Global, created: CreateTable, root: u32) -> Result<Table, Fault>
     ensures made { IfOk result (λ table. IsTable (table_of created) table) }
     ensures root { IfOk result (λ table. table.root ≡ root) }
     ensures refused { IfErr result (IsRefused (IsTable (table_of created))) }
 {
-    let CreateTable { name, columns } = created;
+    let CreateTable {
+        name,
+        columns,
+        constraints,
+        options,
+    } = created;
     if is_reserved(name.as_str()) || !are_distinct(columns.as_slice()) {
         return Err(Fault::NotYet);
     }
     if !columns_are_served(columns.as_slice()) {
+        return Err(Fault::NotYet);
+    }
+    if !has_rowids(options.as_slice())
+        || !constraints_are_served(columns.as_slice(), constraints.as_slice())
+    {
         return Err(Fault::NotYet);
     }
     let rowid = key_place(columns.as_slice())?;

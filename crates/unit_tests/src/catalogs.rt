@@ -12,7 +12,7 @@ const SQL: &str = "CREATE TABLE item(id INTEGER PRIMARY KEY, name TEXT NOT NULL,
 const ITEM: Object = ("table", "item", "item", 2, SQL);
 
 /// Rows of the schema, and the tables that they say, in a form of the tests' own.
-const CATALOGS: [(&[Object], &str); 6] = [
+const CATALOGS: [(&[Object], &str); 7] = [
     (&[], ""),
     (
         &[ITEM],
@@ -39,6 +39,17 @@ const CATALOGS: [(&[Object], &str); 6] = [
              item INT REFERENCES item(id) ON DELETE CASCADE) STRICT",
         )],
         "stock at 4 by the first | id: int | qty: int | note: text filled | item: int\n",
+    ),
+    (
+        &[(
+            "table",
+            "bill",
+            "bill",
+            5,
+            "CREATE TABLE bill(id INTEGER PRIMARY KEY, item INT, CONSTRAINT some CHECK (item > 0), \
+             FOREIGN KEY (ITEM, id) REFERENCES item(id, n) ON DELETE SET NULL, CHECK (1)) STRICT",
+        )],
+        "bill at 5 by the first | id: int | item: int\n",
     ),
     (
         &[(
@@ -87,7 +98,7 @@ const REFUSED: [&[Object]; 10] = [
 ];
 
 /// Tables that are not served, with their names.
-const NO_TABLES: [(&str, &str); 13] = [
+const NO_TABLES: [(&str, &str); 20] = [
     ("t", "CREATE TABLE t(a INT PRIMARY KEY) STRICT"),
     ("t", "CREATE TABLE t(a TEXT PRIMARY KEY) STRICT"),
     (
@@ -109,6 +120,22 @@ const NO_TABLES: [(&str, &str); 13] = [
     ),
     ("t", "CREATE TABLE t(a TEXT COLLATE NOCASE) STRICT"),
     ("t", "CREATE TABLE t(a INT)"),
+    ("t", "CREATE TABLE t(a INT) STRICT, STRICT"),
+    (
+        "t",
+        "CREATE TABLE t(a INTEGER PRIMARY KEY) STRICT, WITHOUT ROWID",
+    ),
+    ("t", "CREATE TABLE t(a INT, UNIQUE (a)) STRICT"),
+    ("t", "CREATE TABLE t(a INT, PRIMARY KEY (a)) STRICT"),
+    ("t", "CREATE TABLE t(a INTEGER, PRIMARY KEY (a)) STRICT"),
+    (
+        "t",
+        "CREATE TABLE t(a INT, FOREIGN KEY (b) REFERENCES u) STRICT",
+    ),
+    (
+        "t",
+        "CREATE TABLE t(a INT, FOREIGN KEY (a, A) REFERENCES u) STRICT",
+    ),
     ("t", "CREATE TABLE t(a REAL) STRICT"),
 ];
 

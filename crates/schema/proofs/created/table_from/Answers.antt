@@ -2,8 +2,14 @@ use Rattle.std.proofs.Common.{map, inr, refl}
 use Rattle.std.proofs.lemmas.Result.{err_from_is_err_and}
 use Rattle.syntax.specs.CreateView.{column_of}
 use Rattle.schema.proofs.CreatedLemmas.{distinct_names, doubled_refused, keys_found, keys_refused, place_within, reserved_refused, served_constraints, unreserved, unserved_refused}
+use Rattle.schema.proofs.ServedLemmas.{options_are, other_options, served_in, unserved_in}
 use Rattle.schema.proofs.created.table_from.Goals as goal
-use Rattle.schema.proofs.created.table_from.Goals.{then-is_reserved-via-else-is_reserved+then-not-are_distinct, then-is_reserved-via-then-is_reserved}
+use Rattle.schema.proofs.created.table_from.Goals.{
+  then-is_reserved-via-else-is_reserved+then-not-are_distinct,
+  then-is_reserved-via-then-is_reserved,
+  then-not-has_rowids-via-else-not-has_rowids+then-not-constraints_are_served,
+  then-not-has_rowids-via-then-not-has_rowids,
+}
 
 pub returns-then-is_reserved-clause-refused : goal.returns-then-is_reserved-clause-refused
 returns-then-is_reserved-clause-refused c =
@@ -30,21 +36,40 @@ returns-then-not-columns_are_served-clause-refused c =
           c.columns_are_served.ensures c.if-not-columns_are_served.true,
     )
 
+pub returns-then-not-has_rowids-clause-refused : goal.returns-then-not-has_rowids-clause-refused
+returns-then-not-has_rowids-clause-refused c =
+    elim c.then-not-has_rowids.branch [
+      | then-not-has_rowids-via-then-not-has_rowids w ↦
+          inr (
+            refl,
+            other_options c.args.created c.as_slice-3.result.now c.has_rowids.result c.as_slice-3.ensures.value c.has_rowids.ensures
+                w.if-not-has_rowids.true,
+          )
+      | then-not-has_rowids-via-else-not-has_rowids+then-not-constraints_are_served w ↦
+          inr (
+            refl,
+            unserved_in c.args.created w.as_slice-else-not-has_rowids.result.now w.as_slice-else-not-has_rowids-2.result.now
+                w.constraints_are_served.result w.as_slice-else-not-has_rowids.ensures.value
+                w.as_slice-else-not-has_rowids-2.ensures.value w.constraints_are_served.ensures
+                w.if-not-constraints_are_served.true,
+          )
+    ]
+
 pub returns-in_err-rowid-clause-refused : goal.returns-in_err-rowid-clause-refused
 returns-in_err-rowid-clause-refused c =
     let p = err_from_is_err_and c.from_residual.result c.from_residual.ensures.1 in
     rw (p.1, p.2)
-    (keys_refused c.args.created c.as_slice-3.result.now c.as_slice-3.ensures.value c.in_err-rowid.field-0.0 c.in_err-rowid.ensures.refused)
+    (keys_refused c.args.created c.as_slice-4.result.now c.as_slice-4.ensures.value c.in_err-rowid.field-0.0 c.in_err-rowid.ensures.refused)
 
 pub invariant_of-result : goal.invariant_of-result
 invariant_of-result c =
-    let keys = keys_found c.args.created c.as_slice-3.result.now c.as_slice-3.ensures.value c.in_ok-rowid.rowid c.in_ok-rowid.ensures.place in
+    let keys = keys_found c.args.created c.as_slice-4.result.now c.as_slice-4.ensures.value c.in_ok-rowid.rowid c.in_ok-rowid.ensures.place in
     place_within (map column_of c.args.created.columns.items) c.in_ok-columns.columns.items c.in_ok-rowid.rowid keys.place_is
     c.in_ok-columns.ensures
 
 pub returns-clause-made : goal.returns-clause-made
 returns-clause-made c =
-    let keys = keys_found c.args.created c.as_slice-3.result.now c.as_slice-3.ensures.value c.in_ok-rowid.rowid c.in_ok-rowid.ensures.place in
+    let keys = keys_found c.args.created c.as_slice-4.result.now c.as_slice-4.ensures.value c.in_ok-rowid.rowid c.in_ok-rowid.ensures.place in
     record {
       name_is = refl;
       unreserved = unreserved c.args.created c.is_reserved.result c.as_str.result.now c.as_str.ensures.value c.is_reserved.ensures
@@ -54,6 +79,11 @@ returns-clause-made c =
           c.if-not-are_distinct.false;
       served = served_constraints c.args.created c.columns_are_served.result c.as_slice-2.result.now c.as_slice-2.ensures.value
           c.columns_are_served.ensures c.if-not-columns_are_served.false;
+      served_in = served_in c.args.created c.as_slice-else-not-has_rowids.result.now c.as_slice-else-not-has_rowids-2.result.now
+          c.constraints_are_served.result c.as_slice-else-not-has_rowids.ensures.value
+          c.as_slice-else-not-has_rowids-2.ensures.value c.constraints_are_served.ensures c.if-not-constraints_are_served.false;
+      options_are = options_are c.args.created c.as_slice-3.result.now c.has_rowids.result c.as_slice-3.ensures.value
+          c.has_rowids.ensures c.if-not-has_rowids.false;
       rowid_is = keys.place_is;
       one_key = keys.one_key;
       integer = keys.integer;
