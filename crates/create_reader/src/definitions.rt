@@ -25,7 +25,7 @@ fn another_column<'t>(tokens: &'t [Token<'t>]) -> Option<&'t [Token<'t>]>
                 kind: TokenKind::Name(_, _),
                 ..
             },
-            ..,
+            ..
         ] => Some(rest),
         _ => None,
     }

@@ -19,9 +19,7 @@ pub(crate) fn has_rowids(options: &[TableOption]) -> bool
 fn contains(names: &[String], name: &str) -> bool
     ensures { IsTrue result ↔ Any (λ n. IsSameName (string_bytes n) name.now) names.now }
 {
-    names
-        .iter()
-        .any(|other| is_same_name(other.as_str(), name))
+    names.iter().any(|other| is_same_name(other.as_str(), name))
 }
 
 /// Whether no two of the names are the same.
