@@ -5,5 +5,6 @@ pub mod KeyStepLemmas
 pub mod ColumnLemmas
 pub mod CreatedLemmas
 pub mod ServedLemmas
+pub mod KeyedLemmas
 pub mod CatalogLemmas
 pub mod OneLemmas

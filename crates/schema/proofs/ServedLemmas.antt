@@ -1,9 +1,9 @@
 -- What is served of a table's constraints and options.
-use Rattle.std.proofs.Common.{◌≡◌, ℕ, ◌+◌, ◌<◌, ◌≤◌, Bool, true, false, IsTrue, ◌↔◌, All, List, [], ◌∷◌, length, get_or, map, refl, sym, ap, ◌∙◌, subst, arith}
+use Rattle.std.proofs.Common.{◌≡◌, Bool, true, false, IsTrue, ◌↔◌, All, List, [], ◌∷◌, map, sym, ap, ◌∙◌, subst, arith}
 use Rattle.std.proofs.lemmas.List.{get_or-map, length-map}
 use Rattle.std.proofs.lemmas.List.Elements.{All-map}
 use Rattle.std.specs.List.{Any}
-use Rattle.syntax.specs.CreateTrees.{ColumnTree, TableConstraintTree}
+use Rattle.syntax.specs.CreateTrees.{ColumnTree}
 use Rattle.syntax.specs.CreateView.{column_of, table_constraint_of, table_of}
 use Rattle.syntax.specs.Tree.{Name}
 use Rattle.syntax.specs.declared.create.Column.{Column}
@@ -12,7 +12,7 @@ use Rattle.syntax.specs.declared.create.TableConstraint.{TableConstraint}
 use Rattle.syntax.specs.declared.create.TableOption.{TableOption}
 use Rattle.syntax.specs.declared.create.TableOption.TheVariants.{Strict}
 use Rattle.schema.proofs.ListLemmas.{all_from_map, any_at}
-use Rattle.schema.specs.Created.{AreColumns, IsNamedIn, IsServedIn, IsTable}
+use Rattle.schema.specs.Created.{AreColumns, IsNamedIn, IsServedIn, IsTable, columns_with_keys}
 use Rattle.schema.specs.Names.{AreDistinct, IsSameName}
 use Rattle.schema.specs.TableData.{TableData}
 
@@ -67,16 +67,16 @@ module _ (created : CreateTable) where
       → IsTrue found ↔ (options ≡ Strict ∷ []) → found ≡ true → created.options.items ≡ Strict ∷ []
   options_are options found e tested all = sym e ∙ tested.0 all
 
-  module _ (columns : List Column) (constraints : List TableConstraint) (found : Bool) (e : columns ≡ created.columns.items)
-      (f : constraints ≡ created.constraints.items)
+  module _ (columns : List Column) (constraints : List TableConstraint) (found : Bool)
+      (e : map column_of columns ≡ columns_with_keys (table_of created)) (f : constraints ≡ created.constraints.items)
       (tested : IsTrue found ↔ All (λ x. IsServedIn (map column_of columns) (table_constraint_of x)) constraints) where
-    told : IsTrue found ↔ All (IsServedIn (map column_of created.columns.items)) (map table_constraint_of created.constraints.items)
+    told : IsTrue found ↔ All (IsServedIn (columns_with_keys (table_of created))) (map table_constraint_of created.constraints.items)
     told =
-        subst (λ cs. IsTrue found ↔ All (IsServedIn (map column_of cs)) (map table_constraint_of created.constraints.items)) e
+        subst (λ cs. IsTrue found ↔ All (IsServedIn cs) (map table_constraint_of created.constraints.items)) e
         (subst (λ xs. IsTrue found ↔ All (IsServedIn (map column_of columns)) (map table_constraint_of xs)) f
         (all_of_map (IsServedIn (map column_of columns)) table_constraint_of constraints found tested))
 
-    pub served_in : found ≡ true → All (IsServedIn (map column_of created.columns.items)) (map table_constraint_of created.constraints.items)
+    pub served_in : found ≡ true → All (IsServedIn (columns_with_keys (table_of created))) (map table_constraint_of created.constraints.items)
     served_in all = told.0 all
 
     pub unserved_in : found ≡ false → (table : TableData) → ¬ IsTable (table_of created) table

@@ -1,14 +1,15 @@
 -- The table that a CREATE TABLE makes. (CREATE TABLE; STRICT Tables; ROWIDs and the INTEGER PRIMARY KEY)
-use Rattle.std.specs.Prelude.{◌≡◌, ◌↔◌, ◌≤◌, Bool, true, false, IsTrue, ℕ, All, Contains, List, [], ◌∷◌, codes, map, slice_get, sum_by, Option, None, Some, if◌then◌else◌}
+use Rattle.std.specs.Prelude.{◌≡◌, ◌↔◌, ◌≤◌, Bool, true, false, IsTrue, ℕ, All, Contains, List, [], ◌∷◌, ◌++◌, codes, map, slice_get, sum_by, Option, None, Some, if◌then◌else◌}
 use Rattle.std.specs.List.{AllZip, Any}
 use Rattle.values.specs.declared.value.Ty.{Ty}
 use Rattle.values.specs.declared.value.Ty.TheVariants as class
-use Rattle.syntax.specs.CreateTrees.{TypeTree, ConstraintTree, ColumnTree, TableConstraintTree, TableTree}
+use Rattle.syntax.specs.CreateTrees.{TypeTree, ConstraintTree, ColumnTree, IndexedColumnTree, TableConstraintTree, TableTree}
 use Rattle.schema.specs.TableData.{ColumnData, TableData}
+use Rattle.syntax.specs.declared.create.KeyOrder.{KeyOrder}
 use Rattle.syntax.specs.declared.create.KeyOrder.TheVariants.{Ascending}
 use Rattle.syntax.specs.Tree.{Name}
 use Rattle.syntax.specs.declared.create.TableOption.TheVariants.{Strict}
-use Rattle.schema.specs.Names.{AreDistinct, IsReserved, IsSameName}
+use Rattle.schema.specs.Names.{AreDistinct, IsReserved, IsSameName, same_name}
 
 abbrev pub type_of : TypeTree → Ty
 type_of TypeTree.Int = class.Int
@@ -45,12 +46,47 @@ pub record AreColumns (columns : List ColumnTree) (names : List Name) : Type 0 w
   pub named : All (IsNamedIn columns) names
   pub distinct : AreDistinct names
 
--- a constraint of a table of these columns that needs no index
+-- no collation is written, or BINARY
+abbrev pub IsBinary : Option Name → Type 0
+IsBinary None = Unit {0}
+IsBinary (Some collation) = IsSameName collation (codes "BINARY")
+
+-- a key of one column of the table
+abbrev pub IsSingle : List ColumnTree → List IndexedColumnTree → Type 0
+IsSingle columns (x ∷ []) = IsNamedIn columns x.name × IsBinary x.collation
+IsSingle columns _ = ⊥
+
+-- a constraint of a table of these columns that needs no index, where the column of a key of one is the rowid
 abbrev pub IsServedIn : List ColumnTree → TableConstraintTree → Type 0
-IsServedIn columns (TableConstraintTree.PrimaryKey key) = ⊥
+IsServedIn columns (TableConstraintTree.PrimaryKey key) = IsSingle columns key
 IsServedIn columns (TableConstraintTree.Unique key) = ⊥
 IsServedIn columns TableConstraintTree.Check = Unit {0}
 IsServedIn columns (TableConstraintTree.ForeignKey names) = AreColumns columns names
+
+-- the order of the key that a constraint of a table makes this column, where it names it alone
+abbrev pub key_at : Name → TableConstraintTree → Option KeyOrder
+key_at name (TableConstraintTree.PrimaryKey (x ∷ [])) = if same_name x.name name then Some x.order else None
+key_at name _ = None
+
+abbrev pub as_constraint : Option KeyOrder → List ConstraintTree
+as_constraint None = []
+as_constraint (Some order) = ConstraintTree.PrimaryKey order false ∷ []
+
+abbrev pub keys_named : Name → List TableConstraintTree → List ConstraintTree
+keys_named name [] = []
+keys_named name (x ∷ xs) = as_constraint (key_at name x) ++ keys_named name xs
+
+-- PRIMARY KEY behind the columns says of the column that it names alone what PRIMARY KEY at the column says.
+abbrev pub with_keys : List TableConstraintTree → ColumnTree → ColumnTree
+with_keys constraints column = record {
+  name = column.name;
+  ty = column.ty;
+  constraints = column.constraints ++ keys_named column.name constraints;
+}
+
+-- the columns of a table, each with the keys that it is
+abbrev pub columns_with_keys : TableTree → List ColumnTree
+columns_with_keys tree = map (with_keys tree.constraints) tree.columns
 
 abbrev pub IsKey : ColumnTree → Type 0
 IsKey column = Any (λ c. is_key c ≡ true) column.constraints
@@ -85,11 +121,11 @@ pub record AreKeys (columns : List ColumnTree) (place : Option ℕ) : Type 0 whe
 pub record IsTable (tree : TableTree) (table : TableData) : Type 0 where
   pub name_is : table.name ≡ tree.name
   pub unreserved : ¬ IsReserved tree.name
-  pub columns_are : AllZip IsColumn tree.columns table.columns
-  pub distinct : AreDistinct (map (λ c. c.name) tree.columns)
-  pub served : All AreServed tree.columns
-  pub served_in : All (IsServedIn tree.columns) tree.constraints
+  pub columns_are : AllZip IsColumn (columns_with_keys tree) table.columns
+  pub distinct : AreDistinct (map (λ c. c.name) (columns_with_keys tree))
+  pub served : All AreServed (columns_with_keys tree)
+  pub served_in : All (IsServedIn (columns_with_keys tree)) tree.constraints
   pub options_are : tree.options ≡ Strict ∷ []
-  pub rowid_is : IsKeyPlace tree.columns table.rowid
-  pub one_key : key_count tree.columns ≤ 1
-  pub integer : All (λ c. IsKey c → c.ty ≡ TypeTree.Integer) tree.columns
+  pub rowid_is : IsKeyPlace (columns_with_keys tree) table.rowid
+  pub one_key : key_count (columns_with_keys tree) ≤ 1
+  pub integer : All (λ c. IsKey c → c.ty ≡ TypeTree.Integer) (columns_with_keys tree)

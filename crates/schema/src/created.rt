@@ -9,6 +9,7 @@ ghost use Rattle.schema.specs.Created.{AreKeys, AreServed, IsColumn, IsServed, I
 ghost use Rattle.schema.specs.Names.{AreDistinct, IsReserved, IsSameName};
 ghost use Rattle.schema.specs.Refused.{IsRefused};
 
+use crate::keys::columns_with_keys;
 use crate::served::{constraints_are_served, has_rowids};
 use crate::{Column, Table};
 use std::alloc::{AllocError, Global};
@@ -201,19 +202,20 @@ pub(crate) fn table_from(alloc: Global, created: CreateTable, root: u32) -> Resu
         constraints,
         options,
     } = created;
-    if is_reserved(name.as_str()) || !are_distinct(columns.as_slice()) {
+    let keyed = columns_with_keys(alloc, columns, constraints.as_slice())?;
+    if is_reserved(name.as_str()) || !are_distinct(keyed.as_slice()) {
         return Err(Fault::NotYet);
     }
-    if !columns_are_served(columns.as_slice()) {
+    if !columns_are_served(keyed.as_slice()) {
         return Err(Fault::NotYet);
     }
     if !has_rowids(options.as_slice())
-        || !constraints_are_served(columns.as_slice(), constraints.as_slice())
+        || !constraints_are_served(keyed.as_slice(), constraints.as_slice())
     {
         return Err(Fault::NotYet);
     }
-    let rowid = key_place(columns.as_slice())?;
-    let columns = columns_from(alloc, columns)?;
+    let rowid = key_place(keyed.as_slice())?;
+    let columns = columns_from(alloc, keyed)?;
     Ok(Table {
         name,
         root,

@@ -6,11 +6,12 @@
 //! not served yet.
 //!
 //! The modules, in the order in which data passes them: `table` (tables and columns), `served` (constraints and options of
-//! a table), `created` (the table of a text), `catalog` (the rows of the schema), and `laws`.
+//! a table), `keys` (PRIMARY KEY behind the columns), `created` (the table of a text), `catalog` (the rows of the schema), and `laws`.
 #![tactic(auto)]
 
 mod catalog;
 mod created;
+mod keys;
 pub mod laws;
 mod served;
 mod table;

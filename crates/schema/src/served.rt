@@ -1,12 +1,12 @@
 //! Which constraints and options of a table are served.
-ghost use Rattle.std.specs.Prelude.{◌≡◌, ◌↔◌, ◌∷◌, [], All, IsTrue, map, string_bytes};
+ghost use Rattle.std.specs.Prelude.{◌≡◌, ◌↔◌, ◌∷◌, [], All, IsTrue, map, option_map, string_bytes};
 ghost use Rattle.std.specs.List.{Any};
-ghost use Rattle.syntax.specs.CreateView.{column_of, table_constraint_of};
-ghost use Rattle.schema.specs.Created.{AreColumns, IsNamedIn, IsServedIn};
+ghost use Rattle.syntax.specs.CreateView.{column_of, indexed_of, table_constraint_of};
+ghost use Rattle.schema.specs.Created.{AreColumns, IsBinary, IsNamedIn, IsServedIn, IsSingle};
 ghost use Rattle.schema.specs.Names.{AreDistinct, IsSameName};
 
 use crate::created::{is_named, is_same_name};
-use syntax::{Column as ColumnDefinition, TableConstraint, TableOption};
+use syntax::{Column as ColumnDefinition, IndexedColumn, TableConstraint, TableOption};
 
 /// Whether a table of these options is STRICT and has rowids. (STRICT Tables; WITHOUT ROWID Tables)
 pub(crate) fn has_rowids(options: &[TableOption]) -> bool
@@ -55,12 +55,33 @@ fn are_columns(columns: &[ColumnDefinition], names: &[String]) -> bool
     are_named(columns, names) && are_different(names)
 }
 
+/// Whether no collation is written, or BINARY.
+fn is_binary(collation: &Option<String>) -> bool
+    ensures { IsTrue result ↔ IsBinary (option_map (λ n. string_bytes n) collation.now) }
+{
+    match collation {
+        Some(name) => is_same_name(name.as_str(), "BINARY"),
+        None => true,
+    }
+}
+
+/// Whether a key is one column of a table.
+fn is_single(columns: &[ColumnDefinition], key: &[IndexedColumn]) -> bool
+    ensures { IsTrue result ↔ IsSingle (map column_of columns.now) (map indexed_of key.now) }
+{
+    match key {
+        [only] => is_column(columns, only.name.as_str()) && is_binary(&only.collation),
+        _ => false,
+    }
+}
+
 /// Whether a constraint of a table needs no index, and names columns of the table. (CREATE TABLE)
 fn is_served_in(columns: &[ColumnDefinition], constraint: &TableConstraint) -> bool
     ensures { IsTrue result ↔ IsServedIn (map column_of columns.now) (table_constraint_of constraint.now) }
 {
     match constraint {
-        TableConstraint::PrimaryKey(_) | TableConstraint::Unique(_) => false,
+        TableConstraint::PrimaryKey(key) => is_single(columns, key.as_slice()),
+        TableConstraint::Unique(_) => false,
         TableConstraint::Check => true,
         TableConstraint::ForeignKey(names) => are_columns(columns, names.as_slice()),
     }

@@ -12,7 +12,7 @@ const SQL: &str = "CREATE TABLE item(id INTEGER PRIMARY KEY, name TEXT NOT NULL,
 const ITEM: Object = ("table", "item", "item", 2, SQL);
 
 /// Rows of the schema, and the tables that they say, in a form of the tests' own.
-const CATALOGS: [(&[Object], &str); 7] = [
+const CATALOGS: [(&[Object], &str); 8] = [
     (&[], ""),
     (
         &[ITEM],
@@ -50,6 +50,16 @@ const CATALOGS: [(&[Object], &str); 7] = [
              FOREIGN KEY (ITEM, id) REFERENCES item(id, n) ON DELETE SET NULL, CHECK (1)) STRICT",
         )],
         "bill at 5 by the first | id: int | item: int\n",
+    ),
+    (
+        &[(
+            "table",
+            "pin",
+            "pin",
+            6,
+            "CREATE TABLE pin(a TEXT, id INTEGER NOT NULL, CONSTRAINT pk PRIMARY KEY (ID COLLATE binary ASC)) STRICT",
+        )],
+        "pin at 6 by the second | a: text | id: int filled\n",
     ),
     (
         &[(
@@ -98,7 +108,7 @@ const REFUSED: [&[Object]; 10] = [
 ];
 
 /// Tables that are not served, with their names.
-const NO_TABLES: [(&str, &str); 20] = [
+const NO_TABLES: [(&str, &str); 24] = [
     ("t", "CREATE TABLE t(a INT PRIMARY KEY) STRICT"),
     ("t", "CREATE TABLE t(a TEXT PRIMARY KEY) STRICT"),
     (
@@ -127,7 +137,23 @@ const NO_TABLES: [(&str, &str); 20] = [
     ),
     ("t", "CREATE TABLE t(a INT, UNIQUE (a)) STRICT"),
     ("t", "CREATE TABLE t(a INT, PRIMARY KEY (a)) STRICT"),
-    ("t", "CREATE TABLE t(a INTEGER, PRIMARY KEY (a)) STRICT"),
+    (
+        "t",
+        "CREATE TABLE t(a INTEGER, PRIMARY KEY (a DESC)) STRICT",
+    ),
+    (
+        "t",
+        "CREATE TABLE t(a INTEGER, b INT, PRIMARY KEY (a, b)) STRICT",
+    ),
+    (
+        "t",
+        "CREATE TABLE t(a INTEGER PRIMARY KEY, PRIMARY KEY (a)) STRICT",
+    ),
+    ("t", "CREATE TABLE t(a INTEGER, PRIMARY KEY (b)) STRICT"),
+    (
+        "t",
+        "CREATE TABLE t(a INTEGER, PRIMARY KEY (a COLLATE nocase)) STRICT",
+    ),
     (
         "t",
         "CREATE TABLE t(a INT, FOREIGN KEY (b) REFERENCES u) STRICT",
