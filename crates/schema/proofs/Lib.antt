@@ -4,6 +4,7 @@ pub mod KeyLemmas
 pub mod KeyStepLemmas
 pub mod ColumnLemmas
 pub mod CreatedLemmas
+pub mod MissingLemmas
 pub mod ServedLemmas
 pub mod KeyedLemmas
 pub mod CatalogLemmas

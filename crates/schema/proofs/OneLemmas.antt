@@ -11,6 +11,7 @@ use Rattle.schema.specs.Rows.{AreTables, SaysTable}
 use Rattle.schema.specs.TableData.{ColumnData, TableData}
 use Rattle.schema.proofs.CatalogLemmas.{one_tree, parts}
 use Rattle.schema.proofs.KeyLemmas.{key_written, written}
+use Rattle.schema.proofs.MissingLemmas.{one_missing}
 use Rattle.schema.proofs.NameLemmas.{same_test}
 
 -- a relation that gives one element for each gives one list for each
@@ -29,7 +30,8 @@ one_column tree a b p q =
     let name : a.name ≡ b.name = p.name_is ∙ sym q.name_is in
     let ty : a.ty ≡ b.ty = p.ty_is ∙ sym q.ty_is in
     let not_null : a.not_null ≡ b.not_null = same_test a.not_null b.not_null _ p.not_null_is q.not_null_is in
-    λ i. record { name = name i; ty = ty i; not_null = not_null i }
+    let missing : a.missing ≡ b.missing = one_missing tree.constraints a.missing b.missing p.missing_is q.missing_is in
+    λ i. record { name = name i; ty = ty i; not_null = not_null i; missing = missing i }
 
 -- one column is the key
 key_counted : (columns : List ColumnTree) (at : ℕ) (column : ColumnTree) → slice_get columns at ≡ Some column → IsKey column

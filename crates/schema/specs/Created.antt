@@ -4,6 +4,7 @@ use Rattle.std.specs.List.{AllZip, Any}
 use Rattle.values.specs.declared.value.Ty.{Ty}
 use Rattle.values.specs.declared.value.Ty.TheVariants as class
 use Rattle.syntax.specs.CreateTrees.{TypeTree, ConstraintTree, ColumnTree, IndexedColumnTree, TableConstraintTree, TableTree}
+use Rattle.schema.specs.Missing.{IsMissing}
 use Rattle.schema.specs.TableData.{ColumnData, TableData}
 use Rattle.syntax.specs.declared.create.KeyOrder.{KeyOrder}
 use Rattle.syntax.specs.declared.create.KeyOrder.TheVariants.{Ascending}
@@ -96,6 +97,7 @@ pub record IsColumn (tree : ColumnTree) (column : ColumnData) : Type 0 where
   pub name_is : column.name ≡ tree.name
   pub ty_is : column.ty ≡ type_of tree.ty
   pub not_null_is : IsTrue column.not_null ↔ Contains tree.constraints ConstraintTree.NotNull
+  pub missing_is : IsMissing tree.constraints column.missing
 
 -- the place of the PRIMARY KEY column, where there is one
 abbrev pub IsKeyPlace : List ColumnTree → Option ℕ → Type 0

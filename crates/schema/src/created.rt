@@ -10,6 +10,7 @@ ghost use Rattle.schema.specs.Names.{AreDistinct, IsReserved, IsSameName};
 ghost use Rattle.schema.specs.Refused.{IsRefused};
 
 use crate::keys::columns_with_keys;
+use crate::missing::missing_by;
 use crate::served::{constraints_are_served, has_rowids};
 use crate::{Column, Table};
 use std::alloc::{AllocError, Global};
@@ -167,10 +168,16 @@ fn column_from(definition: ColumnDefinition) -> Column
     ensures { IsColumn (column_of definition) result }
 {
     let not_null = is_not_null(&definition);
+    let ColumnDefinition {
+        name,
+        ty,
+        constraints,
+    } = definition;
     Column {
-        name: definition.name,
-        ty: type_of(definition.ty),
+        name,
+        ty: type_of(ty),
         not_null,
+        missing: missing_by(constraints),
     }
 }
 

@@ -6,15 +6,18 @@
 //! not served yet.
 //!
 //! The modules, in the order in which data passes them: `table` (tables and columns), `served` (constraints and options of
-//! a table), `keys` (PRIMARY KEY behind the columns), `created` (the table of a text), `catalog` (the rows of the schema), and `laws`.
+//! a table), `keys` (PRIMARY KEY behind the columns), `missing` (what rows that are older than a column have
+//! in it), `created` (the table of a text), `catalog` (the rows of the schema), and `laws`.
 #![tactic(auto)]
 
 mod catalog;
 mod created;
 mod keys;
 pub mod laws;
+mod missing;
 mod served;
 mod table;
 
 pub use catalog::Catalog;
+pub use missing::Missing;
 pub use table::{Column, Table};
