@@ -31,7 +31,7 @@ UNSERVED = {
     "a key that isn't the rowid": "CREATE TABLE x(a INT PRIMARY KEY) STRICT",
     "a key of a text": "CREATE TABLE x(a TEXT PRIMARY KEY) STRICT",
     "a key that descends": "CREATE TABLE x(a INTEGER PRIMARY KEY DESC) STRICT",
-    "a key behind the columns": "CREATE TABLE x(a INTEGER, PRIMARY KEY(a)) STRICT",
+    "a key behind the columns": "CREATE TABLE x(a INT, PRIMARY KEY(a)) STRICT",
     "a collation": "CREATE TABLE x(a TEXT COLLATE NOCASE) STRICT",
     "a computed column": "CREATE TABLE x(a INT, b INT AS (a + 1) STORED) STRICT",
     "a table of a SELECT": "CREATE TABLE x AS SELECT 1 AS a",

@@ -1,119 +1,130 @@
 -- The reader of a CREATE TABLE finds exactly what its grammar says.
-use Rattle.std.proofs.Common.{◌≡◌, ◌<◌, List, [], ◌∷◌, length, codes, Option, Some, None, option_map, option_and_then, refl, sym, ap, ◌∙◌, subst, arith}
-use Rattle.std.proofs.lemmas.Bool.{cond-true}
+use Rattle.std.proofs.Common.{◌≡◌, ◌<◌, List, [], ◌∷◌, length, Option, Some, None, option_map, option_and_then, refl, sym, ap, ◌∙◌, subst, arith}
 use Rattle.tokens.specs.Lexeme.{Lexeme}
 use Rattle.tokens.specs.declared.keyword.Keyword.TheVariants as k
 use Rattle.tokens.specs.declared.sign.Sign.TheVariants as s
 use Rattle.tokens.specs.declared.token.Quoting.{Quoting}
 use Rattle.phrases.proofs.ListLemmas.{Shortens}
-use Rattle.phrases.proofs.PhraseLemmas.{At, TakesOne, listed_complete, listed_sound, many_length, shortens_after_comma}
+use Rattle.phrases.proofs.PhraseLemmas.{At, IsFound, IsSpelt, first_parts, follows_comma, follows_many, many_complete, many_sound}
 use Rattle.phrases.proofs.OutcomeLemmas.{some_inj}
-use Rattle.phrases.specs.Lists.{Many, Listed}
-use Rattle.phrases.specs.Steps.{Rest, Found, after_comma, after_word, after_close, listed}
-use Rattle.create_reader.proofs.ConstraintLemmas.{constraint_length, constraints_complete, constraints_sound}
-use Rattle.create_reader.proofs.WordLemmas.{IsEnd, some_mapped, then_parts, type_complete, type_sound, word_sound}
-use Rattle.create_reader.specs.CreateGrammar.{IsType, Constrains, Defines, Closes, Creates}
-use Rattle.create_reader.specs.CreateReading.{finished, type_named, at_constraint, constraints, constrained, typed, column, closing, closed, create}
+use Rattle.phrases.proofs.StepLemmas.{at_sign}
+use Rattle.phrases.specs.Lists.{AfterComma, Many, Listed}
+use Rattle.phrases.specs.Steps.{Rest, Found, after_close, after_comma, cons_found, first_and, many}
+use Rattle.column_reader.proofs.ColumnLemmas.{EndsColumn, column_complete, column_length, column_sound}
+use Rattle.column_reader.proofs.WordLemmas.{some_mapped, then_parts}
+use Rattle.column_reader.specs.ColumnGrammar.{Defines, MaybeTitled}
+use Rattle.column_reader.specs.ColumnReading.{column}
+use Rattle.create_reader.proofs.OptionLemmas.{closes_complete, closes_sound}
+use Rattle.create_reader.proofs.TableLemmas.{constraints_complete, constraints_sound}
+use Rattle.create_reader.specs.CreateGrammar.{Closes, Creates, TableConstrains, TableDemands}
+use Rattle.create_reader.specs.CreateReading.{another_column, at_name, closed, closing, columns, constrained, constraints, create, table_options, with_constraints}
 use Rattle.syntax.specs.Tree.{Name}
-use Rattle.syntax.specs.CreateTrees.{TypeTree, ConstraintTree, ColumnTree, TableTree}
+use Rattle.syntax.specs.CreateTrees.{ColumnTree, TableConstraintTree, TableTree}
+use Rattle.syntax.specs.declared.create.TableOption.{TableOption}
 
 -- Columns
 
-abbrev EndsColumn : Rest → Type 0
-EndsColumn ts = IsEnd ts × (at_constraint ts ≡ None)
+same_name : (ts start : Rest) → at_name ts ≡ Some start → ts ≡ start
+same_name (Lexeme.Name q n ∷ ts) start h = some_inj _ start h
+same_name _ start h = absurd cc
 
-column_complete : (x : ColumnTree) (from mid : Rest) → Defines x from mid → EndsColumn mid
-    → (let r : ColumnTree × Rest = (x, mid) in column from ≡ Some r)
-column_complete x _ mid (Defines.column {name = n} {ty = ty} {word = word} {from = from} t m) e =
-    ap (λ o. typed n (option_map (λ ty. (ty, from)) o)) (type_complete ty word t)
-    ∙ ap (constrained n ty) (constraints_complete m e.0 e.1)
+another_at : (ts start : Rest) → another_column ts ≡ Some start → ts ≡ Lexeme.Punctuation s.Comma ∷ start
+another_at ts start h =
+    let p = then_parts at_name (after_comma ts) start h in
+    at_sign s.Comma ts p.0 p.1 ∙ ap (λ ts. Lexeme.Punctuation s.Comma ∷ ts) (same_name p.0 start p.2)
 
-some_constrained : (n : Name) (ty : TypeTree) (o : Found ConstraintTree) (r : ColumnTree × Rest)
-    → constrained n ty o ≡ Some r
-    → (x : List ConstraintTree × Rest) × (o ≡ Some x)
-    × ((let p : ColumnTree × Rest = (record { name = n; ty = ty; constraints = x.0 }, x.1) in p) ≡ r)
-some_constrained n ty None r h = absurd cc
-some_constrained n ty (Some x) r h = (x, refl, some_inj _ r h)
+pub column_shortens : Shortens another_column column
+column_shortens ts start r e i =
+    let same = ap length (another_at ts start e) in
+    let l = column_length r.0 start r.1 (column_sound start r i) in
+    omega (arith, same, l)
 
-some_typed : (n : Name) (o : Option (TypeTree × Rest)) (r : ColumnTree × Rest) → typed n o ≡ Some r
-    → (x : TypeTree × Rest) × (o ≡ Some x) × (constrained n x.0 (constraints x.1) ≡ Some r)
-some_typed n None r h = absurd cc
-some_typed n (Some x) r h = (x, refl, h)
+another_found : IsFound (AfterComma Defines) EndsColumn another_column column
+another_found x _ mid (AfterComma.comma (Defines.column {q = q} {name = n} {word = word} {from = from} t m)) e =
+    let start = Lexeme.Name q n ∷ word ∷ from in
+    (start, refl, column_complete x start mid (Defines.column t m) e)
 
-column_sound : (ts : Rest) (r : ColumnTree × Rest) → column ts ≡ Some r → At Defines ts r
-column_sound (Lexeme.Name q n ∷ word ∷ ts) r h =
-    let t = some_typed n (option_map (λ ty. (ty, ts)) (type_named word)) r h in
-    let m = some_mapped (λ ty. (ty, ts)) (type_named word) t.0 t.1 in
-    let c = some_constrained n t.0.0 (constraints t.0.1) r t.2 in
-    let same : ts ≡ t.0.1 = ap (λ (p : TypeTree × Rest). p.1) m.2 in
-    let ty : m.0 ≡ t.0.0 = ap (λ (p : TypeTree × Rest). p.0) m.2 in
-    subst (At Defines (Lexeme.Name q n ∷ word ∷ ts)) c.2
-    (Defines.column (subst (λ ty. IsType ty word) ty (type_sound word m.0 m.1))
-    (subst (λ ts. Many Constrains c.0.0 ts c.0.1) (sym same) (constraints_sound t.0.1 c.0 c.1)))
-column_sound _ r h = absurd cc
+another_spelt : IsSpelt (AfterComma Defines) another_column column
+another_spelt ts start r e i =
+    subst (λ ts. AfterComma Defines r.0 ts r.1) (sym (another_at ts start e)) (AfterComma.comma (column_sound start r i))
 
-column_length : (x : ColumnTree) (from mid : Rest) → Defines x from mid → length mid < length from
-column_length x from mid (Defines.column t m) =
-    let l = many_length Constrains (λ x from mid c. let k = constraint_length x from mid c in omega (arith, k)) m in
-    omega (arith, l)
-
-column_takes_one : TakesOne column
-column_takes_one ts r h = column_length r.0 ts r.1 (column_sound ts r h)
-
-pub column_shortens : Shortens after_comma column
-column_shortens = shortens_after_comma column column_takes_one
+comma_ends : (x : ColumnTree) (from mid : Rest) → AfterComma Defines x from mid → EndsColumn from
+comma_ends = follows_comma Defines EndsColumn (λ ts. (refl, refl))
 
 columns_complete : {xs : List ColumnTree} {from after : Rest} → Listed Defines xs from after → EndsColumn after
-    → after_comma after ≡ None → listed column from ≡ Some (xs, after)
-columns_complete = listed_complete Defines EndsColumn column column_shortens (λ ts. (refl, refl)) column_complete
+    → another_column after ≡ None → columns from ≡ Some (xs, after)
+columns_complete (Listed.listed {x = x} {from = from} {mid = mid} d m) e f =
+    ap (first_and (many another_column column))
+    (column_complete x from mid d (follows_many (AfterComma Defines) EndsColumn comma_ends m e))
+    ∙ ap (cons_found x)
+    (many_complete (AfterComma Defines) EndsColumn another_column column column_shortens comma_ends another_found m e f)
 
-columns_sound : (ts : Rest) (r : List ColumnTree × Rest) → listed column ts ≡ Some r → At (Listed Defines) ts r
-columns_sound = listed_sound Defines column column_sound
+columns_sound : (ts : Rest) (r : List ColumnTree × Rest) → columns ts ≡ Some r → At (Listed Defines) ts r
+columns_sound ts r h =
+    let p = first_parts (many another_column column) (column ts) r h in
+    subst (At (Listed Defines) ts) p.4
+    (Listed.listed (column_sound ts p.0 p.1)
+    (many_sound (AfterComma Defines) another_column column another_spelt p.0.1 p.2 p.3))
 
 -- The statement
 
-closing_complete : {ts : Rest} → Closes ts → (closing ts ≡ Some tt) × EndsColumn ts × (after_comma ts ≡ None)
-closing_complete (Closes.strict h) = (ap (option_and_then finished) (cond-true _ _ _ h), (refl, refl), refl)
+no_column : (x : TableConstraintTree) (from mid : Rest) → TableConstrains x from mid
+    → another_column (Lexeme.Punctuation s.Comma ∷ from) ≡ None
+no_column x from mid (TableConstrains.constraint MaybeTitled.titled d) = refl
+no_column x from mid (TableConstrains.constraint MaybeTitled.none (TableDemands.primary_key h c)) = refl
+no_column x from mid (TableConstrains.constraint MaybeTitled.none (TableDemands.unique c)) = refl
+no_column x from mid (TableConstrains.constraint MaybeTitled.none (TableDemands.check b)) = refl
+no_column x from mid (TableConstrains.constraint MaybeTitled.none (TableDemands.foreign_key h l r)) = refl
+
+-- columns end where constraints or the closing parenthesis follow
+columns_end : {xs : List TableConstraintTree} {from after : Rest}
+    → Many (AfterComma TableConstrains) xs from (Lexeme.Punctuation s.Close ∷ after)
+    → EndsColumn from × (another_column from ≡ None)
+columns_end Many.none = ((refl, refl), refl)
+columns_end (Many.more (AfterComma.comma {x = x} {from = from} {after = mid} c) m) =
+    ((refl, refl), no_column x from mid c)
+
+abbrev table_with : Name → List ColumnTree → List TableConstraintTree → List TableOption → TableTree
+table_with n cs xs os = record { name = n; columns = cs; constraints = xs; options = os }
 
 pub create_complete : {tree : TableTree} {ts : Rest} → Creates tree ts → create ts ≡ Some tree
-create_complete (Creates.table {name = n} {columns = columns} l c) =
-    let e = closing_complete c in
-    ap (closed n) (columns_complete l e.1 e.2)
-    ∙ ap (option_map (λ end. (let t : TableTree = record { name = n; columns = columns } in t))) e.0
+create_complete (Creates.table {name = n} {columns = cs} {constraints = xs} l m c) =
+    let e = columns_end m in
+    ap (λ o. closed n (with_constraints o)) (columns_complete l e.0 e.1)
+    ∙ ap (λ o. closed n (constrained cs o)) (constraints_complete m refl refl)
+    ∙ ap (option_map (λ os. table_with n cs xs os)) (closes_complete c)
 
-close_sound : (ts rest : Rest) → after_close ts ≡ Some rest → ts ≡ Lexeme.Punctuation s.Close ∷ rest
-close_sound (Lexeme.Punctuation s.Close ∷ ts) rest h = ap (λ ts. Lexeme.Punctuation s.Close ∷ ts) (some_inj ts rest h)
-close_sound _ rest h = absurd cc
+closing_sound : (ts : Rest) (os : List TableOption) → closing ts ≡ Some os
+    → (after : Rest) × (ts ≡ Lexeme.Punctuation s.Close ∷ after) × Closes os after
+closing_sound ts os h =
+    let p = then_parts table_options (after_close ts) os h in
+    (p.0, at_sign s.Close ts p.0 p.1, closes_sound p.0 os p.2)
 
-finished_sound : (ts : Rest) → finished ts ≡ Some tt → ts ≡ []
-finished_sound [] h = refl
-finished_sound (t ∷ ts) h = absurd cc
+module _ (q : Quoting) (n : Name) (from : Rest) where
+  abbrev front : Rest
+  front = Lexeme.Reserved k.Create ∷ Lexeme.Reserved k.Table ∷ Lexeme.Name q n ∷ Lexeme.Punctuation s.Open ∷ from
 
-closing_sound : (ts : Rest) → closing ts ≡ Some tt → Closes ts
-closing_sound ts h =
-    let a = then_parts finished (option_and_then (after_word (codes "STRICT")) (after_close ts)) tt h in
-    let b = then_parts (after_word (codes "STRICT")) (after_close ts) a.0 a.1 in
-    let w = word_sound (codes "STRICT") b.0 a.0 b.2 in
-    let e = close_sound ts b.0 b.1 in
-    let i = finished_sound a.0 a.2 in
-    subst Closes
-    (sym (e ∙ ap (λ rest. Lexeme.Punctuation s.Close ∷ rest) (w.1 ∙ ap (λ rest. w.0 ∷ rest) i)))
-    (Closes.strict w.2)
+  options_sound : (c : List ColumnTree × Rest) (r : List TableConstraintTree × Rest) (tree : TableTree)
+      → columns from ≡ Some c → constraints c.1 ≡ Some r → closed n (Some (c.0, r.0, r.1)) ≡ Some tree → Creates tree front
+  options_sound c r tree e i h =
+      let m = some_mapped (λ os. table_with n c.0 r.0 os) (closing r.1) tree h in
+      let t = closing_sound r.1 m.0 m.1 in
+      subst (λ tree. Creates tree front) m.2
+      (Creates.table (columns_sound from c e)
+      (subst (Many (AfterComma TableConstrains) r.0 c.1) t.1 (constraints_sound c.1 r i)) t.2)
 
-closed_sound : (q : Quoting) (n : Name) (from : Rest) (o : Found ColumnTree) (tree : TableTree) → listed column from ≡ o
-    → closed n o ≡ Some tree
-    → Creates tree
-    (Lexeme.Reserved k.Create ∷ Lexeme.Reserved k.Table ∷ Lexeme.Name q n ∷ Lexeme.Punctuation s.Open ∷ from)
-closed_sound q n from None tree e h = absurd cc
-closed_sound q n from (Some r) tree e h =
-    let m = some_mapped (λ end. (let t : TableTree = record { name = n; columns = r.0 } in t)) (closing r.1) tree h in
-    subst
-    (λ tree. Creates tree
-    (Lexeme.Reserved k.Create ∷ Lexeme.Reserved k.Table ∷ Lexeme.Name q n ∷ Lexeme.Punctuation s.Open ∷ from))
-    m.2 (Creates.table (columns_sound from r e) (closing_sound r.1 m.1))
+  constraints_sound_at : (c : List ColumnTree × Rest) (o : Found TableConstraintTree) (tree : TableTree) → columns from ≡ Some c
+      → constraints c.1 ≡ o → closed n (constrained c.0 o) ≡ Some tree → Creates tree front
+  constraints_sound_at c None tree e i h = absurd cc
+  constraints_sound_at c (Some r) tree e i h = options_sound c r tree e i h
+
+  columns_sound_at : (o : Found ColumnTree) (tree : TableTree) → columns from ≡ o → closed n (with_constraints o) ≡ Some tree
+      → Creates tree front
+  columns_sound_at None tree e h = absurd cc
+  columns_sound_at (Some c) tree e h = constraints_sound_at c (constraints c.1) tree e refl h
 
 pub create_sound : (ts : Rest) (tree : TableTree) → create ts ≡ Some tree → Creates tree ts
 create_sound
     (Lexeme.Reserved k.Create ∷ Lexeme.Reserved k.Table ∷ Lexeme.Name q n ∷ Lexeme.Punctuation s.Open ∷ ts) tree h =
-    closed_sound q n ts (listed column ts) tree refl h
+    columns_sound_at q n ts (columns ts) tree refl h
 create_sound _ tree h = absurd cc

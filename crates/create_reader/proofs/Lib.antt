@@ -1,7 +1,5 @@
-pub mod WordLemmas
-pub mod BodyLemmas
-pub mod ReferenceLemmas
-pub mod ConstraintLemmas
+pub mod KeyLemmas
+pub mod TableLemmas
+pub mod OptionLemmas
 pub mod CreateLemmas
-pub mod ColumnLemmas
 pub mod CreateTexts

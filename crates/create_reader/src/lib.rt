@@ -2,22 +2,23 @@
 //! a CREATE TABLE within the limits, with that tree; that a syntax error comes only where none is spelt; and that a text
 //! spells at most one tree. A syntax error's place, where the text stops being tokens or else where the reader stopped,
 //! is tested and not proved.
-//! Today a CREATE TABLE is STRICT and has columns of the types INT, INTEGER, TEXT and BLOB, with constraints of columns
-//! alone. What the grammar doesn't rule out is left to the schema: a constraint may be written twice, and PRIMARY KEY at
-//! several columns. Of CHECK, of a DEFAULT in parentheses and of REFERENCES the tree keeps that they are there.
+//! Today a column has one of the types that STRICT tables take, but ANY and REAL. What the grammar doesn't rule out is
+//! left to the schema: an option or a constraint may be written twice, and PRIMARY KEY at several places. Of CHECK, of a
+//! DEFAULT in parentheses and of REFERENCES the tree keeps that they are there.
 //!
-//! The modules, in the order in which data passes them: `create` (the statement and its columns), `constraints` (of a
-//! column), `references` (what stands behind REFERENCES), `bodies` (parentheses whose inside isn't kept), and `laws`.
+//! The modules, in the order in which data passes them: `create` (the statement), `definitions` (columns and
+//! constraints), `constraints` (of a table), `keys` (the columns of a key), `options` (what stands behind the definitions),
+//! and `laws`. Columns are read by `column_reader`.
 #![tactic(auto)]
 
-mod bodies;
 mod constraints;
 mod create;
+mod definitions;
+mod keys;
 pub mod laws;
-mod references;
+mod options;
 
 pub use create::read_create;
-pub use syntax::{Column, ColumnConstraint, ColumnType, CreateTable, DefaultValue, KeyOrder};
 
 #[cfg(test)]
 mod tests;

@@ -1,10 +1,12 @@
 //! Worked texts.
-use crate::{
-    Column, ColumnConstraint, ColumnType, CreateTable, DefaultValue, KeyOrder, read_create,
-};
+use crate::read_create;
 use std::alloc::Global;
 use std::process::Abort;
 use std::test::Fail;
+use syntax::{
+    Column, ColumnConstraint, ColumnType, CreateTable, DefaultValue, IndexedColumn, KeyOrder,
+    TableConstraint, TableOption,
+};
 use values::Fault;
 
 /// A text with spaces behind it, up to a length.
@@ -61,11 +63,63 @@ fn write_column(text: &mut String, column: &Column) -> Result<(), Fail> {
     Ok(())
 }
 
-/// A table in a form of the tests' own.
+/// The columns of a key in a form of the tests' own.
+fn write_key(text: &mut String, columns: &[IndexedColumn]) -> Result<(), Fail> {
+    for column in columns {
+        text.push_str(" ")?;
+        text.push_str(column.name.as_str())?;
+        if let Some(collation) = &column.collation {
+            text.push_str(" by ")?;
+            text.push_str(collation.as_str())?;
+        }
+        text.push_str(match column.order {
+            KeyOrder::Ascending => "",
+            KeyOrder::Descending => " falling",
+        })?;
+    }
+    Ok(())
+}
+
+/// A constraint of a table in a form of the tests' own.
+fn write_constraint(text: &mut String, constraint: &TableConstraint) -> Result<(), Fail> {
+    match constraint {
+        TableConstraint::PrimaryKey(columns) => {
+            text.push_str(" / key")?;
+            write_key(text, columns.as_slice())
+        }
+        TableConstraint::Unique(columns) => {
+            text.push_str(" / unique")?;
+            write_key(text, columns.as_slice())
+        }
+        TableConstraint::Check => Ok(text.push_str(" / checked")?),
+        TableConstraint::ForeignKey(names) => {
+            text.push_str(" / referring")?;
+            for name in names {
+                text.push_str(" ")?;
+                text.push_str(name.as_str())?;
+            }
+            Ok(())
+        }
+    }
+}
+
+/// A table in a form of the tests' own; its option STRICT isn't told.
 fn written(alloc: Global, table: &CreateTable) -> Result<String, Fail> {
     let mut text = String::from_str(alloc, table.name.as_str())?;
     for column in &table.columns {
         write_column(&mut text, column)?;
+    }
+    for constraint in &table.constraints {
+        write_constraint(&mut text, constraint)?;
+    }
+    if table.options.as_slice() != [TableOption::Strict].as_slice() {
+        text.push_str(" / options:")?;
+        for option in &table.options {
+            text.push_str(match option {
+                TableOption::Strict => " strict",
+                TableOption::WithoutRowid => " no rowid",
+            })?;
+        }
     }
     Ok(text)
 }
@@ -83,7 +137,7 @@ fn expect_table(rt: &impl Abort, alloc: Global, text: &str, expected: &str) -> R
 }
 
 /// Texts of tables as SQLite keeps them in its schema, with the names, types and constraints that it reports.
-const TABLES: [(&str, &str); 26] = [
+const TABLES: [(&str, &str); 34] = [
     ("CREATE TABLE t(a INT) STRICT", "t | a: int"),
     ("CREATE TABLE t (a int) strict", "t | a: int"),
     (
@@ -180,6 +234,36 @@ const TABLES: [(&str, &str); 26] = [
         "CREATE TABLE key(no INT, action TEXT, rows BLOB) STRICT",
         "key | no: int | action: text | rows: blob",
     ),
+    (
+        "CREATE TABLE t(a INT, b TEXT, PRIMARY KEY (b COLLATE nocase DESC, a), UNIQUE(a ASC)) STRICT",
+        "t | a: int | b: text / key b by nocase falling a / unique a",
+    ),
+    (
+        "CREATE TABLE t(a INT, b INT, CONSTRAINT c CHECK (a > (b)), CONSTRAINT \"d\" \
+         FOREIGN KEY (b, a) REFERENCES u(x, y) ON DELETE CASCADE ON UPDATE SET DEFAULT, CHECK (1)) STRICT",
+        "t | a: int | b: int / checked / referring b a / checked",
+    ),
+    (
+        "CREATE TABLE t(a INT UNIQUE, UNIQUE (a), FOREIGN KEY(a) REFERENCES t) STRICT",
+        "t | a: int unique / unique a / referring a",
+    ),
+    ("CREATE TABLE t(a INT)", "t | a: int / options:"),
+    (
+        "CREATE TABLE t(a INT) WITHOUT ROWID",
+        "t | a: int / options: no rowid",
+    ),
+    (
+        "CREATE TABLE t(a INT) strict , without rowid",
+        "t | a: int / options: strict no rowid",
+    ),
+    (
+        "CREATE TABLE t(a INT) WITHOUT ROWID,STRICT",
+        "t | a: int / options: no rowid strict",
+    ),
+    (
+        "CREATE TABLE t(a INT) STRICT, STRICT",
+        "t | a: int / options: strict strict",
+    ),
 ];
 
 #[test]
@@ -199,7 +283,7 @@ fn expect_no_table(rt: &impl Abort, alloc: Global, text: &str, place: usize) {
 }
 
 /// Texts that spell no table, with the place of the token that can't stand there.
-const NO_TABLES: [(&str, usize); 36] = [
+const NO_TABLES: [(&str, usize); 43] = [
     ("", 0),
     ("CREATE", 6),
     ("SELECT * FROM t", 0),
@@ -210,13 +294,13 @@ const NO_TABLES: [(&str, usize); 36] = [
     ("CREATE TABLE t(a INT,,b INT) STRICT", 21),
     ("CREATE TABLE t(a INT,) STRICT", 21),
     ("CREATE TABLE t(a INT", 20),
-    ("CREATE TABLE t(a INT)", 21),
+    ("CREATE TABLE t(a INT) ROWID", 22),
     ("CREATE TABLE t(a INT) ;", 22),
     ("CREATE TABLE t(a INT) STRICT;", 28),
-    ("CREATE TABLE t(a INT) STRICT, STRICT", 28),
+    ("CREATE TABLE t(a INT) STRICT,", 29),
     ("CREATE TABLE t(a INT) STRICT STRICT", 29),
     ("CREATE TABLE t(a INT) \"STRICT\"", 22),
-    ("CREATE TABLE t(a INT) WITHOUT ROWID", 22),
+    ("CREATE TABLE t(a INT) WITHOUT \"ROWID\"", 30),
     ("CREATE TABLE t(a) STRICT", 16),
     ("CREATE TABLE t(a REAL) STRICT", 17),
     ("CREATE TABLE t(a \"INT\") STRICT", 17),
@@ -240,6 +324,13 @@ const NO_TABLES: [(&str, usize); 36] = [
         36,
     ),
     ("CREATE TABLE t(select INT) STRICT", 15),
+    ("CREATE TABLE t(UNIQUE (a)) STRICT", 15),
+    ("CREATE TABLE t(a INT, UNIQUE (a), b INT) STRICT", 34),
+    ("CREATE TABLE t(a INT, UNIQUE a) STRICT", 29),
+    ("CREATE TABLE t(a INT, PRIMARY KEY ()) STRICT", 35),
+    ("CREATE TABLE t(a INT, UNIQUE (a + 1)) STRICT", 32),
+    ("CREATE TABLE t(a INT, FOREIGN KEY (a)) STRICT", 37),
+    ("CREATE TABLE t(a INT, NOT NULL) STRICT", 22),
     ("CREATE TABLE größe(a INT b) STRICT", 27),
     ("CREATE TABLE t(a INT) STRICT /*", 29),
 ];

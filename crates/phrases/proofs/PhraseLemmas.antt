@@ -20,7 +20,7 @@ IsFound {A = A} Item Follows begins item =
     (x : A) (from mid : Rest) → Item x from mid → Follows mid
     → (start : Rest) × (begins from ≡ Some start) × (let r : A × Rest = (x, mid) in item start ≡ Some r)
 
-follows_many : {A : Type 0} (Item : Phrase A) (Follows : Rest → Type 0)
+pub follows_many : {A : Type 0} (Item : Phrase A) (Follows : Rest → Type 0)
     → ((x : A) (from mid : Rest) → Item x from mid → Follows from)
     → {xs : List A} {from after : Rest} → Many Item xs from after → Follows after → Follows from
 follows_many Item Follows begins Many.none f = f
@@ -40,12 +40,12 @@ many_complete Item Follows begins item s h is_found
     ∙ ap (cons_found x) (many_complete Item Follows begins item s h is_found m f e))
 
 -- a phrase behind a comma is found where the phrase is
-found_after_comma : {A : Type 0} (Item : Phrase A) (Follows : Rest → Type 0) (item : Rest → Option (A × Rest))
+pub found_after_comma : {A : Type 0} (Item : Phrase A) (Follows : Rest → Type 0) (item : Rest → Option (A × Rest))
     → ((x : A) (from mid : Rest) → Item x from mid → Follows mid → (let r : A × Rest = (x, mid) in item from ≡ Some r))
     → IsFound (AfterComma Item) Follows after_comma item
 found_after_comma Item Follows item h x _ mid (AfterComma.comma {from = from} i) f = (from, refl, h x from mid i f)
 
-follows_comma : {A : Type 0} (Item : Phrase A) (Follows : Rest → Type 0)
+pub follows_comma : {A : Type 0} (Item : Phrase A) (Follows : Rest → Type 0)
     → ((ts : Rest) → Follows (Lexeme.Punctuation s.Comma ∷ ts))
     → (x : A) (from mid : Rest) → AfterComma Item x from mid → Follows from
 follows_comma Item Follows h x _ mid (AfterComma.comma {from = from} i) = h from
@@ -71,7 +71,7 @@ cons_parts : {A : Type 0} (x : A) (o : Found A) (r : List A × Rest) → cons_fo
 cons_parts x None r h = absurd cc
 cons_parts x (Some y) r h = (y, refl, some_inj _ r h)
 
-first_parts : {A : Type 0} (others : Rest → Found A) (o : Option (A × Rest)) (r : List A × Rest)
+pub first_parts : {A : Type 0} (others : Rest → Found A) (o : Option (A × Rest)) (r : List A × Rest)
     → first_and others o ≡ Some r
     → (x : A × Rest) × (o ≡ Some x) × (y : List A × Rest) × (others x.1 ≡ Some y)
     × ((let p : List A × Rest = (x.0 ∷ y.0, y.1) in p) ≡ r)
@@ -106,7 +106,7 @@ pub many_sound : {A : Type 0} (Item : Phrase A) (begins : Rest → Option Rest) 
     → IsSpelt Item begins item → (ts : Rest) (r : List A × Rest) → many begins item ts ≡ Some r → At (Many Item) ts r
 many_sound Item begins item is_spelt ts = within_sound Item begins item is_spelt (length ts) ts
 
-spelt_after_comma : {A : Type 0} (Item : Phrase A) (item : Rest → Option (A × Rest))
+pub spelt_after_comma : {A : Type 0} (Item : Phrase A) (item : Rest → Option (A × Rest))
     → ((ts : Rest) (r : A × Rest) → item ts ≡ Some r → At Item ts r) → IsSpelt (AfterComma Item) after_comma item
 spelt_after_comma Item item h ts start r e i =
     subst (λ ts. AfterComma Item r.0 ts r.1) (sym (at_sign s.Comma ts start e)) (AfterComma.comma (h start r i))

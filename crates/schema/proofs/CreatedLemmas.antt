@@ -10,7 +10,7 @@ use Rattle.syntax.specs.CreateView.{column_of, constraint_of, table_of}
 use Rattle.syntax.specs.declared.create.Column.{Column}
 use Rattle.syntax.specs.declared.create.CreateTable.{CreateTable}
 use Rattle.schema.proofs.ListLemmas.{all_from_map}
-use Rattle.schema.specs.Created.{AreKeys, AreServed, IsColumn, IsKeyPlace, IsServed, IsTable}
+use Rattle.schema.specs.Created.{AreKeys, AreServed, IsColumn, IsKeyPlace, IsServed, IsTable, columns_with_keys}
 use Rattle.schema.specs.Names.{AreDistinct, IsReserved}
 use Rattle.schema.specs.Refused.{IsRefused}
 use Rattle.schema.specs.TableData.{ColumnData, IsPlaceIn, TableData}
@@ -50,40 +50,40 @@ module _ (created : CreateTable) where
       → found ≡ false → ¬ IsReserved (string_bytes created.name)
   unreserved found name e tested none reserved = let h : found ≡ true = tested.1 (subst IsReserved (sym e) reserved) in absurd cc
 
-  module _ (distinct : Bool) (columns : List Column) (e : columns ≡ created.columns.items)
+  module _ (distinct : Bool) (columns : List Column) (e : map column_of columns ≡ columns_with_keys (table_of created))
       (tested : IsTrue distinct ↔ AreDistinct (map (λ (c : Column). string_bytes c.name) columns)) where
     pub doubled_refused : distinct ≡ false → (table : TableData) → ¬ IsTable (table_of created) table
     doubled_refused two table is =
         let h : distinct ≡ true = tested.1 (subst AreDistinct (names_of columns)
-        (subst (λ cs. AreDistinct (map (λ c. c.name) (map column_of cs))) (sym e) is.distinct)) in absurd cc
+        (subst (λ cs. AreDistinct (map (λ c. c.name) cs)) (sym e) is.distinct)) in absurd cc
 
-    pub distinct_names : distinct ≡ true → AreDistinct (map (λ c. c.name) (map column_of created.columns.items))
+    pub distinct_names : distinct ≡ true → AreDistinct (map (λ c. c.name) (columns_with_keys (table_of created)))
     distinct_names one =
-        subst (λ cs. AreDistinct (map (λ c. c.name) (map column_of cs))) e (subst AreDistinct (sym (names_of columns)) (tested.0 one))
+        subst (λ cs. AreDistinct (map (λ c. c.name) cs)) e (subst AreDistinct (sym (names_of columns)) (tested.0 one))
 
-  module _ (found : Bool) (columns : List Column) (e : columns ≡ created.columns.items)
+  module _ (found : Bool) (columns : List Column) (e : map column_of columns ≡ columns_with_keys (table_of created))
       (tested : IsTrue found ↔ All (λ (c : Column). All (λ x. IsServed (constraint_of x)) c.constraints.items) columns) where
-    pub served_constraints : found ≡ true → All AreServed (map column_of created.columns.items)
+    pub served_constraints : found ≡ true → All AreServed (columns_with_keys (table_of created))
     served_constraints all =
-        subst (λ cs. All AreServed (map column_of cs)) e
+        subst (All AreServed) e
         (All-map AreServed column_of columns (λ k c within. All-map IsServed constraint_of _ (tested.0 all k c within)))
 
     pub unserved_refused : found ≡ false → (table : TableData) → ¬ IsTable (table_of created) table
     unserved_refused none table is =
-        let all = subst (λ cs. All AreServed (map column_of cs)) (sym e) is.served in
+        let all = subst (All AreServed) (sym e) is.served in
         let h : found ≡ true = tested.1 (λ k c within.
         all_from_map IsServed constraint_of _ (all_from_map AreServed column_of columns all k c within)) in
         absurd cc
 
-  module _ (columns : List Column) (e : columns ≡ created.columns.items) where
+  module _ (columns : List Column) (e : map column_of columns ≡ columns_with_keys (table_of created)) where
     pub keys_refused : (fault : Fault) → IsRefused (AreKeys (map column_of columns)) fault → IsRefused (IsTable (table_of created)) fault
     keys_refused fault refused =
         refused_part (AreKeys (map column_of columns)) (IsTable (table_of created)) fault refused
         (λ table is. (
           table.rowid,
-          subst (λ cs. AreKeys (map column_of cs) table.rowid) (sym e)
+          subst (λ cs. AreKeys cs table.rowid) (sym e)
               (record { place_is = is.rowid_is; one_key = is.one_key; integer = is.integer }),
         ))
 
-    pub keys_found : (place : Option ℕ) → AreKeys (map column_of columns) place → AreKeys (map column_of created.columns.items) place
-    keys_found place = subst (λ cs. AreKeys (map column_of cs) place) e
+    pub keys_found : (place : Option ℕ) → AreKeys (map column_of columns) place → AreKeys (columns_with_keys (table_of created)) place
+    keys_found place = subst (λ cs. AreKeys cs place) e

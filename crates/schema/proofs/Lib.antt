@@ -4,5 +4,8 @@ pub mod KeyLemmas
 pub mod KeyStepLemmas
 pub mod ColumnLemmas
 pub mod CreatedLemmas
+pub mod MissingLemmas
+pub mod ServedLemmas
+pub mod KeyedLemmas
 pub mod CatalogLemmas
 pub mod OneLemmas

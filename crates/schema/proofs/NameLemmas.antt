@@ -4,8 +4,21 @@ use Rattle.std.proofs.lemmas.Option.{slice_get-get_or, slice_get-map, slice_get_
 use Rattle.std.specs.List.{Any}
 use Rattle.std.specs.Option.{option_map}
 use Rattle.syntax.specs.Tree.{Name}
-use Rattle.schema.specs.Names.{AreDistinct, IsSameName}
+use Rattle.std.proofs.lemmas.Slice.Eq.{bytes_eq-Decides}
+use Rattle.std.specs.Char.{to_ascii_lowercase}
+use Rattle.schema.specs.Names.{AreDistinct, IsSameName, same_name}
 use Rattle.schema.proofs.ListLemmas.{get_front, get_middle, get_pushed, map_next, map_split}
+
+-- tests of one thing agree
+pub same_test : (a b : Bool) (P : Type 0) → IsTrue a ↔ P → IsTrue b ↔ P → a ≡ b
+same_test true true P p q = refl
+same_test true false P p q = sym (q.1 (p.0 refl))
+same_test false true P p q = p.1 (q.0 refl)
+same_test false false P p q = refl
+
+pub tested_name : (found : Bool) (a b : Name) → IsTrue found ↔ IsSameName a b → found ≡ same_name a b
+tested_name found a b tested =
+    same_test found (same_name a b) (IsSameName a b) tested (bytes_eq-Decides (map to_ascii_lowercase a) (map to_ascii_lowercase b))
 
 distinct_push : (names : List Name) (name : Name) → AreDistinct names
     → ((i : ℕ) (other : Name) → slice_get names i ≡ Some other → ¬ IsSameName other name) → AreDistinct (names ++ name ∷ [])

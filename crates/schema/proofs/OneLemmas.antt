@@ -1,16 +1,18 @@
 -- A row says one table, and rows say one list of tables.
-use Rattle.std.proofs.Common.{◌≡◌, ℕ, zero, suc, ◌<◌, ◌≤◌, ◌⊎◌, Bool, true, false, IsTrue, ◌↔◌, List, [], ◌∷◌, codes, slice_get, Option, None, Some, inl, inr, refl, sym, ap, ◌∙◌, subst, arith}
+use Rattle.std.proofs.Common.{◌≡◌, ℕ, zero, suc, ◌<◌, ◌≤◌, ◌⊎◌, List, [], ◌∷◌, codes, slice_get, Option, None, Some, inl, inr, refl, sym, ap, ◌∙◌, subst, arith}
 use Rattle.std.proofs.lemmas.Bool.{cases_order}
 use Rattle.std.proofs.lemmas.List.Sums.{get_or-le-sum_by, sum_by-cons}
 use Rattle.std.proofs.lemmas.Option.{get_or_from_slice_get, slice_get_within}
 use Rattle.std.specs.List.{AllZip}
 use Rattle.values.specs.Row.{Row}
 use Rattle.syntax.specs.CreateTrees.{ColumnTree, TableTree}
-use Rattle.schema.specs.Created.{IsColumn, IsKey, IsKeyPlace, IsTable, key_count}
+use Rattle.schema.specs.Created.{IsColumn, IsKey, IsKeyPlace, IsTable, columns_with_keys, key_count}
 use Rattle.schema.specs.Rows.{AreTables, SaysTable}
 use Rattle.schema.specs.TableData.{ColumnData, TableData}
 use Rattle.schema.proofs.CatalogLemmas.{one_tree, parts}
 use Rattle.schema.proofs.KeyLemmas.{key_written, written}
+use Rattle.schema.proofs.MissingLemmas.{one_missing}
+use Rattle.schema.proofs.NameLemmas.{same_test}
 
 -- a relation that gives one element for each gives one list for each
 zip_same : {X Y : Type 0} (R : X → Y → Type 0) → ((x : X) (a b : Y) → R x a → R x b → a ≡ b) → (xs : List X) (ys zs : List Y)
@@ -23,18 +25,13 @@ zip_same R one (x ∷ xs) (a ∷ ys) [] p q = absurd q
 zip_same R one (x ∷ xs) (a ∷ ys) (b ∷ zs) p q =
     ap (λ y. y ∷ ys) (one x a b p.0 q.0) ∙ ap (λ ys. b ∷ ys) (zip_same R one xs ys zs p.1 q.1)
 
-same_test : (a b : Bool) (P : Type 0) → IsTrue a ↔ P → IsTrue b ↔ P → a ≡ b
-same_test true true P p q = refl
-same_test true false P p q = sym (q.1 (p.0 refl))
-same_test false true P p q = p.1 (q.0 refl)
-same_test false false P p q = refl
-
 one_column : (tree : ColumnTree) (a b : ColumnData) → IsColumn tree a → IsColumn tree b → a ≡ b
 one_column tree a b p q =
     let name : a.name ≡ b.name = p.name_is ∙ sym q.name_is in
     let ty : a.ty ≡ b.ty = p.ty_is ∙ sym q.ty_is in
     let not_null : a.not_null ≡ b.not_null = same_test a.not_null b.not_null _ p.not_null_is q.not_null_is in
-    λ i. record { name = name i; ty = ty i; not_null = not_null i }
+    let missing : a.missing ≡ b.missing = one_missing tree.constraints a.missing b.missing p.missing_is q.missing_is in
+    λ i. record { name = name i; ty = ty i; not_null = not_null i; missing = missing i }
 
 -- one column is the key
 key_counted : (columns : List ColumnTree) (at : ℕ) (column : ColumnTree) → slice_get columns at ≡ Some column → IsKey column
@@ -79,8 +76,8 @@ one_place columns one (Some i) (Some j) p q = go (cases_order i j)
 one_created : (tree : TableTree) (a b : TableData) → IsTable tree a → IsTable tree b → a.root ≡ b.root → a ≡ b
 one_created tree a b p q root =
     let name : a.name ≡ b.name = p.name_is ∙ sym q.name_is in
-    let columns : a.columns ≡ b.columns = zip_same IsColumn one_column tree.columns a.columns b.columns p.columns_are q.columns_are in
-    let rowid : a.rowid ≡ b.rowid = one_place tree.columns p.one_key a.rowid b.rowid p.rowid_is q.rowid_is in
+    let columns : a.columns ≡ b.columns = zip_same IsColumn one_column (columns_with_keys tree) a.columns b.columns p.columns_are q.columns_are in
+    let rowid : a.rowid ≡ b.rowid = one_place (columns_with_keys tree) p.one_key a.rowid b.rowid p.rowid_is q.rowid_is in
     λ i. record { name = name i; root = root i; columns = columns i; rowid = rowid i }
 
 pub one_table : (pages : ℕ) (row : Row) (a b : TableData) → SaysTable pages row a → SaysTable pages row b → a ≡ b

@@ -1,4 +1,6 @@
 pub mod TableData
+pub mod MissingView
+pub mod Missing
 pub mod Names
 pub mod Created
 pub mod Rows

@@ -1,10 +1,14 @@
 -- Names, which are the same where they differ in ASCII case alone. (SQL As Understood By SQLite)
-use Rattle.std.specs.Prelude.{◌≡◌, ◌<◌, ℕ, List, codes, length, map, slice_get, Some, take}
+use Rattle.std.specs.Prelude.{◌≡◌, ◌<◌, ℕ, Bool, List, bytes_eq, codes, length, map, slice_get, Some, take}
 use Rattle.std.specs.Char.{to_ascii_lowercase}
 use Rattle.syntax.specs.Tree.{Name}
 
 abbrev pub IsSameName : Name → Name → Type 0
 IsSameName a b = map to_ascii_lowercase a ≡ map to_ascii_lowercase b
+
+-- the same as a test
+abbrev pub same_name : Name → Name → Bool
+same_name a b = bytes_eq (map to_ascii_lowercase a) (map to_ascii_lowercase b)
 
 -- no two of the names are the same
 abbrev pub AreDistinct : List Name → Type 0

@@ -9,6 +9,9 @@ ghost use Rattle.schema.specs.Created.{AreKeys, AreServed, IsColumn, IsServed, I
 ghost use Rattle.schema.specs.Names.{AreDistinct, IsReserved, IsSameName};
 ghost use Rattle.schema.specs.Refused.{IsRefused};
 
+use crate::keys::columns_with_keys;
+use crate::missing::missing_by;
+use crate::served::{constraints_are_served, has_rowids};
 use crate::{Column, Table};
 use std::alloc::{AllocError, Global};
 use syntax::{Column as ColumnDefinition, ColumnConstraint, ColumnType, CreateTable, KeyOrder};
@@ -35,7 +38,7 @@ pub(crate) fn is_same_name(a: &str, b: &str) -> bool
 }
 
 /// Whether one of the columns has this name.
-fn is_named(columns: &[ColumnDefinition], name: &str) -> bool
+pub(crate) fn is_named(columns: &[ColumnDefinition], name: &str) -> bool
     ensures { IsTrue result ↔ Any (λ c. IsSameName (column_of c).name name.now) columns.now }
 {
     columns
@@ -165,10 +168,16 @@ fn column_from(definition: ColumnDefinition) -> Column
     ensures { IsColumn (column_of definition) result }
 {
     let not_null = is_not_null(&definition);
+    let ColumnDefinition {
+        name,
+        ty,
+        constraints,
+    } = definition;
     Column {
-        name: definition.name,
-        ty: type_of(definition.ty),
+        name,
+        ty: type_of(ty),
         not_null,
+        missing: missing_by(constraints),
     }
 }
 
@@ -187,22 +196,33 @@ fn columns_from(
 }
 
 /// The table that a CREATE TABLE makes, whose tree has this root. (CREATE TABLE) The fault is `NotYet` where it makes
-/// none: its name is reserved, two columns have one name, a constraint isn't served, or a PRIMARY KEY isn't the rowid; or
-/// `NoMemory`.
+/// none: its name is reserved, two columns have one name, a constraint or an option isn't served, or a PRIMARY KEY isn't the
+/// rowid; or `NoMemory`.
 pub(crate) fn table_from(alloc: Global, created: CreateTable, root: u32) -> Result<Table, Fault>
     ensures made { IfOk result (λ table. IsTable (table_of created) table) }
     ensures root { IfOk result (λ table. table.root ≡ root) }
     ensures refused { IfErr result (IsRefused (IsTable (table_of created))) }
 {
-    let CreateTable { name, columns } = created;
-    if is_reserved(name.as_str()) || !are_distinct(columns.as_slice()) {
+    let CreateTable {
+        name,
+        columns,
+        constraints,
+        options,
+    } = created;
+    let keyed = columns_with_keys(alloc, columns, constraints.as_slice())?;
+    if is_reserved(name.as_str()) || !are_distinct(keyed.as_slice()) {
         return Err(Fault::NotYet);
     }
-    if !columns_are_served(columns.as_slice()) {
+    if !columns_are_served(keyed.as_slice()) {
         return Err(Fault::NotYet);
     }
-    let rowid = key_place(columns.as_slice())?;
-    let columns = columns_from(alloc, columns)?;
+    if !has_rowids(options.as_slice())
+        || !constraints_are_served(keyed.as_slice(), constraints.as_slice())
+    {
+        return Err(Fault::NotYet);
+    }
+    let rowid = key_place(keyed.as_slice())?;
+    let columns = columns_from(alloc, keyed)?;
     Ok(Table {
         name,
         root,

@@ -1,10 +1,12 @@
 //! Tables and their columns.
 ghost use Rattle.std.specs.Prelude.{◌≡◌, IfOk, length};
+ghost use Rattle.schema.specs.MissingView.{missing_of};
 ghost use Rattle.schema.specs.TableData.{IsPlaceIn, nullable, schema_table};
 
+use crate::Missing;
 use std::alloc::{AllocError, Global};
 use std::marker::Model;
-use values::Ty;
+use values::{Ty, Value};
 
 /// A column of a table. (STRICT Tables)
 #[derive(Debug, Drop)]
@@ -12,15 +14,17 @@ pub struct Column {
     pub(crate) name: String,
     pub(crate) ty: Ty,
     pub(crate) not_null: bool,
+    pub(crate) missing: Missing,
 }
 
 impl Model for Column {
     ghost use Rattle.std.specs.Prelude.{string_bytes};
+    ghost use Rattle.schema.specs.MissingView.{missing_of};
     ghost use Rattle.schema.specs.TableData.{ColumnData};
 
     ghost Value = { ColumnData };
 
-    ghost view = { λ c. record { name = string_bytes c.name; ty = c.ty; not_null = c.not_null } };
+    ghost view = { λ c. record { name = string_bytes c.name; ty = c.ty; not_null = c.not_null; missing = missing_of c.missing } };
 }
 
 impl Column {
@@ -33,6 +37,7 @@ impl Column {
             name,
             ty,
             not_null: false,
+            missing: Missing::Fill(Value::Null),
         })
     }
 
@@ -55,6 +60,13 @@ impl Column {
         ensures { result ≡ self.now.not_null }
     {
         self.not_null
+    }
+
+    /// What a row that is older than the column has in it. (ALTER TABLE ADD COLUMN)
+    pub fn missing(&self) -> &Missing
+        ensures { missing_of result.now ≡ self.now.missing }
+    {
+        &self.missing
     }
 }
 

@@ -1,7 +1,8 @@
 -- The tree of a CREATE TABLE, without where it lies in memory.
-use Rattle.std.specs.Prelude.{Bool, ℕ, ℤ, List, length}
+use Rattle.std.specs.Prelude.{Bool, ℕ, ℤ, List, Option, length}
 use Rattle.syntax.specs.Tree.{Name}
 use Rattle.syntax.specs.declared.create.KeyOrder.{KeyOrder}
+use Rattle.syntax.specs.declared.create.TableOption.{TableOption}
 
 pub data TypeTree : Type 0 where
   Int : TypeTree
@@ -38,9 +39,27 @@ pub record ColumnTree : Type 0 where
   pub ty : TypeTree
   pub constraints : List ConstraintTree
 
+-- a column of a key, as it is written
+pub record IndexedColumnTree : Type 0 where
+  pub name : Name
+  -- the name of the collation, where one is written
+  pub collation : Option Name
+  pub order : KeyOrder
+
+-- a constraint of a table, without its own name
+pub data TableConstraintTree : Type 0 where
+  PrimaryKey : List IndexedColumnTree → TableConstraintTree
+  Unique : List IndexedColumnTree → TableConstraintTree
+  Check : TableConstraintTree
+  -- the columns of this table
+  ForeignKey : List Name → TableConstraintTree
+
+-- a table, with its constraints and options as they are written
 pub record TableTree : Type 0 where
   pub name : Name
   pub columns : List ColumnTree
+  pub constraints : List TableConstraintTree
+  pub options : List TableOption
 
 abbrev pub columns_of_table : TableTree → ℕ
 columns_of_table tree = length tree.columns

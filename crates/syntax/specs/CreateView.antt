@@ -1,6 +1,6 @@
 -- What the program's CREATE TABLEs are.
-use Rattle.std.specs.Prelude.{map, string_bytes}
-use Rattle.syntax.specs.CreateTrees.{TypeTree, DefaultTree, ConstraintTree, ColumnTree, TableTree}
+use Rattle.std.specs.Prelude.{map, option_map, string_bytes}
+use Rattle.syntax.specs.CreateTrees.{TypeTree, DefaultTree, ConstraintTree, ColumnTree, IndexedColumnTree, TableConstraintTree, TableTree}
 use Rattle.syntax.specs.declared.create.Column.{Column}
 use Rattle.syntax.specs.declared.create.ColumnConstraint.{ColumnConstraint}
 use Rattle.syntax.specs.declared.create.ColumnConstraint.TheVariants as c
@@ -9,6 +9,9 @@ use Rattle.syntax.specs.declared.create.ColumnType.TheVariants as t
 use Rattle.syntax.specs.declared.create.CreateTable.{CreateTable}
 use Rattle.syntax.specs.declared.create.DefaultValue.{DefaultValue}
 use Rattle.syntax.specs.declared.create.DefaultValue.TheVariants as d
+use Rattle.syntax.specs.declared.create.IndexedColumn.{IndexedColumn}
+use Rattle.syntax.specs.declared.create.TableConstraint.{TableConstraint}
+use Rattle.syntax.specs.declared.create.TableConstraint.TheVariants as x
 
 abbrev pub type_of : ColumnType → TypeTree
 type_of t.Int = TypeTree.Int
@@ -40,5 +43,23 @@ column_of c = record {
   constraints = map constraint_of c.constraints.items;
 }
 
+abbrev pub indexed_of : IndexedColumn → IndexedColumnTree
+indexed_of c = record {
+  name = string_bytes c.name;
+  collation = option_map (λ n. string_bytes n) c.collation;
+  order = c.order;
+}
+
+abbrev pub table_constraint_of : TableConstraint → TableConstraintTree
+table_constraint_of (x.PrimaryKey columns) = TableConstraintTree.PrimaryKey (map indexed_of columns.items)
+table_constraint_of (x.Unique columns) = TableConstraintTree.Unique (map indexed_of columns.items)
+table_constraint_of x.Check = TableConstraintTree.Check
+table_constraint_of (x.ForeignKey names) = TableConstraintTree.ForeignKey (map (λ n. string_bytes n) names.items)
+
 abbrev pub table_of : CreateTable → TableTree
-table_of t = record { name = string_bytes t.name; columns = map column_of t.columns.items }
+table_of t = record {
+  name = string_bytes t.name;
+  columns = map column_of t.columns.items;
+  constraints = map table_constraint_of t.constraints.items;
+  options = t.options.items;
+}

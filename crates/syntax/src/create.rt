@@ -56,9 +56,40 @@ pub struct Column {
     pub constraints: Vec<ColumnConstraint>,
 }
 
-/// A table that is created. (CREATE TABLE)
+/// A column of a key, as it is written. (CREATE INDEX, "Indexed column")
+#[derive(Debug, Drop)]
+pub struct IndexedColumn {
+    pub name: String,
+    /// The name of the collation, where one is written.
+    pub collation: Option<String>,
+    pub order: KeyOrder,
+}
+
+/// A constraint of a table, without its own name. (CREATE TABLE)
+#[derive(Debug, Drop)]
+pub enum TableConstraint {
+    PrimaryKey(Vec<IndexedColumn>),
+    Unique(Vec<IndexedColumn>),
+    /// CHECK, whose expression isn't kept.
+    Check,
+    /// FOREIGN KEY, with the columns of this table. What they refer to isn't kept.
+    ForeignKey(Vec<String>),
+}
+
+/// What stands behind the columns of a table. (CREATE TABLE, "Table options")
+#[derive(Clone, Copy, Debug, PartialEq, Eq)]
+pub enum TableOption {
+    /// STRICT
+    Strict,
+    /// WITHOUT ROWID
+    WithoutRowid,
+}
+
+/// A table that is created, with its constraints and options as they are written. (CREATE TABLE)
 #[derive(Debug, Drop)]
 pub struct CreateTable {
     pub name: String,
     pub columns: Vec<Column>,
+    pub constraints: Vec<TableConstraint>,
+    pub options: Vec<TableOption>,
 }

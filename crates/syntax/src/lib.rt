@@ -12,7 +12,10 @@ mod functions;
 mod query;
 mod select;
 
-pub use create::{Column, ColumnConstraint, ColumnType, CreateTable, DefaultValue, KeyOrder};
+pub use create::{
+    Column, ColumnConstraint, ColumnType, CreateTable, DefaultValue, IndexedColumn, KeyOrder,
+    TableConstraint, TableOption,
+};
 pub use expr::{Arm, BinaryOperator, Expr, Function, PostfixOperator, PrefixOperator};
 pub use query::{CompoundOperator, Direction, Edge, Exclusion, Frame, FrameUnit, Join};
 pub use select::{ResultColumn, ResultName, Select};

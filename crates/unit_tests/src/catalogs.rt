@@ -1,8 +1,8 @@
 //! Tables that the schema's rows say. (The Schema Table)
-use schema::{Catalog, Column, Table};
+use schema::{Catalog, Column, Missing, Table};
 use std::alloc::{AllocError, Global};
 use std::test::Fail;
-use values::{Fault, Row, Ty, ValueRef};
+use values::{Fault, Row, Ty, Value, ValueRef};
 
 /// A row of the schema: an object's kind and name, the name of its table, its root and its text.
 type Object = (&'static str, &'static str, &'static str, i64, &'static str);
@@ -12,7 +12,7 @@ const SQL: &str = "CREATE TABLE item(id INTEGER PRIMARY KEY, name TEXT NOT NULL,
 const ITEM: Object = ("table", "item", "item", 2, SQL);
 
 /// Rows of the schema, and the tables that they say, in a form of the tests' own.
-const CATALOGS: [(&[Object], &str); 6] = [
+const CATALOGS: [(&[Object], &str); 9] = [
     (&[], ""),
     (
         &[ITEM],
@@ -38,7 +38,39 @@ const CATALOGS: [(&[Object], &str); 6] = [
              qty INT DEFAULT 0 CHECK (qty >= 0), note TEXT COLLATE binary DEFAULT 'none' NOT NULL, \
              item INT REFERENCES item(id) ON DELETE CASCADE) STRICT",
         )],
-        "stock at 4 by the first | id: int | qty: int | note: text filled | item: int\n",
+        "stock at 4 by the first | id: int | qty: int or 0 | note: text filled or 'none' | item: int\n",
+    ),
+    (
+        &[(
+            "table",
+            "bill",
+            "bill",
+            5,
+            "CREATE TABLE bill(id INTEGER PRIMARY KEY, item INT, CONSTRAINT some CHECK (item > 0), \
+             FOREIGN KEY (ITEM, id) REFERENCES item(id, n) ON DELETE SET NULL, CHECK (1)) STRICT",
+        )],
+        "bill at 5 by the first | id: int | item: int\n",
+    ),
+    (
+        &[(
+            "table",
+            "pin",
+            "pin",
+            6,
+            "CREATE TABLE pin(a TEXT, id INTEGER NOT NULL, CONSTRAINT pk PRIMARY KEY (ID COLLATE binary ASC)) STRICT",
+        )],
+        "pin at 6 by the second | a: text | id: int filled\n",
+    ),
+    (
+        &[(
+            "table",
+            "old",
+            "old",
+            7,
+            "CREATE TABLE old(a INT DEFAULT 1 DEFAULT -3, b TEXT DEFAULT 'x' DEFAULT (1), c BLOB DEFAULT x'00' CHECK (c), \
+             d INT DEFAULT (2) NOT NULL DEFAULT NULL) STRICT",
+        )],
+        "old at 7 | a: int or -3 | b: text or computed | c: blob or a blob | d: int filled\n",
     ),
     (
         &[(
@@ -87,7 +119,7 @@ const REFUSED: [&[Object]; 10] = [
 ];
 
 /// Tables that are not served, with their names.
-const NO_TABLES: [(&str, &str); 13] = [
+const NO_TABLES: [(&str, &str); 24] = [
     ("t", "CREATE TABLE t(a INT PRIMARY KEY) STRICT"),
     ("t", "CREATE TABLE t(a TEXT PRIMARY KEY) STRICT"),
     (
@@ -109,6 +141,38 @@ const NO_TABLES: [(&str, &str); 13] = [
     ),
     ("t", "CREATE TABLE t(a TEXT COLLATE NOCASE) STRICT"),
     ("t", "CREATE TABLE t(a INT)"),
+    ("t", "CREATE TABLE t(a INT) STRICT, STRICT"),
+    (
+        "t",
+        "CREATE TABLE t(a INTEGER PRIMARY KEY) STRICT, WITHOUT ROWID",
+    ),
+    ("t", "CREATE TABLE t(a INT, UNIQUE (a)) STRICT"),
+    ("t", "CREATE TABLE t(a INT, PRIMARY KEY (a)) STRICT"),
+    (
+        "t",
+        "CREATE TABLE t(a INTEGER, PRIMARY KEY (a DESC)) STRICT",
+    ),
+    (
+        "t",
+        "CREATE TABLE t(a INTEGER, b INT, PRIMARY KEY (a, b)) STRICT",
+    ),
+    (
+        "t",
+        "CREATE TABLE t(a INTEGER PRIMARY KEY, PRIMARY KEY (a)) STRICT",
+    ),
+    ("t", "CREATE TABLE t(a INTEGER, PRIMARY KEY (b)) STRICT"),
+    (
+        "t",
+        "CREATE TABLE t(a INTEGER, PRIMARY KEY (a COLLATE nocase)) STRICT",
+    ),
+    (
+        "t",
+        "CREATE TABLE t(a INT, FOREIGN KEY (b) REFERENCES u) STRICT",
+    ),
+    (
+        "t",
+        "CREATE TABLE t(a INT, FOREIGN KEY (a, A) REFERENCES u) STRICT",
+    ),
     ("t", "CREATE TABLE t(a REAL) STRICT"),
 ];
 
@@ -153,7 +217,22 @@ fn read(alloc: Global, objects: &[Object]) -> Result<Catalog, Fault> {
     Catalog::read(alloc, rows.as_slice(), 9)
 }
 
-fn write_column(text: &mut String, column: &Column) -> Result<(), AllocError> {
+/// Writes what older rows have in a column.
+fn write_missing(alloc: Global, text: &mut String, missing: &Missing) -> Result<(), AllocError> {
+    match missing {
+        Missing::Fill(Value::Null) => Ok(()),
+        Missing::Fill(Value::Int(number)) => {
+            text.push_str(format!(in alloc; " or {number}")?.as_str())
+        }
+        Missing::Fill(Value::Text(content)) => {
+            text.push_str(format!(in alloc; " or '{content}'")?.as_str())
+        }
+        Missing::Fill(Value::Blob(_)) => text.push_str(" or a blob"),
+        Missing::Refused => text.push_str(" or computed"),
+    }
+}
+
+fn write_column(alloc: Global, text: &mut String, column: &Column) -> Result<(), AllocError> {
     text.push_str(" | ")?;
     text.push_str(column.name())?;
     text.push_str(match column.ty() {
@@ -162,7 +241,8 @@ fn write_column(text: &mut String, column: &Column) -> Result<(), AllocError> {
         Ty::Blob => ": blob",
         Ty::Null => ": null",
     })?;
-    text.push_str(if column.is_not_null() { " filled" } else { "" })
+    text.push_str(if column.is_not_null() { " filled" } else { "" })?;
+    write_missing(alloc, text, column.missing())
 }
 
 /// Writes a table's name, its root, the place of the rowid, and its columns.
@@ -175,7 +255,7 @@ fn write_table(alloc: Global, text: &mut String, table: &Table) -> Result<(), Al
         None => "",
     })?;
     for column in table.columns() {
-        write_column(text, column)?;
+        write_column(alloc, text, column)?;
     }
     text.push('\n')
 }

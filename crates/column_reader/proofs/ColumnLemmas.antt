@@ -1,0 +1,99 @@
+-- The reader of a column finds exactly what its grammar says.
+use Rattle.std.proofs.Common.{◌≡◌, ◌<◌, true, false, List, ◌∷◌, length, Option, Some, None, option_map, refl, sym, ap, ◌∙◌, map, subst, arith}
+use Rattle.std.proofs.lemmas.Bool.{cond-true, cond-false}
+use Rattle.values.specs.declared.fault.Fault.{Fault}
+use Rattle.values.specs.declared.fault.Fault.TheVariants as f
+use Rattle.tokens.specs.Lexeme.{Lexeme}
+use Rattle.phrases.proofs.ListLemmas.{GoesOn, Shortens, goes_end, goes_wrong}
+use Rattle.phrases.proofs.OutcomeLemmas.{some_inj}
+use Rattle.phrases.proofs.PhraseLemmas.{At, TakesOne, many_length}
+use Rattle.phrases.specs.Lists.{Many}
+use Rattle.phrases.specs.Steps.{Rest, Found, IsMissing, name}
+use Rattle.column_reader.proofs.ConstraintLemmas.{constraint_length, constraint_shortens, constraints_complete, constraints_sound}
+use Rattle.column_reader.proofs.WordLemmas.{IsEnd, some_mapped, type_complete, type_sound}
+use Rattle.column_reader.specs.ColumnGrammar.{IsType, Constrains, Defines}
+use Rattle.column_reader.specs.ColumnReading.{type_named, column_type, begins_constraint, at_constraint, constraint, constraints, constrained, typed, column}
+use Rattle.syntax.specs.Tree.{Name}
+use Rattle.syntax.specs.CreateTrees.{TypeTree, ConstraintTree, ColumnTree}
+use Rattle.syntax.specs.CreateView.{constraint_of}
+use Rattle.syntax.specs.declared.create.ColumnConstraint.{ColumnConstraint}
+
+-- what may follow a column
+abbrev pub EndsColumn : Rest → Type 0
+EndsColumn ts = IsEnd ts × (at_constraint ts ≡ None)
+
+pub column_complete : (x : ColumnTree) (from mid : Rest) → Defines x from mid → EndsColumn mid
+    → (let r : ColumnTree × Rest = (x, mid) in column from ≡ Some r)
+column_complete x _ mid (Defines.column {name = n} {ty = ty} {word = word} {from = from} t m) e =
+    ap (λ o. typed n (option_map (λ ty. (ty, from)) o)) (type_complete ty word t)
+    ∙ ap (constrained n ty) (constraints_complete m e.0 e.1)
+
+some_constrained : (n : Name) (ty : TypeTree) (o : Found ConstraintTree) (r : ColumnTree × Rest)
+    → constrained n ty o ≡ Some r
+    → (x : List ConstraintTree × Rest) × (o ≡ Some x)
+    × ((let p : ColumnTree × Rest = (record { name = n; ty = ty; constraints = x.0 }, x.1) in p) ≡ r)
+some_constrained n ty None r h = absurd cc
+some_constrained n ty (Some x) r h = (x, refl, some_inj _ r h)
+
+some_typed : (n : Name) (o : Option (TypeTree × Rest)) (r : ColumnTree × Rest) → typed n o ≡ Some r
+    → (x : TypeTree × Rest) × (o ≡ Some x) × (constrained n x.0 (constraints x.1) ≡ Some r)
+some_typed n None r h = absurd cc
+some_typed n (Some x) r h = (x, refl, h)
+
+pub column_sound : (ts : Rest) (r : ColumnTree × Rest) → column ts ≡ Some r → At Defines ts r
+column_sound (Lexeme.Name q n ∷ word ∷ ts) r h =
+    let t = some_typed n (option_map (λ ty. (ty, ts)) (type_named word)) r h in
+    let m = some_mapped (λ ty. (ty, ts)) (type_named word) t.0 t.1 in
+    let c = some_constrained n t.0.0 (constraints t.0.1) r t.2 in
+    let same : ts ≡ t.0.1 = ap (λ (p : TypeTree × Rest). p.1) m.2 in
+    let ty : m.0 ≡ t.0.0 = ap (λ (p : TypeTree × Rest). p.0) m.2 in
+    subst (At Defines (Lexeme.Name q n ∷ word ∷ ts)) c.2
+    (Defines.column (subst (λ ty. IsType ty word) ty (type_sound word m.0 m.1))
+    (subst (λ ts. Many Constrains c.0.0 ts c.0.1) (sym same) (constraints_sound t.0.1 c.0 c.1)))
+column_sound _ r h = absurd cc
+
+pub column_length : (x : ColumnTree) (from mid : Rest) → Defines x from mid → length mid < length from
+column_length x from mid (Defines.column t m) =
+    let l = many_length Constrains (λ x from mid c. let k = constraint_length x from mid c in omega (arith, k)) m in
+    omega (arith, l)
+
+-- What the definition is, by its parts
+
+pub begins_here : (ts : Rest) → begins_constraint ts ≡ true → at_constraint ts ≡ Some ts
+begins_here ts h = cond-true _ _ _ h
+
+pub ends_here : (ts : Rest) → begins_constraint ts ≡ false → at_constraint ts ≡ None
+ends_here ts h = cond-false _ _ _ h
+
+column_step : (ts words start : Rest) (n : Name) (ty : TypeTree)
+    → (let r : Name × Rest = (n, words) in name ts ≡ Some r)
+    → (let r : TypeTree × Rest = (ty, start) in column_type words ≡ Some r)
+    → column ts ≡ constrained n ty (constraints start)
+column_step (Lexeme.Name q m ∷ ts) words start n ty h k =
+    let same : (let r : Name × Rest = (m, ts) in r) ≡ (let r : Name × Rest = (n, words) in r) = cc in
+    ap (λ (p : Name × Rest). typed p.0 (column_type p.1)) same ∙ ap (typed n) k
+column_step _ words start n ty h k = absurd cc
+
+pub column_found : (ts words start rest : Rest) (n : Name) (ty : TypeTree) (front : List ColumnConstraint)
+    → (let r : Name × Rest = (n, words) in name ts ≡ Some r)
+    → (let r : TypeTree × Rest = (ty, start) in column_type words ≡ Some r) → at_constraint rest ≡ None
+    → GoesOn constraint_of at_constraint constraint (constraints start) front rest
+    → (let r : ColumnTree × Rest = (record { name = n; ty = ty; constraints = map constraint_of front }, rest) in
+    column ts ≡ Some r)
+column_found ts words start rest n ty front h k e g =
+    column_step ts words start n ty h k
+    ∙ ap (constrained n ty)
+    (goes_end constraint_of at_constraint constraint constraint_shortens (constraints start) rest front e g)
+
+pub column_wrong : (e : Fault) (ts words start rest : Rest) (n : Name) (ty : TypeTree) (front : List ColumnConstraint)
+    → (let r : Name × Rest = (n, words) in name ts ≡ Some r)
+    → (let r : TypeTree × Rest = (ty, start) in column_type words ≡ Some r) → at_constraint rest ≡ Some rest
+    → IsMissing e (constraint rest)
+    → GoesOn constraint_of at_constraint constraint (constraints start) front rest
+    → IsMissing e (column ts)
+column_wrong (f.Syntax place) ts words start rest n ty front h k b w g =
+    column_step ts words start n ty h k
+    ∙ ap (constrained n ty)
+    (goes_wrong constraint_of at_constraint constraint constraint_shortens (constraints start) rest rest front b w g)
+column_wrong f.NoMemory ts words start rest n ty front h k b w g = tt
+column_wrong _ ts words start rest n ty front h k b w g = absurd w

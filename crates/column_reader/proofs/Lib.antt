@@ -1,0 +1,5 @@
+pub mod WordLemmas
+pub mod BodyLemmas
+pub mod ReferenceLemmas
+pub mod ConstraintLemmas
+pub mod ColumnLemmas

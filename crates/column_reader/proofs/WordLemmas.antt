@@ -1,0 +1,161 @@
+-- The words that stand at the front of tokens.
+use Rattle.std.proofs.Common.{◌≡◌, Bool, true, false, List, [], ◌∷◌, ℕ, length, codes, Option, Some, None, option_map, option_and_then, slice_index, cond, refl, sym, ap, ◌∙◌, subst, arith}
+use Rattle.std.proofs.lemmas.Bool.{cond-true, cond-false}
+use Rattle.std.proofs.lemmas.Slice.Eq.{bytes_eq-Decides}
+use Rattle.std.specs.Str.{str_to_ascii_lowercase}
+use Rattle.tokens.specs.Content.{is_bare_word}
+use Rattle.tokens.specs.Lexeme.{Lexeme}
+use Rattle.tokens.specs.declared.keyword.Keyword.TheVariants as k
+use Rattle.tokens.specs.declared.sign.Sign.TheVariants as s
+use Rattle.tokens.specs.declared.token.Quoting.TheVariants as q
+use Rattle.tokens.specs.declared.token.Quoting.{Quoting}
+use Rattle.phrases.proofs.OutcomeLemmas.{some_inj}
+use Rattle.phrases.specs.Steps.{Rest, after_open, after_word, name}
+use Rattle.column_reader.specs.ColumnGrammar.{IsType}
+use Rattle.column_reader.specs.ColumnReading.{after_name, after_on, type_named}
+use Rattle.syntax.specs.Tree.{Name}
+use Rattle.syntax.specs.CreateTrees.{TypeTree}
+
+-- a word is two words only where these differ in case alone
+same_word : (t : Lexeme) (one two : List ℕ) → is_bare_word t one ≡ true → is_bare_word t two ≡ true
+    → str_to_ascii_lowercase one ≡ str_to_ascii_lowercase two
+same_word (Lexeme.Name q.Bare name) one two h k =
+    sym ((bytes_eq-Decides (str_to_ascii_lowercase name) (str_to_ascii_lowercase one)).0 h)
+    ∙ (bytes_eq-Decides (str_to_ascii_lowercase name) (str_to_ascii_lowercase two)).0 k
+same_word _ one two h k = absurd cc
+
+other_word : (t : Lexeme) (one two : List ℕ) → (str_to_ascii_lowercase one ≡ str_to_ascii_lowercase two → ⊥)
+    → is_bare_word t two ≡ true → is_bare_word t one ≡ false
+other_word t one two d h = go (is_bare_word t one) refl
+  where
+    go : (b : Bool) → is_bare_word t one ≡ b → is_bare_word t one ≡ false
+    go true e = absurd (d (same_word t one two e h))
+    go false e = e
+
+-- words of different lengths differ
+pub other_length : (t : Lexeme) (one two : List ℕ)
+    → (length (str_to_ascii_lowercase one) ≡ length (str_to_ascii_lowercase two) → ⊥)
+    → is_bare_word t two ≡ true → is_bare_word t one ≡ false
+other_length t one two d = other_word t one two (λ e. d (ap length e))
+
+no_int_integer : (t : Lexeme) → is_bare_word t (codes "INTEGER") ≡ true → is_bare_word t (codes "INT") ≡ false
+no_int_integer t = other_length t (codes "INT") (codes "INTEGER") (λ e. let i : 3 ≡ 7 = e in omega (arith, i))
+
+no_int_text : (t : Lexeme) → is_bare_word t (codes "TEXT") ≡ true → is_bare_word t (codes "INT") ≡ false
+no_int_text t = other_length t (codes "INT") (codes "TEXT") (λ e. let i : 3 ≡ 4 = e in omega (arith, i))
+
+no_int_blob : (t : Lexeme) → is_bare_word t (codes "BLOB") ≡ true → is_bare_word t (codes "INT") ≡ false
+no_int_blob t = other_length t (codes "INT") (codes "BLOB") (λ e. let i : 3 ≡ 4 = e in omega (arith, i))
+
+no_integer_text : (t : Lexeme) → is_bare_word t (codes "TEXT") ≡ true → is_bare_word t (codes "INTEGER") ≡ false
+no_integer_text t = other_length t (codes "INTEGER") (codes "TEXT") (λ e. let i : 7 ≡ 4 = e in omega (arith, i))
+
+no_integer_blob : (t : Lexeme) → is_bare_word t (codes "BLOB") ≡ true → is_bare_word t (codes "INTEGER") ≡ false
+no_integer_blob t = other_length t (codes "INTEGER") (codes "BLOB") (λ e. let i : 7 ≡ 4 = e in omega (arith, i))
+
+-- these differ in their first letter
+no_text_blob : (t : Lexeme) → is_bare_word t (codes "BLOB") ≡ true → is_bare_word t (codes "TEXT") ≡ false
+no_text_blob t =
+    other_word t (codes "TEXT") (codes "BLOB")
+    (λ e. let i : 116 ≡ 98 = ap (λ xs. slice_index xs 0) e in omega (arith, i))
+
+pub type_complete : (ty : TypeTree) (t : Lexeme) → IsType ty t → type_named t ≡ Some ty
+type_complete ty t (IsType.int h) = cond-true _ _ _ h
+type_complete ty t (IsType.integer h) = cond-false _ _ _ (no_int_integer t h) ∙ cond-true _ _ _ h
+type_complete ty t (IsType.text h) =
+    cond-false _ _ _ (no_int_text t h) ∙ (cond-false _ _ _ (no_integer_text t h) ∙ cond-true _ _ _ h)
+type_complete ty t (IsType.blob h) =
+    cond-false _ _ _ (no_int_blob t h)
+    ∙ (cond-false _ _ _ (no_integer_blob t h) ∙ (cond-false _ _ _ (no_text_blob t h) ∙ cond-true _ _ _ h))
+
+pub type_sound : (t : Lexeme) (ty : TypeTree) → type_named t ≡ Some ty → IsType ty t
+type_sound t ty h = int (is_bare_word t (codes "INT")) refl h
+  where
+    none : Option TypeTree
+    none = None
+
+    blob : (b : Bool) → is_bare_word t (codes "BLOB") ≡ b → cond b (Some TypeTree.Blob) none ≡ Some ty → IsType ty t
+    blob true e h = subst (λ ty. IsType ty t) (some_inj _ _ h) (IsType.blob e)
+    blob false e h = absurd cc
+
+    text : (b : Bool) → is_bare_word t (codes "TEXT") ≡ b
+        → cond b (Some TypeTree.Text) (cond (is_bare_word t (codes "BLOB")) (Some TypeTree.Blob) none) ≡ Some ty
+        → IsType ty t
+    text true e h = subst (λ ty. IsType ty t) (some_inj _ _ h) (IsType.text e)
+    text false e h = blob (is_bare_word t (codes "BLOB")) refl h
+
+    integer : (b : Bool) → is_bare_word t (codes "INTEGER") ≡ b
+        → cond b (Some TypeTree.Integer) (cond (is_bare_word t (codes "TEXT")) (Some TypeTree.Text)
+        (cond (is_bare_word t (codes "BLOB")) (Some TypeTree.Blob) none)) ≡ Some ty → IsType ty t
+    integer true e h = subst (λ ty. IsType ty t) (some_inj _ _ h) (IsType.integer e)
+    integer false e h = text (is_bare_word t (codes "TEXT")) refl h
+
+    int : (b : Bool) → is_bare_word t (codes "INT") ≡ b
+        → cond b (Some TypeTree.Int) (cond (is_bare_word t (codes "INTEGER")) (Some TypeTree.Integer)
+        (cond (is_bare_word t (codes "TEXT")) (Some TypeTree.Text)
+        (cond (is_bare_word t (codes "BLOB")) (Some TypeTree.Blob) none))) ≡ Some ty → IsType ty t
+    int true e h = subst (λ ty. IsType ty t) (some_inj _ _ h) (IsType.int e)
+    int false e h = integer (is_bare_word t (codes "INTEGER")) refl h
+
+pub some_mapped : {A B : Type 0} (f : A → B) (o : Option A) (y : B) → option_map f o ≡ Some y
+    → (x : A) × (o ≡ Some x) × (f x ≡ y)
+some_mapped f None y h = absurd cc
+some_mapped f (Some x) y h = (x, refl, some_inj (f x) y h)
+
+-- the word that stands there
+pub word_sound : (word : List ℕ) (ts rest : Rest) → after_word word ts ≡ Some rest
+    → (t : Lexeme) × (ts ≡ t ∷ rest) × (is_bare_word t word ≡ true)
+word_sound word [] rest h = absurd cc
+word_sound word (t ∷ ts) rest h = go (is_bare_word t word) refl h
+  where
+    none : Option Rest
+    none = None
+
+    go : (b : Bool) → is_bare_word t word ≡ b → cond b (Some ts) none ≡ Some rest
+        → (u : Lexeme) × (t ∷ ts ≡ u ∷ rest) × (is_bare_word u word ≡ true)
+    go true e h = (t, ap (λ rest. t ∷ rest) (some_inj ts rest h), e)
+    go false e h = absurd cc
+
+pub then_parts : {A B : Type 0} (f : A → Option B) (o : Option A) (y : B) → option_and_then f o ≡ Some y
+    → (x : A) × (o ≡ Some x) × (f x ≡ Some y)
+then_parts f None y h = absurd cc
+then_parts f (Some x) y h = (x, refl, h)
+
+pub name_sound : (ts : Rest) (r : Name × Rest) → name ts ≡ Some r → (q : Quoting) × (ts ≡ Lexeme.Name q r.0 ∷ r.1)
+name_sound (Lexeme.Name q n ∷ ts) r h =
+    (q, ap (λ (r : Name × Rest). Lexeme.Name q r.0 ∷ r.1) (some_inj (n, ts) r h))
+name_sound _ r h = absurd cc
+
+pub after_name_sound : (ts rest : Rest) → after_name ts ≡ Some rest
+    → (q : Quoting) × (n : Name) × (ts ≡ Lexeme.Name q n ∷ rest)
+after_name_sound (Lexeme.Name q n ∷ ts) rest h = (q, n, ap (λ rest. Lexeme.Name q n ∷ rest) (some_inj ts rest h))
+after_name_sound _ rest h = absurd cc
+
+-- What may follow a part of a constraint: a comma, a parenthesis that closes, or a reserved word other than ON
+
+abbrev pub is_end : Rest → Bool
+is_end (Lexeme.Punctuation s.Comma ∷ ts) = true
+is_end (Lexeme.Punctuation s.Close ∷ ts) = true
+is_end (Lexeme.Reserved k.On ∷ ts) = false
+is_end (Lexeme.Reserved word ∷ ts) = true
+is_end _ = false
+
+abbrev pub IsEnd : Rest → Type 0
+IsEnd ts = is_end ts ≡ true
+
+pub no_word : (word : List ℕ) (ts : Rest) → IsEnd ts → after_word word ts ≡ None
+no_word word (Lexeme.Reserved _ ∷ ts) e = refl
+no_word word (Lexeme.Punctuation sign ∷ ts) e = refl
+no_word word _ e = absurd cc
+
+pub no_open : (ts : Rest) → IsEnd ts → after_open ts ≡ None
+no_open (Lexeme.Reserved _ ∷ ts) e = refl
+no_open (Lexeme.Punctuation s.Comma ∷ ts) e = refl
+no_open (Lexeme.Punctuation s.Close ∷ ts) e = refl
+no_open _ e = absurd cc
+
+pub no_on : (ts : Rest) → IsEnd ts → after_on ts ≡ None
+no_on (Lexeme.Punctuation sign ∷ ts) e = refl
+no_on (Lexeme.Reserved k.On ∷ ts) e = absurd cc
+no_on (Lexeme.Reserved _ ∷ ts) e = refl
+no_on _ e = absurd cc

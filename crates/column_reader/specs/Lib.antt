@@ -1,0 +1,2 @@
+pub mod ColumnGrammar
+pub mod ColumnReading

@@ -1,0 +1,100 @@
+//! Which constraints and options of a table are served.
+ghost use Rattle.std.specs.Prelude.{◌≡◌, ◌↔◌, ◌∷◌, [], All, IsTrue, map, option_map, string_bytes};
+ghost use Rattle.std.specs.List.{Any};
+ghost use Rattle.syntax.specs.CreateView.{column_of, indexed_of, table_constraint_of};
+ghost use Rattle.schema.specs.Created.{AreColumns, IsBinary, IsNamedIn, IsServedIn, IsSingle};
+ghost use Rattle.schema.specs.Names.{AreDistinct, IsSameName};
+
+use crate::created::{is_named, is_same_name};
+use syntax::{Column as ColumnDefinition, IndexedColumn, TableConstraint, TableOption};
+
+/// Whether a table of these options is STRICT and has rowids. (STRICT Tables; WITHOUT ROWID Tables)
+pub(crate) fn has_rowids(options: &[TableOption]) -> bool
+    ensures { IsTrue result ↔ (options.now ≡ TableOption.Strict ∷ []) }
+{
+    matches!(options, [TableOption::Strict])
+}
+
+/// Whether one of the names is this one.
+fn contains(names: &[String], name: &str) -> bool
+    ensures { IsTrue result ↔ Any (λ n. IsSameName (string_bytes n) name.now) names.now }
+{
+    names.iter().any(|other| is_same_name(other.as_str(), name))
+}
+
+/// Whether no two of the names are the same.
+fn are_different(names: &[String]) -> bool
+    ensures { IsTrue result ↔ AreDistinct (map (λ n. string_bytes n) names.now) }
+{
+    for (place, name) in names.iter().enumerate() {
+        if contains(&names[..place], name.as_str()) {
+            return false;
+        }
+    }
+    true
+}
+
+/// Whether this is the name of a column.
+fn is_column(columns: &[ColumnDefinition], name: &str) -> bool
+    ensures { IsTrue result ↔ IsNamedIn (map column_of columns.now) name.now }
+{
+    is_named(columns, name)
+}
+
+/// Whether each of the names is that of a column.
+fn are_named(columns: &[ColumnDefinition], names: &[String]) -> bool
+    ensures { IsTrue result ↔ All (λ n. IsNamedIn (map column_of columns.now) (string_bytes n)) names.now }
+{
+    names.iter().all(|name| is_column(columns, name.as_str()))
+}
+
+/// Whether these are columns of a table, each once.
+fn are_columns(columns: &[ColumnDefinition], names: &[String]) -> bool
+    ensures { IsTrue result ↔ AreColumns (map column_of columns.now) (map (λ n. string_bytes n) names.now) }
+{
+    are_named(columns, names) && are_different(names)
+}
+
+/// Whether no collation is written, or BINARY.
+fn is_binary(collation: &Option<String>) -> bool
+    ensures { IsTrue result ↔ IsBinary (option_map (λ n. string_bytes n) collation.now) }
+{
+    match collation {
+        Some(name) => is_same_name(name.as_str(), "BINARY"),
+        None => true,
+    }
+}
+
+/// Whether a key is one column of a table.
+fn is_single(columns: &[ColumnDefinition], key: &[IndexedColumn]) -> bool
+    ensures { IsTrue result ↔ IsSingle (map column_of columns.now) (map indexed_of key.now) }
+{
+    match key {
+        [only] => is_column(columns, only.name.as_str()) && is_binary(&only.collation),
+        _ => false,
+    }
+}
+
+/// Whether a constraint of a table needs no index, and names columns of the table. (CREATE TABLE)
+fn is_served_in(columns: &[ColumnDefinition], constraint: &TableConstraint) -> bool
+    ensures { IsTrue result ↔ IsServedIn (map column_of columns.now) (table_constraint_of constraint.now) }
+{
+    match constraint {
+        TableConstraint::PrimaryKey(key) => is_single(columns, key.as_slice()),
+        TableConstraint::Unique(_) => false,
+        TableConstraint::Check => true,
+        TableConstraint::ForeignKey(names) => are_columns(columns, names.as_slice()),
+    }
+}
+
+/// Whether each of these constraints does.
+pub(crate) fn constraints_are_served(
+    columns: &[ColumnDefinition],
+    constraints: &[TableConstraint],
+) -> bool
+    ensures { IsTrue result ↔ All (λ x. IsServedIn (map column_of columns.now) (table_constraint_of x)) constraints.now }
+{
+    constraints
+        .iter()
+        .all(|constraint| is_served_in(columns, constraint))
+}
