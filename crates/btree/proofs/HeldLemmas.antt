@@ -1,5 +1,6 @@
 -- How frames come and go, whatever source their pages were read from.
-use Rattle.std.proofs.Common.{◌≡◌, ◌+◌, ◌<◌, ◌≤◌, List, [], ◌∷◌, ◌++◌, All, append_assoc, append-nil, ap, sym, ◌∙◌, subst}
+use Rattle.std.proofs.Common.{◌≡◌, ◌+◌, ◌<◌, ◌≤◌, List, [], ◌∷◌, ◌++◌, All, length, length-append, arith, ⊎_elim, append_assoc, append-nil, ap, sym, ◌∙◌, subst}
+use Rattle.std.proofs.lemmas.Bool.{cases_lt}
 use Rattle.std.proofs.lemmas.List.Elements.{All-nil, All-cons, All-append}
 use Rattle.btree.specs.declared.cursor.Frame.{Frame}
 use Rattle.btree.specs.Held.{HasTakenFirst, IsPassed, GoesDown, TakesNext}
@@ -39,16 +40,28 @@ pub up_end : (old now : List Frame) → IsUp old now → now ≡ [] → All IsPa
 up_end old now up none =
     subst (λ (x : List Frame). All IsPassed x) (sym (up.1.0 ∙ ap (λ (x : List Frame). x ++ up.0) none)) up.1.1
 
-pub takes_next : (old now rest moved new : List Frame) (frame leaf : Frame) → IsUp old now → now ≡ rest ++ frame ∷ [] → frame.at < frame.count
-    → moved ≡ rest ++ (record frame { at = frame.at + 1 }) ∷ [] → GoesDown moved new leaf → TakesNext old new
-takes_next old now rest moved new frame leaf up is more moved_is down = record {
-  above = rest;
-  frame = frame;
-  passed = up.0;
+-- a leaf below another page has a cell
+pub down_filled : (frames pushed new : List Frame) (last leaf : Frame) → pushed ≡ frames ++ last ∷ [] → GoesDown pushed new leaf → (leaf.at ≡ 0) × (0 < leaf.count)
+down_filled frames pushed new last leaf is down =
+    let one = length-append frames (last ∷ []) in
+    let all = length-append pushed down.below in
+    let pushed_is : length pushed ≡ length (frames ++ last ∷ []) = ap length is in
+    let new_is : length new ≡ length (pushed ++ down.below) = ap length down.new_is in (
+      down.first,
+      ⊎_elim
+          (λ (some : 0 < leaf.count). some)
+          (λ (none : leaf.count ≤ 0). absurd (let e : length new ≡ 0 = ap length (down.filled (omega arith)) in omega (arith, one, all, pushed_is, new_is, e)))
+          (cases_lt 0 leaf.count),
+    )
+
+-- a frame was put back with its next child taken, and below it the way led down
+pub takes_next : (frames pushed new : List Frame) (frame leaf : Frame) → frame.at < frame.count
+    → pushed ≡ frames ++ (record frame { at = frame.at + 1 }) ∷ [] → GoesDown pushed new leaf → TakesNext frames frame new
+takes_next frames pushed new frame leaf more is down = record {
   below = down.below;
-  old_is = split_last old now rest up.0 frame up.1.0 is;
   more = more;
-  all_passed = up.1.1;
-  new_is = split_last new moved rest down.below (record frame { at = frame.at + 1 }) down.new_is moved_is;
+  new_is =
+      down.new_is ∙ ap (λ (x : List Frame). x ++ down.below) is
+      ∙ append_assoc frames ((record frame { at = frame.at + 1 }) ∷ []) down.below;
   firsts = down.firsts;
 }

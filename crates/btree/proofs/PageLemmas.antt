@@ -3,7 +3,7 @@ use Rattle.std.proofs.Common.{◌≡◌, ℕ, ◌+◌, ◌*◌, ◌-◌, ◌<◌
 use Rattle.std.proofs.lemmas.Bool.Decides.{nat_tests}
 use Rattle.std.proofs.lemmas.List.{drop_min, take_rest}
 use Rattle.pager.specs.Header.{field}
-use Rattle.image.specs.Cell.{CellData, IsTableCell}
+use Rattle.image.specs.Cell.{CellData, IsIndexCell, IsTableCell}
 use Rattle.image.specs.declared.kind.TreeKind.{TreeKind}
 use Rattle.image.specs.declared.kind.TreeKind.TheVariants.{Table, Index}
 use Rattle.image.specs.declared.kind.Level.{Level}
@@ -11,7 +11,7 @@ use Rattle.image.specs.declared.kind.Level.TheVariants.{Leaf, Interior}
 use Rattle.image.specs.Layout.{flag, flag_of, cell_count, cell_place, child, header_size, right_child, places_end}
 use Rattle.image.specs.Layout.{HasHeaderAt}
 use Rattle.image.specs.Cell.{FitsIn}
-use Rattle.btree.specs.Bytes.{IsRowCell}
+use Rattle.btree.specs.Bytes.{IsEntryCell, IsRowCell, child_size}
 
 -- a flag tells the level
 pub flag_of-same : (kind : TreeKind) (a b : Level) → flag_of kind a ≡ flag_of kind b → a ≡ b
@@ -46,6 +46,19 @@ module _ (at most : ℕ) (page : List ℕ) (i from : ℕ) (is : from ≡ min (ce
       let here : drop (cell_place at Leaf page i) page ≡ take (length page - from) (drop from page) =
       sym (drop_min (cell_place at Leaf page i) page) ∙ ap (λ (n : ℕ). drop n page) (sym is) ∙ sym (take_rest page from) in
       none cell (subst (λ (b : List ℕ). FitsIn most (IsTableCell (length page) b) cell) here h.is)
+
+-- the same of an entry, which on an interior page stands behind the left child
+module _ (at most : ℕ) (level : Level) (page : List ℕ) (i from : ℕ) (is : from ≡ min (cell_place at level page i + child_size level) (length page)) where
+  entry_there : drop (cell_place at level page i + child_size level) page ≡ take (length page - from) (drop from page)
+  entry_there = sym (drop_min (cell_place at level page i + child_size level) page) ∙ ap (λ (n : ℕ). drop n page) (sym is) ∙ sym (take_rest page from)
+
+  pub no_entry : ((cell : CellData) → ¬ FitsIn most (IsIndexCell (length page) (take (length page - from) (drop from page))) cell)
+      → (cell : CellData) → ¬ IsEntryCell at most level page i cell
+  no_entry none cell h = none cell (subst (λ (b : List ℕ). FitsIn most (IsIndexCell (length page) b) cell) entry_there h.is)
+
+  pub entry_here : (cell : CellData) → places_end at level page ≤ cell_place at level page i → FitsIn most (IsIndexCell (length page) (take (length page - from) (drop from page))) cell
+      → IsEntryCell at most level page i cell
+  entry_here cell begins h = record { begins = begins; is = subst (λ (b : List ℕ). FitsIn most (IsIndexCell (length page) b) cell) (sym entry_there) h }
 
 -- what the reader of a header learns
 module _ (at found : ℕ) (kind : TreeKind) (level : Level) (page : List ℕ) (size count : ℕ)

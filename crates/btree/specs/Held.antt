@@ -1,12 +1,14 @@
 -- What a cursor holds, whatever source its pages were read from.
 use Rattle.std.specs.Prelude.{◌≡◌, ◌<◌, ◌≤◌, ◌+◌, ◌++◌, ℕ, List, [], ◌∷◌, All, length, take, Some}
-use Rattle.image.specs.declared.kind.TreeKind.TheVariants.{Table}
+use Rattle.image.specs.declared.kind.TreeKind.{TreeKind}
+use Rattle.image.specs.declared.kind.TreeKind.TheVariants.{Table, Index}
+use Rattle.image.specs.declared.kind.Level.{Level}
 use Rattle.image.specs.declared.kind.Level.TheVariants.{Leaf}
 use Rattle.image.specs.Layout.{HasHeaderAt, cell_count, header_at}
 use Rattle.image.specs.Cell.{CellData}
 use Rattle.values.specs.declared.fault.Fault.{Fault}
 use Rattle.values.specs.declared.fault.Fault.TheVariants.{BadPage}
-use Rattle.btree.specs.Bytes.{IsRowCell}
+use Rattle.btree.specs.Bytes.{IsEntryCell, IsRowCell}
 use Rattle.btree.specs.declared.cursor.Cursor.{Cursor}
 use Rattle.btree.specs.declared.cursor.Frame.{Frame}
 
@@ -19,10 +21,24 @@ pub record HasRowHere (usable most : ℕ) (frame : Frame) (cell : CellData) : Ty
   pub within : frame.at < cell_count (header_at frame.number) (take usable frame.page)
   pub row : IsRowCell (header_at frame.number) most (take usable frame.page) frame.at cell
 
--- why a cursor has no row where it stands: its leaf tells of a cell there, and has none
-abbrev pub LacksRow : Cursor → Fault → Type 0
-LacksRow cursor fault = (leaf : Frame) × (cursor.leaf ≡ Some leaf) × (fault ≡ BadPage leaf.number) × (leaf.at < leaf.count)
-    × ((cell : CellData) → ¬ HasRowHere cursor.usable cursor.most leaf cell)
+-- The same of a page of an index of either level.
+pub record HasIndexEntryHere (usable most : ℕ) (frame : Frame) (cell : CellData) : Type 0 where
+  pub least : 480 ≤ usable
+  pub greatest : usable ≤ 65536
+  pub long : usable ≤ length frame.page
+  pub level : Level
+  pub header : HasHeaderAt (header_at frame.number) Index level (take usable frame.page)
+  pub within : frame.at < cell_count (header_at frame.number) (take usable frame.page)
+  pub entry : IsEntryCell (header_at frame.number) most level (take usable frame.page) frame.at cell
+
+abbrev pub HasEntryHere : TreeKind → ℕ → ℕ → Frame → CellData → Type 0
+HasEntryHere Table usable most frame cell = HasRowHere usable most frame cell
+HasEntryHere Index usable most frame cell = HasIndexEntryHere usable most frame cell
+
+-- why a cursor has no entry where it stands: its page tells of a cell there, and has none
+abbrev pub LacksEntry : Cursor → Fault → Type 0
+LacksEntry cursor fault = (here : Frame) × (cursor.here ≡ Some here) × (fault ≡ BadPage here.number) × (here.at < here.count)
+    × ((cell : CellData) → ¬ HasEntryHere cursor.kind cursor.usable cursor.most here cell)
 
 -- no child or cell is left behind the one that the frame has taken
 abbrev pub IsPassed : Frame → Type 0
@@ -39,16 +55,11 @@ pub record GoesDown (old new : List Frame) (leaf : Frame) : Type 0 where
   pub first : leaf.at ≡ 0
   pub filled : leaf.count ≡ 0 → new ≡ []
 
--- the last frame that has a child left takes it, and each below that its first
-pub record TakesNext (old new : List Frame) : Type 0 where
-  pub above : List Frame
-  pub frame : Frame
-  pub passed : List Frame
+-- a frame takes its next child, and each below that its first
+pub record TakesNext (old : List Frame) (frame : Frame) (new : List Frame) : Type 0 where
   pub below : List Frame
-  pub old_is : old ≡ above ++ frame ∷ passed
   pub more : frame.at < frame.count
-  pub all_passed : All IsPassed passed
-  pub new_is : new ≡ above ++ (record frame { at = frame.at + 1 }) ∷ below
+  pub new_is : new ≡ old ++ (record frame { at = frame.at + 1 }) ∷ below
   pub firsts : All HasTakenFirst below
 
 -- the cursor stands at the last cell of its leaf or behind it, and no page above has a child left
