@@ -334,6 +334,14 @@ module _ (pages : Pages) (kind : TreeKind) where
       standing_long (at_cell within on long) = long
       standing_long (is_past end none asks long) = long
 
+      asked_on : (level : Level) → IsOn level pages kind total frames here places asked budget → asked ≤ budget
+      asked_on Leaf on = let asks = on.left.asks in omega arith
+      asked_on Interior on = let asks = on.behind.left.asks in omega arith
+
+      pub standing_asked : Stands → asked ≤ budget
+      standing_asked (at_cell within on long) = asked_on here.level on
+      standing_asked (is_past end none asks long) = asks
+
       in_leaf : Stands → here.at < here.count → here.level ≡ Leaf → IsInLeaf pages kind total frames here places asked budget
       in_leaf stands more is = subst (λ (l : Level). IsOn l pages kind total frames here places asked budget) is (standing_on stands more)
 

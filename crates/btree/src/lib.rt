@@ -1,11 +1,11 @@
 //! Pages and trees of an image, read with every bound tested and none trusted. It promises that a page is taken for one
 //! exactly where its header says so, that a cell is given exactly where the bytes have it, that a payload is given exactly
-//! where its overflow pages are a chain, and that a cursor over a sound table gives the cells of its leaves from left to
-//! right and asks for no more pages than the tree has.
+//! where its overflow pages are a chain, and that a cursor over a sound tree gives its cells from left to right, those of
+//! a table's leaves or those of all pages of an index, and asks for no more pages than the tree has.
 //!
 //! The modules, in the order in which data passes them: `page` (a page's header and cell places), `cell` (a cell and the
 //! part of its payload that stands there), `chains` (the whole of it, with its overflow pages) and `cursor` (the way from
-//! one leaf to the next).
+//! one cell to the next).
 #![tactic(auto)]
 
 mod cell;
