@@ -1,6 +1,6 @@
 //! A cursor over the rows of a table.
 use crate::images::{numbers, open, size_and_root};
-use btree::Cursor;
+use cursor::Cursor;
 use forge::{ReadScript, ScriptSource, Shape};
 use image::TreeKind;
 use pager::{MemSource, Pager, Source};

@@ -15,9 +15,9 @@ use Rattle.image.specs.Cell.{CellData}
 use Rattle.image.specs.Pages.{pages_seen, Pages, pages_in}
 use Rattle.image.specs.declared.kind.TreeKind.TheVariants.{Table}
 use Rattle.image.specs.Tree.{IsRowAt, Place}
-use Rattle.btree.specs.declared.cursor.Cursor.{Cursor}
-use Rattle.btree.specs.Listing.{IsAt, IsEntry}
-use Rattle.btree.proofs.RestLemmas.{standing_asked}
+use Rattle.cursor.specs.declared.cursor.Cursor.{Cursor}
+use Rattle.cursor.specs.Listing.{IsAt, IsEntry}
+use Rattle.cursor.proofs.RestLemmas.{standing_asked}
 use Rattle.values.specs.Row.{Row}
 use Rattle.schema.specs.TableData.{TableData}
 use Rattle.integrity.specs.Stored.{IsRowOf, IsStored, StoresRow}

@@ -1,5 +1,6 @@
 //! The rows of a table, as lines.
-use btree::{Cell, Cursor};
+use btree::Cell;
+use cursor::Cursor;
 use image::TreeKind;
 use pager::{Pager, Source};
 use records::RecordView;

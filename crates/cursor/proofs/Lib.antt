@@ -1,0 +1,7 @@
+pub mod FrameLemmas
+pub mod ListingLemmas
+pub mod RestLemmas
+pub mod SeenLemmas
+pub mod LeftLemmas
+pub mod HeldLemmas
+pub mod WayLemmas

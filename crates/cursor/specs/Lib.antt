@@ -1,0 +1,6 @@
+pub mod Listing
+pub mod Rest
+pub mod Left
+pub mod Held
+pub mod Way
+pub mod Calls
