@@ -1,5 +1,5 @@
 -- The header of a page, and why a page has none.
-use Rattle.std.proofs.Common.{◌≡◌, ℕ, ◌+◌, ◌*◌, ◌-◌, ◌<◌, ◌≤◌, List, length, take, drop, min, refl, sym, ◌∙◌, ap, subst, arith}
+use Rattle.std.proofs.Common.{◌≡◌, ℕ, ℤ, ◌+◌, ◌*◌, ◌-◌, ◌<◌, ◌≤◌, List, length, take, drop, min, refl, sym, ◌∙◌, ap, subst, arith}
 use Rattle.std.proofs.lemmas.Bool.Decides.{nat_tests}
 use Rattle.std.proofs.lemmas.List.{drop_min, take_rest}
 use Rattle.pager.specs.Header.{field}
@@ -11,7 +11,7 @@ use Rattle.image.specs.declared.kind.Level.TheVariants.{Leaf, Interior}
 use Rattle.image.specs.Layout.{flag, flag_of, cell_count, cell_place, child, header_size, right_child, places_end}
 use Rattle.image.specs.Layout.{HasHeaderAt}
 use Rattle.image.specs.Cell.{FitsIn}
-use Rattle.btree.specs.Bytes.{IsEntryCell, IsRowCell, child_size}
+use Rattle.btree.specs.Bytes.{HasKeyOf, IsDividerCell, IsEntryCell, IsRowCell, child_size}
 
 -- a flag tells the level
 pub flag_of-same : (kind : TreeKind) (a b : Level) → flag_of kind a ≡ flag_of kind b → a ≡ b
@@ -68,3 +68,15 @@ module _ (at found : ℕ) (kind : TreeKind) (level : Level) (page : List ℕ) (s
 
   pub places_past : length page < at + (size + 2 * count) → (other : Level) → ¬ HasHeaderAt at kind other page
   places_past past = no_places at kind page level (sym flag_is ∙ level_is) (omega (arith, size_is, count_is))
+
+-- a cell has a key exactly where it is there
+module _ (at most : ℕ) (page : List ℕ) where
+  pub no_leaf_key : (level : Level) (i : ℕ) → level ≡ Leaf → ((cell : CellData) → ¬ IsRowCell at most page i cell)
+      → (key : ℤ) → ¬ HasKeyOf at most level page i key
+  no_leaf_key Leaf i e none key h = none h.0 h.1
+  no_leaf_key Interior i e none key h = absurd cc
+
+  pub no_interior_key : (level : Level) (i : ℕ) → level ≡ Interior → ((key : ℤ) → ¬ IsDividerCell at page i key)
+      → (key : ℤ) → ¬ HasKeyOf at most level page i key
+  no_interior_key Leaf i e none key h = absurd cc
+  no_interior_key Interior i e none key h = none key h

@@ -1,5 +1,5 @@
 -- What a page's used bytes alone say, of a page whose header begins at a place.
-use Rattle.std.specs.Prelude.{ℕ, ℤ, ◌+◌, ◌<◌, ◌≤◌, List, length, drop}
+use Rattle.std.specs.Prelude.{◌≡◌, ℕ, ℤ, ◌+◌, ◌<◌, ◌≤◌, List, length, drop, Some}
 use Rattle.image.specs.declared.kind.Level.{Level}
 use Rattle.image.specs.declared.kind.Level.TheVariants.{Leaf, Interior}
 use Rattle.image.specs.Layout.{places_end, cell_place}
@@ -28,3 +28,8 @@ pub record LacksChild (at : ℕ) (page : List ℕ) (i : ℕ) : Type 0 where
 pub record IsDividerCell (at : ℕ) (page : List ℕ) (i : ℕ) (key : ℤ) : Type 0 where
   pub begins : places_end at Interior page ≤ cell_place at Interior page i
   pub is : IsDivider (drop (cell_place at Interior page i) page) key
+
+-- the key of cell i of a table's page: a leaf's cells have rowids, and the cells of an interior page divide them
+abbrev pub HasKeyOf : ℕ → ℕ → Level → List ℕ → ℕ → ℤ → Type 0
+HasKeyOf at most Leaf page i key = (cell : CellData) × IsRowCell at most page i cell × (cell.rowid ≡ Some key)
+HasKeyOf at most Interior page i key = IsDividerCell at page i key

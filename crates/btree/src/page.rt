@@ -6,7 +6,7 @@ ghost use Rattle.image.specs.declared.kind.Level.TheVariants.{Leaf, Interior};
 ghost use Rattle.image.specs.Cell.{CellData};
 ghost use Rattle.pager.specs.Header.{field};
 ghost use Rattle.image.specs.Layout.{HasHeaderAt, cell_count, cell_place, child, flag, flag_of, header_at, header_size, right_child};
-ghost use Rattle.btree.specs.Bytes.{IsDividerCell, IsEntryCell, IsRowCell, LacksChild};
+ghost use Rattle.btree.specs.Bytes.{HasKeyOf, IsDividerCell, IsEntryCell, IsRowCell, LacksChild};
 ghost use Rattle.btree.specs.ViewData.{IsViewOf, TellsOfCell};
 ghost use Rattle.btree.specs.Views.{cell_data};
 
@@ -222,6 +222,22 @@ impl<'p> PageView<'p> {
         }
         let (key, _) = varint(&self.bytes[place + 4..])?;
         Some(key)
+    }
+
+    /// The key of cell i of a page of a table: a rowid of a leaf, or what divides the rowids under two children; `None`
+    /// where no cell is there.
+    pub fn key(&self, most: u64, i: u32) -> Option<i64>
+        requires { TellsOfCell self.now Table self.now.level i }
+        ensures found { IfSome result (λ key. HasKeyOf self.now.at most self.now.level self.now.page i key) }
+        ensures none { IfNone result ((key : ℤ) → ¬ HasKeyOf self.now.at most self.now.level self.now.page i key) }
+    {
+        match self.level {
+            Level::Leaf => {
+                let cell = self.row(most, i)?;
+                cell.rowid
+            }
+            Level::Interior => self.divider(i),
+        }
     }
 }
 

@@ -1,6 +1,6 @@
 -- What a frame knows of its page.
 use Rattle.std.proofs.Common.{◌≡◌, ℕ, List, Option, None, Some, ◌+◌, ◌<◌, ◌≤◌, length, take, drop, refl, sym, ◌∙◌, ap, subst, arith, length-drop, length-take}
-use Rattle.std.specs.Prelude.{IfNone, IfOk, IsFalse, IsSome, MatchResult, Result, Ok, Err}
+use Rattle.std.specs.Prelude.{IfNone, IfOk, IfSome, IsFalse, IsSome, MatchResult, Result, Ok, Err}
 use Rattle.std.specs.Option.{is_some}
 use Rattle.std.proofs.lemmas.List.{drop-drop}
 use Rattle.image.specs.Shape.{place_at}
@@ -31,6 +31,10 @@ none_unless (Some x) p is = absurd (cc)
 cell_some : (image : Pages) (kind : TreeKind) (bytes : List ℕ) → HasCell image kind Interior bytes → 0 < length (drop 4 bytes)
 cell_some image Table bytes cell = begins_some _ _ _ cell.1.key_is
 cell_some image Index bytes cell = begins_some _ _ _ cell.1.is.size_is
+
+pub IfSome-weaker : {T : Type 0} {P Q : T → Type 0} (r : Option T) → ((x : T) → P x → Q x) → IfSome r P → IfSome r Q
+IfSome-weaker None f p = tt
+IfSome-weaker (Some x) f p = f x p
 
 pub IfOk-weaker : {T E : Type 0} {P Q : T → Type 0} (r : Result T E) → ((x : T) → P x → Q x) → IfOk r P → IfOk r Q
 IfOk-weaker (Ok x) f p = f x p

@@ -5,3 +5,5 @@ pub mod SeenLemmas
 pub mod LeftLemmas
 pub mod HeldLemmas
 pub mod WayLemmas
+pub mod SeekLemmas
+pub mod RowSeekLemmas

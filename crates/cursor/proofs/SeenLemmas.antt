@@ -1,17 +1,11 @@
 -- What a cursor learns of a page that it asked for, and of the child that comes next.
-use Rattle.std.proofs.Common.{◌≡◌, ◌≢◌, ℕ, suc, ◌+◌, ◌<◌, ◌≤◌, List, [], ◌∷◌, ◌++◌, All, IsTrue, sym, ◌∙◌, subst, arith, lit≤}
-use Rattle.std.proofs.lemmas.List.Elements.{All-nil, All-cons, All-contains}
-use Rattle.pager.specs.declared.header.Header.{Header}
-use Rattle.pager.specs.Header.{page_sizes}
-use Rattle.pager.specs.PagerState.{PagerState, IsSoundHeader}
-use Rattle.pager.specs.Calls.{SameImage}
+use Rattle.std.proofs.Common.{◌≡◌, ◌≢◌, ℕ, suc, ◌+◌, ◌<◌, ◌≤◌, List, [], ◌∷◌, ◌++◌, sym, ◌∙◌, subst, arith}
 use Rattle.image.specs.declared.kind.TreeKind.{TreeKind}
 use Rattle.image.specs.declared.kind.Level.{Level}
 use Rattle.image.specs.declared.kind.Level.TheVariants.{Leaf, Interior}
-use Rattle.image.specs.Pages.{pages_seen, Pages, IsNumber, pages_in}
+use Rattle.image.specs.Pages.{Pages, IsNumber}
 use Rattle.image.specs.Tree.{Place, HasHeader, IsPageOf, child_at, count_at}
 use Rattle.cursor.specs.declared.cursor.Frame.{Frame}
-use Rattle.btree.specs.ViewData.{AreReadable}
 use Rattle.cursor.specs.Rest.{Holds, IsBehind, HasCellsFrom, IsLeft, IsStanding, IsStep}
 use Rattle.btree.proofs.PageLemmas.{flag_of-same}
 use Rattle.cursor.proofs.RestLemmas.{IsTurn, ends, goes, turn_at, heading_filled, heading_leaf, heading_down, behind_next, left_step, left_up}

@@ -46,9 +46,13 @@ module _ (pages : Pages) (kind : TreeKind) (root : ℕ) where
   same_level : (n : ℕ) (one other : Level) → HasHeader pages kind one n → HasHeader pages kind other n → one ≡ other
   same_level n one other h i = flag_of-same kind one other (sym h.flag_is ∙ i.flag_is)
 
-  -- a page that has no header of a table's page
+  -- a page that has no header of the tree's kind
   pub blames_header : (depth n : ℕ) → IsMetAt pages kind root depth n → ((level : Level) → ¬ HasHeader pages kind level n) → BlamesMet pages kind root (BadPage n)
   blames_header depth n met none = (depth, met, λ sound. none sound.1.level sound.1.page.header)
+
+  -- a page that isn't what it must be
+  pub blames_page : (depth n : ℕ) → IsMetAt pages kind root depth n → ((level : Level) → IsPageOf pages kind level n → ⊥) → BlamesMet pages kind root (BadPage n)
+  blames_page depth n met none = (depth, met, λ sound. none sound.1.level sound.1.page)
 
   -- a leaf without cells below the root
   pub blames_empty : (frames : List Frame) (n : ℕ) → LeadsTo pages kind root frames n → frames ≢ [] → HasHeader pages kind Leaf n → count_at pages n ≡ 0
@@ -93,10 +97,10 @@ module _ (pages : Pages) (kind : TreeKind) (root : ℕ) where
         first = λ none. absurd (let l : length all ≡ 0 = ap length none in omega arith);
       }
 
-  pub leads_down : (frames all : List Frame) (n : ℕ) (frame : Frame) (m : ℕ) → LeadsTo pages kind root frames n → frame.number ≡ n → Holds pages frame
-      → HasHeader pages kind Interior n → IsNamedChild pages kind frame.number 0 m → all ≡ frames ++ (frame ∷ []) → LeadsTo pages kind root all m
-  leads_down frames all n frame m leads number holds header named is =
-      leads_below frames all frame 0 m leads.way
+  pub leads_down : (frames all : List Frame) (n : ℕ) (frame : Frame) (i m : ℕ) → LeadsTo pages kind root frames n → frame.number ≡ n → Holds pages frame
+      → HasHeader pages kind Interior n → IsNamedChild pages kind frame.number i m → all ≡ frames ++ (frame ∷ []) → LeadsTo pages kind root all m
+  leads_down frames all n frame i m leads number holds header named is =
+      leads_below frames all frame i m leads.way
       (record {
         met = subst (λ (k : ℕ). IsMetAt pages kind root (length frames + 1) k) (sym number) leads.met;
         holds = holds;

@@ -7,7 +7,7 @@ use Rattle.pager.specs.Calls.{IsReadFault}
 use Rattle.image.specs.declared.kind.TreeKind.{TreeKind}
 use Rattle.image.specs.Broken.{BlamesMet}
 use Rattle.image.specs.Cell.{CellData}
-use Rattle.image.specs.Pages.{Pages, WhereSteady}
+use Rattle.image.specs.Pages.{WhereSteady}
 use Rattle.image.specs.Shape.{IsTreeAt, most_levels, places_under, size_under}
 use Rattle.image.specs.Tree.{Place}
 use Rattle.cursor.specs.declared.cursor.Cursor.{Cursor}

@@ -4,3 +4,4 @@ pub mod Left
 pub mod Held
 pub mod Way
 pub mod Calls
+pub mod Search

@@ -3,23 +3,27 @@ ghost use Rattle.std.specs.Prelude.{◌≡◌, ◌⊎◌, ◌+◌, ◌-◌, ◌*
 ghost use Rattle.pager.specs.Calls.{IsReadFault, ReadsTreePages};
 ghost use Rattle.pager.specs.PagerState.{IsPageNumber};
 ghost use Rattle.image.specs.declared.kind.TreeKind.{TreeKind};
+ghost use Rattle.image.specs.declared.kind.TreeKind.TheVariants.{Table};
 ghost use Rattle.image.specs.declared.kind.Level.{Level};
 ghost use Rattle.image.specs.declared.kind.Level.TheVariants.{Leaf, Interior};
-ghost use Rattle.image.specs.Broken.{BlamesMet};
+ghost use Rattle.image.specs.Broken.{BlamesMet, HasRowid};
 ghost use Rattle.image.specs.Cell.{CellData};
 ghost use Rattle.image.specs.Pages.{Pages, IsNumber, WhereSteady, pages_seen};
-ghost use Rattle.image.specs.Shape.{most_levels, place_at};
+ghost use Rattle.image.specs.Shape.{most_levels, place_at, size_under};
+ghost use Rattle.image.specs.Search.{IsBoundary, row_before};
 ghost use Rattle.image.specs.Tree.{Place, HasEntries, HasHeader, IsEntryAt, IsNamedChild, IsPageOf, child_at, count_at};
 ghost use Rattle.cursor.specs.Calls.{GivesEntry, HasFailed, HasStepped, IsCursorFault, IsDescentFault, IsEntryFault, IsOpenedAt, IsOpeningFault};
 ghost use Rattle.cursor.specs.Held.{GoesDown, HasEntryHere, IsLast, IsPassed, TakesNext};
-ghost use Rattle.cursor.specs.Left.{IsLess, frame_left, frames_left, here_left, worth};
+ghost use Rattle.cursor.specs.Left.{IsLess, all_left, frame_left, frames_left, here_left, worth};
 ghost use Rattle.cursor.specs.Listing.{IsAt, IsEnded, IsEntry};
 ghost use Rattle.btree.specs.ViewData.{AreReadable};
-ghost use Rattle.cursor.specs.Rest.{GoesOn, Holds, HasCellsFrom, IsBehind, IsLeft, IsStanding};
+ghost use Rattle.cursor.specs.Rest.{GoesOn, Holds, HasCellsFrom, IsBehind, IsInLeaf, IsLeft, IsStanding};
 ghost use Rattle.btree.specs.Views.{cell_data};
+ghost use Rattle.cursor.specs.Search.{IsRowSought, IsSearchable, IsSeekFault, IsSought};
 ghost use Rattle.cursor.specs.Way.{HasReached, HoldsMet, IsWay, LeadsTo};
 
-use btree::{Cell, view_in};
+use crate::search::boundary_of;
+use btree::{Cell, view_in, view_of};
 use image::{Level, MOST_LEVELS, TreeKind};
 use pager::{Page, Pager, Source};
 use std::alloc::Global;
@@ -265,6 +269,94 @@ fn step<S: Source>(
     }
 }
 
+/// How many cells of a frame's page, which is one of a table, come before the key; `None` where a cell isn't there.
+fn boundary_in(frame: &Frame, usable: usize, most: u64, behind: bool, key: i64) -> Option<u16>
+    ensures found { (image : Pages) (level : Level) → Holds image frame.now → image.usable ≡ usable → IsPageOf image Table level frame.now.number
+        → IfSome result (λ p. IsBoundary (HasRowid image) (row_before behind key) image Table level frame.now.number p) }
+    ensures within { (image : Pages) → Holds image frame.now → image.usable ≡ usable → IfSome result (λ p. p ≤ count_at image frame.now.number) }
+    ensures sure { (image : Pages) (level : Level) → Holds image frame.now → AreReadable image → image.usable ≡ usable → image.size ≡ most
+        → IsPageOf image Table level frame.now.number → IsSome result }
+{
+    let view = view_of(&frame.page, frame.number, usable)?;
+    boundary_of(&view, most, behind, key)
+}
+
+/// Goes down from a table's root to a leaf, on each page to the first cell that doesn't come before the key.
+fn seek_leaf<S: Source>(
+    root: u32,
+    frames: &mut Vec<Frame>,
+    pager: &mut Pager<S>,
+    behind: bool,
+    key: i64,
+) -> Result<Frame, Fault>
+    requires root { IsPageNumber pager.old.state root }
+    requires top { frames.old.items ≡ [] }
+    ensures lands { WhereSteady pager.old.state (λ pages. (levels : ℕ) → IsSearchable pages levels root
+        → MatchResult result (λ leaf. IsSought pages levels root (row_before behind key)
+        (λ places. IsInLeaf pages Table levels frames.new.items leaf places pager.new.state.asked
+        (pager.old.state.asked + size_under pages levels root))) IsReadFault) }
+    ensures way { WhereSteady pager.old.state (λ pages.
+        MatchResult result (λ _. IsWay pages Table root frames.new.items) (λ e. IsReadFault e ⊎ BlamesMet pages Table root e)) }
+    ensures asks { pager.new.state.asked ≤ pager.old.state.asked + (length frames.new.items + 1) }
+    ensures left { IfOk result (λ leaf. frames_left most_levels frames.new.items + frame_left leaf
+        < frames_left most_levels frames.old.items + worth (suc most_levels - length frames.old.items)) }
+    ensures leaf { IfOk result (λ leaf. leaf.level ≡ Leaf) }
+    ensures fault { IfErr result (IsCursorFault root) }
+    ensures reads { ReadsTreePages result pager.old.state pager.new.state }
+{
+    let mut number = root;
+    while frames.len() < MOST_LEVELS as usize {
+        let frame = read_frame(pager, TreeKind::Table, number)?;
+        let header = pager.header();
+        let usable = header.usable as usize;
+        let Some(at) = boundary_in(&frame, usable, header.image_size(), behind, key) else {
+            return Err(Fault::BadPage(number));
+        };
+        match frame.level {
+            Level::Leaf => return Ok(Frame { at, ..frame }),
+            Level::Interior => {
+                let Some(child) = child_of(TreeKind::Table, &frame, usable, at as u32, header.pages)
+                else {
+                    return Err(Fault::BadPage(number));
+                };
+                frames.push(Frame { at, ..frame })?;
+                number = child;
+            }
+        }
+    }
+    let deep = Fault::BadDepth(root);
+    Err(deep)
+}
+
+/// Where a leaf is passed, goes on behind it; past the last cell a cursor stays.
+fn settle<S: Source>(
+    root: u32,
+    kind: TreeKind,
+    frames: &mut Vec<Frame>,
+    pager: &mut Pager<S>,
+    here: Frame,
+) -> Result<Frame, Fault>
+    requires leaf { here.level ≡ Leaf }
+    ensures stands { WhereSteady pager.old.state (λ pages. (levels : ℕ) (places : List Place) (budget : ℕ)
+        → IsInLeaf pages kind levels frames.old.items here places pager.old.state.asked budget
+        → MatchResult result (λ next. IsStanding pages kind levels frames.new.items next places pager.new.state.asked budget) IsReadFault) }
+    ensures way { WhereSteady pager.old.state (λ pages. IsWay pages kind root frames.old.items
+        → MatchResult result (HasReached pages kind root frames.new.items) (λ e. IsReadFault e ⊎ BlamesMet pages kind root e)) }
+    ensures asks { pager.new.state.asked ≤ pager.old.state.asked + length frames.new.items }
+    ensures kept { here.at < here.count → pager.new.state.asked ≡ pager.old.state.asked }
+    ensures left { IfOk result (λ next. all_left frames.new.items (Some next) ≤ frames_left most_levels frames.old.items + frame_left here) }
+    ensures fault { IfErr result (IsCursorFault root) }
+    ensures reads { ReadsTreePages result pager.old.state pager.new.state }
+{
+    if here.at < here.count {
+        return Ok(here);
+    }
+    match go_on(root, kind, frames, pager)? {
+        Some(found) => Ok(found),
+        None => Ok(here),
+    }
+}
+
 /// A cursor over the rows of a table, in the order of their rowids, or over the entries of an index, in that of their
 /// keys.
 #[derive(Drop)]
@@ -304,6 +396,38 @@ impl Cursor {
             kind,
             frames,
             here: Some(leaf),
+            usable,
+            most,
+        })
+    }
+
+    /// A cursor at the first row of a table that doesn't come before the key: the first with this rowid or a greater one
+    /// or, where what is behind is sought, the first with a greater one. Its faults are those of `first`.
+    pub fn seek_row<S: Source>(
+        alloc: Global,
+        pager: &mut Pager<S>,
+        root: u32,
+        rowid: i64,
+        behind: bool,
+    ) -> Result<Cursor, Fault>
+        ensures outcome { MatchResult result (IsRowSought pager.old.state pager.new.state root behind rowid) (IsSeekFault pager.old.state root) }
+        ensures outside { ¬ IsNumber (pages_seen pager.old.state) root → result ≡ Err (Fault.BadPage root) }
+        ensures reads { ReadsTreePages result pager.old.state pager.new.state }
+    {
+        let header = pager.header();
+        if root < 1 || root > header.pages {
+            return Err(Fault::BadPage(root));
+        }
+        let usable = header.usable as usize;
+        let most = header.image_size();
+        let mut frames = Vec::new(alloc);
+        let leaf = seek_leaf(root, &mut frames, pager, behind, rowid)?;
+        let here = settle(root, TreeKind::Table, &mut frames, pager, leaf)?;
+        Ok(Cursor {
+            root,
+            kind: TreeKind::Table,
+            frames,
+            here: Some(here),
             usable,
             most,
         })

@@ -12,7 +12,7 @@ use Rattle.image.specs.Shape.{place_at}
 use Rattle.btree.specs.Views.{cell_data}
 use Rattle.image.specs.Tree.{HasEntries, IsEntryAt, IsPageOf, count_at}
 use Rattle.btree.proofs.CellLemmas.{IfNone-always, IfNone-weaker}
-use Rattle.cursor.proofs.FrameLemmas.{no_view, has_row, has_entry, entry_found, frame_level, IsSome-unless}
+use Rattle.cursor.proofs.FrameLemmas.{no_view, has_row, has_entry, entry_found, frame_level, IfSome-weaker, IsSome-unless}
 use Rattle.btree.specs.Bytes.{IsEntryCell}
 use Rattle.btree.proofs.PageLemmas.{flag_of-same}
 use Rattle.cursor.proofs.cursor.cell_of.Goals as goal
@@ -40,10 +40,6 @@ table_leaf : (image : Pages) (kind : TreeKind) (level : Level) (n : ℕ) → kin
 table_leaf image Table Leaf n k entries page = page
 table_leaf image Table Interior n k entries page = absurd entries
 table_leaf image Index level n k entries page = absurd cc
-
-IfSome-weaker : {T : Type 0} {P Q : T → Type 0} (r : Option T) → ((x : T) → P x → Q x) → IfSome r P → IfSome r Q
-IfSome-weaker None f p = tt
-IfSome-weaker (Some x) f p = f x p
 
 pub returns-in-Leaf-clause-sure : goal.returns-in-Leaf-clause-sure
 returns-in-Leaf-clause-sure c = λ image level holds readable usable size page entries within.

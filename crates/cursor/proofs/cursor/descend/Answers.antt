@@ -150,7 +150,7 @@ loop-kind-preserved g c =
           let same_header : c.header-header.result ≡ c.loop-kind.pager.state.header = c.header-header.ensures.is ∙ c.read_frame.ensures.reads.image.header in
           let named : IsNamedChild (pages_seen c.loop-kind.pager.state) c.args.kind c.in_ok-frame.frame.number 0 c.in-Some.child =
           c.in-Some.ensures.named (pages_seen c.loop-kind.pager.state) seen.0 (ap (λ (x : Header). x.usable) (sym same_header)) (ap (λ (x : Header). x.pages) (sym same_header)) in
-          leads_down pages c.args.kind c.args.root c.loop-kind.frames.items c.push.new.self.items c.loop-kind.number c.in_ok-frame.frame c.in-Some.child (inv.way steady leads) c.in_ok-frame.ensures.number
+          leads_down pages c.args.kind c.args.root c.loop-kind.frames.items c.push.new.self.items c.loop-kind.number c.in_ok-frame.frame 0 c.in-Some.child (inv.way steady leads) c.in_ok-frame.ensures.number
           (subst (λ (x : Pages). Holds x c.in_ok-frame.frame) same seen.0)
           (subst (λ (x : Pages). HasHeader x c.args.kind Interior c.loop-kind.number) same interior)
           (subst (λ (x : Pages). IsNamedChild x c.args.kind c.in_ok-frame.frame.number 0 c.in-Some.child) same named)
