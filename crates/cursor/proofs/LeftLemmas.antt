@@ -139,3 +139,12 @@ none_past frames here none = ⊎_elim
     (λ (within : here.at < here.count). let some = some_left frames here within in absurd (omega (arith, some, none)))
     (λ (end : here.count ≤ here.at). end)
     (cases_lt here.at here.count)
+
+-- a cursor in a leaf has no more to go than its cells, and those of the pages above
+pub leaf_most : (frames : List Frame) (leaf : Frame) → leaf.level ≡ Leaf → all_left frames (Some leaf) ≤ frames_left 20 frames + frame_left leaf
+leaf_most frames leaf level = ⊎_elim
+    (λ (within : leaf.at < leaf.count).
+    let e : all_left frames (Some leaf) ≡ here_left leaf.level frames leaf = cond-true _ _ _ (lt-ltb leaf.at leaf.count within) in
+    let l = leaf_is_left leaf.level frames leaf level in omega (arith, e, l))
+    (λ (end : leaf.count ≤ leaf.at). let e : all_left frames (Some leaf) ≡ 0 = cond-false _ _ _ (lt-past leaf.at leaf.count end) in omega (arith, e))
+    (cases_lt leaf.at leaf.count)

@@ -1,5 +1,6 @@
 -- A search of a table by rowid: the keys of a page that is held, and the steps of the search.
 use Rattle.std.proofs.Common.{◌≡◌, ℕ, ℤ, zero, suc, ◌+◌, ◌-◌, ◌<◌, ◌≤◌, ◌⊎◌, All, Bool, true, false, Contains, List, [], ◌∷◌, ◌++◌, Option, None, Some, IfSome, drop, length, take, refl, sym, ◌∙◌, ap, subst, append_assoc, ⊎_elim, arith}
+use Rattle.std.proofs.lemmas.Bool.{cases_lt}
 use Rattle.std.proofs.lemmas.List.Elements.{All-nil, All-cons, Contains-append_cases}
 use Rattle.image.specs.declared.kind.TreeKind.{TreeKind}
 use Rattle.image.specs.declared.kind.TreeKind.TheVariants.{Table}
@@ -14,16 +15,17 @@ use Rattle.image.specs.Shape.{HasShape, place_at, places_in, places_under, size_
 use Rattle.image.specs.Tree.{Place, HasHeader, IsPageOf, Reaches, StandsAt, top, cell_at, child_at, count_at}
 use Rattle.image.proofs.ListLemmas.{in_head, in_none, in_tail, cons_cases}
 use Rattle.image.proofs.RowidLemmas.{one_rowid}
-use Rattle.image.proofs.RowSearchLemmas.{row_cut}
-use Rattle.image.proofs.SearchLemmas.{own_before, own_behind}
-use Rattle.image.proofs.TableLemmas.{Below, AtMost, rowids}
+use Rattle.image.proofs.RowSearchLemmas.{row_cut, row_itself, row_less}
+use Rattle.image.proofs.SearchLemmas.{one_answer, own_before, own_behind}
+use Rattle.image.proofs.PlaceLemmas.{sound}
+use Rattle.image.proofs.TableLemmas.{Below, AtMost, leaf_place, rowids}
 use Rattle.btree.specs.Bytes.{HasKeyOf}
 use Rattle.cursor.specs.Search.{IsSearchable, IsSought}
 use Rattle.cursor.specs.Rest.{Holds, HasCellsFrom, IsInLeaf, IsLeft, IsStanding, IsOn, at_cell}
 use Rattle.cursor.specs.declared.cursor.Frame.{Frame}
 use Rattle.cursor.proofs.FrameLemmas.{page_long, used}
 use Rattle.cursor.proofs.RestLemmas.{heading_first, heading_short, left_length, not_both, places_end, places_more}
-use Rattle.cursor.proofs.SeekLemmas.{IsSeeking, seeking_down}
+use Rattle.cursor.proofs.SeekLemmas.{IsNext, IsSeeking, seeking_down}
 use Rattle.cursor.proofs.SeenLemmas.{heading_header, heading_interior_page, heading_leaf_page}
 
 all_of : {X : Type 0} (P : X → Type 0) (xs : List X) → ((x : X) → Contains xs x → P x) → All P xs
@@ -121,7 +123,11 @@ module _ (pages : Pages) (root : ℕ) (behind : Bool) (key : ℤ) (levels : ℕ)
     come_before = λ x h. absurd (in_none x h);
     heading = heading_first pages Table levels root frames asked shallow shape number none;
     do_not = λ x h. absurd (in_none x h);
+    found = λ table x next h. h;
   }
+
+  abbrev pub IsNextRow : Place → Type 0
+  IsNextRow = IsNext (HasRowid pages) Below AtMost pages Table root (rowids pages) (one_rowid pages) order (row_before behind key) (row_cut behind key) levels (places_under pages Table levels root)
 
   module _ (frames : List Frame) (n asked budget : ℕ) (s : IsRowSeeking frames n asked budget) where
     pub row_header : (level : Level) × HasHeader pages Table level n
@@ -199,6 +205,42 @@ module _ (pages : Pages) (root : ℕ) (behind : Bool) (key : ℤ) (levels : ℕ)
         row_leaf header b =
             let h = seeks_here in
             leaf_from h.heading.levels h.depth h.front h.places h.heading.rest h.stands h.heading.shape h.heading.left h.heading.places_is h.all_is h.come_before h.do_not (row_page Leaf header) b
+
+        there_from : (height depth : ℕ) → StandsAt pages Table root depth frame.number → HasShape pages Table height frame.number → IsPageOf pages Table Leaf frame.number
+            → IsBoundary (HasRowid pages) (row_before behind key) pages Table Leaf frame.number p → (x : Place) → IsNextRow x
+            → Contains (places_under pages Table height frame.number) x → p < count_at pages frame.number
+        there_from (suc height) depth stands shape page b x next h = absurd (not_both pages Table frame.number page shape.0)
+        there_from zero depth stands shape page b x next h =
+            let m = frame.number in
+            let r = in_dropped pages m (count_at pages m) 0 (omega arith) x h in ⊎_elim
+            (λ (less : r.0 < p). absurd (one_answer (HasRowid pages) Below AtMost pages Table root (rowids pages) (one_rowid pages) order (row_before behind key) (row_cut behind key) x
+            (subst (λ (y : Place). IsBefore true y) r.3
+            (own_before (HasRowid pages) Below AtMost pages Table root (rowids pages) (one_rowid pages) order (row_before behind key) (row_cut behind key) depth m stands Leaf page p b r.0 less)) next.is))
+            (λ (least : p ≤ r.0). omega (arith, least, r.2))
+            (cases_lt r.0 p)
+
+        -- the leaf has the first row that doesn't come before, where the table has one
+        pub row_there : HasHeader pages Table Leaf n → IsBoundary (HasRowid pages) (row_before behind key) pages Table Leaf frame.number p → (x : Place) → IsNextRow x
+            → Contains (places_under pages Table levels root) x → p < count_at pages frame.number
+        row_there header b x next h =
+            let s = seeks_here in
+            there_from s.heading.levels s.depth s.stands s.heading.shape (row_page Leaf header) b x next (s.found refl x next h)
+
+-- the row with this rowid is the first that doesn't come before it
+pub row_next : (pages : Pages) (root : ℕ) (behind : Bool) (key : ℤ) (levels : ℕ) (order : (n : ℕ) → Reaches pages Table root n → IsRowOrder pages root n)
+    → behind ≡ false → HasShape pages Table levels root → (x : Place) → Contains (places_under pages Table levels root) x
+    → HasRowid pages Leaf x.page x.index key → IsNextRow pages root behind key levels order x
+row_next pages root behind key levels order exact shape x h has =
+    let at = sound pages Table levels root shape x h in
+    subst (λ (b : Bool). IsNextRow pages root b key levels order x) (sym exact) (record {
+      is = record {
+        level = Leaf;
+        page = leaf_place pages at.level x.page at.entries at.page;
+        within = at.within;
+        is = (key, has, row_itself key);
+      };
+      first = λ y less. row_less false key y less;
+    })
 
 -- in a leaf, at a cell of it or behind the last
 module _ (pages : Pages) (kind : TreeKind) (total : ℕ) (frames : List Frame) (here : Frame) (places : List Place) (asked budget : ℕ) (is_in : IsInLeaf pages kind total frames here places asked budget) where

@@ -3,6 +3,7 @@ use Rattle.std.proofs.Common.{◌≡◌, ℕ, zero, suc, ◌+◌, ◌-◌, ◌<�
 use Rattle.std.specs.List.{range_with_len, flat_map}
 use Rattle.std.proofs.lemmas.List.Elements.{Contains-append_cases}
 use Rattle.image.specs.declared.kind.TreeKind.{TreeKind}
+use Rattle.image.specs.declared.kind.TreeKind.TheVariants.{Table, Index}
 use Rattle.image.specs.declared.kind.Level.{Level}
 use Rattle.image.specs.declared.kind.Level.TheVariants.{Leaf, Interior}
 use Rattle.image.specs.Pages.{Pages}
@@ -14,10 +15,15 @@ use Rattle.image.proofs.ListLemmas.{in_none, from_fan}
 use Rattle.image.proofs.ShapeLemmas.{shape_child}
 use Rattle.image.proofs.PlaceLemmas.{branch, from_own, with_own_cases}
 use Rattle.image.proofs.OrderLemmas.{AreKeys}
-use Rattle.image.proofs.SearchLemmas.{own_behind, under_before, under_behind}
+use Rattle.image.proofs.SearchLemmas.{own_behind, under_before, under_behind, under_here}
 use Rattle.cursor.specs.declared.cursor.Frame.{Frame}
 use Rattle.cursor.specs.Rest.{places_from, places_after, size_from, Holds, IsStep, IsLeft, HasCellsFrom}
 use Rattle.cursor.proofs.RestLemmas.{not_both, size_step, size_all, places_all, down_to}
+
+-- a table's interior pages have no cell of their own
+in_table : (kind : TreeKind) (under own : List Place) (x : Place) → kind ≡ Table → Contains (with_own kind under own) x → Contains under x
+in_table Table under own x is h = h
+in_table Index under own x is h = absurd cc
 
 module _ (pages : Pages) (kind : TreeKind) (height n : ℕ) where
   -- the cells under the children before child p, and of the page's own
@@ -59,6 +65,11 @@ module _ {K : Type 0} (HasKey : Level → ℕ → ℕ → K → Type 0) (IsBefor
   abbrev CellThat : Bool → Place → Type 0
   CellThat = IsCellThat HasKey before pages kind
 
+  -- the first cell that doesn't come before what is sought, wherever it stands
+  pub record IsNext (place : Place) : Type 0 where
+    pub is : CellThat false place
+    pub first : (y : K) → IsBefore y is.is.0 → before y ≡ true
+
   -- a search that asks for page n next
   pub record IsSeeking (frames : List Frame) (n : ℕ) (asked budget : ℕ) : Type 0 where
     pub depth : ℕ
@@ -69,16 +80,18 @@ module _ {K : Type 0} (HasKey : Level → ℕ → ℕ → K → Type 0) (IsBefor
     pub come_before : (x : Place) → Contains front x → CellThat true x
     pub heading : HasCellsFrom pages kind total frames n places asked budget
     pub do_not : (x : Place) → Contains heading.rest x → CellThat false x
+    pub found : kind ≡ Table → (x : Place) → IsNext x → Contains all x → Contains (places_under pages kind heading.levels n) x
 
   module _ (frames : List Frame) (frame : Frame) (asked now budget : ℕ) (page : IsPageOf pages kind Interior frame.number) (holds : Holds pages frame) (level : frame.level ≡ Interior)
       (b : IsBoundary HasKey before pages kind Interior frame.number frame.at) (more : now ≤ asked + 1) where
     down_from : (height depth : ℕ) (front places rest : List Place) → StandsAt pages kind root depth frame.number → HasShape pages kind height frame.number
         → IsLeft pages kind total height frames rest (asked + size_under pages height frame.number) budget → places ≡ places_under pages kind height frame.number ++ rest
         → all ≡ front ++ places → ((x : Place) → Contains front x → CellThat true x) → ((x : Place) → Contains rest x → CellThat false x)
+        → (kind ≡ Table → (x : Place) → IsNext x → Contains all x → Contains (places_under pages kind height frame.number) x)
         → IsSeeking (frames ++ frame ∷ []) (child_at pages frame.number frame.at) now budget
     unfolding down_to
-    down_from zero depth front places rest stands shape left places_is all_is come not = absurd (not_both pages kind frame.number shape page)
-    down_from (suc height) depth front places rest stands shape left places_is all_is come not =
+    down_from zero depth front places rest stands shape left places_is all_is come not found = absurd (not_both pages kind frame.number shape page)
+    down_from (suc height) depth front places rest stands shape left places_is all_is come not found =
         let n = frame.number in
         let p = frame.at in
         let within : p ≤ count_at pages n = b.within in
@@ -107,6 +120,11 @@ module _ {K : Type 0} (HasKey : Level → ℕ → ℕ → K → Type 0) (IsBefor
               (λ (after : Contains (places_after pages kind height n p) x). after_child height depth stands shape x after)
               (λ (r : Contains rest x). not x r)
               (Contains-append_cases (places_after pages kind height n p) rest x h);
+          found = λ table x next h.
+              let r = from_fan (branch pages kind height n) x (suc (count_at pages n)) 0 (found table x next h) in
+              let inside : r.0 ≤ count_at pages n = omega (arith, r.2) in
+              let here = under_here HasKey IsBefore IsAtMost pages kind root keys one order before cut height depth n stands shape p b r.0 inside x r.3 next.is next.first in
+              in_table kind _ _ x table (subst (λ (i : ℕ). Contains (branch pages kind height n i) x) here r.3);
         }
       where
         after_child : (height depth : ℕ) → StandsAt pages kind root depth frame.number → HasShape pages kind (suc height) frame.number → (x : Place)
@@ -126,4 +144,4 @@ module _ {K : Type 0} (HasKey : Level → ℕ → ℕ → K → Type 0) (IsBefor
 
     -- down to the child at the boundary
     pub seeking_down : IsSeeking frames frame.number asked budget → IsSeeking (frames ++ frame ∷ []) (child_at pages frame.number frame.at) now budget
-    seeking_down s = down_from s.heading.levels s.depth s.front s.places s.heading.rest s.stands s.heading.shape s.heading.left s.heading.places_is s.all_is s.come_before s.do_not
+    seeking_down s = down_from s.heading.levels s.depth s.front s.places s.heading.rest s.stands s.heading.shape s.heading.left s.heading.places_is s.all_is s.come_before s.do_not s.found

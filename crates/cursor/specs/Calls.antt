@@ -1,5 +1,5 @@
 -- What the calls of a cursor answer.
-use Rattle.std.specs.Prelude.{◌≡◌, ◌⊎◌, ◌+◌, ◌<◌, ◌≤◌, ℕ, List, [], drop, Option, None, Some}
+use Rattle.std.specs.Prelude.{◌≡◌, ◌⊎◌, ◌+◌, ◌<◌, ◌≤◌, ℕ, suc, List, [], drop, Option, None, Some}
 use Rattle.values.specs.declared.fault.Fault.{Fault}
 use Rattle.values.specs.declared.fault.Fault.TheVariants.{ReadFailed, NoMemory, BadPage, BadDepth, Finished}
 use Rattle.pager.specs.PagerState.{PagerState}
@@ -13,7 +13,7 @@ use Rattle.image.specs.Tree.{Place}
 use Rattle.cursor.specs.declared.cursor.Cursor.{Cursor}
 use Rattle.cursor.specs.declared.cursor.Frame.{Frame}
 use Rattle.cursor.specs.Held.{HasEntryHere, IsLast, LacksEntry}
-use Rattle.cursor.specs.Left.{steps_left}
+use Rattle.cursor.specs.Left.{steps_left, worth}
 use Rattle.cursor.specs.Listing.{IsAt, IsEnded}
 use Rattle.cursor.specs.Way.{HasCome}
 
@@ -34,7 +34,7 @@ IsDescentFault root held (BadDepth n) = (n ≡ root) × (most_levels ≤ held)
 IsDescentFault root held _ = ⊥
 
 -- A cursor was opened at a root. Over a steady source, all the cells of a tree are to come, and no more pages are asked
--- for than the tree has; of any tree it has come down from the root.
+-- for than the tree has; of any tree it has come down from the root. Over any source it has few steps to go.
 pub record IsOpenedAt (old new : PagerState) (kind : TreeKind) (root : ℕ) (cursor : Cursor) : Type 0 where
   pub kind_is : cursor.kind ≡ kind
   pub root_is : cursor.root ≡ root
@@ -42,6 +42,7 @@ pub record IsOpenedAt (old new : PagerState) (kind : TreeKind) (root : ℕ) (cur
       → IsAt pages kind levels cursor (places_under pages kind levels root) new.asked (old.asked + size_under pages levels root))
   pub come : WhereSteady old (λ pages. HasCome pages cursor)
   pub end : steps_left cursor ≡ 0 → cursor.frames.items ≡ []
+  pub few : steps_left cursor < worth (suc most_levels)
 
 -- Why none was opened. Over a steady source the fault is one of reading where a tree is there, and of any tree it has its
 -- condition.

@@ -1,5 +1,5 @@
 //! A cursor over a tree: the rows of a table, or the entries of an index.
-ghost use Rattle.std.specs.Prelude.{◌≡◌, ◌⊎◌, ◌+◌, ◌-◌, ◌*◌, ◌<◌, ◌≤◌, ℕ, List, drop, length, option_map, suc, All, Err, IfErr, IfNone, IfOk, IfSome, IsSome, MatchResult, Ok, Some, []};
+ghost use Rattle.std.specs.Prelude.{◌≡◌, ◌⊎◌, ◌+◌, ◌-◌, ◌*◌, ◌<◌, ◌≤◌, ℕ, List, drop, length, option_map, false, suc, All, Err, IfErr, IfNone, IfOk, IfSome, IsSome, MatchResult, Ok, Some, []};
 ghost use Rattle.pager.specs.Calls.{IsReadFault, ReadsTreePages};
 ghost use Rattle.pager.specs.PagerState.{IsPageNumber};
 ghost use Rattle.image.specs.declared.kind.TreeKind.{TreeKind};
@@ -19,7 +19,7 @@ ghost use Rattle.cursor.specs.Listing.{IsAt, IsEnded, IsEntry};
 ghost use Rattle.btree.specs.ViewData.{AreReadable};
 ghost use Rattle.cursor.specs.Rest.{GoesOn, Holds, HasCellsFrom, IsBehind, IsInLeaf, IsLeft, IsStanding};
 ghost use Rattle.btree.specs.Views.{cell_data};
-ghost use Rattle.cursor.specs.Search.{IsRowSought, IsSearchable, IsSeekFault, IsSought};
+ghost use Rattle.cursor.specs.Search.{HasRowWith, IsRowSought, IsSearchable, IsSeekFault, IsSought};
 ghost use Rattle.cursor.specs.Way.{HasReached, HoldsMet, IsWay, LeadsTo};
 
 use crate::search::boundary_of;
@@ -295,6 +295,8 @@ fn seek_leaf<S: Source>(
         → MatchResult result (λ leaf. IsSought pages levels root (row_before behind key)
         (λ places. IsInLeaf pages Table levels frames.new.items leaf places pager.new.state.asked
         (pager.old.state.asked + size_under pages levels root))) IsReadFault) }
+    ensures there { WhereSteady pager.old.state (λ pages. (levels : ℕ) → IsSearchable pages levels root → behind ≡ false
+        → HasRowWith pages levels root key → IfOk result (λ leaf. leaf.at < leaf.count)) }
     ensures way { WhereSteady pager.old.state (λ pages.
         MatchResult result (λ _. IsWay pages Table root frames.new.items) (λ e. IsReadFault e ⊎ BlamesMet pages Table root e)) }
     ensures asks { pager.new.state.asked ≤ pager.old.state.asked + (length frames.new.items + 1) }

@@ -30,6 +30,14 @@ module _ {K : Type 0} (HasKey : Level → ℕ → ℕ → K → Type 0) (IsBefor
   abbrev CellThat : Bool → Place → Type 0
   CellThat = IsCellThat HasKey before pages kind
 
+  -- a cell answers in one way
+  pub one_answer : (x : Place) → CellThat true x → CellThat false x → ⊥
+  one_answer x before_it behind_it =
+      let same = one_level pages kind before_it.level behind_it.level x.page before_it.page behind_it.page in
+      let key = subst (λ (l : Level). HasKey l x.page x.index before_it.is.0) same before_it.is.1 in
+      let e = one behind_it.level x.page x.index before_it.is.0 behind_it.is.0 key behind_it.is.1 in
+      true_false (before behind_it.is.0) (subst (λ (k : K). before k ≡ true) e before_it.is.2) behind_it.is.2
+
   module _ (depth n : ℕ) (stands : StandsAt pages kind root depth n) (level : Level) (page : IsPageOf pages kind level n) (p : ℕ) (b : Boundary level n p) where
     -- each cell before the boundary comes before what is sought, whichever of its keys is taken
     key_before : (i : ℕ) → i < p → (a : K) → HasKey level n i a → before a ≡ true
@@ -116,20 +124,15 @@ module _ {K : Type 0} (HasKey : Level → ℕ → ℕ → K → Type 0) (IsBefor
         }
 
     -- A cell that is the first behind what is sought stands under the child at the boundary, or is that child's own cell.
-    pub under_here : (i : ℕ) → i ≤ count_at pages n → (x : Place) → Contains (branch pages kind height n i) x → CellThat false x
-        → ((level : Level) (a : K) → HasKey level x.page x.index a → (y : K) → IsBefore y a → before y ≡ true) → i ≡ p
+    pub under_here : (i : ℕ) → i ≤ count_at pages n → (x : Place) → Contains (branch pages kind height n i) x → (behind : CellThat false x)
+        → ((y : K) → IsBefore y behind.is.0 → before y ≡ true) → i ≡ p
     under_here i within x h behind first = ⊎_elim
-        (λ (less : i < p).
-        let c = under_before i less x h in
-        let same = one_level pages kind c.level behind.level x.page c.page behind.page in
-        let key = subst (λ (l : Level). HasKey l x.page x.index c.is.0) same c.is.1 in
-        let e = one behind.level x.page x.index c.is.0 behind.is.0 key behind.is.1 in
-        absurd (true_false (before behind.is.0) (subst (λ (k : K). before k ≡ true) e c.is.2) behind.is.2))
+        (λ (less : i < p). absurd (one_answer x (under_before i less x h) behind))
         (λ (least : p ≤ i). ⊎_elim
         (λ (more : p < i).
         let next = b.next (omega arith) in
         let past = past_cells HasKey IsBefore IsAtMost pages kind root keys order height depth n p i stands shape more within x h behind.level next.0 behind.is.0 behind.page behind.within next.1 behind.is.1 in
-        absurd (true_false (before next.0) (first behind.level behind.is.0 behind.is.1 next.0 past) next.2))
+        absurd (true_false (before next.0) (first next.0 past) next.2))
         (λ (most : i ≤ p). omega arith)
         (cases_lt p i))
         (cases_lt i p)

@@ -39,7 +39,7 @@ rowid_of pages Interior n i page within = let c = page.cells i within in (c.0, c
 pub rowids : (pages : Pages) → AreKeys (HasRowid pages) Below AtMost pages Table
 rowids pages = record { after = below_below; after_most = most_below; strict = λ none. absurd none; never = never_below; key_of = rowid_of pages }
 
-leaf_place : (pages : Pages) (level : Level) (n : ℕ) → HasEntries Table level → IsPageOf pages Table level n
+pub leaf_place : (pages : Pages) (level : Level) (n : ℕ) → HasEntries Table level → IsPageOf pages Table level n
     → IsPageOf pages Table Leaf n
 leaf_place pages Leaf n entries page = page
 leaf_place pages Interior n entries page = absurd entries

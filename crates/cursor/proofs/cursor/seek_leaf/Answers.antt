@@ -1,4 +1,4 @@
-use Rattle.std.proofs.Common.{refl, inl, inr, ℕ, ◌≡◌, ◌+◌, ◌*◌, ◌<◌, ◌≤◌, length, vec_len, arith, sym, ◌∙◌, ap, subst, Some, w64, SFits, rules}
+use Rattle.std.proofs.Common.{refl, inl, inr, ℕ, ℤ, ◌≡◌, ◌+◌, ◌*◌, ◌<◌, ◌≤◌, length, vec_len, arith, sym, ◌∙◌, ap, subst, Some, w64, SFits, rules}
 use Rattle.std.proofs.lemmas.Int.{to_z-of_z}
 use Rattle.std.proofs.lemmas.List.{length_push}
 use Rattle.std.proofs.lemmas.Result.{err_from_is_err_and}
@@ -10,10 +10,11 @@ use Rattle.image.specs.declared.kind.Level.TheVariants.{Leaf, Interior}
 use Rattle.image.specs.Broken.{HasRowid}
 use Rattle.image.specs.Pages.{IsNumber, Pages, pages_seen}
 use Rattle.image.specs.Search.{IsBoundary, row_before}
-use Rattle.image.specs.Tree.{HasHeader, IsMetAt, IsPageOf, child_at}
+use Rattle.image.specs.Tree.{HasHeader, IsMetAt, IsPageOf, child_at, count_at}
 use Rattle.cursor.specs.Rest.{Holds}
+use Rattle.cursor.specs.Search.{HasRowWith}
 use Rattle.cursor.proofs.LeftLemmas.{left_down, left_leaf}
-use Rattle.cursor.proofs.RowSeekLemmas.{row_down, row_first, row_header, row_leaf, row_page, row_short}
+use Rattle.cursor.proofs.RowSeekLemmas.{row_down, row_first, row_header, row_leaf, row_next, row_page, row_short, row_there}
 use Rattle.btree.proofs.SeenLemmas.{still_steady, same_pages, readable}
 use Rattle.values.specs.declared.fault.Fault.{Fault}
 use Rattle.values.specs.declared.fault.Fault.TheVariants.{BadPage}
@@ -198,3 +199,23 @@ returns-in_default-child_of-clause-way g c = λ steady.
 pub returns-clause-way : goal.returns-clause-way
 returns-clause-way g c = λ steady.
     inr (blames_depth _ _ _ _ _ (c.loop-pager.invariant.way steady) (omega (arith, c.loop-pager.frames.ok.0)))
+
+pub returns-in-Leaf-clause-there : goal.returns-in-Leaf-clause-there
+returns-in-Leaf-clause-there g c = λ steady levels table exact row.
+    let inv = c.loop-pager.invariant in
+    let now = still_steady _ _ inv.image steady in
+    let same = same_pages _ _ inv.image in
+    let seen = pages_seen c.args.pager.now.state in
+    let holds = subst (λ (x : Pages). Holds x c.in_ok-frame.frame) same (c.in_ok-frame.ensures.seen now).0 in
+    let header = subst (λ (x : Pages). HasHeader x Table Leaf c.loop-pager.number) same (rw c.in-Leaf.is at (c.in_ok-frame.ensures.seen now).1) in
+    let same_header : c.header-header.result ≡ c.args.pager.now.state.header = c.header-header.ensures.is ∙ c.read_frame.ensures.reads.image.header ∙ inv.image.header in
+    let s = inv.seeks steady levels table in
+    let page = row_page _ _ _ _ _ _ _ _ _ _ s c.in_ok-frame.frame c.in_ok-frame.ensures.number Leaf header in
+    let fits : SFits w64 c.args.key = search rules in
+    let boundary = c.in-Some.ensures.found seen Leaf holds (ap (λ (x : Header). x.usable) (sym same_header)) page in
+    let has = subst (λ (k : ℤ). HasRowWith seen levels c.args.root k) (sym (to_z-of_z w64 c.args.key fits)) row in
+    let next = row_next seen c.args.root c.args.behind _ levels table.order exact table.tree.shape has.place has.is_there has.has in
+    let within : c.in-Some.at < count_at seen c.in_ok-frame.frame.number =
+    row_there _ _ _ _ _ _ _ _ _ _ s c.in_ok-frame.frame c.in_ok-frame.ensures.number holds c.in-Some.at _ c.read_frame.ensures.asked header boundary has.place next has.is_there in
+    let count : c.in_ok-frame.frame.count ≡ count_at seen c.in_ok-frame.frame.number = holds.count in
+    omega (arith, within, count)

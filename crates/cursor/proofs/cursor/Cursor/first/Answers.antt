@@ -1,4 +1,4 @@
-use Rattle.std.proofs.Common.{◌≡◌, ◌<◌, ◌≤◌, ◌∙◌, inr, rules, sym, subst, ap, refl, arith, ⊎_elim}
+use Rattle.std.proofs.Common.{◌≡◌, ◌-◌, List, length, ◌<◌, ◌≤◌, ◌∙◌, inr, rules, sym, subst, ap, refl, arith, ⊎_elim}
 use Rattle.std.proofs.lemmas.Bool.{cases_lt}
 use Rattle.std.proofs.lemmas.Result.{err_from_is_err_and}
 use Rattle.pager.specs.declared.header.Header.{Header}
@@ -6,8 +6,9 @@ use Rattle.pager.specs.PagerState.{IsSoundHeader, image_size}
 use Rattle.image.specs.Pages.{IsNumber, pages_seen}
 use Rattle.image.specs.Tree.{from_root}
 use Rattle.cursor.specs.declared.cursor.Frame.{Frame}
+use Rattle.cursor.specs.Left.{frames_left, worth}
 use Rattle.cursor.specs.Way.{HasReached}
-use Rattle.cursor.proofs.LeftLemmas.{some_left}
+use Rattle.cursor.proofs.LeftLemmas.{leaf_most, some_left}
 use Rattle.cursor.proofs.RestLemmas.{heading_first}
 use Rattle.btree.proofs.SeenLemmas.{readable}
 use Rattle.cursor.proofs.WayLemmas.{cursor_fault, leads_first, reached_leaf}
@@ -59,4 +60,9 @@ returns-clause-outcome g c =
           (λ (within : c.in_ok-leaf.leaf.at < c.in_ok-leaf.leaf.count). let some = some_left c.descend.new.frames.items c.in_ok-leaf.leaf within in absurd (omega (arith, some, none)))
           (λ (end : c.in_ok-leaf.leaf.count ≤ c.in_ok-leaf.leaf.at). let down = c.in_ok-leaf.ensures.down in let first = down.first in down.filled (omega (arith, end, first)))
           (cases_lt c.in_ok-leaf.leaf.at c.in_ok-leaf.leaf.count);
+      few =
+          let most = leaf_most c.descend.new.frames.items c.in_ok-leaf.leaf c.in_ok-leaf.ensures.leaf in
+          let none : frames_left 20 c.new-frames.result.items ≡ 0 = ap (frames_left 20) c.new-frames.ensures.items in
+          let top : worth (21 - length c.new-frames.result.items) ≡ worth 21 = ap (λ (f : List Frame). worth (21 - length f)) c.new-frames.ensures.items in
+          omega (arith, most, none, top, c.in_ok-leaf.ensures.left);
     }

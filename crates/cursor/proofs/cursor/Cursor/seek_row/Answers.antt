@@ -1,4 +1,4 @@
-use Rattle.std.proofs.Common.{◌≡◌, ℕ, List, ◌+◌, ◌*◌, ◌≤◌, inr, length, sym, ◌∙◌, subst, ap, refl, arith, w64, SFits, rules}
+use Rattle.std.proofs.Common.{◌≡◌, ℕ, ℤ, List, ◌+◌, ◌*◌, ◌≤◌, inr, length, sym, ◌∙◌, subst, ap, refl, arith, w64, SFits, rules}
 use Rattle.std.proofs.lemmas.Int.{to_z-of_z}
 use Rattle.std.proofs.lemmas.Result.{err_from_is_err_and}
 use Rattle.pager.specs.declared.header.Header.{Header}
@@ -10,6 +10,7 @@ use Rattle.image.specs.Tree.{from_root}
 use Rattle.btree.proofs.SeenLemmas.{readable, same_pages, still_steady}
 use Rattle.cursor.specs.declared.cursor.Frame.{Frame}
 use Rattle.cursor.specs.Rest.{IsInLeaf, IsStanding}
+use Rattle.cursor.specs.Search.{HasRowWith}
 use Rattle.cursor.specs.Way.{HasReached, IsWay}
 use Rattle.cursor.proofs.RestLemmas.{left_length, standing_long}
 use Rattle.cursor.proofs.cursor.Cursor.seek_row.Goals as goal
@@ -67,8 +68,7 @@ returns-clause-outcome g c =
           let then = c.in_ok-here.ensures.stands (still_steady _ _ stays steady) levels sought.rest budget
           (subst (λ (x : Pages). IsInLeaf x Table levels c.seek_leaf.new.frames.items c.in_ok-leaf.leaf sought.rest c.seek_leaf.new.pager.state.asked budget) (sym (same_pages _ _ stays)) sought.leads) in
           let down : length c.seek_leaf.new.frames.items ≤ levels = left_length _ _ _ _ _ _ _ _ sought.leads.left in
-          let long : length c.settle.new.frames.items ≤ levels = standing_long _ _ _ _ _ _ _ _ then in
-          (
+          let long : length c.settle.new.frames.items ≤ levels = standing_long _ _ _ _ _ _ _ _ then in (
             record {
               front = sought.front;
               rest = sought.rest;
@@ -85,6 +85,13 @@ returns-clause-outcome g c =
             },
             omega (arith, down, long, c.seek_leaf.ensures.asks, c.settle.ensures.asks),
           );
+      direct = λ steady levels table exact row.
+          let sought = c.in_ok-leaf.ensures.lands steady levels table in
+          let down : length c.seek_leaf.new.frames.items ≤ levels = left_length _ _ _ _ _ _ _ _ sought.leads.left in
+          let kept : c.settle.new.pager.state.asked ≡ c.seek_leaf.new.pager.state.asked =
+          c.settle.ensures.kept (c.in_ok-leaf.ensures.there steady levels table exact
+          (subst (λ (k : ℤ). HasRowWith seen levels c.args.root k) (sym (to_z-of_z w64 c.args.rowid fits)) row)) in
+          omega (arith, down, kept, c.seek_leaf.ensures.asks);
       come = λ steady here is.
           let same : c.in_ok-here.here ≡ here = cc in
           let reached = c.in_ok-here.ensures.way (still_steady _ _ stays steady)
