@@ -1,7 +1,8 @@
 //! A cursor over the rows of a table.
 use crate::images::{numbers, open, size_and_root};
-use btree::Cursor;
+use cursor::Cursor;
 use forge::{ReadScript, ScriptSource, Shape};
+use image::TreeKind;
 use pager::{MemSource, Pager, Source};
 use std::alloc::{AllocError, Global};
 use std::process::Abort;
@@ -42,7 +43,7 @@ fn list_rows<S: Source>(
     root: u32,
 ) -> Result<Listing, AllocError> {
     let mut rowids = Vec::new(alloc);
-    let mut cursor = match Cursor::first(alloc, pager, root) {
+    let mut cursor = match Cursor::first(alloc, pager, TreeKind::Table, root) {
         Ok(cursor) => cursor,
         Err(fault) => {
             return Ok(Listing {

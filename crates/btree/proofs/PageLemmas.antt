@@ -1,9 +1,9 @@
 -- The header of a page, and why a page has none.
-use Rattle.std.proofs.Common.{◌≡◌, ℕ, ◌+◌, ◌*◌, ◌-◌, ◌<◌, ◌≤◌, List, length, take, drop, min, refl, sym, ◌∙◌, ap, subst, arith}
+use Rattle.std.proofs.Common.{◌≡◌, ℕ, ℤ, ◌+◌, ◌*◌, ◌-◌, ◌<◌, ◌≤◌, List, length, take, drop, min, refl, sym, ◌∙◌, ap, subst, arith}
 use Rattle.std.proofs.lemmas.Bool.Decides.{nat_tests}
 use Rattle.std.proofs.lemmas.List.{drop_min, take_rest}
 use Rattle.pager.specs.Header.{field}
-use Rattle.image.specs.Cell.{CellData, IsTableCell}
+use Rattle.image.specs.Cell.{CellData, IsIndexCell, IsTableCell}
 use Rattle.image.specs.declared.kind.TreeKind.{TreeKind}
 use Rattle.image.specs.declared.kind.TreeKind.TheVariants.{Table, Index}
 use Rattle.image.specs.declared.kind.Level.{Level}
@@ -11,7 +11,7 @@ use Rattle.image.specs.declared.kind.Level.TheVariants.{Leaf, Interior}
 use Rattle.image.specs.Layout.{flag, flag_of, cell_count, cell_place, child, header_size, right_child, places_end}
 use Rattle.image.specs.Layout.{HasHeaderAt}
 use Rattle.image.specs.Cell.{FitsIn}
-use Rattle.btree.specs.Bytes.{IsRowCell}
+use Rattle.btree.specs.Bytes.{HasKeyOf, IsDividerCell, IsEntryCell, IsRowCell, child_size}
 
 -- a flag tells the level
 pub flag_of-same : (kind : TreeKind) (a b : Level) → flag_of kind a ≡ flag_of kind b → a ≡ b
@@ -47,6 +47,19 @@ module _ (at most : ℕ) (page : List ℕ) (i from : ℕ) (is : from ≡ min (ce
       sym (drop_min (cell_place at Leaf page i) page) ∙ ap (λ (n : ℕ). drop n page) (sym is) ∙ sym (take_rest page from) in
       none cell (subst (λ (b : List ℕ). FitsIn most (IsTableCell (length page) b) cell) here h.is)
 
+-- the same of an entry, which on an interior page stands behind the left child
+module _ (at most : ℕ) (level : Level) (page : List ℕ) (i from : ℕ) (is : from ≡ min (cell_place at level page i + child_size level) (length page)) where
+  entry_there : drop (cell_place at level page i + child_size level) page ≡ take (length page - from) (drop from page)
+  entry_there = sym (drop_min (cell_place at level page i + child_size level) page) ∙ ap (λ (n : ℕ). drop n page) (sym is) ∙ sym (take_rest page from)
+
+  pub no_entry : ((cell : CellData) → ¬ FitsIn most (IsIndexCell (length page) (take (length page - from) (drop from page))) cell)
+      → (cell : CellData) → ¬ IsEntryCell at most level page i cell
+  no_entry none cell h = none cell (subst (λ (b : List ℕ). FitsIn most (IsIndexCell (length page) b) cell) entry_there h.is)
+
+  pub entry_here : (cell : CellData) → places_end at level page ≤ cell_place at level page i → FitsIn most (IsIndexCell (length page) (take (length page - from) (drop from page))) cell
+      → IsEntryCell at most level page i cell
+  entry_here cell begins h = record { begins = begins; is = subst (λ (b : List ℕ). FitsIn most (IsIndexCell (length page) b) cell) (sym entry_there) h }
+
 -- what the reader of a header learns
 module _ (at found : ℕ) (kind : TreeKind) (level : Level) (page : List ℕ) (size count : ℕ)
     (flag_is : found ≡ flag at page) (level_is : found ≡ flag_of kind level) (size_is : size ≡ header_size level) (count_is : count ≡ cell_count at page) where
@@ -55,3 +68,15 @@ module _ (at found : ℕ) (kind : TreeKind) (level : Level) (page : List ℕ) (s
 
   pub places_past : length page < at + (size + 2 * count) → (other : Level) → ¬ HasHeaderAt at kind other page
   places_past past = no_places at kind page level (sym flag_is ∙ level_is) (omega (arith, size_is, count_is))
+
+-- a cell has a key exactly where it is there
+module _ (at most : ℕ) (page : List ℕ) where
+  pub no_leaf_key : (level : Level) (i : ℕ) → level ≡ Leaf → ((cell : CellData) → ¬ IsRowCell at most page i cell)
+      → (key : ℤ) → ¬ HasKeyOf at most level page i key
+  no_leaf_key Leaf i e none key h = none h.0 h.1
+  no_leaf_key Interior i e none key h = absurd cc
+
+  pub no_interior_key : (level : Level) (i : ℕ) → level ≡ Interior → ((key : ℤ) → ¬ IsDividerCell at page i key)
+      → (key : ℤ) → ¬ HasKeyOf at most level page i key
+  no_interior_key Leaf i e none key h = absurd cc
+  no_interior_key Interior i e none key h = none key h

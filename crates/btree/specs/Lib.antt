@@ -1,9 +1,4 @@
 pub mod Bytes
 pub mod ViewData
 pub mod Views
-pub mod Listing
-pub mod Rest
-pub mod Left
-pub mod Held
-pub mod Way
 pub mod Calls

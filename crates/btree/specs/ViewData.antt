@@ -3,6 +3,7 @@ use Rattle.std.specs.Prelude.{◌≡◌, ℕ, ◌<◌, ◌≤◌, List, length}
 use Rattle.image.specs.declared.kind.TreeKind.{TreeKind}
 use Rattle.image.specs.declared.kind.Level.{Level}
 use Rattle.image.specs.Layout.{HasHeaderAt, cell_count, header_at}
+use Rattle.image.specs.Pages.{Pages}
 
 -- where a page's header begins, of which kind and level the page is, and its used bytes
 pub record ViewData : Type 0 where
@@ -28,3 +29,8 @@ pub record IsView (at : ℕ) (kind : TreeKind) (level : Level) (page : List ℕ)
   pub at_most : at ≤ 100
   pub least : 480 ≤ length page
   pub most : length page ≤ 65536
+
+-- pages of which so much is used that they can be read
+pub record AreReadable (pages : Pages) : Type 0 where
+  pub least : 480 ≤ pages.usable
+  pub most : pages.usable ≤ 65536

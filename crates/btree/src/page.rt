@@ -1,16 +1,16 @@
 //! A tree page, read in place.
 ghost use Rattle.std.specs.Prelude.{◌≡◌, ◌≢◌, ◌+◌, ◌*◌, ◌≤◌, ◌<◌, ℤ, length, take, IfNone, IfSome};
-ghost use Rattle.image.specs.declared.kind.TreeKind.TheVariants.{Table};
+ghost use Rattle.image.specs.declared.kind.TreeKind.TheVariants.{Table, Index};
 ghost use Rattle.image.specs.declared.kind.Level.{Level};
 ghost use Rattle.image.specs.declared.kind.Level.TheVariants.{Leaf, Interior};
 ghost use Rattle.image.specs.Cell.{CellData};
 ghost use Rattle.pager.specs.Header.{field};
 ghost use Rattle.image.specs.Layout.{HasHeaderAt, cell_count, cell_place, child, flag, flag_of, header_at, header_size, right_child};
-ghost use Rattle.btree.specs.Bytes.{IsDividerCell, IsRowCell, LacksChild};
+ghost use Rattle.btree.specs.Bytes.{HasKeyOf, IsDividerCell, IsEntryCell, IsRowCell, LacksChild};
 ghost use Rattle.btree.specs.ViewData.{IsViewOf, TellsOfCell};
 ghost use Rattle.btree.specs.Views.{cell_data};
 
-use crate::cell::{Cell, table_cell};
+use crate::cell::{Cell, index_cell, table_cell};
 use byteorder::{BigEndian, ByteOrder};
 use image::{Level, TreeKind};
 use pager::Page;
@@ -188,6 +188,26 @@ impl<'p> PageView<'p> {
         table_cell(self.bytes.len() as u64, most, &self.bytes[from..])
     }
 
+    /// Entry i of a page of an index, with a payload of at most `most` bytes; `None` where none is there. On an interior
+    /// page it stands behind the left child.
+    pub fn entry(&self, most: u64, i: u32) -> Option<Cell<'p>>
+        requires { TellsOfCell self.now Index self.now.level i }
+        ensures found { IfSome result (λ cell. IsEntryCell self.now.at most self.now.level self.now.page i (cell_data cell)) }
+        ensures none { IfNone result ((cell : CellData) → ¬ IsEntryCell self.now.at most self.now.level self.now.page i cell) }
+    {
+        let place = place_of(self.at, self.level, self.bytes, i) as usize;
+        let places_end = self.at + size_of_header(self.level) + 2 * self.count() as usize;
+        if place < places_end {
+            return None;
+        }
+        let begins = match self.level {
+            Level::Leaf => place,
+            Level::Interior => place + 4,
+        };
+        let from = begins.min(self.bytes.len());
+        index_cell(self.bytes.len() as u64, most, &self.bytes[from..])
+    }
+
     /// The key of cell i of a table's interior page, which divides the rowids under the child before it from those under
     /// the next; `None` where no cell is there.
     pub fn divider(&self, i: u32) -> Option<i64>
@@ -203,6 +223,22 @@ impl<'p> PageView<'p> {
         let (key, _) = varint(&self.bytes[place + 4..])?;
         Some(key)
     }
+
+    /// The key of cell i of a page of a table: a rowid of a leaf, or what divides the rowids under two children; `None`
+    /// where no cell is there.
+    pub fn key(&self, most: u64, i: u32) -> Option<i64>
+        requires { TellsOfCell self.now Table self.now.level i }
+        ensures found { IfSome result (λ key. HasKeyOf self.now.at most self.now.level self.now.page i key) }
+        ensures none { IfNone result ((key : ℤ) → ¬ HasKeyOf self.now.at most self.now.level self.now.page i key) }
+    {
+        match self.level {
+            Level::Leaf => {
+                let cell = self.row(most, i)?;
+                cell.rowid
+            }
+            Level::Interior => self.divider(i),
+        }
+    }
 }
 
 /// Page `number` of a table's tree, of which so many bytes are used; `None` where it is shorter or its header says that it
@@ -213,9 +249,19 @@ pub fn view_of(page: &Page, number: u32, usable: usize) -> Option<PageView<'_>>
     ensures none { 480 ≤ usable → usable ≤ 65536 → usable ≤ length page.now
         → IfNone result ((level : Level) → ¬ HasHeaderAt (header_at number) Table level (take usable page.now)) }
 {
+    view_in(TreeKind::Table, page, number, usable)
+}
+
+/// The same of a tree of this kind.
+#[inline]
+pub fn view_in(kind: TreeKind, page: &Page, number: u32, usable: usize) -> Option<PageView<'_>>
+    ensures found { IfSome result (λ view. IsViewOf kind number (take usable page.now) view × (usable ≤ length page.now)) }
+    ensures none { 480 ≤ usable → usable ≤ 65536 → usable ≤ length page.now
+        → IfNone result ((level : Level) → ¬ HasHeaderAt (header_at number) kind level (take usable page.now)) }
+{
     let bytes = page.as_slice();
     if usable > bytes.len() {
         return None;
     }
-    PageView::read(TreeKind::Table, number, &bytes[..usable])
+    PageView::read(kind, number, &bytes[..usable])
 }

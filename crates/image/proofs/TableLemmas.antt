@@ -16,10 +16,10 @@ use Rattle.image.proofs.ShapeLemmas.{sound_shape}
 use Rattle.image.proofs.PlaceLemmas.{sound}
 use Rattle.image.proofs.OrderLemmas.{AreKeys, KeyBefore, root_rises, root_places}
 
-abbrev Below : ℤ → ℤ → Type 0
+abbrev pub Below : ℤ → ℤ → Type 0
 Below x y = x <ℤ y
 
-abbrev AtMost : ℤ → ℤ → Type 0
+abbrev pub AtMost : ℤ → ℤ → Type 0
 AtMost x y = x ≤ℤ y
 
 below_below : (x y z : ℤ) → x <ℤ y → y <ℤ z → x <ℤ z
@@ -36,10 +36,10 @@ rowid_of : (pages : Pages) (level : Level) (n i : ℕ) → IsPageOf pages Table 
 rowid_of pages Leaf n i page within = let c = page.cells i within in (c.1.is.rowid, (c.0, c.1.is, c.1.is.has_rowid))
 rowid_of pages Interior n i page within = let c = page.cells i within in (c.0, c.1)
 
-rowids : (pages : Pages) → AreKeys (HasRowid pages) Below AtMost pages Table
+pub rowids : (pages : Pages) → AreKeys (HasRowid pages) Below AtMost pages Table
 rowids pages = record { after = below_below; after_most = most_below; strict = λ none. absurd none; never = never_below; key_of = rowid_of pages }
 
-leaf_place : (pages : Pages) (level : Level) (n : ℕ) → HasEntries Table level → IsPageOf pages Table level n
+pub leaf_place : (pages : Pages) (level : Level) (n : ℕ) → HasEntries Table level → IsPageOf pages Table level n
     → IsPageOf pages Table Leaf n
 leaf_place pages Leaf n entries page = page
 leaf_place pages Interior n entries page = absurd entries

@@ -100,3 +100,19 @@ pub record ArePlacesOf (pages : Pages) (kind : TreeKind) (root : ℕ) (places : 
 pub record IsRowAt (pages : Pages) (place : Place) (cell : CellData) : Type 0 where
   pub is : IsTableCell pages.usable (cell_at pages Leaf place.page place.index) cell
   pub fits : cell.payload.size ≤ pages.size
+
+-- the bytes from entry i of a page of an index tree on: on an interior page it stands behind the left child
+abbrev pub entry_at : Pages → Level → ℕ → ℕ → List ℕ
+entry_at pages Leaf n i = cell_at pages Leaf n i
+entry_at pages Interior n i = drop 4 (cell_at pages Interior n i)
+
+-- The cell that stands at a place of an index tree, on a leaf or on an interior page.
+pub record IsIndexEntryAt (pages : Pages) (place : Place) (cell : CellData) : Type 0 where
+  pub level : Level
+  pub page : HasHeader pages Index level place.page
+  pub is : IsIndexCell pages.usable (entry_at pages level place.page place.index) cell
+  pub fits : cell.payload.size ≤ pages.size
+
+abbrev pub IsEntryAt : Pages → TreeKind → Place → CellData → Type 0
+IsEntryAt pages Table place cell = IsRowAt pages place cell
+IsEntryAt pages Index place cell = IsIndexEntryAt pages place cell

@@ -51,7 +51,7 @@ module _ (pages : Pages) where
         levels = counts.levels;
         rows = rows.rows;
         few = tree.few;
-        stored = record { shape = tree.shape; cells = rows_of pages table.root counts.levels tree.shape tree.sound.order; rows_are = rows.stored; fit = rows.fit };
+        stored = record { shape = tree.shape; order = tree.sound.order; cells = rows_of pages table.root counts.levels tree.shape tree.sound.order; rows_are = rows.stored; fit = rows.fit };
       }
 
   pub stored_tables : (tables : List TableData) (trees : List TreeCounts) → AllZip (IsCheckedTree pages) tables trees → All (IsStoredTable pages) tables

@@ -8,7 +8,8 @@ use Rattle.image.specs.declared.kind.TreeKind.TheVariants.{Table}
 use Rattle.image.specs.Cell.{CellData}
 use Rattle.image.specs.Chain.{HasBytes}
 use Rattle.image.specs.Pages.{Pages}
-use Rattle.image.specs.Tree.{Place, IsRowAt}
+use Rattle.image.specs.Broken.{IsRowOrder}
+use Rattle.image.specs.Tree.{Place, IsRowAt, Reaches}
 use Rattle.image.specs.Shape.{HasShape, places_under}
 use Rattle.image.specs.Sound.{AreRowsOf}
 use Rattle.values.specs.Row.{Row}
@@ -66,9 +67,11 @@ pub record HoldsRows (pages : Pages) (table : TableData) (rows : List Row) : Typ
   pub cells : AreRowsOf pages table.root places
   pub rows_are : AllZip (StoresRow pages table) places rows
 
--- the same of a tree whose levels are known: the cells under its root from left to right are the rows
+-- The same of a tree whose levels are known: the cells under its root from left to right are the rows, and its pages are in
+-- order, by which a search goes.
 pub record IsStored (pages : Pages) (table : TableData) (levels : ℕ) (rows : List Row) : Type 0 where
   pub shape : HasShape pages Table levels table.root
+  pub order : (n : ℕ) → Reaches pages Table table.root n → IsRowOrder pages table.root n
   pub cells : AreRowsOf pages table.root (places_under pages Table levels table.root)
   pub rows_are : AllZip (StoresRow pages table) (places_under pages Table levels table.root) rows
   pub fit : All (Fits table) rows

@@ -13,9 +13,11 @@ use Rattle.pager.specs.Calls.{AsksChainsOnly, SameImage}
 use Rattle.pager.proofs.CallLemmas.{SameImage-trans}
 use Rattle.image.specs.Cell.{CellData}
 use Rattle.image.specs.Pages.{pages_seen, Pages, pages_in}
+use Rattle.image.specs.declared.kind.TreeKind.TheVariants.{Table}
 use Rattle.image.specs.Tree.{IsRowAt, Place}
-use Rattle.btree.specs.declared.cursor.Cursor.{Cursor}
-use Rattle.btree.specs.Listing.{IsAt, IsEntry}
+use Rattle.cursor.specs.declared.cursor.Cursor.{Cursor}
+use Rattle.cursor.specs.Listing.{IsAt, IsEntry}
+use Rattle.cursor.proofs.RestLemmas.{standing_asked}
 use Rattle.values.specs.Row.{Row}
 use Rattle.schema.specs.TableData.{TableData}
 use Rattle.integrity.specs.Stored.{IsRowOf, IsStored, StoresRow}
@@ -128,7 +130,8 @@ pub record Given (pages : Pages) (table : TableData) (columns : List ℕ) (rows 
   pub places : List Place
   pub whole : given ++ rest ≡ rows
   pub local : All (IsLocal pages) all → All (IsLocal pages) places
-  pub at : IsAt pages cursor places asked budget
+  pub levels : ℕ
+  pub at : IsAt pages Table levels cursor places asked budget
   pub stored : AllZip (StoresRow pages table) places rest
   pub written : Appends old.written new.written (shown_text columns given)
   pub counted : n ≡ min (length given) (2 ^ 64 - 1)
@@ -142,7 +145,7 @@ record BeginsRows (pages : Pages) (table : TableData) (cell : CellData) (rest : 
   stored : AllZip (StoresRow pages table) others more
 
 first_cell : (pages : Pages) (table : TableData) (cell : CellData) (places : List Place) (rest : List Row)
-    → AllZip (StoresRow pages table) places rest → IsEntry pages places (Some cell) → BeginsRows pages table cell rest (drop 1 places)
+    → AllZip (StoresRow pages table) places rest → IsEntry pages Table places (Some cell) → BeginsRows pages table cell rest (drop 1 places)
 first_cell pages table cell [] rest stored entry = absurd cc
 first_cell pages table cell (place ∷ places) [] stored entry = absurd stored
 first_cell pages table cell (place ∷ places) (row ∷ more) stored entry = record {
@@ -154,12 +157,12 @@ first_cell pages table cell (place ∷ places) (row ∷ more) stored entry = rec
 }
 
 no_cell : (pages : Pages) (table : TableData) (places : List Place) (rest : List Row)
-    → AllZip (StoresRow pages table) places rest → IsEntry pages places None → rest ≡ []
+    → AllZip (StoresRow pages table) places rest → IsEntry pages Table places None → rest ≡ []
 no_cell pages table [] [] stored entry = refl
 no_cell pages table [] (row ∷ rest) stored entry = absurd stored
 no_cell pages table (place ∷ places) rest stored entry = absurd entry
 
-first_local : (pages : Pages) (cell : CellData) (places : List Place) → IsEntry pages places (Some cell) → All (IsLocal pages) places
+first_local : (pages : Pages) (cell : CellData) (places : List Place) → IsEntry pages Table places (Some cell) → All (IsLocal pages) places
     → cell.payload.overflow ≡ None
 first_local pages cell [] entry all = absurd cc
 first_local pages cell (place ∷ places) entry all = All-head (IsLocal pages) place places all cell entry
@@ -186,13 +189,14 @@ module _ (pages : Pages) (table : TableData) (columns : List ℕ) (rows : List R
       }
 
   module _ (cell : CellData) (first : BeginsRows pages table cell g.rest (drop 1 g.places)) where
-    Given-next : (next : Cursor) (asked' n' : ℕ) (new : SinkFacts) → IsAt pages next (drop 1 g.places) asked' budget
+    Given-next : (next : Cursor) (asked' n' : ℕ) (new : SinkFacts) → IsAt pages Table g.levels next (drop 1 g.places) asked' budget
         → Appends mid.written new.written (row_text (shown columns first.row)) → n' ≡ min (n + 1) (2 ^ 64 - 1)
         → Given pages table columns rows all next asked' budget n' old new
     Given-next next asked' n' new at written is = record {
       given = g.given ++ (first.row ∷ []);
       rest = first.more;
       places = drop 1 g.places;
+      levels = g.levels;
       whole = append_assoc g.given (first.row ∷ []) first.more ∙ ap (λ t. g.given ++ t) (sym first.rest_is) ∙ g.whole;
       local = λ every. all_drop (IsLocal pages) g.places (g.local every);
       at = at;
@@ -232,7 +236,7 @@ seen_same start now stays = λ k. pages_in (stays.header k) (stays.bytes k)
 pub Streaming-start : (start now : PagerState) (table : TableData) (columns : List ℕ) (cursor : Cursor) (n : ℕ) (old : SinkFacts)
     → SameImage start now → now.source.failures ≡ start.source.failures → now.chained ≡ start.chained
     → (IsTrue start.source.steady → (levels : ℕ) (rows : List Row) → IsStored (pages_seen start) table levels rows → levels < 20
-    → IsAt (pages_seen start) cursor (cells_of (pages_seen start) table levels) now.asked (start.asked + size_of (pages_seen start) table levels))
+    → IsAt (pages_seen start) Table levels cursor (cells_of (pages_seen start) table levels) now.asked (start.asked + size_of (pages_seen start) table levels))
     → n ≡ 0 → Streaming start now table columns cursor n old old
 Streaming-start start now table columns cursor n old stays reads chained lists is = record {
   stays = stays;
@@ -244,6 +248,7 @@ Streaming-start start now table columns cursor n old stays reads chained lists i
     places = cells_of (pages_seen start) table levels;
     whole = refl;
     local = λ every. every;
+    levels = levels;
     at = lists steady levels rows stored few;
     stored = stored.rows_are;
     written = Appends-none old.written;
@@ -254,16 +259,16 @@ Streaming-start start now table columns cursor n old stays reads chained lists i
 
 -- what the cursor says of the cell that it stands at
 abbrev pub IsEntryOf : Cursor → Option CellData → Type 0
-IsEntryOf cursor cell = (pages : Pages) (places : List Place) (asked budget : ℕ) → IsAt pages cursor places asked budget → IsEntry pages places cell
+IsEntryOf cursor cell = (pages : Pages) (levels : ℕ) (places : List Place) (asked budget : ℕ) → IsAt pages Table levels cursor places asked budget → IsEntry pages Table places cell
 
 -- what is said of the cell that the cursor stands at, as these pages have it
 abbrev pub Says : PagerState → TableData → CellData → (Row → Type 0) → Type 0
 Says now table cell Then = IsTrue now.source.steady → (row : Row) → IsRowOf (pages_seen now) table cell row → Then row
 
 -- what a step says
-abbrev pub Steps : PagerState → Cursor → (List Place → ℕ → Type 0) → Type 0
-Steps now cursor Then = IsTrue now.source.steady → (places : List Place) (budget : ℕ)
-    → IsAt (pages_seen now) cursor places now.asked budget → Then places budget
+abbrev pub Steps : PagerState → Cursor → (ℕ → List Place → ℕ → Type 0) → Type 0
+Steps now cursor Then = IsTrue now.source.steady → (levels : ℕ) (places : List Place) (budget : ℕ)
+    → IsAt (pages_seen now) Table levels cursor places now.asked budget → Then levels places budget
 
 module _ (start now : PagerState) (table : TableData) (columns : List ℕ) (cursor : Cursor) (n : ℕ) (old mid : SinkFacts)
     (s : Streaming start now table columns cursor n old mid) where
@@ -278,18 +283,18 @@ module _ (start now : PagerState) (table : TableData) (columns : List ℕ) (curs
     pub Streaming-done : IsEntryOf cursor None → Streams columns rows n old mid
     Streaming-done entry =
         Given-all _ _ _ _ _ _ _ _ _ _ _ now_given
-        (no_cell (pages_seen start) table now_given.places now_given.rest now_given.stored (entry _ _ _ _ now_given.at))
+        (no_cell (pages_seen start) table now_given.places now_given.rest now_given.stored (entry _ _ _ _ _ now_given.at))
 
     -- the cursor has a cell or an end
-    pub Streaming-never : ((pages : Pages) (places : List Place) (asked budget : ℕ) → IsAt pages cursor places asked budget → ⊥) → ⊥
-    Streaming-never never = never _ _ _ _ now_given.at
+    pub Streaming-never : ((pages : Pages) (levels : ℕ) (places : List Place) (asked budget : ℕ) → IsAt pages Table levels cursor places asked budget → ⊥) → ⊥
+    Streaming-never never = never _ _ _ _ _ now_given.at
 
     pub asked_most : now.asked ≤ start.asked + size_of (pages_seen start) table levels
-    asked_most = let asks = now_given.at.stands.left.asks in omega arith
+    asked_most = standing_asked _ _ _ _ _ _ _ _ now_given.at.stands
 
     now_first : (cell : CellData) → IsEntryOf cursor (Some cell)
         → BeginsRows (pages_seen start) table cell now_given.rest (drop 1 now_given.places)
-    now_first cell entry = first_cell (pages_seen start) table cell now_given.places now_given.rest now_given.stored (entry _ _ _ _ now_given.at)
+    now_first cell entry = first_cell (pages_seen start) table cell now_given.places now_given.rest now_given.stored (entry _ _ _ _ _ now_given.at)
 
     -- what was said of the cell
     said : (cell : CellData) (Then : Row → Type 0) → Says now table cell Then → (entry : IsEntryOf cursor (Some cell)) → Then (now_first cell entry).row
@@ -307,10 +312,10 @@ module _ (start now : PagerState) (table : TableData) (columns : List ℕ) (curs
 
     -- the cursor stands where it stood, once overflow pages were read
     still_at : (wrote : PagerState) → AsksChainsOnly now wrote
-        → IsAt (pages_seen wrote) cursor now_given.places wrote.asked (start.asked + size_of (pages_seen start) table levels)
+        → IsAt (pages_seen wrote) Table now_given.levels cursor now_given.places wrote.asked (start.asked + size_of (pages_seen start) table levels)
     still_at wrote chained =
-        subst (λ (a : ℕ). IsAt (pages_seen wrote) cursor now_given.places a (start.asked + size_of (pages_seen start) table levels)) (sym chained.unasked)
-        (subst (λ (p : Pages). IsAt p cursor now_given.places now.asked (start.asked + size_of (pages_seen start) table levels))
+        subst (λ (a : ℕ). IsAt (pages_seen wrote) Table now_given.levels cursor now_given.places a (start.asked + size_of (pages_seen start) table levels)) (sym chained.unasked)
+        (subst (λ (p : Pages). IsAt p Table now_given.levels cursor now_given.places now.asked (start.asked + size_of (pages_seen start) table levels))
         (sym (seen_same start wrote (SameImage-trans start now wrote s.stays chained.image))) now_given.at)
 
     wrote_steady : (wrote : PagerState) → AsksChainsOnly now wrote → IsTrue wrote.source.steady
@@ -318,21 +323,21 @@ module _ (start now : PagerState) (table : TableData) (columns : List ℕ) (curs
 
     pub Streaming-stopped : (wrote : PagerState) (cell : CellData) (e : Fault) (new : SinkFacts) → IsEntryOf cursor (Some cell) → AsksChainsOnly now wrote
         → Says now table cell (λ row. Appends mid.written new.written (row_text (shown columns row)))
-        → Steps wrote cursor (λ _ _. e ≢ Changed) → e ≢ WriteFailed → StreamsUntil e columns rows old new
+        → Steps wrote cursor (λ _ _ _. e ≢ Changed) → e ≢ WriteFailed → StreamsUntil e columns rows old new
     Streaming-stopped wrote cell e new entry chained written sound other =
         let first = now_first cell entry in
         until_next _ _ _ _ _ _ _ _ _ _ _ now_given cell first e new
         (said cell (λ row. Appends mid.written new.written (row_text (shown columns row))) written entry)
-        (sound (wrote_steady wrote chained) now_given.places _ (still_at wrote chained)) other
+        (sound (wrote_steady wrote chained) now_given.levels now_given.places _ (still_at wrote chained)) other
 
     now_local : (cell : CellData) → IsEntryOf cursor (Some cell) → IsUnchained (pages_seen start) table levels → cell.payload.overflow ≡ None
     now_local cell entry every =
-        first_local (pages_seen start) cell now_given.places (entry _ _ _ _ now_given.at) (now_given.local every)
+        first_local (pages_seen start) cell now_given.places (entry _ _ _ _ _ now_given.at) (now_given.local every)
 
   pub Streaming-next : (wrote then : PagerState) (cell : CellData) (next : Cursor) (n' : ℕ) (new : SinkFacts) → IsEntryOf cursor (Some cell)
       → AsksChainsOnly now wrote → wrote.source.failures ≡ now.source.failures → (cell.payload.overflow ≡ None → wrote ≡ now)
       → Says now table cell (λ row. Appends mid.written new.written (row_text (shown columns row)))
-      → Steps wrote cursor (λ places budget. IsAt (pages_seen wrote) next (drop 1 places) then.asked budget)
+      → Steps wrote cursor (λ levels places budget. IsAt (pages_seen wrote) Table levels next (drop 1 places) then.asked budget)
       → SameImage wrote then → then.source.failures ≡ wrote.source.failures → then.chained ≡ wrote.chained → new.failures ≡ mid.failures
       → n' ≡ min (n + 1) (2 ^ 64 - 1)
       → Streaming start then table columns next n' old new
@@ -344,9 +349,9 @@ module _ (start now : PagerState) (table : TableData) (columns : List ℕ) (curs
         let first = now_first steady levels rows stored few cell entry in
         let here = now_given steady levels rows stored few in
         let budget = start.asked + size_of (pages_seen start) table levels in
-        let stands : IsAt (pages_seen start) next (drop 1 here.places) then.asked budget =
-        subst (λ (p : Pages). IsAt p next (drop 1 here.places) then.asked budget) (seen_same start wrote (SameImage-trans start now wrote s.stays chained.image))
-        (lists (wrote_steady steady levels rows stored few wrote chained) here.places budget (still_at steady levels rows stored few wrote chained)) in
+        let stands : IsAt (pages_seen start) Table here.levels next (drop 1 here.places) then.asked budget =
+        subst (λ (p : Pages). IsAt p Table here.levels next (drop 1 here.places) then.asked budget) (seen_same start wrote (SameImage-trans start now wrote s.stays chained.image))
+        (lists (wrote_steady steady levels rows stored few wrote chained) here.levels here.places budget (still_at steady levels rows stored few wrote chained)) in
         Given-next _ _ _ _ _ _ _ _ _ _ _ here cell first next then.asked n' new stands
         (said steady levels rows stored few cell (λ row. Appends mid.written new.written (row_text (shown columns row))) written entry) is;
     unchained = λ steady levels rows stored few every.

@@ -7,10 +7,11 @@ ghost use Rattle.std.specs.Cow.{cow_slice_items};
 ghost use Rattle.pager.specs.Calls.{IsReadFault, ReadsChainPages, ReadsPages, ReadsTreePages};
 ghost use Rattle.pager.specs.PagerState.{IsPageNumber};
 ghost use Rattle.image.specs.Chain.{HasBytes};
+ghost use Rattle.image.specs.declared.kind.TreeKind.TheVariants as kind;
 ghost use Rattle.image.specs.Pages.{Pages, WhereSteady};
 ghost use Rattle.image.specs.Tree.{Place};
-ghost use Rattle.btree.specs.Left.{steps_left};
-ghost use Rattle.btree.specs.Listing.{IsAt, IsEntry};
+ghost use Rattle.cursor.specs.Left.{steps_left};
+ghost use Rattle.cursor.specs.Listing.{IsAt, IsEntry};
 ghost use Rattle.btree.specs.Views.{cell_data, payload_data};
 ghost use Rattle.values.specs.Row.{Row};
 ghost use Rattle.explain.specs.Text.{row_text};
@@ -18,8 +19,10 @@ ghost use Rattle.integrity.specs.Stored.{IsRowOf, IsRowRecord, IsStored};
 ghost use Rattle.shell.specs.Answer.{IsRunFault, IsScanFault};
 ghost use Rattle.shell.specs.Stream.{IsUnchained, Streams, StreamsUntil, cells_of, shown, size_of};
 
-use btree::{Cell, Cursor, payload};
+use btree::{Cell, payload};
+use cursor::Cursor;
 use explain::row_text;
+use image::TreeKind;
 use integrity::RowReader;
 use pager::{Pager, Source};
 use schema::Table;
@@ -116,13 +119,13 @@ fn first_row<S: Source>(alloc: Global, pager: &mut Pager<S>, table: &Table) -> R
     ensures lists { WhereSteady pager.old.state (λ pages. (levels : ℕ) (rows : List Row)
         → IsStored pages table.now levels rows → levels < 20
         → MatchResult result
-        (λ cursor. IsAt pages cursor (cells_of pages table.now levels)
+        (λ cursor. IsAt pages kind.Table levels cursor (cells_of pages table.now levels)
         pager.new.state.asked (pager.old.state.asked + size_of pages table.now levels))
         (λ e. e ≢ Fault.Changed)) }
     ensures only { IfErr result IsScanFault }
     ensures reads { ReadsTreePages result pager.old.state pager.new.state }
 {
-    match Cursor::first(alloc, pager, table.root()) {
+    match Cursor::first(alloc, pager, TreeKind::Table, table.root()) {
         Ok(cursor) => Ok(cursor),
         Err(fault) => Err(cursor_fault(fault)),
     }
@@ -130,10 +133,10 @@ fn first_row<S: Source>(alloc: Global, pager: &mut Pager<S>, table: &Table) -> R
 
 /// Goes on to the next row; past the last the cursor stays.
 fn next_row<S: Source>(cursor: &mut Cursor, pager: &mut Pager<S>) -> Result<(), Fault>
-    ensures lists { WhereSteady pager.old.state (λ pages. (places : List Place) (budget : ℕ)
-        → IsAt pages cursor.old places pager.old.state.asked budget
+    ensures lists { WhereSteady pager.old.state (λ pages. (levels : ℕ) (places : List Place) (budget : ℕ)
+        → IsAt pages kind.Table levels cursor.old places pager.old.state.asked budget
         → MatchResult result
-        (λ _. IsAt pages cursor.new (drop 1 places) pager.new.state.asked budget)
+        (λ _. IsAt pages kind.Table levels cursor.new (drop 1 places) pager.new.state.asked budget)
         (λ e. e ≢ Fault.Changed)) }
     ensures left { IfOk result (λ _. 0 < steps_left cursor.old → steps_left cursor.new < steps_left cursor.old) }
     ensures only { IfErr result IsScanFault }
@@ -147,8 +150,8 @@ fn next_row<S: Source>(cursor: &mut Cursor, pager: &mut Pager<S>) -> Result<(), 
 
 /// The row that a cursor stands at, if there is one. Its fault is `Changed`, where the leaf has no cell there.
 fn row_at(cursor: &Cursor) -> Result<Option<Cell<'_>>, Fault>
-    ensures entry { (image : Pages) (places : List Place) (asked budget : ℕ) → IsAt image cursor.now places asked budget
-        → MatchResult result (λ found. IsEntry image places (option_map cell_data found)) (λ e. ⊥) }
+    ensures entry { (image : Pages) (levels : ℕ) (places : List Place) (asked budget : ℕ) → IsAt image kind.Table levels cursor.now places asked budget
+        → MatchResult result (λ found. IsEntry image kind.Table places (option_map cell_data found)) (λ e. ⊥) }
     ensures left { IfOk result (λ found. IfSome found (λ cell. 0 < steps_left cursor.now)) }
     ensures end { IfOk result (λ found. IfNone found (steps_left cursor.now ≡ 0)) }
     ensures only { IfErr result (λ e. e ≡ Fault.Changed) }

@@ -1,5 +1,7 @@
 //! The rows of a table, as lines.
-use btree::{Cell, Cursor};
+use btree::Cell;
+use cursor::Cursor;
+use image::TreeKind;
 use pager::{Pager, Source};
 use records::RecordView;
 use std::alloc::Global;
@@ -32,7 +34,7 @@ pub fn write_rows<S: Source, O: Sink>(
     root: u32,
     out: &mut O,
 ) -> Result<(), Fault> {
-    let mut cursor = Cursor::first(alloc, pager, root)?;
+    let mut cursor = Cursor::first(alloc, pager, TreeKind::Table, root)?;
     while let Some(cell) = cursor.entry()? {
         write_row(alloc, &cell, out)?;
         cursor.next(pager)?;

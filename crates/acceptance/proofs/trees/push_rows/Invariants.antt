@@ -1,4 +1,4 @@
-use Rattle.btree.specs.Left.{steps_left}
+use Rattle.cursor.specs.Left.{steps_left}
 use Rattle.acceptance.proofs.trees.push_rows.Given as goal
 
 abbrev pub invariant-loop-cell : goal.invariant-loop-cell

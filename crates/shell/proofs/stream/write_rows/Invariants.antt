@@ -1,4 +1,4 @@
-use Rattle.btree.specs.Left.{steps_left}
+use Rattle.cursor.specs.Left.{steps_left}
 use Rattle.shell.proofs.StreamLemmas.{Streaming}
 use Rattle.shell.proofs.stream.write_rows.Given as goal
 

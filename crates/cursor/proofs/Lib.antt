@@ -1,0 +1,9 @@
+pub mod FrameLemmas
+pub mod ListingLemmas
+pub mod RestLemmas
+pub mod SeenLemmas
+pub mod LeftLemmas
+pub mod HeldLemmas
+pub mod WayLemmas
+pub mod SeekLemmas
+pub mod RowSeekLemmas

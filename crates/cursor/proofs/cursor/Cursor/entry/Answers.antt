@@ -1,0 +1,52 @@
+use Rattle.std.proofs.Common.{◌≡◌, ◌<◌, Option, Some, sym, subst}
+use Rattle.image.specs.declared.kind.TreeKind.{TreeKind}
+use Rattle.image.specs.Shape.{place_at}
+use Rattle.image.specs.Tree.{IsEntryAt}
+use Rattle.cursor.specs.declared.cursor.Frame.{Frame}
+use Rattle.cursor.specs.Held.{HasEntryHere}
+use Rattle.cursor.specs.Rest.{IsStanding}
+use Rattle.btree.specs.Views.{cell_data}
+use Rattle.cursor.specs.Left.{all_left}
+use Rattle.cursor.proofs.LeftLemmas.{some_left}
+use Rattle.cursor.proofs.ListingLemmas.{entry_is, no_entry}
+use Rattle.cursor.proofs.RestLemmas.{standing_known}
+use Rattle.cursor.proofs.cursor.Cursor.entry.Goals as goal
+
+pub returns-then-here-clause-entry : goal.returns-then-here-clause-entry
+returns-then-here-clause-entry c = λ image kind levels places asked budget at.
+    let l = at.here_is in
+    let same : at.here ≡ c.in-Some.here = cc in
+    no_entry image kind levels c.args.self.now.frames.items c.in-Some.here places asked budget
+    (subst (λ (x : Frame). IsStanding image kind levels c.args.self.now.frames.items x places asked budget) same at.stands) c.if-here.true
+
+pub returns-in_default-cell_of-clause-entry : goal.returns-in_default-cell_of-clause-entry
+returns-in_default-cell_of-clause-entry c = λ image kind levels places asked budget at.
+    let l = at.here_is in
+    let same : at.here ≡ c.in-Some.here = cc in
+    let frames = c.args.self.now.frames.items in
+    let stands = subst (λ (x : Frame). IsStanding image kind levels frames x places asked budget) same at.stands in
+    let own = subst (λ (k : TreeKind). IsStanding image k levels frames c.in-Some.here places asked budget) (sym at.kind_is) stands in
+    let known = standing_known image c.args.self.now.kind levels frames c.in-Some.here places asked budget own c.if-here.false in
+    let some = c.in_default-cell_of.ensures.sure image c.in-Some.here.level known.holds at.readable at.usable at.most known.page known.entries c.if-here.false in
+    absurd (cc)
+
+pub returns-clause-entry : goal.returns-clause-entry
+returns-clause-entry c = λ image kind levels places asked budget at.
+    let l = at.here_is in
+    let same : at.here ≡ c.in-Some.here = cc in
+    let frames = c.args.self.now.frames.items in
+    let stands = subst (λ (x : Frame). IsStanding image kind levels frames x places asked budget) same at.stands in
+    let known = standing_known image kind levels frames c.in-Some.here places asked budget stands c.if-here.false in
+    entry_is image kind levels frames c.in-Some.here places asked budget stands (cell_data c.in-Some-cell_of.cell) c.if-here.false
+    (subst (λ (k : TreeKind). IsEntryAt image k (place_at c.in-Some.here.number c.in-Some.here.at) (cell_data c.in-Some-cell_of.cell)) at.kind_is
+    (c.in-Some-cell_of.ensures.found image known.holds at.usable at.most))
+
+pub returns-clause-outcome : goal.returns-clause-outcome
+returns-clause-outcome c =
+    let is : c.args.self.now.here ≡ Some c.in-Some.here = cc in (
+      subst (λ (x : Option Frame). 0 < all_left c.args.self.now.frames.items x) (sym is) (some_left c.args.self.now.frames.items c.in-Some.here c.if-here.false),
+      λ here here_is.
+          let same : c.in-Some.here ≡ here = cc in
+          subst (λ (x : Frame). HasEntryHere c.args.self.now.kind c.args.self.now.usable c.args.self.now.most x (cell_data c.in-Some-cell_of.cell)) same
+          c.in-Some-cell_of.ensures.held,
+    )

@@ -1,0 +1,37 @@
+-- The way on which a cursor has come, over a steady source, whether the tree is sound or not.
+use Rattle.std.specs.Prelude.{◌≡◌, ◌+◌, ℕ, List, [], ◌∷◌, ◌++◌, length, Some}
+use Rattle.image.specs.declared.kind.TreeKind.{TreeKind}
+use Rattle.image.specs.declared.kind.Level.TheVariants.{Interior}
+use Rattle.image.specs.Pages.{Pages}
+use Rattle.image.specs.Tree.{HasHeader, IsMetAt}
+use Rattle.cursor.specs.declared.cursor.Cursor.{Cursor}
+use Rattle.cursor.specs.declared.cursor.Frame.{Frame}
+use Rattle.cursor.specs.Rest.{Holds}
+
+-- below these frames a frame holds an interior page, which is met there; where there are none it is the root
+pub record HoldsMet (pages : Pages) (kind : TreeKind) (root : ℕ) (frames : List Frame) (frame : Frame) : Type 0 where
+  pub met : IsMetAt pages kind root (length frames + 1) frame.number
+  pub holds : Holds pages frame
+  pub header : HasHeader pages kind Interior frame.number
+  pub first : frames ≡ [] → frame.number ≡ root
+
+-- the frames hold the pages from the root down, one at each depth
+pub data IsWay (pages : Pages) (kind : TreeKind) (root : ℕ) : List Frame → Type 0 where
+  nowhere : IsWay pages kind root []
+  further : {frames : List Frame} (frame : Frame) (all : List Frame) → IsWay pages kind root frames
+      → HoldsMet pages kind root frames frame → all ≡ frames ++ (frame ∷ []) → IsWay pages kind root all
+
+-- the frames lead from the root to page n, which is read next
+pub record LeadsTo (pages : Pages) (kind : TreeKind) (root : ℕ) (frames : List Frame) (n : ℕ) : Type 0 where
+  pub way : IsWay pages kind root frames
+  pub met : IsMetAt pages kind root (length frames + 1) n
+  pub first : frames ≡ [] → n ≡ root
+
+-- the frames lead from the root to the page that a cursor stands on
+pub record HasReached (pages : Pages) (kind : TreeKind) (root : ℕ) (frames : List Frame) (here : Frame) : Type 0 where
+  pub way : IsWay pages kind root frames
+  pub met : here.level ≡ Interior → HoldsMet pages kind root frames here
+
+-- a cursor that has come down from its root
+abbrev pub HasCome : Pages → Cursor → Type 0
+HasCome pages cursor = (here : Frame) → cursor.here ≡ Some here → HasReached pages cursor.kind cursor.root cursor.frames.items here
