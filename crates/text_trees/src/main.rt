@@ -1,0 +1,56 @@
+//! Writes what SQL texts say, so that worked texts can be compared with their tokens and trees: of each line of standard
+//! input the line itself, and behind it its answer. A line is a word and a text: `tokens` and `create-tokens` list the
+//! tokens by the reserved words of either grammar, `select` and `create` write the tree, and `names` the names of a
+//! SELECT's result columns. A fault is answered by its line.
+//!
+//! The modules, in the order in which data passes them: `lines` (the texts), `token_lists`, `expressions` and `statements`
+//! (their trees).
+#![tactic(auto)]
+
+mod expressions;
+mod lines;
+mod statements;
+mod token_lists;
+
+use anyhow::{Context, Result};
+use create_reader::read_create;
+use lines::text_of;
+use sql_reader::read_select;
+use statements::{write_create, write_names, write_select};
+use std::alloc::Global;
+use token_lists::write_tokens;
+use tokens::{Grammar, read_tokens};
+use values::Fault;
+
+/// Writes the answer for a text.
+fn write_answer(alloc: Global, word: &str, text: &str, out: &mut String) -> Result<(), Fault> {
+    match word {
+        "tokens" => write_tokens(read_tokens(alloc, Grammar::Select, text)?.as_slice(), out)?,
+        "create-tokens" => write_tokens(read_tokens(alloc, Grammar::Create, text)?.as_slice(), out)?,
+        "names" => write_names(&read_select(alloc, text)?, out)?,
+        "create" => write_create(&read_create(alloc, text)?, out)?,
+        _ => write_select(&read_select(alloc, text)?, out)?,
+    }
+    Ok(())
+}
+
+/// The answer for a line.
+fn answer(alloc: Global, line: &str) -> Result<String> {
+    let (word, text) = line.split_once(' ').context("no word")?;
+    let text = text_of(alloc, text)?;
+    let mut out = String::new(alloc);
+    match write_answer(alloc, word, text.as_str(), &mut out) {
+        Ok(()) => Ok(out),
+        Err(fault) => Ok(fault.to_string(alloc)?),
+    }
+}
+
+fn main(rt: HostRuntime) -> Result<()> {
+    let alloc = rt.alloc();
+    for line in rt.lines(alloc) {
+        let line = line?;
+        let answer = answer(alloc, line.as_str())?;
+        println!(rt; "{line}\n    {answer}")?;
+    }
+    Ok(())
+}
