@@ -48,7 +48,8 @@ pub record IsColumn (scope : Scope) (table : Option Name) (name : Name) (at : �
 -- the first of the columns of both sides that isn't NULL.
 abbrev pub NameIsColumn : Type 0
 NameIsColumn = (scope : Scope) (table : Option Name) (name : Name) (t : Term)
-    → (column_of scope table name ≡ Ok t) ↔ ((at : ℕ) × (shown : Shown) × IsColumn scope table name at shown × (t ≡ bare_term (shown_places table at shown)))
+    → (column_of scope table name ≡ Ok t)
+    ↔ ((at : ℕ) × (shown : Shown) × IsColumn scope table name at shown × (t ≡ bare_term (shown_places table at shown)))
 
 -- it is unknown exactly where no column is called so
 abbrev pub UnknownIsNone : Type 0
@@ -167,4 +168,5 @@ IsScalar e = ⊤
 -- In WHERE, ON, GROUP BY and the arguments of aggregates, whose terms speak of the columns of FROM, stands neither an
 -- aggregate nor a window function.
 abbrev pub ColumnsAreScalar : Type 0
-ColumnsAreScalar = (answers : Answers) (scope : Scope) (e : ExprTree) (t : Term) → term_of answers (columns_say scope) e ≡ Ok t → All IsScalar (parts e)
+ColumnsAreScalar =
+    (answers : Answers) (scope : Scope) (e : ExprTree) (t : Term) → term_of answers (columns_say scope) e ≡ Ok t → All IsScalar (parts e)

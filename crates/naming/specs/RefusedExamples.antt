@@ -65,12 +65,13 @@ unused_window =
 abbrev pub outer_column : StatementTree
 outer_column =
     statement (select_where (shown id ∷ []) item (ExprTree.Exists
-    (select_where (shown (number 1) ∷ []) (FromTree.First (table (codes "sale"))) (ExprTree.Binary Equal (name_of (codes "sale") (codes "item")) (name_of (codes "item") (codes "id"))))))
+    (select_where (shown (number 1) ∷ []) (FromTree.First (table (codes "sale")))
+    (ExprTree.Binary Equal (name_of (codes "sale") (codes "item")) (name_of (codes "item") (codes "id"))))))
 
 -- SELECT 1 IN (SELECT id, qty FROM item)
 abbrev pub two_columns : StatementTree
 two_columns =
-    statement (select (shown (ExprTree.InQuery false (number 1) (select (shown id ∷ shown (name_alone (codes "qty")) ∷ []) item)) ∷ []) FromTree.No_source)
+    statement (without_from (shown (ExprTree.InQuery false (number 1) (select (shown id ∷ shown (name_alone (codes "qty")) ∷ []) item)) ∷ []))
 
 -- SELECT 1 IN (SELECT name FROM item)
 abbrev pub other_type : StatementTree
@@ -79,7 +80,8 @@ other_type = statement (select (shown (ExprTree.InQuery false (number 1) (select
 -- WITH a AS (SELECT 1), b(x, X) AS (SELECT 1, 2) SELECT 1
 abbrev pub two_of_one_name : StatementTree
 two_of_one_name =
-    with (with_item (codes "a") [] one ∷ with_item (codes "b") (codes "x" ∷ codes "X" ∷ []) (select (shown (number 1) ∷ shown (number 2) ∷ []) FromTree.No_source) ∷ []) one
+    with (with_item (codes "a") [] one
+    ∷ with_item (codes "b") (codes "x" ∷ codes "X" ∷ []) (without_from (shown (number 1) ∷ shown (number 2) ∷ [])) ∷ []) one
 
 -- WITH a AS (SELECT * FROM a) SELECT 1
 abbrev pub item_in_itself : StatementTree
@@ -92,7 +94,8 @@ alias_in_where = statement (select_where (called id (codes "k") ∷ []) item (Ex
 -- SELECT item FROM sale AS a, sale AS b
 abbrev pub in_two_sources : StatementTree
 in_two_sources =
-    statement (select (shown (name_alone (codes "item")) ∷ []) (FromTree.Joined (from_alias (codes "sale") (codes "a")) joins.Inner (SourceTree.Named (codes "sale") (Some (codes "b"))) OnTree.Always))
+    statement (select (shown (name_alone (codes "item")) ∷ []) (FromTree.Joined (from_alias (codes "sale") (codes "a")) joins.Inner
+    (SourceTree.Named (codes "sale") (Some (codes "b"))) OnTree.Always))
 
 -- SELECT x.* FROM item
 abbrev pub star_of_none : StatementTree
@@ -106,7 +109,8 @@ uneven_item = with (with_item (codes "a") (codes "x" ∷ []) (without_from (show
 abbrev pub windows_of_one_name : StatementTree
 windows_of_one_name =
     statement (select_windows (shown (number 1) ∷ []) item
-    (DefinitionTrees.Definition (codes "w") (window_by TermTrees.No_term None) (DefinitionTrees.Definition (codes "W") (window_by TermTrees.No_term None) DefinitionTrees.No_definition)))
+    (DefinitionTrees.Definition (codes "w") (window_by TermTrees.No_term None)
+    (DefinitionTrees.Definition (codes "W") (window_by TermTrees.No_term None) DefinitionTrees.No_definition)))
 
 -- SELECT 1 UNION SELECT 'a'
 abbrev pub arms_of_two_types : StatementTree
@@ -119,7 +123,8 @@ untyped_item = with (with_item (codes "a") [] (without_from (shown (ExprTree.Bin
 -- SELECT sum(row_number() OVER ()) OVER () FROM item
 abbrev pub window_in_window : StatementTree
 window_in_window =
-    statement (select (shown (call_over w.Sum (call_over w.RowNumber [] (window_by TermTrees.No_term None) ∷ []) (window_by TermTrees.No_term None)) ∷ []) item)
+    statement (select (shown (call_over w.Sum (call_over w.RowNumber [] (window_by TermTrees.No_term None) ∷ [])
+    (window_by TermTrees.No_term None)) ∷ []) item)
 
 -- SELECT count(sum(id)) FROM item
 abbrev pub aggregate_in_aggregate : StatementTree
@@ -164,7 +169,9 @@ sum_behind_compound = ordered (union_of one (shown (number 2) ∷ [])) (by_term 
 
 -- SELECT sum(id) OVER w FROM item
 abbrev pub undefined_window : StatementTree
-undefined_window = statement (select (shown (ExprTree.Call w.Sum (trees_of (id ∷ [])) (BehindTree.Behind MaybeExpr.Absent (OverTree.OverName (codes "w")))) ∷ []) item)
+undefined_window =
+    statement (select
+    (shown (ExprTree.Call w.Sum (trees_of (id ∷ [])) (BehindTree.Behind MaybeExpr.Absent (OverTree.OverName (codes "w")))) ∷ []) item)
 
 -- SELECT ntile(0) OVER () FROM item
 abbrev pub no_buckets : StatementTree
@@ -183,21 +190,25 @@ distance_of_texts = statement (select (shown (call_over w.Sum (id ∷ []) (windo
 abbrev pub RefusedNames : Type 0
 RefusedNames =
     IsFault unknown_table f.UnknownTable × IsFault item_in_itself f.UnknownTable
-    × IsFault unknown_column f.UnknownColumn × IsFault alias_in_where f.UnknownColumn × IsFault outer_column f.UnknownColumn × IsFault star_of_none f.UnknownColumn
+    × IsFault unknown_column f.UnknownColumn × IsFault alias_in_where f.UnknownColumn × IsFault outer_column f.UnknownColumn
+    × IsFault star_of_none f.UnknownColumn
     × IsFault two_named f.Ambiguous × IsFault in_two_sources f.Ambiguous
     × IsFault uneven f.ColumnCount × IsFault two_columns f.ColumnCount × IsFault uneven_item f.ColumnCount
     × IsFault twice f.DuplicateName × IsFault two_of_one_name f.DuplicateName × IsFault windows_of_one_name f.DuplicateName
 
 abbrev pub RefusedTypes : Type 0
 RefusedTypes =
-    IsFault mismatch f.TypeMismatch × IsFault other_type f.TypeMismatch × IsFault unused_window f.TypeMismatch × IsFault arms_of_two_types f.TypeMismatch
+    IsFault mismatch f.TypeMismatch × IsFault other_type f.TypeMismatch × IsFault unused_window f.TypeMismatch
+    × IsFault arms_of_two_types f.TypeMismatch
     × IsFault untyped_item f.TypeMismatch
 
 abbrev pub RefusedPlaces : Type 0
 RefusedPlaces =
     IsFault bare f.BareColumn × IsFault star_beside_aggregate f.BareColumn
-    × IsFault aggregate_in_where f.WrongPlace × IsFault hidden_order f.WrongPlace × IsFault window_in_window f.WrongPlace × IsFault aggregate_in_aggregate f.WrongPlace
-    × IsFault rank_without_over f.WrongPlace × IsFault scalar_over f.WrongPlace × IsFault scalar_filter f.WrongPlace × IsFault order_out_of_range f.WrongPlace
+    × IsFault aggregate_in_where f.WrongPlace × IsFault hidden_order f.WrongPlace × IsFault window_in_window f.WrongPlace
+    × IsFault aggregate_in_aggregate f.WrongPlace
+    × IsFault rank_without_over f.WrongPlace × IsFault scalar_over f.WrongPlace × IsFault scalar_filter f.WrongPlace
+    × IsFault order_out_of_range f.WrongPlace
     × IsFault order_by_zero f.WrongPlace
     × IsFault group_by_number f.WrongPlace × IsFault star_of_nothing f.WrongPlace × IsFault sum_behind_compound f.WrongPlace
 

@@ -156,7 +156,8 @@ is_same_grouping g h =
 
 abbrev pub is_same_select : Select → Select → Bool
 is_same_select s t =
-    is_same_term s.condition t.condition && (is_same_option is_same_grouping s.grouping t.grouping && (are_same is_same_call s.windows t.windows && (are_same is_same_term s.columns t.columns && is_same_bool s.distinct t.distinct)))
+    is_same_term s.condition t.condition && (is_same_option is_same_grouping s.grouping t.grouping
+    && (are_same is_same_call s.windows t.windows && (are_same is_same_term s.columns t.columns && is_same_bool s.distinct t.distinct)))
 
 abbrev pub join_place : JoinKind → ℕ
 join_place JoinKind.inner = 0

@@ -22,7 +22,8 @@ ids = Body.select items (of_columns (column 0 ∷ []))
 abbrev pub using_item : StatementTree
 using_item =
     statement (select (shown (name_alone (codes "item")) ∷ shown (name_alone (codes "n")) ∷ [])
-    (FromTree.Joined (FromTree.First (SourceTree.Derived (select (called id (codes "item") ∷ []) item) None)) joins.Full (table (codes "sale")) (OnTree.Using (codes "item" ∷ []))))
+    (FromTree.Joined (FromTree.First (SourceTree.Derived (select (called id (codes "item") ∷ []) item) None)) joins.Full
+    (table (codes "sale")) (OnTree.Using (codes "item" ∷ []))))
 
 -- its first column is the item of either side
 abbrev pub using_body : Body
@@ -44,7 +45,9 @@ inner_body =
 -- SELECT Name, count(*) FROM item GROUP BY item.name ORDER BY 2
 abbrev pub grouped : StatementTree
 grouped =
-    ordered (select_by (shown (name_alone (codes "Name")) ∷ called plain_count (codes "n") ∷ []) item (name_of (codes "item") (codes "name") ∷ [])) (by_term (number 2))
+    ordered
+    (select_by (shown (name_alone (codes "Name")) ∷ called plain_count (codes "n") ∷ []) item (name_of (codes "item") (codes "name") ∷ []))
+    (by_term (number 2))
 
 abbrev pub by_name : Grouping
 by_name = record { by = column 1 ∷ []; aggregates = record { function = AggregateFunction.count; argument = always } ∷ []; having = always }
@@ -59,7 +62,8 @@ hiding =
     (select_where (ResultTree.All ∷ []) item (ExprTree.Binary Greater (name_alone (codes "k")) (number 1)))
 
 abbrev pub hiding_body : Body
-hiding_body = Body.select (only (Source.derived ids)) (record (of_columns (column 0 ∷ [])) { condition = compare Gt (column 0) (literal (int (pos 1))) })
+hiding_body =
+    Body.select (only (Source.derived ids)) (record (of_columns (column 0 ∷ [])) { condition = compare Gt (column 0) (literal (int (pos 1))) })
 
 abbrev pub upwards : KeyTerm → List Key
 upwards k = record { by = k; direction = record { descending = false; nulls_first = true } } ∷ []
@@ -68,7 +72,8 @@ upwards k = record { by = k; direction = record { descending = false; nulls_firs
 abbrev pub star_of_using : StatementTree
 star_of_using =
     statement (select (ResultTree.All ∷ [])
-    (FromTree.Joined sales joins.Inner (SourceTree.Derived (select (called id (codes "item") ∷ []) item) (Some (codes "i"))) (OnTree.Using (codes "item" ∷ []))))
+    (FromTree.Joined sales joins.Inner (SourceTree.Derived (select (called id (codes "item") ∷ []) item) (Some (codes "i")))
+    (OnTree.Using (codes "item" ∷ []))))
 
 abbrev pub star_of_using_body : Body
 star_of_using_body =
@@ -78,7 +83,8 @@ star_of_using_body =
 -- SELECT d.k FROM (SELECT id AS k FROM item) AS d
 abbrev pub by_alias : StatementTree
 by_alias =
-    statement (select (shown (name_of (codes "d") (codes "k")) ∷ []) (FromTree.First (SourceTree.Derived (select (called id (codes "k") ∷ []) item) (Some (codes "d")))))
+    statement (select (shown (name_of (codes "d") (codes "k")) ∷ [])
+    (FromTree.First (SourceTree.Derived (select (called id (codes "k") ∷ []) item) (Some (codes "d")))))
 
 abbrev pub by_alias_body : Body
 by_alias_body = Body.select (only (Source.derived ids)) (of_columns (column 0 ∷ []))
@@ -96,7 +102,8 @@ abbrev pub windowed_twice : StatementTree
 windowed_twice =
     statement (select
     (called (call_over w.Sum (name_alone (codes "qty") ∷ []) (window_by (by_term id) None)) (codes "a")
-    ∷ called (call_over w.Sum (name_alone (codes "qty") ∷ []) (window_by (by_term (name_of (codes "item") (codes "ID"))) None)) (codes "b") ∷ []) item)
+    ∷ called (call_over w.Sum (name_alone (codes "qty") ∷ []) (window_by (by_term (name_of (codes "item") (codes "ID"))) None))
+    (codes "b") ∷ []) item)
 
 abbrev pub upward : Direction
 upward = record { descending = false; nulls_first = true }
@@ -118,7 +125,8 @@ sold = ExprTree.InQuery false id (select (shown (name_alone (codes "item")) ∷ 
 abbrev pub grouped_by_inner : StatementTree
 grouped_by_inner =
     statement (select_by
-    (called (ExprTree.CountRows (BehindTree.Behind (MaybeExpr.Present (name_alone (codes "qty"))) OverTree.No_over)) (codes "c") ∷ called sold (codes "s") ∷ [])
+    (called (ExprTree.CountRows (BehindTree.Behind (MaybeExpr.Present (name_alone (codes "qty"))) OverTree.No_over)) (codes "c")
+    ∷ called sold (codes "s") ∷ [])
     item (sold ∷ []))
 
 abbrev pub sold_items : InnerQuery

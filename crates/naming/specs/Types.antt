@@ -76,7 +76,8 @@ module _ (answers columns : List Ty) where
 
   abbrev pub is_frame : List SortTerm → Frame → Bool
   is_frame order frame =
-      nat_lt (edge_rank frame.start) 4 && (nat_lt 0 (edge_rank frame.end) && (nat_le (edge_rank frame.start) (edge_rank frame.end) && unit_fits order frame.unit frame.start frame.end))
+      nat_lt (edge_rank frame.start) 4 && (nat_lt 0 (edge_rank frame.end) && (nat_le (edge_rank frame.start) (edge_rank frame.end)
+      && unit_fits order frame.unit frame.start frame.end))
 
   -- the expressions of a window are of some types, and its frame is one that there can be
   abbrev pub window_types : Window → Result (List Ty) Fault

@@ -56,7 +56,8 @@ select results from =
 
 abbrev pub select_where : List ResultTree → FromTree → ExprTree → QueryTree
 select_where results from condition =
-    QueryTree.Core (CoreTree.Select false (results_of results) from (MaybeExpr.Present condition) ExprTrees.No_more MaybeExpr.Absent DefinitionTrees.No_definition)
+    QueryTree.Core (CoreTree.Select false (results_of results) from
+    (MaybeExpr.Present condition) ExprTrees.No_more MaybeExpr.Absent DefinitionTrees.No_definition)
 
 abbrev pub select_by : List ResultTree → FromTree → List ExprTree → QueryTree
 select_by results from by =
