@@ -19,6 +19,3 @@ pub mod laws;
 mod options;
 
 pub use create::read_create;
-
-#[cfg(test)]
-mod tests;

@@ -24,7 +24,3 @@ pub use syntax::{
     Select,
 };
 
-#[cfg(test)]
-mod select_tests;
-#[cfg(test)]
-mod tests;

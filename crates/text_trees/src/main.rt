@@ -26,7 +26,10 @@ use values::Fault;
 fn write_answer(alloc: Global, word: &str, text: &str, out: &mut String) -> Result<(), Fault> {
     match word {
         "tokens" => write_tokens(read_tokens(alloc, Grammar::Select, text)?.as_slice(), out)?,
-        "create-tokens" => write_tokens(read_tokens(alloc, Grammar::Create, text)?.as_slice(), out)?,
+        "create-tokens" => write_tokens(
+            read_tokens(alloc, Grammar::Create, text)?.as_slice(),
+            out,
+        )?,
         "names" => write_names(&read_select(alloc, text)?, out)?,
         "create" => write_create(&read_create(alloc, text)?, out)?,
         _ => write_select(&read_select(alloc, text)?, out)?,

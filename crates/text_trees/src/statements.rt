@@ -2,7 +2,8 @@
 use crate::expressions::write_expr;
 use std::alloc::AllocError;
 use syntax::{
-    Column, ColumnConstraint, CreateTable, DefaultValue, KeyOrder, ResultColumn, ResultName, Select,
+    Column, ColumnConstraint, CreateTable, DefaultValue, IndexedColumn, KeyOrder, ResultColumn,
+    ResultName, Select, TableConstraint,
 };
 
 fn write_result(column: &ResultColumn, out: &mut String) -> Result<(), AllocError> {
@@ -32,7 +33,11 @@ pub fn write_select(select: &Select, out: &mut String) -> Result<(), AllocError>
 fn write_name(column: &ResultColumn, out: &mut String) -> Result<(), AllocError> {
     match column {
         ResultColumn::Value(_, ResultName::Alias(name)) => write!(out, "alias {:?}", name.as_str()),
-        ResultColumn::Value(_, ResultName::SourceText(text)) => write!(out, "text {:?}", text.as_str()),
+        ResultColumn::Value(_, ResultName::SourceText(text)) => write!(
+            out,
+            "text {:?}",
+            text.as_str()
+        ),
         star => write_result(star, out),
     }
 }
@@ -83,11 +88,64 @@ fn write_column(column: &Column, out: &mut String) -> Result<(), AllocError> {
     Ok(())
 }
 
-/// Writes a table: its name and its columns, each with its type and its constraints.
+fn write_indexed(columns: &[IndexedColumn], out: &mut String) -> Result<(), AllocError> {
+    for column in columns {
+        write!(out, " {}", column.name.as_str())?;
+        if let Some(collation) = &column.collation {
+            write!(out, " by {}", collation.as_str())?;
+        }
+        out.push_str(match column.order {
+            KeyOrder::Ascending => "",
+            KeyOrder::Descending => " falling",
+        })?;
+    }
+    Ok(())
+}
+
+fn write_columns(names: &[String], out: &mut String) -> Result<(), AllocError> {
+    for name in names {
+        write!(out, " {}", name.as_str())?;
+    }
+    Ok(())
+}
+
+fn write_table_constraint(
+    constraint: &TableConstraint,
+    out: &mut String,
+) -> Result<(), AllocError> {
+    match constraint {
+        TableConstraint::PrimaryKey(columns) => {
+            out.push_str(" / key")?;
+            write_indexed(columns.as_slice(), out)
+        }
+        TableConstraint::Unique(columns) => {
+            out.push_str(" / unique")?;
+            write_indexed(columns.as_slice(), out)
+        }
+        TableConstraint::Check => out.push_str(" / checked"),
+        TableConstraint::ForeignKey(names) => {
+            out.push_str(" / referring")?;
+            write_columns(names.as_slice(), out)
+        }
+    }
+}
+
+/// Writes a table's constraints, and its options.
+fn write_ends(table: &CreateTable, out: &mut String) -> Result<(), AllocError> {
+    for constraint in &table.constraints {
+        write_table_constraint(constraint, out)?;
+    }
+    for option in &table.options {
+        write!(out, " / {option:?}")?;
+    }
+    Ok(())
+}
+
+/// Writes a table: its name, its columns, each with its type and its constraints, and what stands behind them.
 pub fn write_create(table: &CreateTable, out: &mut String) -> Result<(), AllocError> {
     out.push_str(table.name.as_str())?;
     for column in &table.columns {
         write_column(column, out)?;
     }
-    Ok(())
+    write_ends(table, out)
 }

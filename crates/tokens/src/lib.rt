@@ -24,6 +24,3 @@ pub use keyword::{Grammar, Keyword};
 pub use reading::read_tokens;
 pub use sign::Sign;
 pub use token::{Quoting, Token, TokenKind};
-
-#[cfg(test)]
-mod tests;
