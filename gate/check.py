@@ -31,12 +31,13 @@ from turns import changed_crates
 TOP = Path(__file__).resolve().parent.parent
 # What stands beside the sources and is no part of them.
 MADE = ("out", ".git", "__pycache__")
-# The programs that the scripts of compare/ run, with the words of a run: the first writes into a folder.
+# The programs that are run here and by the scripts of compare/, with the words of a run: the first writes into a folder.
 PROGRAMS = {
     "forge_images": ["{folder}"],
     "seleq": ["data/shop.db", "SELECT name FROM item"],
     "table_counts": ["data/shop.db"],
     "table_rows": ["data/item.db", "2"],
+    "text_trees": [],
 }
 COUNTS = re.compile(r"(\d+) passed, (\d+) failed")
 
@@ -149,6 +150,7 @@ def check_quick(total: Sum) -> None:
     total.add_one("the programs", built)
     if not built:
         return
+    total.add_one("the worked texts", has_worked_texts(TOP / "crates/text_trees"))
     edited = [it.name for it in crates if it.name in names and rt.edits_of(it)[0]]
     parts = [Part("edits", ["python3", "gate/edits.py", "--kept", *edited])] if edited else []
     parts += scripts(TOP, {"SMALL": "1"}, ["--rounds", "50"])
@@ -156,6 +158,13 @@ def check_quick(total: Sum) -> None:
         tests = pool.submit(test_crates, [it for it in crates if it.name in names and it.has_tests()], total)
         run_beside(parts, total)
         tests.result()
+
+
+def has_worked_texts(crate: Path) -> bool:
+    """Whether the program writes of the texts in `stdin` what stands in `stdout`, as `rt ci` asks of it too."""
+    with (crate / "stdin").open("rb") as texts:
+        ran = subprocess.run([crate / "out" / crate.name], stdin=texts, capture_output=True, check=False)
+    return ran.returncode == 0 and ran.stdout == (crate / "stdout").read_bytes()
 
 
 def test_crates(crates: list, total: Sum) -> None:
