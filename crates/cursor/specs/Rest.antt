@@ -13,7 +13,8 @@ use Rattle.cursor.specs.declared.cursor.Frame.{Frame}
 -- many pages these children have
 abbrev pub places_from : Pages → TreeKind → ℕ → ℕ → ℕ → List Place
 places_from pages kind levels n i =
-    flat_map (λ k. with_own kind (places_under pages kind levels (child_at pages n k)) (own_places pages n k)) (range_with_len i (suc (count_at pages n) - i))
+    flat_map (λ k. with_own kind (places_under pages kind levels (child_at pages n k)) (own_places pages n k))
+    (range_with_len i (suc (count_at pages n) - i))
 
 abbrev pub size_from : Pages → ℕ → ℕ → ℕ → ℕ
 size_from pages levels n i = sum_by (λ k. size_under pages levels (child_at pages n k)) (range_with_len i (suc (count_at pages n) - i))
@@ -57,7 +58,8 @@ pub record IsLeft (pages : Pages) (kind : TreeKind) (total levels : ℕ) (frames
   pub asks : asked + ahead ≤ budget
 
 -- the frames lead to page n, which is asked for next, and these cells are those of page n and of what comes after it
-pub record HasCellsFrom (pages : Pages) (kind : TreeKind) (total : ℕ) (frames : List Frame) (n : ℕ) (places : List Place) (asked budget : ℕ) : Type 0 where
+pub record HasCellsFrom (pages : Pages) (kind : TreeKind) (total : ℕ) (frames : List Frame) (n : ℕ)
+    (places : List Place) (asked budget : ℕ) : Type 0 where
   pub levels : ℕ
   pub rest : List Place
   pub left : IsLeft pages kind total levels frames rest (asked + size_under pages levels n) budget
@@ -67,7 +69,8 @@ pub record HasCellsFrom (pages : Pages) (kind : TreeKind) (total : ℕ) (frames 
   pub places_is : places ≡ places_under pages kind levels n ++ rest
 
 -- in a leaf, at a cell or behind the last: its cells from there on are to come, and then those after the leaf
-pub record IsInLeaf (pages : Pages) (kind : TreeKind) (total : ℕ) (frames : List Frame) (leaf : Frame) (places : List Place) (asked budget : ℕ) : Type 0 where
+pub record IsInLeaf (pages : Pages) (kind : TreeKind) (total : ℕ) (frames : List Frame) (leaf : Frame)
+    (places : List Place) (asked budget : ℕ) : Type 0 where
   pub rest : List Place
   pub left : IsLeft pages kind total 0 frames rest asked budget
   pub holds : Holds pages leaf
@@ -75,7 +78,8 @@ pub record IsInLeaf (pages : Pages) (kind : TreeKind) (total : ℕ) (frames : Li
   pub places_is : places ≡ drop leaf.at (places_in pages leaf.number) ++ rest
 
 -- a page whose child is taken: these cells are to come under the next ones, and behind the page
-pub record IsBehind (pages : Pages) (kind : TreeKind) (total : ℕ) (frames : List Frame) (frame : Frame) (places : List Place) (asked budget : ℕ) : Type 0 where
+pub record IsBehind (pages : Pages) (kind : TreeKind) (total : ℕ) (frames : List Frame) (frame : Frame)
+    (places : List Place) (asked budget : ℕ) : Type 0 where
   pub levels : ℕ
   pub rest : List Place
   pub left : IsLeft pages kind total (suc levels) frames rest (asked + size_from pages levels frame.number (frame.at + 1)) budget
@@ -83,7 +87,8 @@ pub record IsBehind (pages : Pages) (kind : TreeKind) (total : ℕ) (frames : Li
   pub places_is : places ≡ places_from pages kind levels frame.number (frame.at + 1) ++ rest
 
 -- at a cell of an interior page, which is an entry: it comes first, and then what is behind it
-pub record IsOnCell (pages : Pages) (kind : TreeKind) (total : ℕ) (frames : List Frame) (here : Frame) (places : List Place) (asked budget : ℕ) : Type 0 where
+pub record IsOnCell (pages : Pages) (kind : TreeKind) (total : ℕ) (frames : List Frame) (here : Frame)
+    (places : List Place) (asked budget : ℕ) : Type 0 where
   pub rest : List Place
   pub entries : HasEntries kind Interior
   pub behind : IsBehind pages kind total frames here rest asked budget
@@ -95,7 +100,8 @@ IsOn Leaf = IsInLeaf
 IsOn Interior = IsOnCell
 
 -- A cursor that stands here has these cells to give, the one that it stands at first; or it stands past the last.
-pub data IsStanding (pages : Pages) (kind : TreeKind) (total : ℕ) (frames : List Frame) (here : Frame) (places : List Place) (asked budget : ℕ) : Type 0 where
+pub data IsStanding (pages : Pages) (kind : TreeKind) (total : ℕ) (frames : List Frame) (here : Frame)
+    (places : List Place) (asked budget : ℕ) : Type 0 where
   at_cell : here.at < here.count → IsOn here.level pages kind total frames here places asked budget
       → length frames ≤ total → IsStanding pages kind total frames here places asked budget
   is_past : here.count ≤ here.at → places ≡ [] → asked ≤ budget → length frames ≤ total → IsStanding pages kind total frames here places asked budget

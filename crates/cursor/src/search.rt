@@ -19,7 +19,8 @@ fn comes_before(behind: bool, key: i64, rowid: i64) -> bool
 /// where a cell isn't there. Of n cells no more than log n + 1 are looked at.
 pub(crate) fn boundary_of(view: &PageView<'_>, most: u64, behind: bool, key: i64) -> Option<u16>
     requires kind { view.now.kind ≡ TreeKind.Table }
-    ensures found { IfSome result (λ p. IsBoundaryOf (HasKeyOf view.now.at most view.now.level view.now.page) (row_before behind key) (cell_count view.now.at view.now.page) p) }
+    ensures found { IfSome result
+        (IsBoundaryOf (HasKeyOf view.now.at most view.now.level view.now.page) (row_before behind key) (cell_count view.now.at view.now.page)) }
     ensures sure { ((i : ℕ) → i < cell_count view.now.at view.now.page → (rowid : ℤ) × HasKeyOf view.now.at most view.now.level view.now.page i rowid)
         → IsSome result }
 {

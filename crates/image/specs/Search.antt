@@ -1,11 +1,8 @@
--- Searches in a tree: which of its cells come before what is sought. (Database File Format, section 1.6 "B-tree Pages";
--- section 2.4 "Representation Of SQL Indices"; CREATE INDEX, "Descending Indexes")
+-- Searches in a tree: which of its cells come before what is sought. (Database File Format, section 1.6 "B-tree Pages")
 use Rattle.std.specs.Prelude.{◌≡◌, ℕ, ℤ, ◌-◌, ◌<◌, ◌≤◌, Bool, true, false, List, [], ◌∷◌, ◌++◌, All}
 use Rattle.std.specs.Ordering.{int_cmp}
 use Rattle.std.specs.declared.cmp.Ordering.{Ordering}
 use Rattle.std.specs.declared.cmp.Ordering.TheVariants.{Less, Equal, Greater}
-use Rattle.values.specs.Datum.{Datum}
-use Rattle.values.specs.Order.{datum_cmp}
 use Rattle.image.specs.declared.kind.TreeKind.{TreeKind}
 use Rattle.image.specs.declared.kind.Level.{Level}
 use Rattle.image.specs.Pages.{Pages}
@@ -20,32 +17,6 @@ comes_before behind Greater = false
 -- rows are compared with a key by their rowids
 abbrev pub row_before : Bool → ℤ → ℤ → Bool
 row_before behind key rowid = comes_before behind (int_cmp rowid key)
-
-abbrev pub reversed : Ordering → Ordering
-reversed Less = Greater
-reversed Equal = Equal
-reversed Greater = Less
-
--- in a descending column the greater value comes first
-abbrev pub column_cmp : Bool → Datum → Datum → Ordering
-column_cmp false x y = datum_cmp x y
-column_cmp true x y = reversed (datum_cmp x y)
-
-abbrev pub then_by : Ordering → Ordering → Ordering
-then_by Less after = Less
-then_by Equal after = after
-then_by Greater after = Greater
-
--- An entry's values against a key, which is the first of an entry's columns and is compared by these alone. The test
--- of each column, whether it is descending, stands first; a column behind the last of these ascends.
-abbrev pub front_cmp : List Bool → List Datum → List Datum → Ordering
-front_cmp descending values [] = Equal
-front_cmp descending [] (k ∷ key) = Less
-front_cmp [] (v ∷ values) (k ∷ key) = then_by (column_cmp false v k) (front_cmp [] values key)
-front_cmp (desc ∷ descending) (v ∷ values) (k ∷ key) = then_by (column_cmp desc v k) (front_cmp descending values key)
-
-abbrev pub entry_before : Bool → List Bool → List Datum → List Datum → Bool
-entry_before behind descending key values = comes_before behind (front_cmp descending values key)
 
 -- Of any kind of keys, and of any test of what comes before what is sought.
 module _ {K : Type 0} (HasKey : ℕ → K → Type 0) (before : K → Bool) where

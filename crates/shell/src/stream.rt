@@ -150,7 +150,8 @@ fn next_row<S: Source>(cursor: &mut Cursor, pager: &mut Pager<S>) -> Result<(), 
 
 /// The row that a cursor stands at, if there is one. Its fault is `Changed`, where the leaf has no cell there.
 fn row_at(cursor: &Cursor) -> Result<Option<Cell<'_>>, Fault>
-    ensures entry { (image : Pages) (levels : ℕ) (places : List Place) (asked budget : ℕ) → IsAt image kind.Table levels cursor.now places asked budget
+    ensures entry { (image : Pages) (levels : ℕ) (places : List Place) (asked budget : ℕ)
+        → IsAt image kind.Table levels cursor.now places asked budget
         → MatchResult result (λ found. IsEntry image kind.Table places (option_map cell_data found)) (λ e. ⊥) }
     ensures left { IfOk result (λ found. IfSome found (λ cell. 0 < steps_left cursor.now)) }
     ensures end { IfOk result (λ found. IfNone found (steps_left cursor.now ≡ 0)) }

@@ -5,4 +5,4 @@ pub returns-in-Err-clause-lists : goal.returns-in-Err-clause-lists
 returns-in-Err-clause-lists g c = λ steady levels places budget at. c.cursor_fault.ensures.sound (c.in-Err.ensures.outcome.sound steady Table levels places budget at)
 
 pub returns-clause-lists : goal.returns-clause-lists
-returns-clause-lists g c = λ steady levels places budget at. (c.else-next.ensures.outcome.lists steady Table levels places budget at).0
+returns-clause-lists g c = λ steady levels places budget at. (c.in_default.ensures.outcome.lists steady Table levels places budget at).0

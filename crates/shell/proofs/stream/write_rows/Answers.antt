@@ -1,6 +1,6 @@
 use Rattle.std.proofs.Common.{refl}
 use Rattle.std.proofs.lemmas.Result.{err_from_is_err_and}
-use Rattle.shell.proofs.StreamLemmas.{Streaming-cut, Streaming-done, Streaming-never, Streaming-next, Streaming-start, Streaming-stopped, not_write, nothing_given}
+use Rattle.shell.proofs.StreamLemmas.{asked_most, Streaming-cut, Streaming-done, Streaming-never, Streaming-next, Streaming-start, Streaming-stopped, not_write, nothing_given}
 use Rattle.shell.proofs.stream.write_rows.Goals as goal
 
 pub returns-in_err-cursor-clause-rows : goal.returns-in_err-cursor-clause-rows
@@ -43,3 +43,7 @@ loop-cursor-preserved g c =
 pub returns-clause-rows : goal.returns-clause-rows
 returns-clause-rows g c = λ steady levels rows stored few.
     Streaming-done _ _ _ _ _ _ _ _ c.loop-cursor.invariant steady levels rows stored few (rw c.in_default.is at c.in_ok-cell.ensures.entry)
+
+pub returns-clause-pages : goal.returns-clause-pages
+returns-clause-pages g c = λ steady levels rows stored few.
+    asked_most _ _ _ _ _ _ _ _ c.loop-cursor.invariant steady levels rows stored few
