@@ -1,5 +1,5 @@
 //! Worked texts.
-use crate::read_create;
+use crate::{read_create, read_create_index};
 use std::alloc::Global;
 use std::process::Abort;
 use std::test::Fail;
@@ -271,8 +271,50 @@ fn tables(rt: HostRuntime) -> Result<(), Fail> {
     for (text, expected) in TABLES {
         expect_table(&rt, rt.alloc(), text, expected)?;
     }
+    for (text, expected) in INDEXES {
+        expect_index(&rt, rt.alloc(), text, expected)?;
+    }
     Ok(())
 }
+
+/// Texts of indexes, with their names, whether they are unique, and their columns.
+const INDEXES: [(&str, &str); 3] = [
+    ("CREATE INDEX i ON t(a)", "i on t: a"),
+    (
+        "create unique index \"I 1\" on [t t](b DESC, \"a\" COLLATE nocase ASC)",
+        "I 1 on t t, unique: b falling a by nocase",
+    ),
+    (
+        "CREATE/**/INDEX/**/i/**/ON/**/t(a COLLATE \"BINARY\" DESC)--",
+        "i on t: a by BINARY falling",
+    ),
+];
+
+/// A text spells this index.
+fn expect_index(rt: &impl Abort, alloc: Global, text: &str, expected: &str) -> Result<(), Fail> {
+    let index = read_create_index(alloc, text)?;
+    let mut written = String::from_str(alloc, index.name.as_str())?;
+    written.push_str(" on ")?;
+    written.push_str(index.table.as_str())?;
+    written.push_str(if index.is_unique { ", unique:" } else { ":" })?;
+    write_key(&mut written, index.columns.as_slice())?;
+    assert!(rt;
+        written.as_str() == expected,
+        "{} in {text}",
+        written.as_str()
+    );
+    Ok(())
+}
+
+/// Texts that spell no index.
+const NO_INDEXES: [&str; 6] = [
+    "CREATE INDEX i ON t",
+    "CREATE INDEX i ON t()",
+    "CREATE INDEX i ON t(a + 1)",
+    "CREATE INDEX i ON t(a) WHERE a",
+    "CREATE UNIQUE TABLE t(a INT) STRICT",
+    "CREATE INDEX IF NOT EXISTS i ON t(a)",
+];
 
 /// A text is refused as no CREATE TABLE at this place.
 fn expect_no_table(rt: &impl Abort, alloc: Global, text: &str, place: usize) {
@@ -339,6 +381,12 @@ const NO_TABLES: [(&str, usize); 43] = [
 fn no_tables(rt: HostRuntime) {
     for (text, place) in NO_TABLES {
         expect_no_table(&rt, rt.alloc(), text, place);
+    }
+    for text in NO_INDEXES {
+        match read_create_index(rt.alloc(), text) {
+            Ok(_) => assert!(rt; false, "a CREATE INDEX: {text}"),
+            Err(fault) => assert!(rt; matches!(fault, Fault::Syntax(_)), "{fault:?} in {text}"),
+        }
     }
 }
 
