@@ -1,5 +1,5 @@
 -- The reader of a key's columns finds exactly what their grammar says.
-use Rattle.std.proofs.Common.{◌≡◌, Bool, true, false, ◌<◌, ◌≤◌, List, [], ◌∷◌, ℕ, length, codes, Option, Some, None, option_map, refl, sym, ap, ◌∙◌, subst, arith}
+use Rattle.std.proofs.Common.{◌≡◌, Bool, true, false, ◌<◌, ◌≤◌, List, ◌∷◌, ℕ, length, codes, Option, Some, None, option_map, refl, sym, ap, ◌∙◌, subst, arith}
 use Rattle.tokens.specs.Content.{is_bare_word}
 use Rattle.tokens.specs.Lexeme.{Lexeme}
 use Rattle.tokens.specs.declared.keyword.Keyword.TheVariants as k

@@ -3,3 +3,4 @@ pub mod TableLemmas
 pub mod OptionLemmas
 pub mod CreateLemmas
 pub mod CreateTexts
+pub mod IndexTexts

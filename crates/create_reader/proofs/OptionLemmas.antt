@@ -87,7 +87,7 @@ closes_complete (Closes.options {options = os} {from = from} l) =
     all_options from os
     (listed_complete Opts (λ ts. Unit {0}) table_option option_shortens (λ ts. tt) option_complete l tt refl)
 
-finished_sound : (ts : Rest) (u : Unit {0}) → finished ts ≡ Some u → ts ≡ []
+pub finished_sound : (ts : Rest) (u : Unit {0}) → finished ts ≡ Some u → ts ≡ []
 finished_sound [] u h = refl
 finished_sound (t ∷ ts) u h = absurd cc
 

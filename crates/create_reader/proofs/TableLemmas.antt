@@ -1,5 +1,5 @@
 -- The reader of a table's constraints finds exactly what their grammar says.
-use Rattle.std.proofs.Common.{◌≡◌, true, ◌<◌, ◌≤◌, List, [], ◌∷◌, length, codes, Option, Some, None, option_map, option_and_then, refl, sym, ap, ◌∙◌, subst, arith}
+use Rattle.std.proofs.Common.{◌≡◌, true, ◌<◌, List, ◌∷◌, length, codes, Some, None, option_map, option_and_then, refl, sym, ap, ◌∙◌, subst, arith}
 use Rattle.std.proofs.lemmas.Bool.{cond-true}
 use Rattle.tokens.specs.Content.{is_bare_word}
 use Rattle.tokens.specs.Lexeme.{Lexeme}
@@ -7,7 +7,6 @@ use Rattle.tokens.specs.declared.keyword.Keyword.TheVariants as k
 use Rattle.tokens.specs.declared.sign.Sign.TheVariants as s
 use Rattle.phrases.proofs.ListLemmas.{Shortens}
 use Rattle.phrases.proofs.PhraseLemmas.{At, TakesOne, follows_comma, found_after_comma, many_complete, many_sound, shortens_after_comma, spelt_after_comma}
-use Rattle.phrases.proofs.OutcomeLemmas.{some_inj}
 use Rattle.phrases.proofs.StepLemmas.{at_keyword, at_sign}
 use Rattle.phrases.specs.Lists.{AfterComma, Listed, Many}
 use Rattle.phrases.specs.Steps.{Rest, after_comma, after_open, after_word}

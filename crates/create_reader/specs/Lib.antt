@@ -1,2 +1,4 @@
 pub mod CreateGrammar
 pub mod CreateReading
+pub mod IndexGrammar
+pub mod IndexReading

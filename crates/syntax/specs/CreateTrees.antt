@@ -63,3 +63,13 @@ pub record TableTree : Type 0 where
 
 abbrev pub columns_of_table : TableTree → ℕ
 columns_of_table tree = length tree.columns
+
+-- an index, as it is written: its name, and that of its table
+pub record IndexTree : Type 0 where
+  pub name : Name
+  pub table : Name
+  pub is_unique : Bool
+  pub columns : List IndexedColumnTree
+
+abbrev pub columns_of_index : IndexTree → ℕ
+columns_of_index tree = length tree.columns

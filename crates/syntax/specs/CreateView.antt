@@ -1,11 +1,12 @@
 -- What the program's CREATE TABLEs are.
 use Rattle.std.specs.Prelude.{map, option_map, string_bytes}
-use Rattle.syntax.specs.CreateTrees.{TypeTree, DefaultTree, ConstraintTree, ColumnTree, IndexedColumnTree, TableConstraintTree, TableTree}
+use Rattle.syntax.specs.CreateTrees.{TypeTree, DefaultTree, ConstraintTree, ColumnTree, IndexedColumnTree, IndexTree, TableConstraintTree, TableTree}
 use Rattle.syntax.specs.declared.create.Column.{Column}
 use Rattle.syntax.specs.declared.create.ColumnConstraint.{ColumnConstraint}
 use Rattle.syntax.specs.declared.create.ColumnConstraint.TheVariants as c
 use Rattle.syntax.specs.declared.create.ColumnType.{ColumnType}
 use Rattle.syntax.specs.declared.create.ColumnType.TheVariants as t
+use Rattle.syntax.specs.declared.create.CreateIndex.{CreateIndex}
 use Rattle.syntax.specs.declared.create.CreateTable.{CreateTable}
 use Rattle.syntax.specs.declared.create.DefaultValue.{DefaultValue}
 use Rattle.syntax.specs.declared.create.DefaultValue.TheVariants as d
@@ -62,4 +63,12 @@ table_of t = record {
   columns = map column_of t.columns.items;
   constraints = map table_constraint_of t.constraints.items;
   options = t.options.items;
+}
+
+abbrev pub index_of : CreateIndex → IndexTree
+index_of i = record {
+  name = string_bytes i.name;
+  table = string_bytes i.table;
+  is_unique = i.is_unique;
+  columns = map indexed_of i.columns.items;
 }

@@ -1,4 +1,4 @@
-//! CREATE TABLEs, as they are written.
+//! CREATE TABLEs and CREATE INDEXes, as they are written.
 
 /// The type of a column. (STRICT Tables)
 #[derive(Clone, Copy, Debug, PartialEq, Eq)]
@@ -92,4 +92,14 @@ pub struct CreateTable {
     pub columns: Vec<Column>,
     pub constraints: Vec<TableConstraint>,
     pub options: Vec<TableOption>,
+}
+
+/// An index that is created. (CREATE INDEX)
+#[derive(Debug, Drop)]
+pub struct CreateIndex {
+    pub name: String,
+    /// The name of the table whose index it is.
+    pub table: String,
+    pub is_unique: bool,
+    pub columns: Vec<IndexedColumn>,
 }

@@ -13,8 +13,8 @@ mod query;
 mod select;
 
 pub use create::{
-    Column, ColumnConstraint, ColumnType, CreateTable, DefaultValue, IndexedColumn, KeyOrder,
-    TableConstraint, TableOption,
+    Column, ColumnConstraint, ColumnType, CreateIndex, CreateTable, DefaultValue, IndexedColumn,
+    KeyOrder, TableConstraint, TableOption,
 };
 pub use expr::{Arm, BinaryOperator, Expr, Function, PostfixOperator, PrefixOperator};
 pub use query::{CompoundOperator, Direction, Edge, Exclusion, Frame, FrameUnit, Join};

@@ -2,8 +2,8 @@
 use crate::expressions::write_expr;
 use std::alloc::AllocError;
 use syntax::{
-    Column, ColumnConstraint, CreateTable, DefaultValue, IndexedColumn, KeyOrder, ResultColumn,
-    ResultName, Select, TableConstraint,
+    Column, ColumnConstraint, CreateIndex, CreateTable, DefaultValue, IndexedColumn, KeyOrder,
+    ResultColumn, ResultName, Select, TableConstraint,
 };
 
 fn write_result(column: &ResultColumn, out: &mut String) -> Result<(), AllocError> {
@@ -148,4 +148,11 @@ pub fn write_create(table: &CreateTable, out: &mut String) -> Result<(), AllocEr
         write_column(column, out)?;
     }
     write_ends(table, out)
+}
+
+/// Writes an index: its name, its table, whether it is unique, and its columns.
+pub fn write_index(index: &CreateIndex, out: &mut String) -> Result<(), AllocError> {
+    write!(out, "{} on {}", index.name.as_str(), index.table.as_str())?;
+    out.push_str(if index.is_unique { ", unique:" } else { ":" })?;
+    write_indexed(index.columns.as_slice(), out)
 }
