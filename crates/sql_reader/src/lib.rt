@@ -23,4 +23,3 @@ pub use syntax::{
     Arm, BinaryOperator, Expr, Function, PostfixOperator, PrefixOperator, ResultColumn, ResultName,
     Select,
 };
-
