@@ -55,12 +55,6 @@ pub(crate) fn check_bytes(alloc: Global, bytes: Vec<u8>) -> Result<Result<Checke
     Ok(check(alloc, &mut pager))
 }
 
-/// The fault that the check finds in an image, if there is one.
-pub(crate) fn fault_of(alloc: Global, image: &Image) -> Result<Option<Fault>, Fail> {
-    let layout = image.lay_out()?;
-    Ok(check_bytes(alloc, layout.into_bytes())?.err())
-}
-
 /// How many pages the tree of a table has, and its root.
 pub(crate) fn size_and_root(layout: &Layout, name: &str) -> Result<(u64, u32), Fail> {
     let tree = layout.tree(name).ok_or("no tree")?;

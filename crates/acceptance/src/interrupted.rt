@@ -1,12 +1,14 @@
 //! Runs of an engine whose source or sink fails, and of one whose image changes.
 use crate::images::{numbers, size_and_root};
-use forge::{ReadScript, ScriptSink, ScriptSource, Shape};
+use crate::payloads::{long_schema, long_values};
+use forge::{Layout, ReadScript, ScriptSink, ScriptSource, Shape};
 use pager::{MemSource, Source};
-use shell::{Engine, Report};
+use shell::{Args, Engine, Report, serve};
 use std::alloc::Global;
 use std::num::NonZeroUsize;
+use std::process::Abort;
 use std::test::Fail;
-use values::{Fault, MemSink, Sink};
+use values::{Fault, MemSink, Sink, Ty};
 
 /// An engine that keeps so many pages.
 pub(crate) fn open<S: Source + Drop>(
@@ -82,15 +84,14 @@ fn one_text_at_any_capacity(rt: HostRuntime) -> Result<(), Fail> {
     Ok(())
 }
 
-#[test]
-fn each_read_of_opening_fails_in_turn(rt: HostRuntime) -> Result<(), Fail> {
+/// Opens an image so often that each read fails once.
+fn fail_each_read_of_opening(rt: &(impl Abort + AllocGlobal), layout: Layout) -> Result<(), Fail> {
     let alloc = rt.alloc();
-    let layout = numbers(alloc, 512, 1, 60, Shape::of(4, 3))?;
     let pages = u64::from(layout.page_count());
     let bytes = layout.into_bytes();
-    // The header, and each page once.
+    // The header, each page once, and the chains of the schema again.
     let reads = reads_of_opening(alloc, &bytes)?;
-    assert_eq!(rt; reads, pages.saturating_add(1));
+    assert!(rt; reads > pages);
     for read in 1..reads.saturating_add(1) {
         let source = ScriptSource::new(bytes.clone()?, ReadScript::At(read));
         match Engine::open(alloc, source, NonZeroUsize::MIN) {
@@ -100,6 +101,19 @@ fn each_read_of_opening_fails_in_turn(rt: HostRuntime) -> Result<(), Fail> {
             }
         }
     }
+    Ok(())
+}
+
+#[test]
+fn each_read_of_opening_fails_in_turn(rt: HostRuntime) -> Result<(), Fail> {
+    let alloc = rt.alloc();
+    let layout = numbers(alloc, 512, 1, 60, Shape::of(4, 3))?;
+    let pages = u64::from(layout.page_count());
+    let bytes = Vec::from_slice(alloc, layout.as_slice())?;
+    assert_eq!(rt; reads_of_opening(alloc, &bytes)?, pages.saturating_add(1));
+    fail_each_read_of_opening(&rt, layout)?;
+    fail_each_read_of_opening(&rt, long_values(alloc, Ty::Text, &[2000, 477, 985], 1)?.0)?;
+    fail_each_read_of_opening(&rt, long_schema(alloc)?.0)?;
     let source = ScriptSource::new(bytes, ReadScript::Length);
     assert!(rt;
         matches!(
@@ -110,27 +124,52 @@ fn each_read_of_opening_fails_in_turn(rt: HostRuntime) -> Result<(), Fail> {
     Ok(())
 }
 
+/// Runs a statement so often that each of these reads fails once, and a second time, when the text is whole.
+fn fail_each_read_of_a_run(
+    rt: &(impl Abort + AllocGlobal),
+    layout: Layout,
+    sql: &str,
+    text: &str,
+    report: Report,
+) -> Result<(), Fail> {
+    let alloc = rt.alloc();
+    let bytes = layout.into_bytes();
+    let opening = reads_of_opening(alloc, &bytes)?;
+    let reads = report.asked.saturating_add(report.chained);
+    for read in 1..reads.saturating_add(1) {
+        let script = ReadScript::At(opening.saturating_add(read));
+        let mut engine = open(alloc, ScriptSource::new(bytes.clone()?, script), 1)?;
+        let (mut out, mut again) = (MemSink::new(alloc), MemSink::new(alloc));
+        let ended = run_twice(&mut engine, sql, &mut out, &mut again)?;
+        assert_eq!(rt; ended, (Err(Fault::ReadFailed), Ok(report)), "read {read}");
+        assert!(rt;
+            text.as_bytes().starts_with(out.as_slice()) && out.as_slice() != text.as_bytes()
+        );
+        assert_eq!(rt; again.as_slice(), text.as_bytes());
+    }
+    Ok(())
+}
+
 #[test]
 fn each_read_of_a_run_fails_in_turn(rt: HostRuntime) -> Result<(), Fail> {
     let alloc = rt.alloc();
     let layout = numbers(alloc, 512, 1, 60, Shape::of(4, 3))?;
-    let (pages, _) = size_and_root(&layout, "t")?;
+    let (asked, _) = size_and_root(&layout, "t")?;
     let text = lines(alloc, 60)?;
-    let bytes = layout.into_bytes();
-    let opening = reads_of_opening(alloc, &bytes)?;
-    for read in 1..pages.saturating_add(1) {
-        let script = ReadScript::At(opening.saturating_add(read));
-        let mut engine = open(alloc, ScriptSource::new(bytes.clone()?, script), 1)?;
-        let (mut out, mut again) = (MemSink::new(alloc), MemSink::new(alloc));
-        let (first, second) = run_twice(&mut engine, "SELECT a FROM t", &mut out, &mut again)?;
-        assert_eq!(rt; first, Err(Fault::ReadFailed), "read {read}");
-        assert!(rt;
-            text.as_bytes().starts_with(out.as_slice()) && out.as_slice() != text.as_bytes()
-        );
-        assert!(rt; second.is_ok());
-        assert_eq!(rt; again.as_slice(), text.as_bytes());
-    }
-    Ok(())
+    let report = Report {
+        rows: 60,
+        asked,
+        chained: 0,
+    };
+    fail_each_read_of_a_run(&rt, layout, "SELECT a FROM t", text.as_str(), report)?;
+    let (layout, text) = long_values(alloc, Ty::Blob, &[2000, 477, 985], 1)?;
+    // The root, three leaves, and the pages of two chains.
+    let report = Report {
+        rows: 3,
+        asked: 4,
+        chained: 4,
+    };
+    fail_each_read_of_a_run(&rt, layout, "SELECT body FROM t", text.as_str(), report)
 }
 
 #[test]
@@ -150,6 +189,41 @@ fn each_write_is_cut_short(rt: HostRuntime) -> Result<(), Fail> {
             assert!(rt; second.is_ok());
             assert_eq!(rt; again.as_slice(), text.as_bytes());
         }
+    }
+    Ok(())
+}
+
+/// A sink may take fewer bytes than it is given, here five at a time, and then none.
+#[test]
+fn each_write_of_the_program_is_cut_short(rt: HostRuntime) -> Result<(), Fail> {
+    let alloc = rt.alloc();
+    let image = numbers(alloc, 512, 1, 12, Shape::of(4, 3))?.into_bytes();
+    let rows = lines(alloc, 12)?;
+    let text = format!(in alloc; "'a'\n{rows}")?;
+    let args = Args {
+        image: "t.db",
+        sql: "SELECT a FROM t",
+        cache: NonZeroUsize::MIN,
+        header: true,
+    };
+    for room in 0..text.len().saturating_add(1) {
+        let mut out = ScriptSink::in_steps(alloc, 5, room);
+        let mut err = MemSink::new(alloc);
+        let status = serve(
+            alloc,
+            &args,
+            MemSource::new(image.clone()?),
+            &mut out,
+            &mut err,
+        );
+        let (front, rest) = text.as_bytes().split_at_checked(room).ok_or("no room")?;
+        assert_eq!(rt; out.as_slice(), front);
+        let (line, wanted): (&[u8], u8) = if rest.is_empty() {
+            (b"", 0)
+        } else {
+            (b"fault 52: WriteFailed\n", 1)
+        };
+        assert_eq!(rt; (err.as_slice(), status), (line, wanted));
     }
     Ok(())
 }

@@ -3,7 +3,7 @@ use crate::images::{numbers, open, size_and_root};
 use cursor::Cursor;
 use forge::{ReadScript, ScriptSource, Shape};
 use image::TreeKind;
-use pager::{MemSource, Pager, Source};
+use pager::{Pager, Source};
 use std::alloc::{AllocError, Global};
 use std::process::Abort;
 use std::test::Fail;
@@ -70,37 +70,6 @@ fn expect_run(rt: &impl Abort, rowids: &[i64], first: i64) {
 }
 
 #[test]
-fn three_levels_on_small_pages(rt: HostRuntime) -> Result<(), Fail> {
-    let alloc = rt.alloc();
-    let layout = numbers(alloc, 512, -700, 2400, Shape::FULL)?;
-    let (pages, root) = size_and_root(&layout, "t")?;
-    assert_eq!(rt; layout.tree("t").map(|tree| tree.levels.len()), Some(3));
-    let bytes = layout.into_bytes();
-    for capacity in [1, 1000] {
-        let source = MemSource::new(bytes.clone()?);
-        let mut pager = open(alloc, source, capacity)?;
-        let walked = list_rows(alloc, &mut pager, root)?;
-        assert_eq!(rt; walked.rowids.len(), 2400);
-        expect_run(&rt, walked.rowids.as_slice(), -700);
-        assert!(rt; walked.fault.is_none() && walked.further.is_none());
-        assert_eq!(rt; pager.asked(), pages);
-    }
-    Ok(())
-}
-
-#[test]
-fn an_empty_table(rt: HostRuntime) -> Result<(), Fail> {
-    let alloc = rt.alloc();
-    let layout = numbers(alloc, 512, 0, 0, Shape::FULL)?;
-    let (_, root) = size_and_root(&layout, "t")?;
-    let mut pager = open(alloc, MemSource::new(layout.into_bytes()), 1)?;
-    let walked = list_rows(alloc, &mut pager, root)?;
-    assert!(rt; walked.rowids.is_empty() && walked.fault.is_none() && walked.further.is_none());
-    assert_eq!(rt; pager.asked(), 1);
-    Ok(())
-}
-
-#[test]
 fn each_read_fails_in_turn(rt: HostRuntime) -> Result<(), Fail> {
     let alloc = rt.alloc();
     let layout = numbers(alloc, 512, 1, 60, Shape::of(4, 3))?;
@@ -118,41 +87,6 @@ fn each_read_fails_in_turn(rt: HostRuntime) -> Result<(), Fail> {
         expect_run(&rt, walked.rowids.as_slice(), 1);
         assert_eq!(rt; pager.into_source().failures(), 1);
     }
-    Ok(())
-}
-
-#[test]
-fn a_child_that_is_its_own_page(rt: HostRuntime) -> Result<(), Fail> {
-    let alloc = rt.alloc();
-    let layout = numbers(alloc, 512, 1, 60, Shape::of(4, 3))?;
-    let (_, root) = size_and_root(&layout, "t")?;
-    // The right child of an interior page stands behind its flag, its counts and its places.
-    let right = layout.copy_with(root, 8, &root.to_be_bytes())?;
-    let mut pager = open(alloc, MemSource::new(right), 1000)?;
-    let walked = list_rows(alloc, &mut pager, root)?;
-    assert_eq!(rt; walked.fault, Some(Fault::BadDepth(root)));
-    assert_eq!(rt; walked.further, Some(Fault::Finished));
-    assert!(rt; !walked.rowids.is_empty());
-    Ok(())
-}
-
-#[test]
-fn a_first_child_that_is_its_own_page(rt: HostRuntime) -> Result<(), Fail> {
-    let alloc = rt.alloc();
-    let layout = numbers(alloc, 512, 1, 60, Shape::of(4, 3))?;
-    let (_, root) = size_and_root(&layout, "t")?;
-    let place = layout.piece(root, 12, 2).ok_or("no place")?;
-    let (high, low) = match place {
-        [high, low] => (*high, *low),
-        _ => return Err("no place".into()),
-    };
-    let cell = u16::from_be_bytes([high, low]) as usize;
-    let first = layout.copy_with(root, cell, &root.to_be_bytes())?;
-    let mut pager = open(alloc, MemSource::new(first), 1000)?;
-    let walked = list_rows(alloc, &mut pager, root)?;
-    assert!(rt; walked.rowids.is_empty());
-    assert_eq!(rt; walked.fault, Some(Fault::BadDepth(root)));
-    assert_eq!(rt; pager.asked(), 20);
     Ok(())
 }
 

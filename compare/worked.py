@@ -1,0 +1,427 @@
+#!/usr/bin/env python3
+"""Tries the programs `seleq` and `table_counts` on worked images: pages of trees, records, schemas and overflow pages of each
+kind, sound ones and broken ones, with what has to be said of each. Where an image is sound, SQLite's own check says so too.
+
+Run from any folder. The last line is 'N passed, M failed'.
+"""
+
+from __future__ import annotations
+
+import subprocess
+import sys
+import tempfile
+from collections.abc import Iterator
+from pathlib import Path
+from random import Random
+
+from oracle import Reader
+from pages import INTERIOR, cell_places, number_at
+from program import TOP, Run, Tally, build, fault_line, refusal_problem, run
+from recipes import make_file
+from writer import Field, Tree, Value, Writer, integer, record, stored, varint
+
+COUNTS = TOP / "crates" / "table_counts" / "out" / "table_counts"
+
+ITEM = "CREATE TABLE item(id INTEGER PRIMARY KEY, name TEXT NOT NULL, qty INT) STRICT"
+NUMBERS = "CREATE TABLE t(id INTEGER PRIMARY KEY, a INT, b TEXT) STRICT"
+NOTE = "CREATE TABLE note(body TEXT) STRICT"
+ITEMS: list[tuple[Value, ...]] = [(None, "bolt", 40), (None, "nut", None), (None, "cap", 7), (None, "nut", 7)]
+SHOP = f"""{ITEM}; INSERT INTO item VALUES (1, 'bolt', 40), (2, 'nut', NULL), (3, 'cap', 7), (4, 'nut', 7);
+    CREATE TABLE sale(item INT, n INT) STRICT; INSERT INTO sale VALUES (1, 5), (3, 2), (3, 9), (9, 1);
+    CREATE TABLE gift(item INT) STRICT;"""
+
+# Statements over the shop, and what is written for them.
+ANSWERS = {
+    "SELECT name FROM item": "'bolt'\n'nut'\n'cap'\n'nut'\n",
+    "SELECT qty, id FROM item": "40,1\nNULL,2\n7,3\n7,4\n",
+    "select * from ITEM;": "1,'bolt',40\n2,'nut',NULL\n3,'cap',7\n4,'nut',7\n",
+    'SELECT ID, Id FROM "Item"': "1,1\n2,2\n3,3\n4,4\n",
+    "SELECT qty, name, qty, id FROM item": "40,'bolt',40,1\nNULL,'nut',NULL,2\n7,'cap',7,3\n7,'nut',7,4\n",
+    "SELECT n, item FROM sale": "5,1\n2,3\n9,3\n1,9\n",
+    "SELECT item FROM gift": "",
+}
+
+# The same with the names of the columns.
+HEADED = {
+    "SELECT NAME FROM item": "'name'\n'bolt'\n'nut'\n'cap'\n'nut'\n",
+    "SELECT * FROM item": "'id','name','qty'\n1,'bolt',40\n2,'nut',NULL\n3,'cap',7\n4,'nut',7\n",
+    "SELECT (Id) FROM item": "'id'\n1\n2\n3\n4\n",
+    "SELECT ITEM FROM gift": "'item'\n",
+}
+
+# Statements that are refused, and the fault's number.
+REFUSED = {
+    "SELECT name FROM other": 31,
+    "SELECT price FROM item": 32,
+    "SELECT name, n FROM sale": 32,
+    "SELECT name FROM sqlite_schema": 29,
+    "SELECT price AS p FROM other": 29,
+    "SELECT 1": 29,
+    "SELECT 1 FROM item": 29,
+    "SELECT name AS id FROM item": 29,
+    "SELECT item.name FROM item": 29,
+    "SELECT item.* FROM item": 29,
+    "SELECT *, name FROM item": 29,
+    "SELECT qty + 1 FROM item": 29,
+    "SELECT qty FROM item WHERE qty = 7": 29,
+    "SELECT name FROM item, sale": 29,
+    "": 29,
+}
+
+# Tables that aren't served beside `item`: a name, and a text.
+UNSERVED = [
+    ("ITEM", "CREATE TABLE ITEM(a INT) STRICT"),
+    ("item", "CREATE TABLE item(a INT) STRICT"),
+    ("t", "CREATE TABLE t(a INT)"),
+    ("t", "CREATE TABLE t(a INT UNIQUE) STRICT"),
+    ("t", "CREATE TABLE t(a TEXT COLLATE NOCASE) STRICT"),
+    ("t", "CREATE TABLE t(a REAL) STRICT"),
+    ("t", "CREATE TABLE t(a INTEGER PRIMARY KEY) STRICT, WITHOUT ROWID"),
+    ("t", "CREATE TABLE t(a TEXT PRIMARY KEY) STRICT"),
+    ("t", "CREATE TABLE t(a INT PRIMARY KEY) STRICT"),
+    ("t", "CREATE TABLE t(a INT, PRIMARY KEY(a)) STRICT"),
+    ("t", "CREATE TABLE u(a INT) STRICT"),
+]
+
+# Objects that aren't served beside `item`.
+OBJECTS = {
+    "a view": ("view", "v", "v", 0, "CREATE VIEW v AS SELECT name FROM item"),
+    "a trigger": ("trigger", "r", "item", 0, "CREATE TRIGGER r AFTER INSERT ON item BEGIN DELETE FROM item; END"),
+}
+
+# Records that are none of three columns: no byte; a header that is cut; one that ends within its own length; bodies that
+# are cut; the serial types 10 and 11, which no file has; two values; four.
+BAD_RECORDS = [
+    b"",
+    b"\x04\0\x13",
+    b"\0\0\x13\x01nut\x07",
+    b"\x04\0\x13\x01nut",
+    b"\x04\0\x13\x01",
+    b"\x04\0\x0a\x01\x07",
+    b"\x04\0\x0b\x01\x07",
+    b"\x03\0\x13nut",
+    b"\x05\0\x13\x01\0nut\x07",
+]
+
+NULL, NUT, SEVEN, BLOB = stored(None), stored("nut"), stored(7), stored(b"nut")
+
+# Rows of `item`: the fault of each. A float; a byte that begins no character, a character that is cut, a surrogate, and a
+# character in more bytes than needed; texts and blobs in INT, integers and blobs in TEXT, and NULL in NOT NULL.
+BAD_ROWS: list[tuple[list[Field], bytes]] = [
+    ([NULL, NUT, (7, b"\x3f\xe0\0\0\0\0\0\0")], fault_line(18)),
+    *(
+        ([NULL, (13 + 2 * len(text), text), SEVEN], fault_line(19))
+        for text in (b"n\xfft", b"nu\xc3", b"\xed\xa0\x80", b"\xc0\xaf")
+    ),
+    *(
+        (row, fault_line(23, "item"))
+        for row in ([NULL, NUT, NUT], [NULL, NUT, BLOB], [NULL, SEVEN, SEVEN], [NULL, BLOB, SEVEN], [NULL, NULL, SEVEN])
+    ),
+]
+
+# Rows of `item` that are sound, as they are answered: a letter of two bytes, NULL in INT, a number in more bytes than
+# needed, and whatever is stored in the place of the rowid.
+SOUND_ROWS: list[tuple[list[Field], str]] = [
+    ([NULL, NUT, SEVEN], "2,'nut',7\n"),
+    ([NULL, stored("é"), SEVEN], "2,'é',7\n"),
+    ([NULL, NUT, NULL], "2,'nut',NULL\n"),
+    ([NULL, NUT, integer(7, 6)], "2,'nut',7\n"),
+    ([SEVEN, NUT, SEVEN], "2,'nut',7\n"),
+    ([NUT, NUT, SEVEN], "2,'nut',7\n"),
+    ([BLOB, NUT, SEVEN], "2,'nut',7\n"),
+]
+
+
+class Trial:
+    """A file that is written anew for each image, and what the programs say of it."""
+
+    def __init__(self, tally: Tally, folder: Path) -> None:
+        self.tally = tally
+        self.path = folder / "worked.db"
+
+    def refused(self, what: str, image: bytes, *lines: bytes) -> None:
+        """The image is refused by one of these lines."""
+        self.path.write_bytes(image)
+        self.tally.add(what, refusal_problem(run(self.path, "SELECT * FROM nowhere"), *lines))
+
+    def answered(self, what: str, words: list[str], wanted: str) -> None:
+        """What is answered over the image that was written last."""
+        answer = run(*words[:-1], self.path, words[-1])
+        self.tally.add(f"{what}, {words}", "" if answer == Run(0, wanted.encode(), b"") else str(answer))
+
+    def sound(self, what: str, image: bytes, answers: dict[str, str]) -> None:
+        """The image is sound, as SQLite finds too, and these are its answers whatever the cache keeps."""
+        self.path.write_bytes(image)
+        with Reader(self.path) as reader:
+            self.tally.add(f"{what}, SQLite's check", "" if reader.is_sound() else "SQLite's check finds something")
+        for sql, wanted in answers.items():
+            for cache in ("1", "1000"):
+                self.answered(what, ["--cache", cache, sql], wanted)
+
+    def counted(self, what: str, image: bytes, lines: str) -> None:
+        """What the check counts in the image: a line `name rows pages levels` for each table."""
+        self.path.write_bytes(image)
+        ran = subprocess.run([COUNTS, self.path], capture_output=True, check=False)
+        self.tally.add(f"{what}, counts", "" if ran.stdout == lines.encode() else f"{ran.stdout!r} {ran.stderr!r}")
+
+
+def numbers(first: int, count: int, **shape: int) -> tuple[Writer, Tree]:
+    """An image of one table of the rows first, first + 1 and so on."""
+    writer = Writer()
+    rows = [(rowid, record([None, rowid, "row"])) for rowid in range(first, first + count)]
+    return writer, writer.table("t", NUMBERS, rows, **shape)
+
+
+def patched(image: bytes, page: int, offset: int, piece: bytes, size: int = 512) -> bytes:
+    """The image with other bytes from a place of a page on."""
+    place = (page - 1) * size + offset
+    return image[:place] + piece + image[place + len(piece) :]
+
+
+def cell_offset(image: bytes, page: int, number: int) -> int:
+    """Where a cell of a page begins, from the page's own beginning on."""
+    return number_at(image, cell_places(image, page)[number], 2)
+
+
+def try_answers(trial: Trial) -> None:
+    """Statements over a shop at three page sizes, texts as long as may be, and images that are none."""
+    for size in (512, 4096, 65536):
+        make_file(trial.path, lambda connection, _: connection.executescript(SHOP), size, Random(0))
+        for sql, wanted in ANSWERS.items():
+            trial.answered(f"page size {size}", ["--cache", "1", sql], wanted)
+            trial.answered(f"page size {size}", [sql], wanted)
+        for sql, wanted in HEADED.items():
+            trial.answered(f"page size {size}", ["--header", "--cache", "1", sql], wanted)
+        for sql, number in REFUSED.items():
+            for words in ([], ["--header"]):
+                answer = run(*words, trial.path, sql)
+                trial.tally.add(f"page size {size}, {words}, {sql!r}", refusal_problem(answer, fault_line(number)))
+    longest = "SELECT n FROM sale".ljust(65536)
+    trial.answered("65,536 bytes", [longest], "5\n2\n9\n1\n")
+    trial.tally.add("65,537 bytes", refusal_problem(run(trial.path, longest + " "), fault_line(38)))
+    image = trial.path.read_bytes()
+    trial.refused("no bytes", b"", fault_line(1))
+    trial.refused("a byte too few", image[:-1], fault_line(9))
+    trial.refused("the flag of an index", patched(image, 2, 0, b"\x0a", 65536), fault_line(11, 2))
+
+
+def try_records(trial: Trial) -> None:
+    """Records and rows of a table, and of the schema."""
+
+    def with_payload(payload: bytes) -> bytes:
+        writer = Writer()
+        writer.table("item", ITEM, [(1, record([None, "nut", 7])), (2, payload)])
+        return bytes(writer.image())
+
+    for payload in BAD_RECORDS:
+        trial.refused(f"the record {payload!r}", with_payload(payload), fault_line(17, 2))
+    for row, line in BAD_ROWS:
+        trial.refused(f"the row {row}", with_payload(record(row)), line)
+    for row, line in SOUND_ROWS:
+        trial.path.write_bytes(with_payload(record(row)))
+        trial.answered(f"the row {row}", ["SELECT * FROM item"], f"1,'nut',7\n{line}")
+    text, root = stored("table"), stored(2)
+    for row, line in (
+        ([text, text, text, root, (10, b"")], fault_line(17, 1)),
+        ([text, text, text, (7, b"\x40" + bytes(7)), text], fault_line(18)),
+        ([text, (15, b"\xff"), text, root, text], fault_line(19)),
+        ([text, text, text, root], fault_line(17, 1)),
+    ):
+        writer = shop()
+        writer.object(*row)
+        trial.refused(f"the schema's row {row}", bytes(writer.image()), line)
+
+
+def shop() -> Writer:
+    """An image of the table `item`."""
+    writer = Writer()
+    writer.table("item", ITEM, [(rowid, record(row)) for rowid, row in enumerate(ITEMS, 1)])
+    return writer
+
+
+def try_schemas(trial: Trial) -> None:
+    """Schemas of no table, of one and of some, and what isn't served."""
+    trial.counted("no table", bytes(Writer().image()), "")
+    trial.counted("one table", bytes(shop().image()), "item 4 1 0\n")
+    writer = Writer(1024)
+    pictures = [(rowid, record([b"\0\xff"])) for rowid in range(300)]
+    writer.table("picture", "CREATE TABLE picture(body BLOB NOT NULL) STRICT", pictures, leaf=10, fan=6)
+    writer.table("note", NOTE, [])
+    writer.table("item", ITEM, [(rowid, record(row)) for rowid, row in enumerate(ITEMS, 1)])
+    trial.counted("three tables", bytes(writer.image()), "picture 300 36 2\nnote 0 1 0\nitem 4 1 0\n")
+    answers = {"SELECT body FROM picture": "X'00FF'\n" * 300, "SELECT * FROM note": ""}
+    trial.sound("three tables", bytes(writer.image()), answers)
+    for name, sql in UNSERVED:
+        writer = shop()
+        writer.table(name, sql, [])
+        trial.refused(f"the table {name}, {sql}", bytes(writer.image()), fault_line(29))
+    for what, row in OBJECTS.items():
+        writer = shop()
+        writer.object(*row)
+        trial.refused(what, bytes(writer.image()), fault_line(29))
+    writer = shop()
+    checked = "A INT CONSTRAINT c NOT NULL CHECK (A > 0) DEFAULT 7 REFERENCES item"
+    writer.table("items", f"CREATE TABLE items({checked}) STRICT", [(1, record([5]))])
+    trial.sound("constraints", bytes(writer.image()), {"SELECT a FROM items": "5\n"})
+
+
+def broken_pages() -> Iterator[tuple[str, bytes, bytes]]:
+    """A tree of 60 rows, four on a leaf and three children under a page, some bytes of which are others: what it is, the
+    image, and the fault's line. Leaf 5 has the rows 21 to 24."""
+    writer, tree = numbers(1, 60, leaf=4, fan=3)
+    image = bytes(writer.image())
+    root, leaf, first, last = tree.root, tree.leaves[5], tree.leaves[0], tree.leaves[-1]
+    child, row = cell_offset(image, root, 0), cell_offset(image, leaf, 0) + 1
+    assert image[(leaf - 1) * 512 + row] == 21
+    # No flag of a table; one of an index; no cell; a cell among the places; a cell behind the page; more places than a page
+    # has room for. Then children that are no pages of the image.
+    for page, offset, piece in (
+        *((leaf, offset, piece) for offset, piece in ((0, b"\0\0"), (0, b"\x0a\0"), (3, b"\0\0"))),
+        *((leaf, offset, piece) for offset, piece in ((8, b"\0\x09"), (8, b"\x01\xff"), (3, b"\x01\0"))),
+        *((root, 8, b"\xff\xff"), (root, child, b"\xff\xff"), (root, 8, bytes(4))),
+    ):
+        yield f"{piece!r} at {offset}", patched(image, page, offset, piece), fault_line(11, page)
+    for rowid in (20, 22, 25):
+        yield f"row {rowid}", patched(image, leaf, row, bytes([rowid])), fault_line(15, leaf)
+    # The first leaf stands under two pages: its rows aren't past what is before them.
+    yield "a leaf twice", patched(image, root, 8, first.to_bytes(4, "big")), fault_line(15, first)
+    # The key of the root's first cell stands behind its child: where it is less, the keys under that child are past it.
+    yield "a lesser key", patched(image, root, child + 4, b"\x03"), fault_line(15, tree.levels[1][0])
+    # The last leaf stands right under the root, while others stand deeper; and pages that are their own right child.
+    yield "a leaf too high", patched(image, root, 8, last.to_bytes(4, "big")), fault_line(16, root)
+    for page, offset in ((root, 0), (1, 100)):
+        own = bytes([INTERIOR]) + bytes(7) + page.to_bytes(4, "big")
+        yield f"page {page} below itself", patched(image, page, offset, own), fault_line(16, page)
+    yield "a first child that is its own page", patched(image, root, child, root.to_bytes(4, "big")), fault_line(16, root)
+
+
+def broken_schemas() -> Iterator[tuple[str, bytes, bytes]]:
+    """A schema of two tables, some bytes of whose page are others."""
+    writer = Writer()
+    writer.table("item", ITEM, [])
+    writer.table("note", NOTE, [])
+    image = bytes(writer.image())
+    interior = bytes([INTERIOR]) + bytes(7)
+    # No flag of a table; one of an index; more places than the page has room for; a cell among the places; one behind the
+    # page; an interior page whose only child is no page of the image.
+    for offset, piece in (
+        *((100, b"\0"), (100, b"\x0a"), (103, b"\x01\0"), (108, b"\0\x6d"), (110, b"\x01\xff")),
+        *((100, interior + child) for child in (bytes(4), b"\0\0\0\x04", b"\xff\xff\xff\xff")),
+    ):
+        yield f"{piece!r} at {offset} of the schema", patched(image, 1, offset, piece), fault_line(11, 1)
+    row = cell_offset(image, 1, 1) + 1
+    assert image[row] == 2
+    for rowid in (0, 1):
+        yield f"row {rowid} of the schema", patched(image, 1, row, bytes([rowid])), fault_line(15, 1)
+    yield "row 3 of the schema", patched(image, 1, row, b"\x03"), fault_line(31)
+
+
+def try_trees(trial: Trial) -> None:
+    """Trees of some levels, and pages of trees that are broken."""
+    for count, levels in ((0, 0), (3, 0), (40, 1), (2400, 2)):
+        writer, tree = numbers(-700, count, leaf=20, fan=30)
+        pages = sum(len(level) for level in tree.levels)
+        rows = "".join(f"{rowid},{rowid},'row'\n" for rowid in range(-700, count - 700))
+        trial.counted(f"{count} rows", bytes(writer.image()), f"t {count} {pages} {levels}\n")
+        trial.sound(f"{count} rows", bytes(writer.image()), {"SELECT * FROM t": rows})
+    for what, image, line in (*broken_pages(), *broken_schemas()):
+        trial.refused(what, image, line)
+
+
+def long_values(kind: str, sizes: list[int], **shape: int) -> tuple[Writer, Tree, str]:
+    """An image of a table whose rows stand on a leaf each, with payloads of these sizes: 3 bytes of the record's header, and
+    the value. Beside it the lines of its rows. Neither 37 nor 251 divides what an overflow page has room for."""
+    writer, rows, lines = Writer(), [], []
+    for rowid, size in enumerate(sizes):
+        if kind == "TEXT":
+            text = ("it's a sentence that goes on and on, " * size)[rowid : rowid + size - 3]
+            rows.append((rowid, record([text])))
+            lines.append("'" + text.replace("'", "''") + "'\n")
+        else:
+            blob = (bytes(range(251)) * size)[rowid : rowid + size - 3]
+            rows.append((rowid, record([blob])))
+            lines.append(f"X'{blob.hex().upper()}'\n")
+    tree = writer.table("t", f"CREATE TABLE t(body {kind} NOT NULL) STRICT", rows, leaf=1, **shape)
+    return writer, tree, "".join(lines)
+
+
+def broken_chains() -> Iterator[tuple[str, bytes, bytes]]:
+    """Two rows with chains of three overflow pages each, one link of which is another."""
+    writer, tree, _ = long_values("TEXT", [2000, 2000])
+    image = bytes(writer.image())
+    leaf, (a, b, c), past = tree.leaves[1], tree.chains[1], len(writer.pages) + 1
+    # Behind 3 bytes of varints and 476 of the payload.
+    link = cell_offset(image, leaf, 0) + 479
+    links = [(leaf, link), (a, 0), (b, 0), (c, 0)]
+    assert [number_at(image, (page - 1) * 512 + offset, 4) for page, offset in links] == [a, b, c, 0]
+    for page, offset, number in (
+        # The last page names itself, those before it, the first and the second page of the image, a leaf, one past the last.
+        *((c, 0, number) for number in (c, b, a, 1, 2, leaf, past, 2**32 - 1)),
+        # A page before the last names itself, or the one before it.
+        *((a, 0, a), (b, 0, b), (b, 0, a)),
+        # There is no page, or one is left out.
+        *((leaf, link, 0), (a, 0, 0), (b, 0, 0), (leaf, link, b), (leaf, link, c), (a, 0, c)),
+        # The chain leaves the image.
+        *((leaf, link, past), (a, 0, past), (b, 0, past), (leaf, link, 2**32 - 1), (a, 0, 2**31), (b, 0, 2**32 - 1)),
+    ):
+        what = f"page {page} names {number}"
+        yield what, patched(image, page, offset, number.to_bytes(4, "big")), fault_line(12, leaf)
+
+
+def broken_sizes() -> Iterator[tuple[str, bytes, bytes]]:
+    """A payload that isn't longer than its image, and one that says so of itself."""
+    writer, tree, _ = long_values("TEXT", [100, 2000], least=9)
+    image = bytes(writer.image())
+    leaf = tree.leaves[1]
+    for size, line in (
+        (2000, fault_line(31)),
+        (len(image), fault_line(12, leaf)),
+        (len(image) + 1, fault_line(11, leaf)),
+        # Of which 32 bits are that of the payload; the greatest number, and -1.
+        ((1 << 32) + 2000, fault_line(11, leaf)),
+        (2**63 - 1, fault_line(11, leaf)),
+        (2**64 - 1, fault_line(11, leaf)),
+    ):
+        yield f"a payload of {size} bytes", patched(image, leaf, cell_offset(image, leaf, 0), varint(size, 9)), line
+
+
+def try_chains(trial: Trial) -> None:
+    """Payloads about the sizes at which they go on in one overflow page more, and chains that are broken."""
+    for kind in ("TEXT", "BLOB"):
+        for size in (477, 478, 985, 2000, 2002):
+            writer, tree, lines = long_values(kind, [size] * 3)
+            trial.sound(f"{kind} of {size} bytes", bytes(writer.image()), {"SELECT body FROM t": lines})
+    # The pages of a chain are none of the tree's.
+    for length, chains in ((470, 0), (471, 1)):
+        writer = Writer()
+        tree = writer.table("item", ITEM, [(1, record([None, "x" * length, 300]))])
+        assert len(tree.chains) == chains
+        what, answers = f"a text of {length} letters", {"SELECT qty, name FROM item": f"300,'{'x' * length}'\n"}
+        trial.counted(what, bytes(writer.image()), "item 1 1 0\n")
+        trial.sound(what, bytes(writer.image()), answers)
+    writer = Writer()
+    rows = [(rowid, record([rowid, ""])) for rowid in range(1, 4)]
+    writer.table("t", f"CREATE TABLE t(body INT, {'long' * 300} TEXT) STRICT", rows, leaf=1)
+    image = bytes(writer.image())
+    trial.sound("a row of the schema with a chain", image, {"SELECT body FROM t": "1\n2\n3\n"})
+    ((first, last),) = writer.schema.chains
+    for page, number in ((first, 0), (first, first), (last, last)):
+        other = patched(image, page, 0, number.to_bytes(4, "big"))
+        trial.refused(f"the schema's page {page} names {number}", other, fault_line(12, 1))
+    for what, image, line in (*broken_chains(), *broken_sizes()):
+        trial.refused(what, image, line)
+
+
+def main() -> int:
+    """Builds the program, and tries the images."""
+    build()
+    tally = Tally()
+    with tempfile.TemporaryDirectory() as folder:
+        trial = Trial(tally, Path(folder))
+        for attempt in (try_answers, try_records, try_schemas, try_trees, try_chains):
+            attempt(trial)
+    return tally.finish()
+
+
+if __name__ == "__main__":
+    sys.exit(main())

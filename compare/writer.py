@@ -1,0 +1,149 @@
+"""Writes images byte by byte, so that a page may have what SQLite never writes. (Database File Format, sections 1.3, 1.6
+and 2.1)"""
+
+from __future__ import annotations
+
+import struct
+from collections.abc import Iterable
+from dataclasses import dataclass, field
+
+from pages import INTERIOR, LEAF, set_number
+
+# The serial type of a value, and its bytes.
+Field = tuple[int, bytes]
+Value = int | str | bytes | None
+
+WIDTHS = {1: 1, 2: 2, 3: 3, 4: 4, 5: 6, 6: 8}
+
+
+def varint(number: int, least: int = 1) -> bytes:
+    """A number of 64 bits as a varint of at least so many bytes."""
+    number &= 2**64 - 1
+    if least == 9 or number >= 1 << 56:
+        return bytes(128 | number >> shift & 127 for shift in range(57, 7, -7)) + bytes([number & 255])
+    width = max(least, -(-number.bit_length() // 7), 1)
+    groups = [number >> 7 * place & 127 for place in reversed(range(width))]
+    return bytes([*(128 | group for group in groups[:-1]), groups[-1]])
+
+
+def stored(value: Value) -> Field:
+    """A value in as few bytes as may be."""
+    if value is None:
+        return 0, b""
+    if isinstance(value, str):
+        return 13 + 2 * len(value.encode()), value.encode()
+    if isinstance(value, bytes):
+        return 12 + 2 * len(value), value
+    if value in (0, 1):
+        return 8 + value, b""
+    return next(integer(value, kind) for kind, width in WIDTHS.items() if -1 << 8 * width - 1 <= value < 1 << 8 * width - 1)
+
+
+def integer(number: int, kind: int) -> Field:
+    """A number in as many bytes as its serial type says."""
+    return kind, number.to_bytes(WIDTHS[kind], "big", signed=True)
+
+
+def record(fields: Iterable[Field | Value]) -> bytes:
+    """The record of some values."""
+    pairs = [one if isinstance(one, tuple) else stored(one) for one in fields]
+    types = b"".join(varint(kind) for kind, _ in pairs)
+    length = len(types) + 1 if len(types) < 127 else len(types) + 2
+    return varint(length) + types + b"".join(body for _, body in pairs)
+
+
+@dataclass
+class Tree:
+    """Where the pages of a table stand: the levels from the root down, and the overflow pages of each row that has some."""
+
+    levels: list[list[int]]
+    chains: list[list[int]] = field(default_factory=list)
+
+    @property
+    def root(self) -> int:
+        return self.levels[0][0]
+
+    @property
+    def leaves(self) -> list[int]:
+        return self.levels[-1]
+
+
+class Writer:
+    """An image in the making. The schema stands on page 1 alone."""
+
+    def __init__(self, size: int = 512) -> None:
+        self.size = size
+        self.pages: list[bytes] = [b""]
+        self.objects: list[bytes] = []
+        self.schema = Tree([[1]])
+
+    def add(self, page: bytes) -> int:
+        """Adds a page, and tells its number."""
+        self.pages.append(page)
+        return len(self.pages)
+
+    def page(self, head: bytes, cells: list[bytes], first: int = 0) -> bytes:
+        """A page of a tree: its flag and, where it has one, its right child; its cells from the end on."""
+        assert first + len(head) + 7 + sum(len(cell) + 2 for cell in cells) <= self.size, "the cells don't fit"
+        places, end = [], self.size
+        for cell in cells:
+            end -= len(cell)
+            places.append(end)
+        flag, right = head[:1], head[1:]
+        counts = struct.pack(">HHHB", 0, len(cells), end % 65536, 0)
+        front = bytes(first) + flag + counts + right + b"".join(struct.pack(">H", place) for place in places)
+        return front + bytes(end - len(front)) + b"".join(reversed(cells))
+
+    def cell(self, rowid: int, payload: bytes, chains: list[list[int]], least: int = 1) -> bytes:
+        """The cell of a row. What the page doesn't keep of the payload goes on in overflow pages."""
+        most, fewest, room = self.size - 35, (self.size - 12) * 32 // 255 - 23, self.size - 4
+        front = varint(len(payload), least) + varint(rowid, least)
+        if len(payload) <= most:
+            return front + payload
+        local = fewest + (len(payload) - fewest) % room
+        local = local if local <= most else fewest
+        rest = [payload[place : place + room] for place in range(local, len(payload), room)]
+        numbers = list(range(len(self.pages) + 1, len(self.pages) + 1 + len(rest)))
+        for piece, after in zip(rest, [*numbers[1:], 0]):
+            self.add(struct.pack(">I", after) + piece + bytes(room - len(piece)))
+        chains.append(numbers)
+        return front + payload[:local] + struct.pack(">I", numbers[0])
+
+    def table(
+        self, name: str, sql: str, rows: list[tuple[int, bytes]], *, leaf: int = 1000, fan: int = 1000, least: int = 1
+    ) -> Tree:
+        """Adds a table of these rows (rowid and record), so many on a leaf, so many children under a page, and varints of
+        at least so many bytes."""
+        chains: list[list[int]] = []
+        groups = [rows[place : place + leaf] for place in range(0, len(rows), leaf)] or [[]]
+        level = []
+        for group in groups:
+            cells = [self.cell(rowid, payload, chains, least) for rowid, payload in group]
+            level.append((self.add(self.page(bytes([LEAF]), cells)), group[-1][0] if group else 0))
+        levels = [[number for number, _ in level]]
+        while len(level) > 1:
+            level = [self.parent(level[place : place + fan], least) for place in range(0, len(level), fan)]
+            levels.insert(0, [number for number, _ in level])
+        self.object("table", name, name, levels[0][0], sql)
+        return Tree(levels, chains)
+
+    def parent(self, children: list[tuple[int, int]], least: int) -> tuple[int, int]:
+        """Adds the page above some pages, each told with its greatest rowid."""
+        cells = [struct.pack(">I", number) + varint(key, least) for number, key in children[:-1]]
+        right, last = children[-1]
+        return self.add(self.page(bytes([INTERIOR]) + struct.pack(">I", right), cells)), last
+
+    def object(self, *values: Field | Value) -> None:
+        """Adds a row of the schema."""
+        self.objects.append(record(values))
+
+    def image(self) -> bytearray:
+        """The image, whose header says what its pages are."""
+        rows = enumerate(self.objects, 1)
+        cells = [self.cell(rowid, payload, self.schema.chains) for rowid, payload in rows]
+        whole = bytearray(self.page(bytes([LEAF]), cells, 100) + b"".join(self.pages[1:]))
+        whole[:16] = b"SQLite format 3\0"
+        whole[16:24] = struct.pack(">H6B", self.size % 65535 if self.size == 65536 else self.size, 1, 1, 0, 64, 32, 32)
+        for place, number in ((24, 1), (28, len(self.pages)), (40, 1), (44, 4), (56, 1), (92, 1), (96, 3040001)):
+            set_number(whole, place, 4, number)
+        return whole
