@@ -6,7 +6,7 @@ from collections.abc import Iterator
 from pathlib import Path
 from random import Random
 
-from oracle import Reader
+from oracle import Reader, header_line
 from program import Tally, fault_line, refusal_problem, run
 from recipes import make_file
 from sound import answer_problem
@@ -123,6 +123,7 @@ def headers(path: Path) -> Iterator[tuple[str, bytes, int]]:
     image = path.read_bytes()
     yield "no bytes", b"", 1
     yield "99 bytes", image[:99], 1
+    yield "100 bytes of no database", b"x" * 100, 2
     yield "100 bytes", image[:100], 9
     yield "another first byte", b"s" + image[1:], 2
     yield "text", b"a text that is no database\n" * 40, 2
@@ -199,14 +200,32 @@ def try_texts(tally: Tally, path: Path) -> None:
 def try_commands(tally: Tally, path: Path) -> None:
     """Tries command lines: those that are refused say so on standard error alone."""
     from_script(path, ITEM)
-    for words in (
-        *([], [path], [path, SELECT, "more"], ["--nothing", path, SELECT], ["--cache", path, SELECT]),
-        *(["--cache", number, path, SELECT] for number in ("0", "100001", "-1", "", "two", "99999999999999999999")),
-        [path, b"SELECT \xff"],
+    for words, said in (
+        ([], b"required arguments were not provided:\n  <IMAGE>\n  <SQL>"),
+        ([path], b"required arguments were not provided:\n  <SQL>"),
+        ([path, SELECT, "more"], b"unexpected argument 'more'"),
+        (["--nothing", path, SELECT], b"unexpected argument '--nothing'"),
+        (["--cache", path, SELECT], b"invalid value"),
+        (["--cache", "1", "--cache", "1", path, SELECT], b"cannot be used multiple times"),
+        *((["--cache", number, path, SELECT], b"is not in 1..=100000") for number in ("0", "100001")),
+        *((["--cache", number, path, SELECT], b"") for number in ("-1", "", "two", "99999999999999999999")),
+        ([path, b"SELECT \xff"], b""),
     ):
         answer = run(*words)
-        refused = answer.status == 2 and answer.out == b"" and answer.err != b""
-        tally.add(f"the words {words}", "" if refused else f"{answer}; wanted status 2 and a text on standard error")
+        refused = answer.status == 2 and answer.out == b"" and answer.err != b"" and said in answer.err
+        tally.add(f"the words {words}", "" if refused else f"{answer}; wanted status 2 and {said!r} on standard error")
+    with Reader(path) as reader:
+        rows = reader.lines("item", ["id", "name"])
+    head = header_line(["id", "name"])
+    for words, first in (
+        ([path, SELECT], b""),
+        (["--header", path, SELECT], head),
+        (["--cache", "1", path, SELECT], b""),
+        ([path, SELECT, "--header", "--cache=100000"], head),
+        (["--cache", "7", "--", path, SELECT], b""),
+        (["--", path, f"-- a comment\n{SELECT}"], b""),
+    ):
+        tally.add(f"the words {words}", answer_problem(run(*words), rows, first))
     answer = run("--help")
     helped = answer.status == 0 and answer.out != b"" and answer.err == b""
     tally.add("--help", "" if helped else str(answer))

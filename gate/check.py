@@ -95,7 +95,8 @@ def scripts(folder: Path, more: dict[str, str], rounds: list[str]) -> list[Part]
     """The comparisons, over programs that are built."""
     more = {**more, "BUILT": "1"}
     shells = [Part(name, ["sh", f"compare/{name}.sh"], folder, more) for name in ("forged", "counts", "tables", "answers")]
-    return [Part("outside", ["python3", "compare/outside.py", "--built", *rounds], folder, more), *shells]
+    worked = Part("worked", ["python3", "compare/worked.py"], folder, more)
+    return [Part("outside", ["python3", "compare/outside.py", "--built", *rounds], folder, more), worked, *shells]
 
 
 def run_beside(parts: list[Part], total: Sum) -> None:

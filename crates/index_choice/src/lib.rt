@@ -16,8 +16,6 @@ mod conjuncts;
 mod costs;
 pub mod laws;
 mod sources;
-#[cfg(test)]
-mod tests;
 
 pub use choice::{Path, Search, best, paths};
 pub use comparisons::{ColumnBound, Side, bounds};

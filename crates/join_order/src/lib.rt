@@ -11,8 +11,6 @@ pub mod laws;
 mod price;
 mod search;
 mod sums;
-#[cfg(test)]
-mod tests;
 
 pub use joined::Joined;
 pub use price::{Price, Pricing};

@@ -14,8 +14,6 @@ mod prepared;
 mod program;
 mod query;
 mod stream;
-#[cfg(test)]
-mod tests;
 
 pub use args::{Args, MAX_CACHE};
 pub use engine::Engine;

@@ -4,7 +4,8 @@
 //!
 //! The modules: `literals` and `sinks` (values as text, their order, and where text is written to), `headers` and `pages`
 //! (an image's bytes), `record_rows` (records), `lines` (rows as text), `catalogs` (the schema's rows), `places` (names
-//! and SELECTs over a catalog), `expressions` (values of expressions) and `layouts` (forged images).
+//! and SELECTs over a catalog), `expressions` (values of expressions), `paths` and `orders` (what plans cost, the latter
+//! over `joined_tables`) and `layouts` (forged images).
 #![tactic(auto)]
 
 #[cfg(test)]
@@ -14,13 +15,19 @@ mod expressions;
 #[cfg(test)]
 mod headers;
 #[cfg(test)]
+mod joined_tables;
+#[cfg(test)]
 mod layouts;
 #[cfg(test)]
 mod lines;
 #[cfg(test)]
 mod literals;
 #[cfg(test)]
+mod orders;
+#[cfg(test)]
 mod pages;
+#[cfg(test)]
+mod paths;
 #[cfg(test)]
 mod places;
 #[cfg(test)]

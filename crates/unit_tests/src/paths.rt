@@ -1,7 +1,7 @@
 //! The paths of worked tables, with what they are expected to cost and to give.
 
-use crate::{Conjunct, Key, Path, Source, TreeCounts, best, implying, paths};
 use expr::{Comparison, Expr, Function};
+use index_choice::{Conjunct, Key, Path, Source, TreeCounts, best, implying, paths};
 use std::alloc::{AllocError, Global};
 use std::test::Fail;
 use values::Value;

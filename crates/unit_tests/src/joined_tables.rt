@@ -1,7 +1,7 @@
 //! Two hundred written tables of counts, of one to seven sources: a line each, and for each source its pages, its rows,
 //! its levels, and the source whose rowid its own equals, or itself where it equals none.
 
-pub(super) const TABLES: &str = "\
+pub(crate) const TABLES: &str = "\
 1 4 1 0
 1 1 1 0; 200 2000 3 1
 1 4 1 0; 700 700 3 0; 1 4 1 0

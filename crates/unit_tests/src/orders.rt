@@ -1,13 +1,11 @@
 //! The least order of worked sources, and of two hundred tables of counts by a second answerer.
-mod tables;
-
-use crate::{Joined, Pricing, least_order};
+use crate::joined_tables::TABLES;
 use expr::{Comparison, Expr};
 use index_choice::{Conjunct, Key, Source, TreeCounts};
 use itertools::Itertools;
+use join_order::{Joined, Pricing, least_order};
 use std::alloc::{AllocError, Global};
 use std::test::Fail;
-use tables::TABLES;
 
 /// The pages, the rows and the levels of a table of one column, its rowid, and the table whose rowid this equals, or
 /// itself where it equals none.
