@@ -18,7 +18,7 @@ from oracle import Reader
 from pages import INTERIOR, cell_places, number_at
 from program import TOP, Run, Tally, build, fault_line, refusal_problem, run
 from recipes import make_file
-from writer import Field, Tree, Value, Writer, integer, record, stored, varint
+from writer import WIDTHS, Field, Tree, Value, Writer, integer, record, stored, varint
 
 COUNTS = TOP / "crates" / "table_counts" / "out" / "table_counts"
 
@@ -412,13 +412,70 @@ def try_chains(trial: Trial) -> None:
         trial.refused(what, image, line)
 
 
+# Numbers next to each bound of a serial type.
+BOUNDS = [
+    *(-(2**63), -(2**47) - 1, -(2**47), -(2**31) - 1, -(2**15) - 1, -129, -128, 0, 1, 2, 127, 128, 2**15, 2**23),
+    *(2**47 - 1, 2**63 - 1),
+]
+
+
+def sized(size: int, reserved: int) -> tuple[Writer, str]:
+    """Forty texts about the lengths at which a payload goes on in an overflow page, in pages with reserved bytes, and the
+    lines of the rows."""
+    writer, rows, lines, usable = Writer(size, reserved), [], [], size - reserved
+    for rowid in range(1, 41):
+        text = ("0123456789" * size)[: (usable - 12) * 64 // 255 + rowid - 33 if rowid <= 20 else usable + rowid - 66]
+        rows.append((rowid, record([None, text])))
+        lines.append(f"{rowid},'{text}'\n")
+    writer.table("t", "CREATE TABLE t(id INTEGER PRIMARY KEY, b TEXT) STRICT", rows, leaf=1, fan=9)
+    return writer, "".join(lines)
+
+
+def try_kept(trial: Trial) -> None:
+    """The images that the tests of `acceptance` read are those that are written here."""
+    folder = TOP / "crates" / "acceptance" / "data"
+    rows, _ = numbers(1, 60, leaf=4, fan=3)
+    chains, _, _ = long_values("BLOB", [2000, 477, 985])
+    for name, writer in (("rows", rows), ("chains", chains)):
+        is_same = (folder / f"{name}.db").read_bytes() == writer.image()
+        trial.tally.add(f"data/{name}.db", "" if is_same else "it isn't the image that is written here")
+
+
+def try_layouts(trial: Trial) -> None:
+    """Values of each serial type, numbers and varints in more bytes than needed, unused and reserved bytes, page sizes."""
+    writer, wide = Writer(4096), Writer(1024)
+    rows = [(rowid, record([number, "it's", b"\0\xff"])) for rowid, number in enumerate(BOUNDS, -8)]
+    writer.table("t", "CREATE TABLE t(a INT, b TEXT, c BLOB) STRICT", [*rows, (2**63 - 1, record([None, "", b""]))])
+    lines = "".join(f"{number},'it''s',X'00FF'\n" for number in BOUNDS)
+    trial.sound("values", bytes(writer.image()), {"SELECT * FROM t": f"{lines}NULL,'',X''\n"})
+    for least in (3, 8):
+        rows = [(kind, record([integer(0, kind), integer(1, kind), integer(-2, kind), "nut"])) for kind in WIDTHS]
+        wide.table(f"t{least}", f"CREATE TABLE t{least}(a INT, b INT, c INT, d TEXT) STRICT", rows, least=least)
+        trial.sound(f"varints of {least} bytes", bytes(wide.image()), {f"SELECT * FROM t{least}": "0,1,-2,'nut'\n" * 6})
+    for gap in (1, 3, 4, 11):
+        gaps = Writer(512, gap=gap)
+        gaps.table("t", NUMBERS, [(rowid, record([None, rowid, "row"])) for rowid in range(1, 101)], leaf=9, fan=5)
+        lines = "".join(f"{rowid},{rowid},'row'\n" for rowid in range(1, 101))
+        trial.sound(f"gaps of {gap} bytes", bytes(gaps.image()), {"SELECT * FROM t": lines})
+    sizes = (512, 32), (1024, 0), (2048, 1), (4096, 8), (8192, 255), (16384, 0), (32768, 0), (65536, 255)
+    for size, reserved in sizes:
+        writer, lines = sized(size, reserved)
+        trial.sound(f"pages of {size} bytes", bytes(writer.image()), {"SELECT * FROM t": lines})
+    writer = Writer(512, 7)
+    texts = [(rowid, ("0123456789" * 120)[:rowid]) for rowid in range(1, 1200)]
+    rows = [(rowid, record([None, text, rowid])) for rowid, text in texts]
+    writer.table("t", "CREATE TABLE t(id INTEGER PRIMARY KEY, b TEXT, n INT) STRICT", rows, leaf=1, fan=30)
+    lines = "".join(f"{rowid},'{text}',{rowid}\n" for rowid, text in texts)
+    trial.sound("texts of each length", bytes(writer.image()), {"SELECT * FROM t": lines})
+
+
 def main() -> int:
     """Builds the program, and tries the images."""
     build()
     tally = Tally()
     with tempfile.TemporaryDirectory() as folder:
         trial = Trial(tally, Path(folder))
-        for attempt in (try_answers, try_records, try_schemas, try_trees, try_chains):
+        for attempt in (try_answers, try_records, try_schemas, try_trees, try_chains, try_layouts, try_kept):
             attempt(trial)
     return tally.finish()
 

@@ -69,10 +69,12 @@ class Tree:
 
 
 class Writer:
-    """An image in the making. The schema stands on page 1 alone."""
+    """An image in the making. The schema stands on page 1 alone. So many bytes are reserved at each page's end, and so many
+    lie unused before each cell, as deleted rows leave them."""
 
-    def __init__(self, size: int = 512) -> None:
-        self.size = size
+    def __init__(self, size: int = 512, reserved: int = 0, gap: int = 0) -> None:
+        self.size, self.reserved, self.gap = size, reserved, gap
+        self.usable = size - reserved
         self.pages: list[bytes] = [b""]
         self.objects: list[bytes] = []
         self.schema = Tree([[1]])
@@ -83,20 +85,28 @@ class Writer:
         return len(self.pages)
 
     def page(self, head: bytes, cells: list[bytes], first: int = 0) -> bytes:
-        """A page of a tree: its flag and, where it has one, its right child; its cells from the end on."""
-        assert first + len(head) + 7 + sum(len(cell) + 2 for cell in cells) <= self.size, "the cells don't fit"
-        places, end = [], self.size
+        """A page of a tree: its flag and, where it has one, its right child; its cells from the end on, each with the gap
+        before it: a freeblock, or up to three fragmented bytes."""
+        page, end, freeblock, fragments = bytearray(self.size), self.usable, 0, 0
+        place = first + len(head) + 7
+        assert place + sum(len(cell) + self.gap + 2 for cell in cells) <= end, "the cells don't fit"
         for cell in cells:
             end -= len(cell)
-            places.append(end)
-        flag, right = head[:1], head[1:]
-        counts = struct.pack(">HHHB", 0, len(cells), end % 65536, 0)
-        front = bytes(first) + flag + counts + right + b"".join(struct.pack(">H", place) for place in places)
-        return front + bytes(end - len(front)) + b"".join(reversed(cells))
+            page[end : end + len(cell)] = cell
+            page[place : place + 2] = struct.pack(">H", end)
+            place += 2
+            end -= self.gap
+            if self.gap >= 4:
+                page[end : end + 4] = struct.pack(">HH", freeblock, self.gap)
+                freeblock = end
+            fragments += self.gap if self.gap < 4 else 0
+        page[first : first + 8] = head[:1] + struct.pack(">HHHB", freeblock, len(cells), end % 65536, fragments)
+        page[first + 8 : first + 7 + len(head)] = head[1:]
+        return bytes(page)
 
     def cell(self, rowid: int, payload: bytes, chains: list[list[int]], least: int = 1) -> bytes:
         """The cell of a row. What the page doesn't keep of the payload goes on in overflow pages."""
-        most, fewest, room = self.size - 35, (self.size - 12) * 32 // 255 - 23, self.size - 4
+        most, fewest, room = self.usable - 35, (self.usable - 12) * 32 // 255 - 23, self.usable - 4
         front = varint(len(payload), least) + varint(rowid, least)
         if len(payload) <= most:
             return front + payload
@@ -105,7 +115,7 @@ class Writer:
         rest = [payload[place : place + room] for place in range(local, len(payload), room)]
         numbers = list(range(len(self.pages) + 1, len(self.pages) + 1 + len(rest)))
         for piece, after in zip(rest, [*numbers[1:], 0]):
-            self.add(struct.pack(">I", after) + piece + bytes(room - len(piece)))
+            self.add(struct.pack(">I", after) + piece + bytes(room - len(piece) + self.reserved))
         chains.append(numbers)
         return front + payload[:local] + struct.pack(">I", numbers[0])
 
@@ -143,7 +153,7 @@ class Writer:
         cells = [self.cell(rowid, payload, self.schema.chains) for rowid, payload in rows]
         whole = bytearray(self.page(bytes([LEAF]), cells, 100) + b"".join(self.pages[1:]))
         whole[:16] = b"SQLite format 3\0"
-        whole[16:24] = struct.pack(">H6B", self.size % 65535 if self.size == 65536 else self.size, 1, 1, 0, 64, 32, 32)
+        whole[16:24] = struct.pack(">H6B", 1 if self.size == 65536 else self.size, 1, 1, self.reserved, 64, 32, 32)
         for place, number in ((24, 1), (28, len(self.pages)), (40, 1), (44, 4), (56, 1), (92, 1), (96, 3040001)):
             set_number(whole, place, 4, number)
         return whole

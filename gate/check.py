@@ -31,9 +31,8 @@ from turns import changed_crates
 TOP = Path(__file__).resolve().parent.parent
 # What stands beside the sources and is no part of them.
 MADE = ("out", ".git", "__pycache__")
-# The programs that are run here and by the scripts of compare/, with the words of a run: the first writes into a folder.
+# The programs that are run here and by the scripts of compare/, with the words of a run.
 PROGRAMS = {
-    "forge_images": ["{folder}"],
     "seleq": ["data/shop.db", "SELECT name FROM item"],
     "table_counts": ["data/shop.db"],
     "table_rows": ["data/item.db", "2"],
@@ -94,9 +93,9 @@ class Part:
 def scripts(folder: Path, more: dict[str, str], rounds: list[str]) -> list[Part]:
     """The comparisons, over programs that are built."""
     more = {**more, "BUILT": "1"}
-    shells = [Part(name, ["sh", f"compare/{name}.sh"], folder, more) for name in ("forged", "counts", "tables", "answers")]
-    worked = Part("worked", ["python3", "compare/worked.py"], folder, more)
-    return [Part("outside", ["python3", "compare/outside.py", "--built", *rounds], folder, more), worked, *shells]
+    shells = [Part(name, ["sh", f"compare/{name}.sh"], folder, more) for name in ("counts", "tables", "answers")]
+    ours = [Part(name, ["python3", f"compare/{name}.py"], folder, more) for name in ("worked", "interrupted")]
+    return [Part("outside", ["python3", "compare/outside.py", "--built", *rounds], folder, more), *ours, *shells]
 
 
 def run_beside(parts: list[Part], total: Sum) -> None:
@@ -145,9 +144,7 @@ def check_quick(total: Sum) -> None:
     total.add_one("the layout", all(laid_out))
     is_proved = passes(["rt", "all", "check", "--jobs", str(rt.processors())], TOP)
     total.add_one("the proofs", is_proved)
-    with tempfile.TemporaryDirectory(prefix="check-") as room:
-        runs = {name: [word.format(folder=room) for word in words] for name, words in PROGRAMS.items()}
-        built = is_proved and all(passes(["rt", "run", "--", *words], TOP / "crates" / name) for name, words in runs.items())
+    built = is_proved and all(passes(["rt", "run", "--", *words], TOP / "crates" / name) for name, words in PROGRAMS.items())
     total.add_one("the programs", built)
     if not built:
         return

@@ -5,7 +5,7 @@
 //! The modules: `literals` and `sinks` (values as text, their order, and where text is written to), `headers` and `pages`
 //! (an image's bytes), `record_rows` (records), `lines` (rows as text), `catalogs` (the schema's rows), `places` (names
 //! and SELECTs over a catalog), `expressions` (values of expressions), `paths` and `orders` (what plans cost, the latter
-//! over `joined_tables`) and `layouts` (forged images).
+//! over `joined_tables`) and `failing` (sources and sinks that fail).
 #![tactic(auto)]
 
 #[cfg(test)]
@@ -13,11 +13,11 @@ mod catalogs;
 #[cfg(test)]
 mod expressions;
 #[cfg(test)]
+mod failing;
+#[cfg(test)]
 mod headers;
 #[cfg(test)]
 mod joined_tables;
-#[cfg(test)]
-mod layouts;
 #[cfg(test)]
 mod lines;
 #[cfg(test)]

@@ -1,6 +1,6 @@
 //! Rows as lines of text.
 use explain::{row_text, rows_text};
-use forge::ScriptSink;
+use scripted::ScriptSink;
 use std::alloc::{AllocError, Global};
 use std::test::Fail;
 use values::{Fault, MemSink, Row, ValueRef};

@@ -1,5 +1,5 @@
 //! Values as SQL text, faults as lines, and the order of values and of rows.
-use forge::ScriptSink;
+use scripted::ScriptSink;
 use std::alloc::{AllocError, Global};
 use std::collections::HashMap;
 use std::test::Fail;

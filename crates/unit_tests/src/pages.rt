@@ -1,7 +1,7 @@
 //! Pages, as a pager keeps them and reads them.
 use crate::headers::three_pages;
-use forge::{ReadScript, ScriptSource};
 use pager::{FileSource, Pager};
+use scripted::{ReadScript, ScriptSource};
 use std::alloc::Global;
 use std::fs;
 use std::num::NonZeroUsize;

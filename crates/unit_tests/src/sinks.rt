@@ -1,5 +1,5 @@
 //! Sinks that gather small pieces, and one over a writer.
-use forge::ScriptSink;
+use scripted::ScriptSink;
 use std::alloc::Global;
 use std::test::Fail;
 use values::{Fault, Gathered, MemSink, Sink, Value, WriteSink, write_all, write_literal};

@@ -1,0 +1,194 @@
+#!/usr/bin/env python3
+"""Interrupts the program: each of its reads fails in turn, each byte of its output is the last that is taken, and the image is
+another from each read on. It calls the C library's pread and write, which devices.c stands before. How many reads there are
+is what the documents promise: the header, each page once at opening and each page of the answer's table once more.
+
+Run from any folder. The last line is 'N passed, M failed'.
+"""
+
+from __future__ import annotations
+
+import os
+import subprocess
+import sys
+import tempfile
+from dataclasses import dataclass
+from pathlib import Path
+
+from program import Run, Tally, build, fault_line, rows_of, run
+from worked import cell_offset, long_values, numbers, patched
+from writer import Tree, Writer, record
+
+SOURCE = Path(__file__).resolve().parent / "devices.c"
+READ_FAILED, CHANGED, WRITE_FAILED = fault_line(27), fault_line(51), fault_line(52)
+
+
+@dataclass
+class Case:
+    """An image, a statement over it, the answer's lines, and how many reads opening and running take with a cache of one
+    page."""
+
+    what: str
+    image: bytes
+    sql: str
+    lines: str
+    opening: int
+    running: int
+
+    def words(self, path: Path) -> list[object]:
+        return ["--cache", "1", path, self.sql]
+
+    def whole(self) -> Run:
+        return Run(0, self.lines.encode(), b"")
+
+
+class Interrupter:
+    """Runs the program behind the library, and counts."""
+
+    def __init__(self, tally: Tally, folder: Path) -> None:
+        self.tally, self.path = tally, folder / "image.db"
+        self.other, self.count = folder / "other.db", folder / "count"
+        self.library = folder / "devices.so"
+        words = ["gcc", "-O1", "-Wall", "-fno-builtin", "-shared", "-fPIC", "-o", str(self.library), str(SOURCE), "-ldl"]
+        subprocess.run(words, check=True)
+
+    def run(self, case: Case, **settings: object) -> tuple[Run, int]:
+        """A run with these settings of the library, and how many reads it made."""
+        told = {name: str(value) for name, value in settings.items()}
+        environment = {**os.environ, "LD_PRELOAD": str(self.library), "READ_COUNT": str(self.count), **told}
+        answer = run(*case.words(self.path), env=environment)
+        return answer, int(self.count.read_text())
+
+    def stopped(self, what: str, case: Case, answer: Run, *lines: bytes) -> None:
+        """The answer is one of these faults behind the first whole rows of the answer."""
+        rows, whole = rows_of(answer.out), rows_of(case.lines.encode())
+        begins = rows is not None and whole is not None and rows == whole[: len(rows)] and len(rows) < len(whole)
+        is_well = answer.status == 1 and answer.err in lines and begins
+        self.tally.add(f"{case.what}, {what}", "" if is_well else f"{answer}; wanted {lines}")
+
+    def try_reads(self, case: Case) -> None:
+        """Each read fails in turn, alone or with all behind it; and how many there are."""
+        answer, reads = self.run(case)
+        problem = "" if answer == case.whole() else str(answer)
+        wanted = case.opening + case.running
+        self.tally.add(f"{case.what}, whole", problem or ("" if reads == wanted else f"{reads} reads, not {wanted}"))
+        for read in range(1, wanted + 1):
+            answer, met = self.run(case, READ_FAILS=read)
+            self.stopped(f"read {read} fails", case, answer, READ_FAILED)
+            self.tally.add(f"{case.what}, reads when read {read} fails", "" if met == read else f"{met} reads")
+
+    def try_writes(self, case: Case) -> None:
+        """Standard output takes so many bytes, in steps, and then none."""
+        text = case.lines.encode()
+        for step in (1, 5, 0):
+            for room in range(len(text) + 1):
+                answer, _ = self.run(case, WRITE_ROOM=room, WRITE_STEP=step)
+                wanted = Run(0, text, b"") if room == len(text) else Run(1, text[:room], WRITE_FAILED)
+                self.tally.add(f"{case.what}, room {room}, step {step}", "" if answer == wanted else str(answer))
+
+    def try_change(self, what: str, case: Case, other: bytes, *lines: bytes) -> None:
+        """The image is another from each read of the run on. Where lines are given, the run ends with one of these."""
+        self.other.write_bytes(other)
+        for read in range(case.opening + 1, case.opening + case.running + 1):
+            answer, _ = self.run(case, READ_OTHER=read, OTHER=self.other)
+            is_whole = answer.status == 0 and answer.err == b"" and rows_of(answer.out) is not None
+            is_stopped = answer.status == 1 and answer.err in (lines or (READ_FAILED, CHANGED)) and rows_of(answer.out) is not None
+            is_well = is_stopped or (is_whole and not lines)
+            self.tally.add(f"{case.what}, {what} from read {read} on", "" if is_well else str(answer))
+        answer, _ = self.run(case, READ_OTHER=case.opening + case.running + 1, OTHER=self.other)
+        self.tally.add(f"{case.what}, {what} behind the last read", "" if answer == case.whole() else str(answer))
+
+
+def small() -> tuple[Case, Writer, Tree]:
+    """Sixty rows, four on a leaf and three children under a page."""
+    writer, tree = numbers(1, 60, leaf=4, fan=3)
+    pages = sum(len(level) for level in tree.levels)
+    lines = "".join(f"{number}\n" for number in range(1, 61))
+    return Case("60 rows", bytes(writer.image()), "SELECT a FROM t", lines, len(writer.pages) + 1, pages), writer, tree
+
+
+def chains() -> Case:
+    """Three rows, two of which have chains of three pages and of one."""
+    writer, tree, lines = long_values("BLOB", [2000, 477, 985])
+    chained = sum(len(chain) for chain in tree.chains)
+    running = sum(len(level) for level in tree.levels) + chained
+    return Case("chains", bytes(writer.image()), "SELECT body FROM t", lines, len(writer.pages) + 1, running)
+
+
+def long_schema() -> Case:
+    """A row of the schema that goes on in overflow pages. Opening reads these twice."""
+    writer = Writer()
+    rows = [(rowid, record([rowid, ""])) for rowid in range(1, 4)]
+    tree = writer.table("t", f"CREATE TABLE t(body INT, {'long' * 300} TEXT) STRICT", rows, leaf=1)
+    image = bytes(writer.image())
+    return Case("a long schema", image, "SELECT body FROM t", "1\n2\n3\n", len(writer.pages) + 3, len(tree.leaves) + 1)
+
+
+def try_rows(interrupter: Interrupter) -> None:
+    """A table of some levels."""
+    case, writer, tree = small()
+    interrupter.path.write_bytes(case.image)
+    interrupter.try_reads(case)
+    image, root, leaf = case.image, tree.root, tree.leaves[7]
+    cell = cell_offset(image, leaf, 2)
+    further, _ = numbers(1000, 60, leaf=3, fan=2)
+    fewer, _ = numbers(1000, 2)
+    for what, other, *lines in (
+        ("a table of other rows", bytes(further.image())),
+        ("a table of two rows", bytes(fewer.image())),
+        ("a root below itself", patched(image, root, 8, root.to_bytes(4, "big"))),
+        ("the leaf of an index", patched(image, leaf, 0, b"\x0a")),
+        ("a payload that goes on", patched(image, leaf, cell, b"\xc8\x01")),
+        ("a record that is none", patched(image, leaf, cell + 2, b"\x09")),
+        ("zeros", bytes(len(image)), CHANGED),
+        ("no bytes", b"", READ_FAILED),
+    ):
+        interrupter.try_change(what, case, other, *lines)
+
+
+def try_chains(interrupter: Interrupter) -> None:
+    """Rows with overflow pages, and a schema with some."""
+    for case in (chains(), long_schema()):
+        interrupter.path.write_bytes(case.image)
+        interrupter.try_reads(case)
+    writer, tree, lines = long_values("TEXT", [2000, 2000])
+    image, leaf, (a, b, c) = bytes(writer.image()), tree.leaves[1], tree.chains[1]
+    case = Case("two chains", image, "SELECT body FROM t", lines, len(writer.pages) + 1, 9)
+    interrupter.path.write_bytes(image)
+    interrupter.try_reads(case)
+    for page, offset, number in ((leaf, cell_offset(image, leaf, 0) + 479, 0), (a, 0, a), (b, 0, 0), (c, 0, c), (c, 0, 1)):
+        other = patched(image, page, offset, number.to_bytes(4, "big"))
+        interrupter.try_change(f"page {page} that names {number}", case, other)
+
+
+def try_outputs(interrupter: Interrupter) -> None:
+    """Outputs that take some bytes, and no read behind a failed write."""
+    writer, tree = numbers(1, 12, leaf=4, fan=3)
+    lines = "".join(f"{number}\n" for number in range(1, 13))
+    case = Case("12 rows", bytes(writer.image()), "SELECT a FROM t", lines, len(writer.pages) + 1, 4)
+    interrupter.path.write_bytes(case.image)
+    interrupter.try_writes(case)
+    # Behind a failed write nothing is read: the output is gathered, and that of these rows fills the memory for it often.
+    writer, tree, lines = long_values("TEXT", [400] * 1000, fan=20)
+    running = sum(len(level) for level in tree.levels)
+    case = Case("1,000 rows", bytes(writer.image()), "SELECT body FROM t", lines, len(writer.pages) + 1, running)
+    interrupter.path.write_bytes(case.image)
+    answer, reads = interrupter.run(case, WRITE_ROOM=0)
+    interrupter.stopped("no room", case, answer, WRITE_FAILED)
+    problem = "" if case.opening < reads < case.opening + running // 4 else f"{reads} reads"
+    interrupter.tally.add(f"{case.what}, reads behind a failed write", problem)
+
+
+def main() -> int:
+    """Builds the program, and interrupts it."""
+    build()
+    tally = Tally()
+    with tempfile.TemporaryDirectory() as folder:
+        interrupter = Interrupter(tally, Path(folder))
+        for attempt in (try_rows, try_chains, try_outputs):
+            attempt(interrupter)
+    return tally.finish()
+
+
+if __name__ == "__main__":
+    sys.exit(main())
