@@ -432,8 +432,8 @@ def sized(size: int, reserved: int) -> tuple[Writer, str]:
 
 
 def try_kept(trial: Trial) -> None:
-    """The images that the tests of `acceptance` read are those that are written here."""
-    folder = TOP / "crates" / "acceptance" / "data"
+    """The images that the program `further_runs` reads are those that are written here."""
+    folder = TOP / "crates" / "further_runs" / "data"
     rows, _ = numbers(1, 60, leaf=4, fan=3)
     chains, _, _ = long_values("BLOB", [2000, 477, 985])
     for name, writer in (("rows", rows), ("chains", chains)):

@@ -33,6 +33,7 @@ TOP = Path(__file__).resolve().parent.parent
 MADE = ("out", ".git", "__pycache__")
 # The programs that are run here and by the scripts of compare/, with the words of a run.
 PROGRAMS = {
+    "further_runs": ["data/rows.db", "data/chains.db"],
     "seleq": ["data/shop.db", "SELECT name FROM item"],
     "table_counts": ["data/shop.db"],
     "table_rows": ["data/item.db", "2"],
