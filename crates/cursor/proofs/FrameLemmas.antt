@@ -2,15 +2,14 @@
 use Rattle.std.proofs.Common.{◌≡◌, ℕ, List, Option, None, Some, ◌+◌, ◌<◌, ◌≤◌, length, take, drop, refl, sym, ◌∙◌, ap, subst, arith, length-drop, length-take}
 use Rattle.std.specs.Prelude.{IfNone, IfOk, IfSome, IsFalse, IsSome, MatchResult, Result, Ok, Err}
 use Rattle.std.specs.Option.{is_some}
-use Rattle.std.proofs.lemmas.List.{drop-drop}
 use Rattle.image.specs.Shape.{place_at}
 use Rattle.image.specs.declared.kind.TreeKind.{TreeKind}
 use Rattle.image.specs.declared.kind.TreeKind.TheVariants.{Table, Index}
 use Rattle.image.specs.declared.kind.Level.{Level}
 use Rattle.image.specs.declared.kind.Level.TheVariants.{Leaf, Interior}
 use Rattle.image.specs.Pages.{Pages}
-use Rattle.image.specs.Tree.{HasCell, HasHeader, IsEntryAt, IsPageOf, cell_at, count_at, entry_at}
-use Rattle.image.specs.Cell.{CellData, HasFitting, IsIndexCell, IsTableCell}
+use Rattle.image.specs.Tree.{HasCell, HasHeader, IsEntryAt, IsPageOf, cell_at, count_at}
+use Rattle.image.specs.Cell.{CellData, IsIndexCell, IsTableCell}
 use Rattle.image.specs.Layout.{HasHeaderAt, cell_count, cell_place, header_at}
 use Rattle.btree.specs.Bytes.{LacksChild, IsEntryCell, IsRowCell, child_size}
 use Rattle.cursor.specs.declared.cursor.Frame.{Frame}
@@ -18,6 +17,7 @@ use Rattle.btree.specs.ViewData.{AreReadable}
 use Rattle.cursor.specs.Rest.{Holds}
 use Rattle.btree.proofs.CellLemmas.{begins_some}
 use Rattle.btree.proofs.PageLemmas.{flag_of-same}
+use Rattle.index_entries.proofs.EntryLemmas.{entry_bytes, entry_cell}
 
 pub IsSome-unless : {T : Type 0} {P : Type 0} (r : Option T) → IfNone r P → (P → ⊥) → IsSome r
 IsSome-unless None p refused = absurd (refused p)
@@ -98,20 +98,6 @@ module _ (image : Pages) (frame : Frame) (usable : ℕ) (holds : Holds image fra
         begins = page.begins i within;
         is = record { is = subst (λ (u : ℕ). IsTableCell u (cell_at image Leaf frame.number i) there.0) (sym long) there.1.is; fits = subst (λ (m : ℕ). there.0.payload.size ≤ m) size there.1.fits };
       }))
-
--- bytes further on
-dropped : (bytes : List ℕ) (place size : ℕ) → drop (place + size) bytes ≡ drop size (drop place bytes)
-dropped bytes place size = sym (drop-drop size place bytes)
-
--- an entry's bytes, as its page has them
-entry_bytes : (image : Pages) (level : Level) (n i : ℕ)
-    → drop (cell_place (header_at n) level (image.page n) i + child_size level) (image.page n) ≡ entry_at image level n i
-entry_bytes image Leaf n i = ap (λ (k : ℕ). drop k (image.page n)) (let e : cell_place (header_at n) Leaf (image.page n) i + 0 ≡ cell_place (header_at n) Leaf (image.page n) i = omega arith in e)
-entry_bytes image Interior n i = dropped (image.page n) (cell_place (header_at n) Interior (image.page n) i) 4
-
-entry_cell : (image : Pages) (level : Level) (n i : ℕ) → HasCell image Index level (cell_at image level n i) → HasFitting image.size (IsIndexCell image.usable (entry_at image level n i))
-entry_cell image Leaf n i cell = cell
-entry_cell image Interior n i cell = cell
 
 module _ (image : Pages) (frame : Frame) (usable : ℕ) (holds : Holds image frame) (same : image.usable ≡ usable) (most : ℕ) (size : image.size ≡ most) where
   -- the entries of a page are there

@@ -6,4 +6,7 @@ pub mod LeftLemmas
 pub mod HeldLemmas
 pub mod WayLemmas
 pub mod SeekLemmas
+pub mod DownLemmas
 pub mod RowSeekLemmas
+pub mod EntrySeekLemmas
+pub mod DepthLemmas

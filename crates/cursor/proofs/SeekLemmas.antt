@@ -1,14 +1,14 @@
 -- A search on its way down: the cells that were left behind come before what is sought, and those after the page don't.
-use Rattle.std.proofs.Common.{◌≡◌, ℕ, zero, suc, ◌+◌, ◌-◌, ◌<◌, ◌≤◌, ◌⊎◌, Bool, true, false, Contains, List, [], ◌∷◌, ◌++◌, refl, sym, ◌∙◌, ap, subst, append_assoc, add-one, ⊎_elim, arith}
+use Rattle.std.proofs.Common.{◌≡◌, ℕ, zero, suc, ◌+◌, ◌-◌, ◌<◌, ◌≤◌, Bool, true, false, Contains, List, [], ◌∷◌, ◌++◌, refl, sym, ◌∙◌, ap, subst, append_assoc, ⊎_elim, arith}
 use Rattle.std.specs.List.{range_with_len, flat_map}
 use Rattle.std.proofs.lemmas.List.Elements.{Contains-append_cases}
 use Rattle.image.specs.declared.kind.TreeKind.{TreeKind}
 use Rattle.image.specs.declared.kind.TreeKind.TheVariants.{Table, Index}
 use Rattle.image.specs.declared.kind.Level.{Level}
-use Rattle.image.specs.declared.kind.Level.TheVariants.{Leaf, Interior}
+use Rattle.image.specs.declared.kind.Level.TheVariants.{Interior}
 use Rattle.image.specs.Pages.{Pages}
 use Rattle.image.specs.Tree.{Place, HasEntries, IsPageOf, StandsAt, below, Reaches, count_at, child_at}
-use Rattle.image.specs.Shape.{HasShape, place_at, places_under, size_under, own_places, with_own}
+use Rattle.image.specs.Shape.{HasShape, places_under, size_under, own_places, with_own}
 use Rattle.image.specs.Broken.{IsInOrder}
 use Rattle.image.specs.Search.{IsCellThat, IsBoundary, IsCut}
 use Rattle.image.proofs.ListLemmas.{in_none, from_fan}

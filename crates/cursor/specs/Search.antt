@@ -1,15 +1,25 @@
 -- What a search answers. (Database File Format, section 1.6 "B-tree Pages")
 use Rattle.std.specs.Prelude.{◌≡◌, ◌⊎◌, ◌+◌, ◌*◌, ◌<◌, ◌≤◌, ℕ, ℤ, suc, Bool, false, Contains, List}
+use Rattle.std.specs.Ordering.{is_lt}
+use Rattle.values.specs.Datum.{Datum}
 use Rattle.values.specs.declared.fault.Fault.{Fault}
+use Rattle.values.specs.declared.fault.Fault.TheVariants.{BadChain, BadRecord, FloatValue, BadText}
 use Rattle.pager.specs.PagerState.{PagerState}
 use Rattle.pager.specs.Calls.{IsReadFault}
-use Rattle.image.specs.declared.kind.TreeKind.TheVariants.{Table}
+use Rattle.image.specs.declared.kind.TreeKind.TheVariants.{Table, Index}
+use Rattle.image.specs.declared.kind.TreeKind.{TreeKind}
+use Rattle.image.specs.declared.kind.Level.{Level}
 use Rattle.image.specs.declared.kind.Level.TheVariants.{Leaf}
 use Rattle.image.specs.Broken.{BlamesMet, HasRowid, IsRowOrder}
+use Rattle.image.specs.Entries.{IsAtPlace, IsEntryOrder}
 use Rattle.image.specs.Pages.{Pages, WhereSteady}
 use Rattle.image.specs.Search.{IsSplit, row_before}
 use Rattle.image.specs.Shape.{IsTreeAt, most_levels, places_under, size_under}
-use Rattle.image.specs.Tree.{Place, Reaches}
+use Rattle.image.specs.Tree.{Place, HasHeader, IsMetAt, IsPageOf, Reaches}
+use Rattle.key_ranges.specs.Ranges.{key_cmp}
+use Rattle.index_entries.specs.declared.columns.IndexKey.{IndexKey}
+use Rattle.index_entries.specs.Entries.{BreaksEntry, AreValuesOf}
+use Rattle.index_entries.specs.Sought.{comes_before}
 use Rattle.cursor.specs.declared.cursor.Cursor.{Cursor}
 use Rattle.cursor.specs.Calls.{IsCursorFault}
 use Rattle.cursor.specs.Left.{steps_left, worth}
@@ -21,12 +31,17 @@ pub record IsSearchable (pages : Pages) (levels root : ℕ) : Type 0 where
   pub tree : IsTreeAt pages Table levels root
   pub order : (n : ℕ) → Reaches pages Table root n → IsRowOrder pages root n
 
--- the rows that come before what is sought stand in front of the others, to which the search leads
-pub record IsSought (pages : Pages) (levels root : ℕ) (before : ℤ → Bool) (IsLeading : List Place → Type 0) : Type 0 where
+-- the cells that come before what is sought stand in front of the others, to which the search leads
+pub record IsSoughtBy {K : Type 0} (HasKey : Level → ℕ → ℕ → K → Type 0) (before : K → Bool) (pages : Pages) (kind : TreeKind) (levels root : ℕ)
+    (IsLeading : List Place → Type 0) : Type 0 where
   pub front : List Place
   pub rest : List Place
-  pub split : IsSplit (HasRowid pages) before pages Table (places_under pages Table levels root) front rest
+  pub split : IsSplit HasKey before pages kind (places_under pages kind levels root) front rest
   pub leads : IsLeading rest
+
+-- the same of a table's rows, by their rowids
+abbrev pub IsSought : Pages → ℕ → ℕ → (ℤ → Bool) → (List Place → Type 0) → Type 0
+IsSought pages levels root before IsLeading = IsSoughtBy (HasRowid pages) before pages Table levels root IsLeading
 
 -- the table has a row with this rowid
 pub record HasRowWith (pages : Pages) (levels root : ℕ) (rowid : ℤ) : Type 0 where
@@ -55,3 +70,51 @@ pub record IsSeekFault (old : PagerState) (root : ℕ) (fault : Fault) : Type 0 
   pub only : IsCursorFault root fault
   pub sound : WhereSteady old (λ pages. (levels : ℕ) → IsSearchable pages levels root → IsReadFault fault)
   pub cause : WhereSteady old (λ pages. IsReadFault fault ⊎ BlamesMet pages Table root fault)
+
+-- the order of the entries of an index by the values that they have at their places
+abbrev pub entry_order : List Bool → (Place → List Datum) → Place → Place → Bool
+entry_order descends values x y = is_lt (key_cmp descends (values x) (values y))
+
+-- an index's tree with so many levels below its root, whose entries have these values and ascend by them
+pub record IsSearchableIndex (pages : Pages) (descends : List Bool) (values : Place → List Datum) (levels root : ℕ) : Type 0 where
+  pub tree : IsTreeAt pages Index levels root
+  pub entries : (level : Level) (n : ℕ) → Reaches pages Index root n → IsPageOf pages Index level n → AreValuesOf pages values level n
+  pub order : (n : ℕ) → Reaches pages Index root n → IsEntryOrder pages (entry_order descends values) root n
+
+-- the entries that come before what is sought stand in front of the others, to which the search leads
+abbrev pub AreEntriesSought : Pages → IndexKey → (Place → List Datum) → ℕ → ℕ → (List Place → Type 0) → Type 0
+AreEntriesSought pages key values levels root IsLeading =
+    IsSoughtBy IsAtPlace (λ place. comes_before key (values place)) pages Index levels root IsLeading
+
+-- the faults of a search of an index: also those of an entry that can't be read
+abbrev pub IsIndexFault : ℕ → Fault → Type 0
+IsIndexFault root (BadChain _) = Unit {0}
+IsIndexFault root (BadRecord _) = Unit {0}
+IsIndexFault root FloatValue = Unit {0}
+IsIndexFault root BadText = Unit {0}
+IsIndexFault root fault = IsCursorFault root fault
+
+-- what a search blames of an entry on a page that it has met
+abbrev pub BlamesEntry : Pages → ℕ → Fault → Type 0
+BlamesEntry pages root fault =
+    (depth page : ℕ) × (level : Level) × IsMetAt pages Index root depth page × HasHeader pages Index level page × BreaksEntry pages level page fault
+
+-- A search of an index has led to a cursor. Over a steady source and an index in order it stands at the first entry that
+-- doesn't come before what is sought, and it has asked for no more tree pages than one way down to a leaf has.
+pub record IsEntrySought (old new : PagerState) (root : ℕ) (key : IndexKey) (cursor : Cursor) : Type 0 where
+  pub kind_is : cursor.kind ≡ Index
+  pub root_is : cursor.root ≡ root
+  pub seeks : WhereSteady old (λ pages. (levels : ℕ) (values : Place → List Datum) → IsSearchableIndex pages key.descends.now values levels root
+      → AreEntriesSought pages key values levels root
+      (λ places. IsAt pages Index levels cursor places new.asked (old.asked + size_under pages levels root))
+      × (new.asked ≤ old.asked + (levels + 1)))
+  pub come : WhereSteady old (λ pages. HasCome pages cursor)
+  pub few : steps_left cursor < worth (suc most_levels)
+
+-- Why it hasn't. Over a steady source the fault is one of reading where the index is in order, and of any tree it has its
+-- condition.
+pub record IsEntrySeekFault (old : PagerState) (root : ℕ) (key : IndexKey) (fault : Fault) : Type 0 where
+  pub only : IsIndexFault root fault
+  pub sound : WhereSteady old (λ pages. (levels : ℕ) (values : Place → List Datum) → IsSearchableIndex pages key.descends.now values levels root
+      → IsReadFault fault)
+  pub cause : WhereSteady old (λ pages. IsReadFault fault ⊎ (BlamesMet pages Index root fault ⊎ BlamesEntry pages root fault))

@@ -1,15 +1,17 @@
 //! A cursor over a tree: the rows of a table, or the entries of an index.
 ghost use Rattle.std.specs.Prelude.{◌≡◌, ◌⊎◌, ◌+◌, ◌-◌, ◌*◌, ◌<◌, ◌≤◌, ℕ, List, drop, length, option_map, false, suc, All, Err, IfErr, IfNone, IfOk, IfSome, IsSome, MatchResult, Ok, Some, []};
-ghost use Rattle.pager.specs.Calls.{IsReadFault, ReadsTreePages};
+ghost use Rattle.pager.specs.Calls.{IsReadFault, ReadsChainPages, ReadsPages, ReadsTreePages};
 ghost use Rattle.pager.specs.PagerState.{IsPageNumber};
 ghost use Rattle.image.specs.declared.kind.TreeKind.{TreeKind};
-ghost use Rattle.image.specs.declared.kind.TreeKind.TheVariants.{Table};
+ghost use Rattle.image.specs.declared.kind.TreeKind.TheVariants.{Table, Index};
 ghost use Rattle.image.specs.declared.kind.Level.{Level};
 ghost use Rattle.image.specs.declared.kind.Level.TheVariants.{Leaf, Interior};
 ghost use Rattle.image.specs.Broken.{BlamesMet, HasRowid};
+ghost use Rattle.values.specs.Datum.{Datum};
 ghost use Rattle.image.specs.Cell.{CellData};
+ghost use Rattle.image.specs.Entries.{IsAtPlace};
 ghost use Rattle.image.specs.Pages.{Pages, IsNumber, WhereSteady, pages_seen};
-ghost use Rattle.image.specs.Shape.{most_levels, place_at, size_under};
+ghost use Rattle.image.specs.Shape.{IsTreeAt, most_levels, place_at, size_under};
 ghost use Rattle.image.specs.Search.{IsBoundary, row_before};
 ghost use Rattle.image.specs.Tree.{Place, HasEntries, HasHeader, IsEntryAt, IsNamedChild, IsPageOf, child_at, count_at};
 ghost use Rattle.cursor.specs.Calls.{GivesEntry, HasFailed, HasStepped, IsCursorFault, IsDescentFault, IsEntryFault, IsOpenedAt, IsOpeningFault};
@@ -19,12 +21,15 @@ ghost use Rattle.cursor.specs.Listing.{IsAt, IsEnded, IsEntry};
 ghost use Rattle.btree.specs.ViewData.{AreReadable};
 ghost use Rattle.cursor.specs.Rest.{GoesOn, Holds, HasCellsFrom, IsBehind, IsInLeaf, IsLeft, IsStanding};
 ghost use Rattle.btree.specs.Views.{cell_data};
-ghost use Rattle.cursor.specs.Search.{HasRowWith, IsRowSought, IsSearchable, IsSeekFault, IsSought};
+ghost use Rattle.cursor.specs.Search.{AreEntriesSought, BlamesEntry, HasRowWith, IsEntrySeekFault, IsEntrySought, IsIndexFault, IsRowSought, IsSearchable, IsSearchableIndex, IsSeekFault, IsSought};
 ghost use Rattle.cursor.specs.Way.{HasReached, HoldsMet, IsWay, LeadsTo};
+ghost use Rattle.index_entries.specs.Entries.{AreValuesOf, BreaksEntry, IsCompareFault};
+ghost use Rattle.index_entries.specs.Sought.{comes_before};
 
 use crate::search::boundary_of;
 use btree::{Cell, view_in, view_of};
 use image::{Level, MOST_LEVELS, TreeKind};
+use index_entries::{IndexKey, entry_boundary};
 use pager::{Page, Pager, Source};
 use std::alloc::Global;
 use values::Fault;
@@ -107,6 +112,40 @@ fn cell_of(kind: TreeKind, frame: &Frame, usable: usize, most: u64) -> Option<Ce
         },
         TreeKind::Index => view.entry(most, frame.at as u32),
     }
+}
+
+/// How many levels of pages a tree has, those of its root and its leaves included, as the way down its first children has
+/// them. Its faults are those of `Cursor::first`.
+pub fn depth<S: Source>(pager: &mut Pager<S>, kind: TreeKind, root: u32) -> Result<u32, Fault>
+    ensures levels { WhereSteady pager.old.state (λ pages. (levels : ℕ) → IsTreeAt pages kind levels root
+        → MatchResult result (λ depth. depth ≡ levels + 1) IsReadFault) }
+    ensures most { IfOk result (λ depth. depth ≤ most_levels) }
+    ensures asks { IfOk result (λ depth. pager.new.state.asked ≤ pager.old.state.asked + depth) }
+    ensures fault { IfErr result (IsCursorFault root) }
+    ensures outside { ¬ IsNumber (pages_seen pager.old.state) root → result ≡ Err (Fault.BadPage root) }
+    ensures reads { ReadsTreePages result pager.old.state pager.new.state }
+{
+    let pages = pager.header().pages;
+    if root < 1 || root > pages {
+        return Err(Fault::BadPage(root));
+    }
+    let usable = pager.header().usable as usize;
+    let mut number = root;
+    for above in 0..MOST_LEVELS {
+        let frame = read_frame(pager, kind, number)?;
+        match frame.level {
+            Level::Leaf => return Ok(above + 1),
+            Level::Interior => {
+                let Some(child) = child_of(kind, &frame, usable, 0, pages) else {
+                    let childless = Fault::BadPage(number);
+                    return Err(childless);
+                };
+                number = child;
+            }
+        }
+    }
+    let endless = Fault::BadDepth(root);
+    Err(endless)
 }
 
 /// Goes down first children from page `n` to a leaf, which it answers.
@@ -208,6 +247,7 @@ fn go_on<S: Source>(
         → MatchResult result (λ found. IsWay pages kind root frames.new.items × IfSome found (HasReached pages kind root frames.new.items))
         (λ e. IsReadFault e ⊎ BlamesMet pages kind root e)) }
     ensures asks { pager.new.state.asked ≤ pager.old.state.asked + length frames.new.items }
+    ensures held { kind ≡ TreeKind.Index → pager.new.state ≡ pager.old.state }
     ensures left { IfOk result (IsLess frames.old.items frames.new.items) }
     ensures filled { IfOk result (λ found. IfSome found (λ here. here.at < here.count)) }
     ensures passed { IfOk result (λ found. IfNone found (All IsPassed frames.old.items × (frames.new.items ≡ []))) }
@@ -330,6 +370,76 @@ fn seek_leaf<S: Source>(
     Err(deep)
 }
 
+/// How many entries of a frame's page, which is one of an index, come before what is sought.
+fn entries_before<S: Source>(
+    alloc: Global,
+    pager: &mut Pager<S>,
+    frame: &Frame,
+    key: &IndexKey<'_>,
+) -> Result<u16, Fault>
+    ensures found { WhereSteady pager.old.state (λ pages. (level : Level) (values : Place → List Datum) → Holds pages frame.now
+        → AreValuesOf pages values level frame.now.number → MatchResult result
+        (IsBoundary IsAtPlace (λ place. comes_before key.now (values place)) pages Index level frame.now.number) IsReadFault) }
+    ensures within { WhereSteady pager.old.state (λ pages. Holds pages frame.now → IfOk result (λ p. p ≤ count_at pages frame.now.number)) }
+    ensures broken { WhereSteady pager.old.state (λ pages. (level : Level) → Holds pages frame.now → HasHeader pages Index level frame.now.number
+        → IfErr result (λ e. IsReadFault e ⊎ BreaksEntry pages level frame.now.number e)) }
+    ensures only { IfErr result (IsCompareFault frame.now.number) }
+    ensures reads { ReadsChainPages result pager.old.state pager.new.state }
+{
+    let usable = pager.header().usable as usize;
+    let Some(view) = view_in(TreeKind::Index, &frame.page, frame.number, usable) else {
+        let headless = Fault::BadPage(frame.number);
+        return Err(headless);
+    };
+    entry_boundary(alloc, pager, &view, frame.number, key)
+}
+
+/// Goes down from the root of an index to a leaf, on each page to the first entry that doesn't come before what is sought.
+fn seek_index_leaf<S: Source>(
+    alloc: Global,
+    root: u32,
+    frames: &mut Vec<Frame>,
+    pager: &mut Pager<S>,
+    key: &IndexKey<'_>,
+) -> Result<Frame, Fault>
+    requires root { IsPageNumber pager.old.state root }
+    requires top { frames.old.items ≡ [] }
+    ensures lands { WhereSteady pager.old.state (λ pages. (levels : ℕ) (values : Place → List Datum)
+        → IsSearchableIndex pages key.now.descends.now values levels root
+        → MatchResult result (λ leaf. AreEntriesSought pages key.now values levels root
+        (λ places. IsInLeaf pages Index levels frames.new.items leaf places pager.new.state.asked
+        (pager.old.state.asked + size_under pages levels root))) IsReadFault) }
+    ensures way { WhereSteady pager.old.state (λ pages. MatchResult result (λ _. IsWay pages Index root frames.new.items)
+        (λ e. IsReadFault e ⊎ (BlamesMet pages Index root e ⊎ BlamesEntry pages root e))) }
+    ensures asks { pager.new.state.asked ≤ pager.old.state.asked + (length frames.new.items + 1) }
+    ensures left { IfOk result (λ leaf. frames_left most_levels frames.new.items + frame_left leaf
+        < frames_left most_levels frames.old.items + worth (suc most_levels - length frames.old.items)) }
+    ensures leaf { IfOk result (λ leaf. leaf.level ≡ Leaf) }
+    ensures fault { IfErr result (IsIndexFault root) }
+    ensures reads { ReadsPages result pager.old.state pager.new.state }
+{
+    let mut number = root;
+    while frames.len() < MOST_LEVELS as usize {
+        let frame = read_frame(pager, TreeKind::Index, number)?;
+        let at = entries_before(alloc, pager, &frame, key)?;
+        match frame.level {
+            Level::Leaf => return Ok(Frame { at, ..frame }),
+            Level::Interior => {
+                let header = pager.header();
+                let usable = header.usable as usize;
+                let Some(child) = child_of(TreeKind::Index, &frame, usable, at as u32, header.pages)
+                else {
+                    return Err(Fault::BadPage(number));
+                };
+                frames.push(Frame { at, ..frame })?;
+                number = child;
+            }
+        }
+    }
+    let deep = Fault::BadDepth(root);
+    Err(deep)
+}
+
 /// Where a leaf is passed, goes on behind it; past the last cell a cursor stays.
 fn settle<S: Source>(
     root: u32,
@@ -346,6 +456,7 @@ fn settle<S: Source>(
         → MatchResult result (HasReached pages kind root frames.new.items) (λ e. IsReadFault e ⊎ BlamesMet pages kind root e)) }
     ensures asks { pager.new.state.asked ≤ pager.old.state.asked + length frames.new.items }
     ensures kept { here.at < here.count → pager.new.state.asked ≡ pager.old.state.asked }
+    ensures held { kind ≡ TreeKind.Index → pager.new.state ≡ pager.old.state }
     ensures left { IfOk result (λ next. all_left frames.new.items (Some next) ≤ frames_left most_levels frames.old.items + frame_left here) }
     ensures fault { IfErr result (IsCursorFault root) }
     ensures reads { ReadsTreePages result pager.old.state pager.new.state }
@@ -428,6 +539,38 @@ impl Cursor {
         Ok(Cursor {
             root,
             kind: TreeKind::Table,
+            frames,
+            here: Some(here),
+            usable,
+            most,
+        })
+    }
+
+    /// A cursor at the first entry of an index that doesn't come before what is sought. Its faults are those of `first`, and
+    /// `BadChain`, `BadRecord`, `FloatValue` and `BadText` of an entry that it has to compare.
+    pub fn seek_entry<S: Source>(
+        alloc: Global,
+        pager: &mut Pager<S>,
+        root: u32,
+        key: &IndexKey<'_>,
+    ) -> Result<Cursor, Fault>
+        ensures outcome { MatchResult result (IsEntrySought pager.old.state pager.new.state root key.now)
+            (IsEntrySeekFault pager.old.state root key.now) }
+        ensures outside { ¬ IsNumber (pages_seen pager.old.state) root → result ≡ Err (Fault.BadPage root) }
+        ensures reads { ReadsPages result pager.old.state pager.new.state }
+    {
+        let header = pager.header();
+        if root < 1 || root > header.pages {
+            return Err(Fault::BadPage(root));
+        }
+        let usable = header.usable as usize;
+        let most = header.image_size();
+        let mut frames = Vec::new(alloc);
+        let leaf = seek_index_leaf(alloc, root, &mut frames, pager, key)?;
+        let here = settle(root, TreeKind::Index, &mut frames, pager, leaf)?;
+        Ok(Cursor {
+            root,
+            kind: TreeKind::Index,
             frames,
             here: Some(here),
             usable,

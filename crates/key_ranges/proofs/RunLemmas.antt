@@ -1,6 +1,7 @@
 -- Between two cuts of an ascending list stands one run of it.
-use Rattle.std.proofs.Common.{◌≡◌, ◌≤◌, Bool, true, false, not, ◌&&◌, List, [], ◌∷◌, length, refl, sym, ap, ◌∙◌}
+use Rattle.std.proofs.Common.{◌≡◌, ◌≤◌, Bool, true, false, not, ◌&&◌, List, [], ◌∷◌, length, refl, sym, ap, subst, ◌∙◌}
 use Rattle.std.specs.Prelude.{All, ⊤}
+use Rattle.std.proofs.lemmas.Cmp.{tied_itself}
 use Rattle.std.proofs.lemmas.List.Elements.{All-cons, All-head, All-nil, All-tail}
 use Rattle.std.specs.List.{filter, list_all}
 use Rattle.std.specs.Ordering.{ordering_then, ordering_reverse, is_lt}
@@ -8,7 +9,7 @@ use Rattle.std.specs.declared.cmp.Ordering.{Ordering}
 use Rattle.std.specs.declared.cmp.Ordering.TheVariants.{Less, Equal, Greater}
 use Rattle.values.specs.Datum.{Datum}
 use Rattle.values.specs.Order.{datum_cmp}
-use Rattle.values.specs.OrderLaws.{datum_cmp_total}
+use Rattle.values.specs.OrderLaws.{datum_cmp_total, datum_cmp-IsAntisymmetric}
 use Rattle.key_ranges.specs.Ranges.{Cut, Range, directed, from_cut, has_null, is_before, is_within, key_cmp, meets, stands_before, to_cut, width}
 use Rattle.key_ranges.specs.Runs.{Ascend, CutsAreOneRun, RangeIsOneRun, skip_while, take_while}
 use Rattle.key_ranges.proofs.RangeLemmas.{cuts_are_range}
@@ -72,7 +73,7 @@ one_step d b v x y rest_xy rest_vx rest_vy less later h =
     cases Equal Equal e f l k = let g : directed d (datum_cmp v x) ≡ Equal = directed_congr d v y x f ∙ back x y Equal e in rw g (later l k)
 
 -- an entry that comes before one that stands before a cut stands before it too
-before_too : (ds : List Bool) (key x y : List Datum) (b : Bool) → key_cmp ds x y ≡ Less → stands_before b (key_cmp ds key y) ≡ true → stands_before b (key_cmp ds key x) ≡ true
+pub before_too : (ds : List Bool) (key x y : List Datum) (b : Bool) → key_cmp ds x y ≡ Less → stands_before b (key_cmp ds key y) ≡ true → stands_before b (key_cmp ds key x) ≡ true
 before_too ds [] x y b less h = h
 before_too ds (v ∷ more) [] y b less h = always b
 before_too ds (v ∷ more) (x ∷ xs) [] b less h = cc
@@ -80,6 +81,49 @@ before_too [] (v ∷ more) (x ∷ xs) (y ∷ ys) b less h =
     one_step false b v x y (key_cmp [] xs ys) (key_cmp [] more xs) (key_cmp [] more ys) less (λ l k. before_too [] more xs ys b l k) h
 before_too (d ∷ ds) (v ∷ more) (x ∷ xs) (y ∷ ys) b less h =
     one_step d b v x y (key_cmp ds xs ys) (key_cmp ds more xs) (key_cmp ds more ys) less (λ l k. before_too ds more xs ys b l k) h
+
+-- values that tie are one value
+one_value : (d : Bool) (x y : Datum) → directed d (datum_cmp x y) ≡ Equal → x ≡ y
+one_value false x y e = datum_cmp-IsAntisymmetric x y e
+one_value true x y e = datum_cmp-IsAntisymmetric x y (equal_of (datum_cmp x y) e)
+
+-- of one column of three entries
+step_after : (d : Bool) (x y z : Datum) (rest_xy rest_yz rest_xz : Ordering) → ordering_then (directed d (datum_cmp x y)) rest_xy ≡ Less
+    → ordering_then (directed d (datum_cmp y z)) rest_yz ≡ Less → (rest_xy ≡ Less → rest_yz ≡ Less → rest_xz ≡ Less)
+    → ordering_then (directed d (datum_cmp x z)) rest_xz ≡ Less
+step_after d x y z rest_xy rest_yz rest_xz first next later =
+    cases (directed d (datum_cmp x y)) (directed d (datum_cmp y z)) refl refl first next
+  where
+    cases : (o p : Ordering) → directed d (datum_cmp x y) ≡ o → directed d (datum_cmp y z) ≡ p → ordering_then o rest_xy ≡ Less
+        → ordering_then p rest_yz ≡ Less → ordering_then (directed d (datum_cmp x z)) rest_xz ≡ Less
+    cases Greater p e f k l = cc
+    cases Less Greater e f k l = cc
+    cases Equal Greater e f k l = cc
+    cases Less Less e f k l = let g : directed d (datum_cmp x z) ≡ Less = directed_trans d x y z e f in rw g refl
+    cases Less Equal e f k l =
+        let g : directed d (datum_cmp x z) ≡ Less = subst (λ (v : Datum). directed d (datum_cmp x v) ≡ Less) (one_value d y z f) e in rw g refl
+    cases Equal Less e f k l = let g : directed d (datum_cmp x z) ≡ Less = directed_congr d x y z e ∙ f in rw g refl
+    cases Equal Equal e f k l = let g : directed d (datum_cmp x z) ≡ Equal = directed_congr d x y z e ∙ f in rw g (later k l)
+
+-- what comes before an entry comes before all that this comes before
+pub key_after : (ds : List Bool) (x y z : List Datum) → key_cmp ds x y ≡ Less → key_cmp ds y z ≡ Less → key_cmp ds x z ≡ Less
+key_after ds [] y z first next = cc
+key_after ds (x ∷ xs) [] z first next = cc
+key_after ds (x ∷ xs) (y ∷ ys) [] first next = cc
+key_after [] (x ∷ xs) (y ∷ ys) (z ∷ zs) first next =
+    step_after false x y z (key_cmp [] xs ys) (key_cmp [] ys zs) (key_cmp [] xs zs) first next (λ k l. key_after [] xs ys zs k l)
+key_after (d ∷ ds) (x ∷ xs) (y ∷ ys) (z ∷ zs) first next =
+    step_after d x y z (key_cmp ds xs ys) (key_cmp ds ys zs) (key_cmp ds xs zs) first next (λ k l. key_after ds xs ys zs k l)
+
+directed_itself : (d : Bool) (x : Datum) → directed d (datum_cmp x x) ≡ Equal
+directed_itself false x = tied_itself datum_cmp_total x
+directed_itself true x = ap ordering_reverse (tied_itself datum_cmp_total x)
+
+-- and no entry comes before itself
+pub key_never : (ds : List Bool) (x : List Datum) → key_cmp ds x x ≡ Less → ⊥
+key_never ds [] less = cc
+key_never [] (x ∷ xs) less = key_never [] xs (ap (λ (o : Ordering). ordering_then o (key_cmp [] xs xs)) (sym (directed_itself false x)) ∙ less)
+key_never (d ∷ ds) (x ∷ xs) less = key_never ds xs (ap (λ (o : Ordering). ordering_then o (key_cmp ds xs xs)) (sym (directed_itself d x)) ∙ less)
 
 -- ---- lists on which a test fails for good
 

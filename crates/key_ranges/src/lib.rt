@@ -9,4 +9,4 @@
 pub mod laws;
 mod ranges;
 
-pub use ranges::{Bound, End, KeyRange};
+pub use ranges::{Bound, End, KeyRange, descends_at};

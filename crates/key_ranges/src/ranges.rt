@@ -73,7 +73,7 @@ fn last_end<'a>(descends: bool, lower: Option<Bound<'a>>, upper: Option<Bound<'a
 }
 
 /// Whether the column at a place descends; further columns ascend.
-fn descends_at(descends: &[bool], at: usize) -> bool
+pub fn descends_at(descends: &[bool], at: usize) -> bool
     ensures { result ≡ direction descends.now at }
 {
     descends.get(at).copied().unwrap_or(false)

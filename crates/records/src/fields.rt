@@ -47,12 +47,14 @@ impl<'p> FieldReader<'p> {
     }
 
     /// Reads the next field; a text or a blob is a slice of the record's bytes. `None` where there is none, or one that
-    /// is no value.
+    /// is no value; the reader stays then.
     #[inline]
     pub fn read(&mut self) -> Option<ValueRef<'p>>
         ensures found { IfSome result (λ value. (first : Datum) (others : List Datum)
             → AreUnread self.old (first ∷ others) ↔ ((first ≡ datum_of_ref value) × AreUnread self.new others)) }
         ensures none { IfNone result ((first : Datum) (others : List Datum) → ¬ AreUnread self.old (first ∷ others)) }
+        ensures more { IfSome result (λ value. ¬ AreUnread self.old []) }
+        ensures stays { IfNone result (self.new ≡ self.old) }
     {
         let (serial, size) = varint(self.spelt)?;
         let Ok((value, rest)) = first_field(serial, self.bodies) else {
@@ -69,6 +71,7 @@ impl<'p> FieldReader<'p> {
         ensures past { IsTrue result → (values : List Datum) → AreUnread self.old values
             → (1 ≤ length values) × AreUnread self.new (drop 1 values) }
         ensures none { IsFalse result → (values : List Datum) → AreUnread self.old values → values ≡ [] }
+        ensures stays { IsFalse result → self.new ≡ self.old }
     {
         let Some((serial, size)) = varint(self.spelt) else {
             return false;
@@ -82,12 +85,14 @@ impl<'p> FieldReader<'p> {
         true
     }
 
-    /// Goes past so many fields without a look at their values. The answer is `false` where there are fewer.
+    /// Goes past so many fields without a look at their values. The answer is `false` where there are fewer, and none is
+    /// left then.
     #[inline]
     pub fn skip(&mut self, count: usize) -> bool
         ensures past { IsTrue result → (values : List Datum) → AreUnread self.old values
             → (count ≤ length values) × AreUnread self.new (drop count values) }
-        ensures none { IsFalse result → (values : List Datum) → AreUnread self.old values → length values < count }
+        ensures none { IsFalse result → (values : List Datum) → AreUnread self.old values
+            → (length values < count) × AreUnread self.new [] }
     {
         for _passed in 0..count {
             if !self.skip_one() {

@@ -1,4 +1,4 @@
-use Rattle.std.proofs.Common.{refl, inl, inr, ℕ, ℤ, ◌≡◌, ◌+◌, ◌*◌, ◌<◌, ◌≤◌, length, vec_len, arith, sym, ◌∙◌, ap, subst, Some, w64, SFits, rules}
+use Rattle.std.proofs.Common.{refl, inl, inr, ℕ, ℤ, ◌≡◌, ◌+◌, ◌<◌, ◌≤◌, length, arith, sym, ◌∙◌, ap, subst, Some, w64, SFits, rules}
 use Rattle.std.proofs.lemmas.Int.{to_z-of_z}
 use Rattle.std.proofs.lemmas.List.{length_push}
 use Rattle.std.proofs.lemmas.Result.{err_from_is_err_and}
@@ -7,9 +7,7 @@ use Rattle.pager.specs.PagerState.{IsSoundHeader, image_size}
 use Rattle.pager.proofs.CallLemmas.{SameImage-none, SameImage-trans}
 use Rattle.image.specs.declared.kind.TreeKind.TheVariants.{Table}
 use Rattle.image.specs.declared.kind.Level.TheVariants.{Leaf, Interior}
-use Rattle.image.specs.Broken.{HasRowid}
-use Rattle.image.specs.Pages.{IsNumber, Pages, pages_seen}
-use Rattle.image.specs.Search.{IsBoundary, row_before}
+use Rattle.image.specs.Pages.{Pages, pages_seen}
 use Rattle.image.specs.Tree.{HasHeader, IsMetAt, IsPageOf, child_at, count_at}
 use Rattle.cursor.specs.Rest.{Holds}
 use Rattle.cursor.specs.Search.{HasRowWith}

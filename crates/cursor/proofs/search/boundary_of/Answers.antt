@@ -1,5 +1,4 @@
 use Rattle.std.proofs.Common.{◌<◌, ◌+◌, ◌-◌, ◌/◌, arith}
-use Rattle.cursor.proofs.SeekLemmas.{IsSeeking, seeking_down}
 use Rattle.cursor.proofs.search.boundary_of.Goals as goal
 
 pub returns-in_err-rowid-clause-sure : goal.returns-in_err-rowid-clause-sure

@@ -1,4 +1,4 @@
-use Rattle.std.proofs.Common.{◌≡◌, ◌<◌, ◌≤◌, ◌-◌, true, false}
+use Rattle.std.proofs.Common.{◌<◌, ◌≤◌, ◌-◌, true, false}
 use Rattle.image.specs.Layout.{cell_count}
 use Rattle.image.specs.Search.{HasKeyThat, row_before}
 use Rattle.btree.specs.Bytes.{HasKeyOf}

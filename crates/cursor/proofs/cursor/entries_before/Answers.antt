@@ -1,0 +1,53 @@
+use Rattle.std.proofs.Common.{◌≡◌, ◌⊎◌, ap, arith, sym, subst}
+use Rattle.pager.specs.declared.header.Header.{Header}
+use Rattle.pager.specs.PagerState.{IsSoundHeader}
+use Rattle.image.specs.declared.kind.TreeKind.TheVariants.{Index}
+use Rattle.image.specs.declared.kind.Level.{Level}
+use Rattle.image.specs.Pages.{pages_seen}
+use Rattle.btree.proofs.SeenLemmas.{readable}
+use Rattle.pager.specs.Calls.{IsReadFault}
+use Rattle.index_entries.specs.Entries.{AreValuesOf, BreaksEntry}
+use Rattle.std.specs.Prelude.{IfErr}
+use Rattle.index_entries.proofs.EntryLemmas.{count_is}
+use Rattle.cursor.proofs.EntrySeekLemmas.{view_held, view_level}
+use Rattle.cursor.proofs.FrameLemmas.{no_view, IfOk-weaker}
+use Rattle.cursor.proofs.cursor.entries_before.Goals as goal
+
+pub returns-in_default-clause-found : goal.returns-in_default-clause-found
+returns-in_default-clause-found g c = λ steady level values holds has.
+    let same : c.header-usable.result ≡ c.args.pager.now.state.header = c.header-usable.ensures.is in
+    absurd (no_view (pages_seen c.args.pager.now.state) Index c.args.frame.now c.header-usable.result.usable holds (ap (λ (x : Header). x.usable) (sym same))
+    (readable _ _ (subst (λ (x : Header). IsSoundHeader x) same c.header-usable.ensures.sound)) level has.page.header c.in_default.ensures.none)
+
+pub returns-in_default-clause-broken : goal.returns-in_default-clause-broken
+returns-in_default-clause-broken g c = λ steady level holds header.
+    let same : c.header-usable.result ≡ c.args.pager.now.state.header = c.header-usable.ensures.is in
+    absurd (no_view (pages_seen c.args.pager.now.state) Index c.args.frame.now c.header-usable.result.usable holds (ap (λ (x : Header). x.usable) (sym same))
+    (readable _ _ (subst (λ (x : Header). IsSoundHeader x) same c.header-usable.ensures.sound)) level header c.in_default.ensures.none)
+
+pub returns-clause-found : goal.returns-clause-found
+returns-clause-found g c = λ steady level values holds has.
+    let same : c.header-usable.result ≡ c.args.pager.now.state.header = c.header-usable.ensures.is in
+    let of = c.in-Some.ensures.found.0 in
+    let usable = ap (λ (x : Header). x.usable) (sym same) in
+    let held = view_held (pages_seen c.args.pager.now.state) c.args.frame.now _ holds usable c.in-Some.view of in
+    let is : c.in-Some.view.level ≡ level = view_level (pages_seen c.args.pager.now.state) c.args.frame.now _ holds usable c.in-Some.view of level has.page.header in
+    c.entry_boundary.ensures.found steady values held (subst (λ (l : Level). AreValuesOf (pages_seen c.args.pager.now.state) values l c.args.frame.now.number) (sym is) has)
+
+pub returns-clause-within : goal.returns-clause-within
+returns-clause-within g c = λ steady holds.
+    let same : c.header-usable.result ≡ c.args.pager.now.state.header = c.header-usable.ensures.is in
+    let of = c.in-Some.ensures.found.0 in
+    let held = view_held (pages_seen c.args.pager.now.state) c.args.frame.now _ holds (ap (λ (x : Header). x.usable) (sym same)) c.in-Some.view of in
+    let count = count_is (pages_seen c.args.pager.now.state) c.args.frame.now.number c.in-Some.view held in
+    IfOk-weaker c.entry_boundary.result (λ p within. omega (arith, within, count)) c.entry_boundary.ensures.within
+
+pub returns-clause-broken : goal.returns-clause-broken
+returns-clause-broken g c = λ steady level holds header.
+    let same : c.header-usable.result ≡ c.args.pager.now.state.header = c.header-usable.ensures.is in
+    let of = c.in-Some.ensures.found.0 in
+    let usable = ap (λ (x : Header). x.usable) (sym same) in
+    let held = view_held (pages_seen c.args.pager.now.state) c.args.frame.now _ holds usable c.in-Some.view of in
+    let is : c.in-Some.view.level ≡ level = view_level (pages_seen c.args.pager.now.state) c.args.frame.now _ holds usable c.in-Some.view of level header in
+    subst (λ (l : Level). IfErr c.entry_boundary.result (λ e. IsReadFault e ⊎ BreaksEntry (pages_seen c.args.pager.now.state) l c.args.frame.now.number e)) is
+    (c.entry_boundary.ensures.broken steady held)

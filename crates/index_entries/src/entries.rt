@@ -1,0 +1,87 @@
+//! An entry of an index, read in place.
+ghost use Rattle.std.specs.Prelude.{◌≡◌, ◌⊎◌, ℕ, IfErr, List, MatchResult, None, Ok};
+ghost use Rattle.values.specs.Datum.{Datum};
+ghost use Rattle.pager.specs.Calls.{IsReadFault, ReadsChainPages};
+ghost use Rattle.pager.specs.PagerState.{image_size};
+ghost use Rattle.records.specs.Record.{IsRecord};
+ghost use Rattle.image.specs.declared.kind.TreeKind.TheVariants.{Index};
+ghost use Rattle.image.specs.Cell.{CellData};
+ghost use Rattle.image.specs.Pages.{WhereSteady};
+ghost use Rattle.image.specs.Shape.{place_at};
+ghost use Rattle.image.specs.Tree.{Place};
+ghost use Rattle.btree.specs.Bytes.{IsEntryCell};
+ghost use Rattle.btree.specs.ViewData.{TellsOfCell};
+ghost use Rattle.index_entries.specs.Entries.{AreValuesOf, BreaksEntry, BreaksRecord, IsCompareFault, IsViewIn};
+ghost use Rattle.index_entries.specs.Sought.{comes_before};
+
+use crate::columns::IndexKey;
+use btree::{PageView, payload};
+use pager::{Pager, Source};
+use records::{FieldReader, RecordFault, RecordView};
+use std::alloc::Global;
+use values::Fault;
+
+/// Why these bytes of page `n` are no record.
+fn record_fault(alloc: Global, bytes: &[u8], n: u32) -> Fault
+    ensures broken { ((values : List Datum) → ¬ IsRecord bytes.now values) → BreaksRecord bytes.now n result }
+    ensures only { IsCompareFault n result }
+{
+    match RecordView::read(alloc, bytes) {
+        Ok(_) | Err(RecordFault::Bad) => Fault::BadRecord(n),
+        Err(RecordFault::Float) => Fault::FloatValue,
+        Err(RecordFault::Text) => Fault::BadText,
+        Err(RecordFault::NoMemory) => Fault::NoMemory,
+    }
+}
+
+/// Whether the record of an entry of page `n` comes before what is sought. Its faults are `BadRecord`, `FloatValue`, `BadText`
+/// and `NoMemory`, and come only where it is no record.
+fn record_comes_before(
+    alloc: Global,
+    key: &IndexKey<'_>,
+    bytes: &[u8],
+    n: u32,
+) -> Result<bool, Fault>
+    ensures found { (values : List Datum) → IsRecord bytes.now values → result ≡ Ok (comes_before key.now values) }
+    ensures broken { IfErr result (BreaksRecord bytes.now n) }
+    ensures only { IfErr result (IsCompareFault n) }
+{
+    let Some(mut fields) = FieldReader::new(bytes) else {
+        return Err(record_fault(alloc, bytes, n));
+    };
+    match key.order(&mut fields) {
+        Some(order) => Ok(key.is_behind(order)),
+        None => Err(record_fault(alloc, bytes, n)),
+    }
+}
+
+/// Whether entry i of page `n` of an index, which was read as this view, comes before what is sought. Its faults are those of
+/// reading, and `BadPage`, `BadChain`, `BadRecord`, `FloatValue` and `BadText` where the entry can't be read.
+pub(crate) fn entry_comes_before<S: Source>(
+    alloc: Global,
+    pager: &mut Pager<S>,
+    view: &PageView<'_>,
+    n: u32,
+    i: u32,
+    key: &IndexKey<'_>,
+) -> Result<bool, Fault>
+    requires { TellsOfCell view.now Index view.now.level i }
+    ensures found { WhereSteady pager.old.state (λ pages. (values : Place → List Datum) → IsViewIn pages n view.now
+        → AreValuesOf pages values view.now.level n
+        → MatchResult result (λ before. before ≡ comes_before key.now (values (place_at n i))) IsReadFault) }
+    ensures broken { WhereSteady pager.old.state (λ pages. IsViewIn pages n view.now
+        → IfErr result (λ e. IsReadFault e ⊎ BreaksEntry pages view.now.level n e)) }
+    ensures only { IfErr result (IsCompareFault n) }
+    ensures local { ((cell : CellData) → IsEntryCell view.now.at (image_size pager.old.state.header) view.now.level view.now.page i cell
+        → cell.payload.overflow ≡ None) → pager.new.state ≡ pager.old.state }
+    ensures reads { ReadsChainPages result pager.old.state pager.new.state }
+{
+    let most = pager.header().image_size();
+    let Some(cell) = view.entry(most, i) else {
+        return Err(Fault::BadPage(n));
+    };
+    let Some(bytes) = payload(alloc, pager, &cell)? else {
+        return Err(Fault::BadChain(n));
+    };
+    record_comes_before(alloc, key, bytes.as_slice(), n)
+}
