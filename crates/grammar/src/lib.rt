@@ -1,7 +1,6 @@
 //! The grammar of statements, whole: which tokens spell which statement, as definitions, and what holds of them. It promises
 //! that tokens spell at most one statement, and that a reader on lists finds exactly what is spelt within a limit of levels.
-//! No code stands in it, and no reader in code stands on it yet: `sql_reader` reads a part of these statements, by
-//! definitions of its own.
+//! No code stands in it: the readers are crates of their own, each of which does what the reader on lists does.
 //!
 //! The definitions, in the order in which a reader meets them: `Statements`, `Queries` (one family: queries stand in
 //! expressions, and expressions in queries), `Clauses` (phrases without expressions), `Operators`. `Fronts` and `Reading`

@@ -8,7 +8,7 @@ use Rattle.statement_trees.specs.TreeView.{expr_of, query_of}
 use Rattle.syntax.specs.ExprTree.{ExprTree}
 use Rattle.window_reader.specs.Setting.{inner_at}
 use Rattle.expr_reader.proofs.ClosedLemmas.{closed_err}
-use Rattle.expr_reader.proofs.operators.members.Goals as goal
+use Rattle.expr_reader.proofs.joints.members.Goals as goal
 
 pub returns-in_err-rest-in-Query-clause-value : goal.returns-in_err-rest-in-Query-clause-value
 returns-in_err-rest-in-Query-clause-value g c =

@@ -1,0 +1,3 @@
+pub mod Selects
+pub mod Limits
+pub mod Spending

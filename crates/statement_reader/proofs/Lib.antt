@@ -1,0 +1,3 @@
+pub mod Outermost
+pub mod ItemLemmas
+pub mod ErrLemmas

@@ -1,0 +1,18 @@
+-- What a reader tells of the tokens of a statement. No public clause cites it.
+use Rattle.std.specs.Prelude.{◌<◌, ◌≤◌, ℕ, List, length, Result, Ok, Err}
+use Rattle.values.specs.declared.fault.Fault.{Fault}
+use Rattle.values.specs.declared.fault.Fault.TheVariants as f
+use Rattle.grammar.specs.Clauses as clauses
+use Rattle.grammar.specs.Statements.{States}
+use Rattle.phrases.specs.Texts.{max_levels}
+use Rattle.statement_trees.specs.StatementView.{statement_of}
+use Rattle.statement_trees.specs.declared.queries.Statement.{Statement}
+use Rattle.syntax.specs.StatementTree.{StatementTree}
+
+abbrev pub Tells : (ℕ → ℕ → List ℕ) → clauses.Tokens → Result Statement Fault → Type 0
+Tells source ts (Ok statement) = (h : ℕ) × (h ≤ max_levels) × States source h (statement_of statement) ts
+Tells source ts (Err (f.Syntax place)) = (h : ℕ) (tree : StatementTree) → ¬ States source h tree ts
+Tells source ts (Err f.Limit) =
+    (max_levels < length ts) × ((h : ℕ) (tree : StatementTree) → States source h tree ts → max_levels < h)
+Tells source ts (Err f.NoMemory) = Unit {0}
+Tells source ts (Err _) = ⊥

@@ -1,0 +1,55 @@
+//! Statement texts.
+ghost use Rattle.std.specs.Prelude.{◌≡◌, ◌<◌, Err, IfErr, IfOk, length};
+ghost use Rattle.phrases.specs.Texts.{lexemes_of, max_text};
+ghost use Rattle.source_texts.specs.Sources.{AreCut, source_of};
+ghost use Rattle.statement_texts.specs.StatementTexts.{IsAllowed, IsRefusedStatement, SpellsStatement};
+ghost use Rattle.statement_texts.specs.Told.{Tells};
+ghost use Rattle.statement_trees.specs.StatementView.{statement_of};
+
+use nested_reader::{Source, statement_within};
+use phrases::MAX_TEXT;
+use statement_limits::check_limits;
+use statement_trees::Statement;
+use std::alloc::Global;
+use tokens::{Grammar, Token, read_tokens};
+use values::Fault;
+
+/// The most SELECTs, operators, calls, CASEs and parentheses that a token stands in.
+pub const MAX_LEVELS: usize = 100;
+
+/// The statement that tokens are. Where there are no more tokens than levels, a limit is met by nothing that is spelt.
+#[tactic(auto, using(crate::proofs::TextLemmas::told))]
+fn settled<'t>(alloc: Global, text: &'t str, tokens: &'t [Token<'t>]) -> Result<Statement, Fault>
+    requires { AreCut text.now tokens.now }
+    ensures { Tells (source_of text.now tokens.now) (lexemes_of tokens.now) result }
+{
+    let source = Source {
+        alloc,
+        text,
+        tokens,
+    };
+    match statement_within(source, MAX_LEVELS) {
+        Err(Fault::Limit) if tokens.len() <= MAX_LEVELS => Err(Fault::Syntax(text.len())),
+        read => read,
+    }
+}
+
+/// The statement that a text spells. (SELECT; EXPLAIN QUERY PLAN) The fault is `Syntax` where the text spells none, with the
+/// place where it stops being tokens, or else of the token at which the reader stopped; `Limit` where the text is longer than
+/// 65,536 bytes, spells a statement with more than 100 result columns of one SELECT, 8 sources of one FROM or 64 sources in
+/// all, or has more than 100 tokens and spells nothing but statements of more than 100 levels; or `NoMemory`.
+#[tactic(auto, using(crate::proofs::TextLemmas::statement_spelt, crate::proofs::TextLemmas::statement_refused, crate::proofs::TextLemmas::tokens_refused))]
+pub fn read_select(alloc: Global, text: &str) -> Result<Statement, Fault>
+    ensures spelt { IfOk result (λ statement. SpellsStatement text.now (statement_of statement)) }
+    ensures within { IfOk result (λ statement. IsAllowed text.now (statement_of statement)) }
+    ensures refused { IfErr result (IsRefusedStatement text.now) }
+    ensures long { max_text < length text.now → result ≡ Err Fault.Limit }
+{
+    if text.len() > MAX_TEXT {
+        return Err(Fault::Limit);
+    }
+    let tokens = read_tokens(alloc, Grammar::Select, text)?;
+    let statement = settled(alloc, text, tokens.as_slice())?;
+    check_limits(&statement)?;
+    Ok(statement)
+}
