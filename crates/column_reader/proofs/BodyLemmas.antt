@@ -1,5 +1,5 @@
 -- A parenthesis whose inside isn't kept is read up to the one that closes it.
-use Rattle.std.proofs.Common.{◌≡◌, ℕ, zero, suc, ◌<◌, [], ◌∷◌, length, Option, Some, None, refl, ap, ◌∙◌, subst, arith}
+use Rattle.std.proofs.Common.{◌≡◌, ℕ, zero, suc, ◌<◌, [], ◌∷◌, length, Option, Some, refl, ◌∙◌, subst, arith}
 use Rattle.tokens.specs.Lexeme.{Lexeme}
 use Rattle.tokens.specs.declared.sign.Sign.TheVariants as s
 use Rattle.phrases.proofs.OutcomeLemmas.{some_inj}

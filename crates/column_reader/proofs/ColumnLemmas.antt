@@ -1,22 +1,22 @@
 -- The reader of a column finds exactly what its grammar says.
-use Rattle.std.proofs.Common.{◌≡◌, ◌<◌, true, false, List, ◌∷◌, length, Option, Some, None, option_map, refl, sym, ap, ◌∙◌, map, subst, arith}
+use Rattle.std.proofs.Common.{◌≡◌, ◌<◌, true, false, List, ◌∷◌, length, Option, Some, None, refl, ap, ◌∙◌, map, subst, arith}
 use Rattle.std.proofs.lemmas.Bool.{cond-true, cond-false}
 use Rattle.values.specs.declared.fault.Fault.{Fault}
 use Rattle.values.specs.declared.fault.Fault.TheVariants as f
 use Rattle.tokens.specs.Lexeme.{Lexeme}
-use Rattle.phrases.proofs.ListLemmas.{GoesOn, Shortens, goes_end, goes_wrong}
+use Rattle.phrases.proofs.ListLemmas.{GoesOn, goes_end, goes_wrong}
 use Rattle.phrases.proofs.OutcomeLemmas.{some_inj}
-use Rattle.phrases.proofs.PhraseLemmas.{At, TakesOne, many_length}
-use Rattle.phrases.specs.Lists.{Many}
+use Rattle.phrases.proofs.PhraseLemmas.{At, follows_many, many_length}
 use Rattle.phrases.specs.Steps.{Rest, Found, IsMissing, name}
-use Rattle.column_reader.proofs.ConstraintLemmas.{constraint_length, constraint_shortens, constraints_complete, constraints_sound}
-use Rattle.column_reader.proofs.WordLemmas.{IsEnd, some_mapped, type_complete, type_sound}
-use Rattle.column_reader.specs.ColumnGrammar.{IsType, Constrains, Defines}
-use Rattle.column_reader.specs.ColumnReading.{type_named, column_type, begins_constraint, at_constraint, constraint, constraints, constrained, typed, column}
+use Rattle.column_reader.proofs.ConstraintLemmas.{constraint_front, constraint_length, constraint_shortens, constraints_complete, constraints_sound}
+use Rattle.column_reader.proofs.TypeLemmas.{type_complete, type_length, type_sound}
+use Rattle.column_reader.proofs.WordLemmas.{IsEnd}
+use Rattle.column_reader.specs.ColumnGrammar.{Constrains, Defines}
+use Rattle.column_reader.specs.ColumnReading.{column_type, begins_constraint, at_constraint, constraint, constraints, constrained, typed, column}
 use Rattle.syntax.specs.Tree.{Name}
-use Rattle.syntax.specs.CreateTrees.{TypeTree, ConstraintTree, ColumnTree}
-use Rattle.syntax.specs.CreateView.{constraint_of}
-use Rattle.syntax.specs.declared.create.ColumnConstraint.{ColumnConstraint}
+use Rattle.create_trees.specs.CreateTrees.{TypeTree, ConstraintTree, ColumnTree}
+use Rattle.create_trees.specs.CreateView.{constraint_of}
+use Rattle.create_trees.specs.declared.create.ColumnConstraint.{ColumnConstraint}
 
 -- what may follow a column
 abbrev pub EndsColumn : Rest → Type 0
@@ -24,8 +24,8 @@ EndsColumn ts = IsEnd ts × (at_constraint ts ≡ None)
 
 pub column_complete : (x : ColumnTree) (from mid : Rest) → Defines x from mid → EndsColumn mid
     → (let r : ColumnTree × Rest = (x, mid) in column from ≡ Some r)
-column_complete x _ mid (Defines.column {name = n} {ty = ty} {word = word} {from = from} t m) e =
-    ap (λ o. typed n (option_map (λ ty. (ty, from)) o)) (type_complete ty word t)
+column_complete x _ mid (Defines.column {name = n} {ty = ty} t m) e =
+    ap (typed n) (type_complete t (follows_many Constrains IsEnd constraint_front m e.0))
     ∙ ap (constrained n ty) (constraints_complete m e.0 e.1)
 
 some_constrained : (n : Name) (ty : TypeTree) (o : Found ConstraintTree) (r : ColumnTree × Rest)
@@ -41,21 +41,18 @@ some_typed n None r h = absurd cc
 some_typed n (Some x) r h = (x, refl, h)
 
 pub column_sound : (ts : Rest) (r : ColumnTree × Rest) → column ts ≡ Some r → At Defines ts r
-column_sound (Lexeme.Name q n ∷ word ∷ ts) r h =
-    let t = some_typed n (option_map (λ ty. (ty, ts)) (type_named word)) r h in
-    let m = some_mapped (λ ty. (ty, ts)) (type_named word) t.0 t.1 in
+column_sound (Lexeme.Name q n ∷ ts) r h =
+    let t = some_typed n (column_type ts) r h in
     let c = some_constrained n t.0.0 (constraints t.0.1) r t.2 in
-    let same : ts ≡ t.0.1 = ap (λ (p : TypeTree × Rest). p.1) m.2 in
-    let ty : m.0 ≡ t.0.0 = ap (λ (p : TypeTree × Rest). p.0) m.2 in
-    subst (At Defines (Lexeme.Name q n ∷ word ∷ ts)) c.2
-    (Defines.column (subst (λ ty. IsType ty word) ty (type_sound word m.0 m.1))
-    (subst (λ ts. Many Constrains c.0.0 ts c.0.1) (sym same) (constraints_sound t.0.1 c.0 c.1)))
+    subst (At Defines (Lexeme.Name q n ∷ ts)) c.2
+    (Defines.column (type_sound ts t.0 t.1) (constraints_sound t.0.1 c.0 c.1))
 column_sound _ r h = absurd cc
 
 pub column_length : (x : ColumnTree) (from mid : Rest) → Defines x from mid → length mid < length from
 column_length x from mid (Defines.column t m) =
     let l = many_length Constrains (λ x from mid c. let k = constraint_length x from mid c in omega (arith, k)) m in
-    omega (arith, l)
+    let k = type_length t in
+    omega (arith, l, k)
 
 -- What the definition is, by its parts
 

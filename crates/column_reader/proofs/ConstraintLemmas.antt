@@ -1,5 +1,5 @@
 -- The reader of a column's constraints finds exactly what their grammar says.
-use Rattle.std.proofs.Common.{◌≡◌, Bool, true, false, ◌<◌, ◌≤◌, ℤ, List, [], ◌∷◌, length, codes, Option, Some, None, option_map, option_and_then, cond, refl, sym, ap, ◌∙◌, subst, arith}
+use Rattle.std.proofs.Common.{◌≡◌, Bool, true, false, ◌<◌, ◌≤◌, List, ◌∷◌, length, codes, Option, Some, None, option_map, option_and_then, cond, refl, sym, ap, ◌∙◌, subst, arith}
 use Rattle.std.proofs.lemmas.Bool.{cond-true, cond-false}
 use Rattle.tokens.specs.Content.{is_bare_word}
 use Rattle.tokens.specs.Lexeme.{Lexeme}
@@ -15,11 +15,11 @@ use Rattle.column_reader.proofs.BodyLemmas.{balanced_complete, balanced_length, 
 use Rattle.column_reader.proofs.ReferenceLemmas.{refers_complete, refers_length, refers_sound}
 use Rattle.column_reader.proofs.WordLemmas.{IsEnd, after_name_sound, name_sound, no_word, other_length, some_mapped, then_parts, word_sound}
 use Rattle.column_reader.specs.ColumnGrammar.{Body, Constrains, Defaults, Demands, Increments, MaybeTitled, Ordered}
-use Rattle.column_reader.specs.ColumnReading.{after_name, after_null, after_title, at_constraint, balanced, begins_constraint, body, constraint, constraints, default_value, demand, increments, incremented, key_of, order, ordered, ordered_key, primary_key, refers, title_from}
+use Rattle.column_reader.specs.ColumnReading.{after_null, after_title, at_constraint, balanced, begins_constraint, body, constraint, constraints, default_value, demand, increments, incremented, key_of, order, ordered, ordered_key, primary_key, refers, title_from}
 use Rattle.syntax.specs.Tree.{Name}
-use Rattle.syntax.specs.CreateTrees.{ConstraintTree, DefaultTree}
-use Rattle.syntax.specs.declared.create.KeyOrder.{KeyOrder}
-use Rattle.syntax.specs.declared.create.KeyOrder.TheVariants as o
+use Rattle.create_trees.specs.CreateTrees.{ConstraintTree, DefaultTree}
+use Rattle.create_trees.specs.declared.create.KeyOrder.{KeyOrder}
+use Rattle.create_trees.specs.declared.create.KeyOrder.TheVariants as o
 
 pub body_sound : (ts rest : Rest) → body ts ≡ Some rest → Body ts rest
 body_sound ts rest h =

@@ -2,4 +2,5 @@ pub mod WordLemmas
 pub mod BodyLemmas
 pub mod ReferenceLemmas
 pub mod ConstraintLemmas
+pub mod TypeLemmas
 pub mod ColumnLemmas

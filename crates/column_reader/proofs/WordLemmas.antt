@@ -1,6 +1,5 @@
 -- The words that stand at the front of tokens.
-use Rattle.std.proofs.Common.{◌≡◌, Bool, true, false, List, [], ◌∷◌, ℕ, length, codes, Option, Some, None, option_map, option_and_then, slice_index, cond, refl, sym, ap, ◌∙◌, subst, arith}
-use Rattle.std.proofs.lemmas.Bool.{cond-true, cond-false}
+use Rattle.std.proofs.Common.{◌≡◌, Bool, true, false, List, [], ◌∷◌, ℕ, length, Option, Some, None, option_map, option_and_then, cond, refl, sym, ap, ◌∙◌}
 use Rattle.std.proofs.lemmas.Slice.Eq.{bytes_eq-Decides}
 use Rattle.std.specs.Str.{str_to_ascii_lowercase}
 use Rattle.tokens.specs.Content.{is_bare_word}
@@ -11,10 +10,8 @@ use Rattle.tokens.specs.declared.token.Quoting.TheVariants as q
 use Rattle.tokens.specs.declared.token.Quoting.{Quoting}
 use Rattle.phrases.proofs.OutcomeLemmas.{some_inj}
 use Rattle.phrases.specs.Steps.{Rest, after_open, after_word, name}
-use Rattle.column_reader.specs.ColumnGrammar.{IsType}
-use Rattle.column_reader.specs.ColumnReading.{after_name, after_on, type_named}
+use Rattle.column_reader.specs.ColumnReading.{after_name, after_on}
 use Rattle.syntax.specs.Tree.{Name}
-use Rattle.syntax.specs.CreateTrees.{TypeTree}
 
 -- a word is two words only where these differ in case alone
 same_word : (t : Lexeme) (one two : List ℕ) → is_bare_word t one ≡ true → is_bare_word t two ≡ true
@@ -37,65 +34,6 @@ pub other_length : (t : Lexeme) (one two : List ℕ)
     → (length (str_to_ascii_lowercase one) ≡ length (str_to_ascii_lowercase two) → ⊥)
     → is_bare_word t two ≡ true → is_bare_word t one ≡ false
 other_length t one two d = other_word t one two (λ e. d (ap length e))
-
-no_int_integer : (t : Lexeme) → is_bare_word t (codes "INTEGER") ≡ true → is_bare_word t (codes "INT") ≡ false
-no_int_integer t = other_length t (codes "INT") (codes "INTEGER") (λ e. let i : 3 ≡ 7 = e in omega (arith, i))
-
-no_int_text : (t : Lexeme) → is_bare_word t (codes "TEXT") ≡ true → is_bare_word t (codes "INT") ≡ false
-no_int_text t = other_length t (codes "INT") (codes "TEXT") (λ e. let i : 3 ≡ 4 = e in omega (arith, i))
-
-no_int_blob : (t : Lexeme) → is_bare_word t (codes "BLOB") ≡ true → is_bare_word t (codes "INT") ≡ false
-no_int_blob t = other_length t (codes "INT") (codes "BLOB") (λ e. let i : 3 ≡ 4 = e in omega (arith, i))
-
-no_integer_text : (t : Lexeme) → is_bare_word t (codes "TEXT") ≡ true → is_bare_word t (codes "INTEGER") ≡ false
-no_integer_text t = other_length t (codes "INTEGER") (codes "TEXT") (λ e. let i : 7 ≡ 4 = e in omega (arith, i))
-
-no_integer_blob : (t : Lexeme) → is_bare_word t (codes "BLOB") ≡ true → is_bare_word t (codes "INTEGER") ≡ false
-no_integer_blob t = other_length t (codes "INTEGER") (codes "BLOB") (λ e. let i : 7 ≡ 4 = e in omega (arith, i))
-
--- these differ in their first letter
-no_text_blob : (t : Lexeme) → is_bare_word t (codes "BLOB") ≡ true → is_bare_word t (codes "TEXT") ≡ false
-no_text_blob t =
-    other_word t (codes "TEXT") (codes "BLOB")
-    (λ e. let i : 116 ≡ 98 = ap (λ xs. slice_index xs 0) e in omega (arith, i))
-
-pub type_complete : (ty : TypeTree) (t : Lexeme) → IsType ty t → type_named t ≡ Some ty
-type_complete ty t (IsType.int h) = cond-true _ _ _ h
-type_complete ty t (IsType.integer h) = cond-false _ _ _ (no_int_integer t h) ∙ cond-true _ _ _ h
-type_complete ty t (IsType.text h) =
-    cond-false _ _ _ (no_int_text t h) ∙ (cond-false _ _ _ (no_integer_text t h) ∙ cond-true _ _ _ h)
-type_complete ty t (IsType.blob h) =
-    cond-false _ _ _ (no_int_blob t h)
-    ∙ (cond-false _ _ _ (no_integer_blob t h) ∙ (cond-false _ _ _ (no_text_blob t h) ∙ cond-true _ _ _ h))
-
-pub type_sound : (t : Lexeme) (ty : TypeTree) → type_named t ≡ Some ty → IsType ty t
-type_sound t ty h = int (is_bare_word t (codes "INT")) refl h
-  where
-    none : Option TypeTree
-    none = None
-
-    blob : (b : Bool) → is_bare_word t (codes "BLOB") ≡ b → cond b (Some TypeTree.Blob) none ≡ Some ty → IsType ty t
-    blob true e h = subst (λ ty. IsType ty t) (some_inj _ _ h) (IsType.blob e)
-    blob false e h = absurd cc
-
-    text : (b : Bool) → is_bare_word t (codes "TEXT") ≡ b
-        → cond b (Some TypeTree.Text) (cond (is_bare_word t (codes "BLOB")) (Some TypeTree.Blob) none) ≡ Some ty
-        → IsType ty t
-    text true e h = subst (λ ty. IsType ty t) (some_inj _ _ h) (IsType.text e)
-    text false e h = blob (is_bare_word t (codes "BLOB")) refl h
-
-    integer : (b : Bool) → is_bare_word t (codes "INTEGER") ≡ b
-        → cond b (Some TypeTree.Integer) (cond (is_bare_word t (codes "TEXT")) (Some TypeTree.Text)
-        (cond (is_bare_word t (codes "BLOB")) (Some TypeTree.Blob) none)) ≡ Some ty → IsType ty t
-    integer true e h = subst (λ ty. IsType ty t) (some_inj _ _ h) (IsType.integer e)
-    integer false e h = text (is_bare_word t (codes "TEXT")) refl h
-
-    int : (b : Bool) → is_bare_word t (codes "INT") ≡ b
-        → cond b (Some TypeTree.Int) (cond (is_bare_word t (codes "INTEGER")) (Some TypeTree.Integer)
-        (cond (is_bare_word t (codes "TEXT")) (Some TypeTree.Text)
-        (cond (is_bare_word t (codes "BLOB")) (Some TypeTree.Blob) none))) ≡ Some ty → IsType ty t
-    int true e h = subst (λ ty. IsType ty t) (some_inj _ _ h) (IsType.int e)
-    int false e h = integer (is_bare_word t (codes "INTEGER")) refl h
 
 pub some_mapped : {A B : Type 0} (f : A → B) (o : Option A) (y : B) → option_map f o ≡ Some y
     → (x : A) × (o ≡ Some x) × (f x ≡ y)

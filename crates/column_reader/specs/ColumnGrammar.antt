@@ -1,22 +1,39 @@
--- Which tokens spell a column of a CREATE TABLE. (CREATE TABLE; STRICT Tables)
+-- Which tokens spell a column of a CREATE TABLE. (CREATE TABLE)
 use Rattle.std.specs.Prelude.{◌≡◌, true, false, Bool, ◌||◌, ℕ, ℤ, List, [], ◌∷◌, codes}
 use Rattle.tokens.specs.Content.{is_bare_word}
 use Rattle.tokens.specs.Lexeme.{Lexeme}
 use Rattle.tokens.specs.declared.keyword.Keyword.TheVariants as k
 use Rattle.tokens.specs.declared.sign.Sign.TheVariants as s
 use Rattle.tokens.specs.declared.token.Quoting.{Quoting}
+use Rattle.tokens.specs.declared.token.Quoting.TheVariants as quoting
 use Rattle.phrases.specs.Lists.{Many, Listed}
 use Rattle.syntax.specs.Tree.{Name}
-use Rattle.syntax.specs.CreateTrees.{TypeTree, DefaultTree, ConstraintTree, ColumnTree}
-use Rattle.syntax.specs.declared.create.KeyOrder.{KeyOrder}
-use Rattle.syntax.specs.declared.create.KeyOrder.TheVariants as o
+use Rattle.create_trees.specs.CreateTrees.{TypeTree, DefaultTree, ConstraintTree, ColumnTree}
+use Rattle.create_trees.specs.declared.create.KeyOrder.{KeyOrder}
+use Rattle.create_trees.specs.declared.create.KeyOrder.TheVariants as o
 
--- INT | INTEGER | TEXT | BLOB, each an unquoted name in letters of either case
-pub data IsType : TypeTree → Lexeme → Type 0 where
-  int : {word : Lexeme} → is_bare_word word (codes "INT") ≡ true → IsType TypeTree.Int word
-  integer : {word : Lexeme} → is_bare_word word (codes "INTEGER") ≡ true → IsType TypeTree.Integer word
-  text : {word : Lexeme} → is_bare_word word (codes "TEXT") ≡ true → IsType TypeTree.Text word
-  blob : {word : Lexeme} → is_bare_word word (codes "BLOB") ≡ true → IsType TypeTree.Blob word
+-- Types
+
+-- an unquoted name
+pub data Word : Name → List Lexeme → List Lexeme → Type 0 where
+  bare : {name : Name} {after : List Lexeme} → Word name (Lexeme.Name quoting.Bare name ∷ after) after
+
+-- ["(" number ["," number] ")"], of which it is kept whether it stands there
+pub data MaybeSized : Bool → List Lexeme → List Lexeme → Type 0 where
+  none : {after : List Lexeme} → MaybeSized false after after
+  one : {n : ℤ} {after : List Lexeme}
+      → MaybeSized true (Lexeme.Punctuation s.Open ∷ Lexeme.Number n ∷ Lexeme.Punctuation s.Close ∷ after) after
+  two : {n m : ℤ} {after : List Lexeme}
+      → MaybeSized true
+      (Lexeme.Punctuation s.Open ∷ Lexeme.Number n ∷ Lexeme.Punctuation s.Comma ∷ Lexeme.Number m ∷ Lexeme.Punctuation s.Close ∷ after)
+      after
+
+-- [word {word} ["(" number ["," number] ")"]]
+pub data Types : TypeTree → List Lexeme → List Lexeme → Type 0 where
+  none : {after : List Lexeme} → Types (record { words = []; is_sized = false }) after after
+  words : {word : Name} {words : List Name} {sized : Bool} {from next mid after : List Lexeme}
+      → Word word from next → Many Word words next mid → MaybeSized sized mid after
+      → Types (record { words = word ∷ words; is_sized = sized }) from after
 
 -- Parentheses
 
@@ -145,6 +162,6 @@ pub data Constrains : ConstraintTree → List Lexeme → List Lexeme → Type 0 
 
 -- name type {constraint}
 pub data Defines : ColumnTree → List Lexeme → List Lexeme → Type 0 where
-  column : {q : Quoting} {name : Name} {ty : TypeTree} {word : Lexeme} {constraints : List ConstraintTree}
-      {from after : List Lexeme} → IsType ty word → Many Constrains constraints from after
-      → Defines (record { name = name; ty = ty; constraints = constraints }) (Lexeme.Name q name ∷ word ∷ from) after
+  column : {q : Quoting} {name : Name} {ty : TypeTree} {constraints : List ConstraintTree} {from mid after : List Lexeme}
+      → Types ty from mid → Many Constrains constraints mid after
+      → Defines (record { name = name; ty = ty; constraints = constraints }) (Lexeme.Name q name ∷ from) after

@@ -1,27 +1,62 @@
 -- What a reader that goes from left to right makes of the tokens of a column. No public clause of a reader of texts cites it.
 use Rattle.std.specs.Prelude.{Bool, true, false, ℕ, ℤ, zero, suc, List, [], ◌∷◌, codes, Option, Some, None, option_map, option_and_then, if◌then◌else◌}
-use Rattle.phrases.specs.Steps.{Found, Rest, after_close, after_keyword, after_open, after_word, listed, many, name}
+use Rattle.phrases.specs.Steps.{Found, Rest, after_close, after_comma, after_keyword, after_open, after_word, listed, many, name}
 use Rattle.tokens.specs.Content.{is_bare_word}
 use Rattle.tokens.specs.Lexeme.{Lexeme}
 use Rattle.tokens.specs.declared.keyword.Keyword.TheVariants as k
 use Rattle.tokens.specs.declared.sign.Sign.TheVariants as s
-use Rattle.syntax.specs.CreateTrees.{TypeTree, DefaultTree, ConstraintTree, ColumnTree}
+use Rattle.tokens.specs.declared.token.Quoting.TheVariants as quoting
+use Rattle.create_trees.specs.CreateTrees.{TypeTree, DefaultTree, ConstraintTree, ColumnTree}
 use Rattle.syntax.specs.Tree.{Name}
-use Rattle.syntax.specs.declared.create.KeyOrder.{KeyOrder}
-use Rattle.syntax.specs.declared.create.KeyOrder.TheVariants as o
+use Rattle.create_trees.specs.declared.create.KeyOrder.{KeyOrder}
+use Rattle.create_trees.specs.declared.create.KeyOrder.TheVariants as o
 use Rattle.column_reader.specs.ColumnGrammar.{is_event, is_reaction}
 
-abbrev pub type_named : Lexeme → Option TypeTree
-type_named word =
-    if is_bare_word word (codes "INT") then Some TypeTree.Int
-    else (if is_bare_word word (codes "INTEGER") then Some TypeTree.Integer
-    else (if is_bare_word word (codes "TEXT") then Some TypeTree.Text
-    else (if is_bare_word word (codes "BLOB") then Some TypeTree.Blob
-    else None)))
+-- Types
 
+abbrev pub begins_word : Rest → Bool
+begins_word (Lexeme.Name quoting.Bare n ∷ ts) = true
+begins_word _ = false
+
+abbrev pub at_word : Rest → Option Rest
+at_word ts = if begins_word ts then Some ts else None
+
+abbrev pub words : Rest → Found Name
+words = many at_word name
+
+abbrev pub after_number : Rest → Option Rest
+after_number (Lexeme.Number n ∷ ts) = Some ts
+after_number _ = None
+
+abbrev pub second_from : Rest → Option Rest → Option Rest
+second_from ts None = Some ts
+second_from ts (Some rest) = after_number rest
+
+-- what is behind a comma and a number, if a comma stands there
+abbrev pub after_second : Rest → Option Rest
+after_second ts = second_from ts (after_comma ts)
+
+abbrev pub size_closed : Rest → Option (Bool × Rest)
+size_closed ts = option_map (λ rest. (true, rest)) (after_close ts)
+
+abbrev pub size_from : Rest → Option Rest → Option (Bool × Rest)
+size_from ts None = Some (false, ts)
+size_from ts (Some inside) = option_and_then size_closed (option_and_then after_second (after_number inside))
+
+-- whether a size stands there
+abbrev pub size : Rest → Option (Bool × Rest)
+size ts = size_from ts (after_open ts)
+
+abbrev pub type_by : List Name → Bool × Rest → TypeTree × Rest
+type_by ws r = (record { words = ws; is_sized = r.0 }, r.1)
+
+abbrev pub sized : Found Name → Option (TypeTree × Rest)
+sized None = None
+sized (Some r) = option_map (type_by r.0) (size r.1)
+
+-- a type, which may be none
 abbrev pub column_type : Rest → Option (TypeTree × Rest)
-column_type [] = None
-column_type (word ∷ ts) = option_map (λ ty. (ty, ts)) (type_named word)
+column_type ts = if begins_word ts then sized (words ts) else Some (type_by [] (false, ts))
 
 -- Parts of constraints
 

@@ -1,51 +1,17 @@
 //! Columns.
-ghost use Rattle.std.specs.Prelude.{◌≡◌, ◌<◌, IfOk, length, option_map};
+ghost use Rattle.std.specs.Prelude.{◌<◌, IfOk, length};
 ghost use Rattle.column_reader.specs.ColumnReading as spec;
 ghost use Rattle.phrases.specs.Steps.{Gives};
 ghost use Rattle.phrases.specs.Texts.{lexemes_of};
-ghost use Rattle.syntax.specs.CreateView.{column_of, type_of};
-ghost use Rattle.tokens.specs.Content.{lexeme_of};
+ghost use Rattle.create_trees.specs.CreateView.{column_of};
 
 use crate::constraints::{begins_constraint, constraint};
+use crate::types::column_type;
+use create_trees::Column;
 use phrases::name;
 use std::alloc::Global;
-use syntax::{Column, ColumnType};
-use tokens::{Token, TokenKind};
+use tokens::Token;
 use values::Fault;
-
-/// The type that a word names.
-fn type_named(word: &TokenKind<'_>) -> Option<ColumnType>
-    ensures { option_map (λ ty. type_of ty) result ≡ spec.type_named (lexeme_of word.now) }
-{
-    if word.is_word("INT") {
-        Some(ColumnType::Int)
-    } else if word.is_word("INTEGER") {
-        Some(ColumnType::Integer)
-    } else if word.is_word("TEXT") {
-        Some(ColumnType::Text)
-    } else if word.is_word("BLOB") {
-        Some(ColumnType::Blob)
-    } else {
-        None
-    }
-}
-
-/// The type at the front, and what is behind it.
-fn column_type<'t>(
-    tokens: &'t [Token<'t>],
-    end: usize,
-) -> Result<(ColumnType, &'t [Token<'t>]), Fault>
-    ensures value { Gives (λ r. (type_of r.0, lexemes_of r.1.now)) result (spec.column_type (lexemes_of tokens.now)) }
-    ensures shorter { IfOk result (λ r. length r.1.now < length tokens.now) }
-{
-    let [first, rest @ ..] = tokens else {
-        return Err(Fault::Syntax(end));
-    };
-    match type_named(&first.kind) {
-        Some(ty) => Ok((ty, rest)),
-        None => Err(Fault::Syntax(first.place)),
-    }
-}
 
 /// The column at the front, and what is behind it.
 pub fn column<'t>(
@@ -57,7 +23,7 @@ pub fn column<'t>(
     ensures shorter { IfOk result (λ r. length r.1.now < length tokens.now) }
 {
     let (name, rest) = name(alloc, tokens, end)?;
-    let (ty, mut rest) = column_type(rest, end)?;
+    let (ty, mut rest) = column_type(alloc, rest, end)?;
     let mut constraints = Vec::new(alloc);
     while begins_constraint(rest) {
         let (next, after) = constraint(alloc, rest, end)?;

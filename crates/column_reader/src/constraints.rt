@@ -3,14 +3,14 @@ ghost use Rattle.std.specs.Prelude.{◌≡◌, ◌<◌, ◌≤◌, IfOk, length}
 ghost use Rattle.column_reader.specs.ColumnReading as spec;
 ghost use Rattle.phrases.specs.Steps.{Gives};
 ghost use Rattle.phrases.specs.Texts.{lexemes_of};
-ghost use Rattle.syntax.specs.CreateTrees.{DefaultTree};
-ghost use Rattle.syntax.specs.CreateView.{constraint_of, default_of};
+ghost use Rattle.create_trees.specs.CreateTrees.{DefaultTree};
+ghost use Rattle.create_trees.specs.CreateView.{constraint_of, default_of};
 
 use crate::bodies::{balanced, body};
 use crate::references::{after_name, after_reference};
+use create_trees::{ColumnConstraint, DefaultValue, KeyOrder};
 use phrases::{after_keyword, after_word, name, syntax_at};
 use std::alloc::Global;
-use syntax::{ColumnConstraint, DefaultValue, KeyOrder};
 use tokens::{Keyword, Sign, Token, TokenKind, blob_content, text_content};
 use values::Fault;
 

@@ -2,18 +2,19 @@
 //! that each function finds exactly what its phrase of the grammar says stands at the front of the tokens, and answers a
 //! syntax error only where there is no such phrase. Its clauses speak of the reader that goes from left to right, which
 //! the lemmas tie to the grammar; a syntax error's place is tested and not proved.
-//! Today a column has one of the types INT, INTEGER, TEXT and BLOB. What the grammar doesn't rule out is left to the
-//! schema: a constraint may be written twice. Of CHECK, of a DEFAULT in parentheses and of REFERENCES the tree keeps that
+//! What the grammar doesn't rule out is left to the schema: a column may have any type, or none, and a constraint may be
+//! written twice. Of a size behind a type, of CHECK, of a DEFAULT in parentheses and of REFERENCES the tree keeps that
 //! they are there.
 //!
-//! The modules, in the order in which data passes them: `columns`, `constraints` (of a column), `references` (what stands
-//! behind REFERENCES), and `bodies` (parentheses whose inside isn't kept).
+//! The modules, in the order in which data passes them: `columns`, `types`, `constraints` (of a column), `references`
+//! (what stands behind REFERENCES), and `bodies` (parentheses whose inside isn't kept).
 #![tactic(auto)]
 
 mod bodies;
 mod columns;
 mod constraints;
 mod references;
+mod types;
 
 pub use bodies::body;
 pub use columns::column;

@@ -1,5 +1,5 @@
 -- The reader of a CREATE TABLE finds exactly what its grammar says.
-use Rattle.std.proofs.Common.{◌≡◌, List, ◌∷◌, length, Some, None, option_map, refl, sym, ap, ◌∙◌, subst, arith}
+use Rattle.std.proofs.Common.{◌≡◌, List, ◌∷◌, length, Option, Some, None, option_and_then, option_map, refl, sym, ap, ◌∙◌, subst, arith}
 use Rattle.tokens.specs.Lexeme.{Lexeme}
 use Rattle.tokens.specs.declared.keyword.Keyword.TheVariants as k
 use Rattle.tokens.specs.declared.sign.Sign.TheVariants as s
@@ -7,9 +7,10 @@ use Rattle.tokens.specs.declared.token.Quoting.{Quoting}
 use Rattle.phrases.proofs.ListLemmas.{Shortens}
 use Rattle.phrases.proofs.PhraseLemmas.{At, IsFound, IsSpelt, first_parts, follows_comma, follows_many, many_complete, many_sound}
 use Rattle.phrases.proofs.OutcomeLemmas.{some_inj}
-use Rattle.phrases.proofs.StepLemmas.{at_sign}
+use Rattle.phrases.proofs.StepLemmas.{at_keyword, at_sign, names}
 use Rattle.phrases.specs.Lists.{AfterComma, Many, Listed}
-use Rattle.phrases.specs.Steps.{Rest, Found, after_close, after_comma, cons_found, first_and, many}
+use Rattle.phrases.specs.Outcomes.{needed}
+use Rattle.phrases.specs.Steps.{Rest, Found, after_close, after_comma, after_open, cons_found, first_and, many, name}
 use Rattle.column_reader.proofs.ColumnLemmas.{EndsColumn, column_complete, column_length, column_sound}
 use Rattle.column_reader.proofs.WordLemmas.{some_mapped, then_parts}
 use Rattle.column_reader.specs.ColumnGrammar.{Defines, MaybeTitled}
@@ -17,10 +18,10 @@ use Rattle.column_reader.specs.ColumnReading.{column}
 use Rattle.create_reader.proofs.OptionLemmas.{closes_complete, closes_sound}
 use Rattle.create_reader.proofs.TableLemmas.{constraints_complete, constraints_sound}
 use Rattle.create_reader.specs.CreateGrammar.{Closes, Creates, TableConstrains, TableDemands}
-use Rattle.create_reader.specs.CreateReading.{another_column, at_name, closed, closing, columns, constrained, constraints, create, table_options, with_constraints}
+use Rattle.create_reader.specs.CreateReading.{after_create, after_table, another_column, at_name, closed, closing, columns, constrained, constraints, create, definitions, headed, heading, opened, table_options, with_constraints}
 use Rattle.syntax.specs.Tree.{Name}
-use Rattle.syntax.specs.CreateTrees.{ColumnTree, TableConstraintTree, TableTree}
-use Rattle.syntax.specs.declared.create.TableOption.{TableOption}
+use Rattle.create_trees.specs.CreateTrees.{ColumnTree, TableConstraintTree, TableTree}
+use Rattle.create_trees.specs.declared.create.TableOption.{TableOption}
 
 -- Columns
 
@@ -40,8 +41,8 @@ column_shortens ts start r e i =
     omega (arith, same, l)
 
 another_found : IsFound (AfterComma Defines) EndsColumn another_column column
-another_found x _ mid (AfterComma.comma (Defines.column {q = q} {name = n} {word = word} {from = from} t m)) e =
-    let start = Lexeme.Name q n ∷ word ∷ from in
+another_found x _ mid (AfterComma.comma (Defines.column {q = q} {name = n} {from = from} t m)) e =
+    let start = Lexeme.Name q n ∷ from in
     (start, refl, column_complete x start mid (Defines.column t m) e)
 
 another_spelt : IsSpelt (AfterComma Defines) another_column column
@@ -123,8 +124,37 @@ module _ (q : Quoting) (n : Name) (from : Rest) where
   columns_sound_at None tree e h = absurd cc
   columns_sound_at (Some c) tree e h = constraints_sound_at c (constraints c.1) tree e refl h
 
+-- what stands at the front where the name of a table was found
+opened_parts : (o : Option (Name × Rest)) (r : Name × Rest) → opened o ≡ Some r
+    → (named : Name × Rest) × (o ≡ Some named) × (after_open named.1 ≡ Some r.1) × (named.0 ≡ r.0)
+opened_parts None r h = absurd cc
+opened_parts (Some named) r h =
+    let m = some_mapped (λ (after : Rest). (named.0, after)) (after_open named.1) r h in
+    (named, refl, m.1 ∙ ap (λ (after : Rest). Some after) (ap (λ (r : Name × Rest). r.1) m.2), ap (λ (r : Name × Rest). r.0) m.2)
+
+heading_sound : (ts : Rest) (r : Name × Rest) → heading ts ≡ Some r → (q : Quoting) × (ts ≡ front q r.0 r.1)
+heading_sound ts r h =
+    let opening = opened_parts (option_and_then name (option_and_then after_table (after_create ts))) r h in
+    let named = then_parts name (option_and_then after_table (after_create ts)) opening.0 opening.1 in
+    let table = then_parts after_table (after_create ts) named.0 named.1 in
+    let is_create = at_keyword k.Create ts table.0 table.1 in
+    let is_table = at_keyword k.Table table.0 named.0 table.2 in
+    let is_name = names named.0 opening.0 (ap needed named.2) in
+    let is_open = at_sign s.Open opening.0.1 r.1 opening.2 in (
+      is_name.0,
+      is_create ∙ ap (λ (l : Rest). Lexeme.Reserved k.Create ∷ l)
+          (is_table ∙ ap (λ (l : Rest). Lexeme.Reserved k.Table ∷ l)
+          (is_name.1 ∙ (λ i. Lexeme.Name is_name.0 (opening.3 i) ∷ is_open i))),
+    )
+
+headed_parts : (o : Option (Name × Rest)) (tree : TableTree) → headed o ≡ Some tree
+    → (r : Name × Rest) × (o ≡ Some r) × (closed r.0 (definitions r.1) ≡ Some tree)
+headed_parts None tree h = absurd cc
+headed_parts (Some r) tree h = (r, refl, h)
+
 pub create_sound : (ts : Rest) (tree : TableTree) → create ts ≡ Some tree → Creates tree ts
-create_sound
-    (Lexeme.Reserved k.Create ∷ Lexeme.Reserved k.Table ∷ Lexeme.Name q n ∷ Lexeme.Punctuation s.Open ∷ ts) tree h =
-    columns_sound_at q n ts (columns ts) tree refl h
-create_sound _ tree h = absurd cc
+create_sound ts tree h =
+    let head = headed_parts (heading ts) tree h in
+    let at = heading_sound ts head.0 head.1 in
+    subst (λ (l : Rest). Creates tree l) (sym at.1)
+    (columns_sound_at at.0 head.0.0 head.0.1 (columns head.0.1) tree refl head.2)

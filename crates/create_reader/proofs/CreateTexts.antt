@@ -9,7 +9,7 @@ use Rattle.tokens.specs.declared.token.Token.{Token}
 use Rattle.phrases.proofs.TextLemmas.{IsReader, one_tree, refused, spelt_by, tokens_refused}
 use Rattle.phrases.specs.Steps.{IsMissing}
 use Rattle.phrases.specs.Texts.{IsRefused, lexemes_of}
-use Rattle.syntax.specs.CreateTrees.{TableTree, columns_of_table}
+use Rattle.create_trees.specs.CreateTrees.{TableTree, columns_of_table}
 use Rattle.create_reader.proofs.CreateLemmas.{create_complete, create_sound}
 use Rattle.create_reader.specs.CreateGrammar.{Creates, SpellsCreate}
 use Rattle.create_reader.specs.CreateReading.{create}

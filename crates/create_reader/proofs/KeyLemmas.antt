@@ -16,8 +16,8 @@ use Rattle.column_reader.specs.ColumnGrammar.{Ordered}
 use Rattle.create_reader.specs.CreateGrammar.{Indexes, IndexesAll, MaybeCollated}
 use Rattle.create_reader.specs.CreateReading.{after_collate, collation, collation_from, collation_of, indexed, indexed_all, indexed_by, indexed_closed, indexed_within, ordered_by}
 use Rattle.syntax.specs.Tree.{Name}
-use Rattle.syntax.specs.CreateTrees.{IndexedColumnTree}
-use Rattle.syntax.specs.declared.create.KeyOrder.{KeyOrder}
+use Rattle.create_trees.specs.CreateTrees.{IndexedColumnTree}
+use Rattle.create_trees.specs.declared.create.KeyOrder.{KeyOrder}
 
 -- what may follow a column of a key: a comma, or the parenthesis that closes
 abbrev pub is_list_end : Rest → Bool

@@ -14,8 +14,8 @@ use Rattle.phrases.specs.Steps.{Found, Rest, after_comma, after_word, listed}
 use Rattle.column_reader.proofs.WordLemmas.{other_length, some_mapped, word_sound}
 use Rattle.create_reader.specs.CreateGrammar.{Closes, Opts}
 use Rattle.create_reader.specs.CreateReading.{finished, options_finished, rowid_option, table_option, table_options}
-use Rattle.syntax.specs.declared.create.TableOption.{TableOption}
-use Rattle.syntax.specs.declared.create.TableOption.TheVariants as o
+use Rattle.create_trees.specs.declared.create.TableOption.{TableOption}
+use Rattle.create_trees.specs.declared.create.TableOption.TheVariants as o
 
 no_strict : (t : Lexeme) → is_bare_word t (codes "WITHOUT") ≡ true → is_bare_word t (codes "STRICT") ≡ false
 no_strict t = other_length t (codes "STRICT") (codes "WITHOUT") (λ e. let i : 6 ≡ 7 = e in omega (arith, i))

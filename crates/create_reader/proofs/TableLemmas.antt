@@ -20,7 +20,7 @@ use Rattle.create_reader.proofs.KeyLemmas.{all_complete, all_length, all_sound}
 use Rattle.create_reader.specs.CreateGrammar.{IndexesAll, TableConstrains, TableDemands}
 use Rattle.create_reader.specs.CreateReading.{after_references, constraint, constraints, demand, foreign_key, indexed_all, key_of, primary_key, referring}
 use Rattle.syntax.specs.Tree.{Name}
-use Rattle.syntax.specs.CreateTrees.{IndexedColumnTree, TableConstraintTree}
+use Rattle.create_trees.specs.CreateTrees.{IndexedColumnTree, TableConstraintTree}
 
 -- Demands
 

@@ -10,10 +10,10 @@ use Rattle.phrases.specs.Lists.{AfterComma, Many, Listed}
 use Rattle.phrases.specs.Texts.{Spells}
 use Rattle.column_reader.specs.ColumnGrammar.{Body, Defines, MaybeTitled, Named, Ordered, Refers}
 use Rattle.syntax.specs.Tree.{Name}
-use Rattle.syntax.specs.CreateTrees.{ColumnTree, IndexedColumnTree, TableConstraintTree, TableTree}
-use Rattle.syntax.specs.declared.create.KeyOrder.{KeyOrder}
-use Rattle.syntax.specs.declared.create.TableOption.{TableOption}
-use Rattle.syntax.specs.declared.create.TableOption.TheVariants as o
+use Rattle.create_trees.specs.CreateTrees.{ColumnTree, IndexedColumnTree, TableConstraintTree, TableTree}
+use Rattle.create_trees.specs.declared.create.KeyOrder.{KeyOrder}
+use Rattle.create_trees.specs.declared.create.TableOption.{TableOption}
+use Rattle.create_trees.specs.declared.create.TableOption.TheVariants as o
 
 -- Keys
 

@@ -5,11 +5,11 @@ use Rattle.tokens.specs.Content.{is_bare_word}
 use Rattle.tokens.specs.Lexeme.{Lexeme}
 use Rattle.tokens.specs.declared.keyword.Keyword.TheVariants as k
 use Rattle.column_reader.specs.ColumnReading.{after_title, body, column, names, order, refers}
-use Rattle.syntax.specs.CreateTrees.{ColumnTree, IndexedColumnTree, TableConstraintTree, TableTree}
+use Rattle.create_trees.specs.CreateTrees.{ColumnTree, IndexedColumnTree, TableConstraintTree, TableTree}
 use Rattle.syntax.specs.Tree.{Name}
-use Rattle.syntax.specs.declared.create.KeyOrder.{KeyOrder}
-use Rattle.syntax.specs.declared.create.TableOption.{TableOption}
-use Rattle.syntax.specs.declared.create.TableOption.TheVariants as o
+use Rattle.create_trees.specs.declared.create.KeyOrder.{KeyOrder}
+use Rattle.create_trees.specs.declared.create.TableOption.{TableOption}
+use Rattle.create_trees.specs.declared.create.TableOption.TheVariants as o
 
 -- Keys
 

@@ -1,27 +1,39 @@
--- Which tokens spell a CREATE INDEX. (CREATE INDEX)
-use Rattle.std.specs.Prelude.{Bool, true, false, ℕ, List, [], ◌∷◌}
+-- Which tokens spell a CREATE INDEX. (CREATE INDEX; Partial Indexes)
+use Rattle.std.specs.Prelude.{◌≡◌, Bool, true, false, ℕ, List, [], ◌∷◌, Option, None, Some}
 use Rattle.tokens.specs.Lexeme.{Lexeme}
-use Rattle.tokens.specs.declared.keyword.Grammar.TheVariants as g
 use Rattle.tokens.specs.declared.keyword.Keyword.TheVariants as k
 use Rattle.tokens.specs.declared.token.Quoting.{Quoting}
-use Rattle.phrases.specs.Texts.{Spells}
 use Rattle.create_reader.specs.CreateGrammar.{IndexesAll}
+use Rattle.grammar.specs.Queries.{Expresses}
+use Rattle.syntax.specs.ExprTree.{ExprTree}
 use Rattle.syntax.specs.Tree.{Name}
-use Rattle.syntax.specs.CreateTrees.{IndexedColumnTree, IndexTree}
+use Rattle.create_trees.specs.CreateTrees.{IndexedColumnTree, IndexTree}
 
 -- [UNIQUE]
 pub data MaybeUnique : Bool → List Lexeme → List Lexeme → Type 0 where
   plain : {after : List Lexeme} → MaybeUnique false after after
   unique : {after : List Lexeme} → MaybeUnique true (Lexeme.Reserved k.Unique ∷ after) after
 
--- CREATE [UNIQUE] INDEX name ON name "(" column {"," column} ")"
-pub data CreatesIndex : IndexTree → List Lexeme → Type 0 where
-  index : {unique : Bool} {q r : Quoting} {name table : Name} {columns : List IndexedColumnTree} {from last : List Lexeme}
-      → MaybeUnique unique from (Lexeme.Reserved k.Index ∷ Lexeme.Name q name ∷ Lexeme.Reserved k.On ∷ Lexeme.Name r table ∷ last)
-      → IndexesAll columns last []
-      → CreatesIndex (record { name = name; table = table; is_unique = unique; columns = columns })
-      (Lexeme.Reserved k.Create ∷ from)
+-- whether a query stands among tokens: each begins with SELECT, which stands nowhere else in an expression
+abbrev pub has_query : List Lexeme → Bool
+has_query [] = false
+has_query (Lexeme.Reserved k.Select ∷ tokens) = true
+has_query (_ ∷ tokens) = has_query tokens
 
--- the text spells this CREATE INDEX
-abbrev pub SpellsIndex : List ℕ → IndexTree → Type 0
-SpellsIndex = Spells g.Create CreatesIndex
+-- `source left behind` is the source text of a phrase at whose beginning so many tokens are left, and so many behind it
+module _ (source : ℕ → ℕ → List ℕ) where
+  -- [WHERE expr], where no query stands in the expression, and some token of it stands in so many levels, and none in more
+  pub data MaybePartial : ℕ → Option ExprTree → List Lexeme → Type 0 where
+    whole : MaybePartial 0 None []
+    partial : {h : ℕ} {e : ExprTree} {tokens : List Lexeme} → has_query tokens ≡ false → Expresses source 1 h e tokens []
+        → MaybePartial h (Some e) (Lexeme.Reserved k.Where ∷ tokens)
+
+  -- CREATE [UNIQUE] INDEX name ON name "(" column {"," column} ")" [WHERE expr]
+  pub data CreatesIndex : ℕ → IndexTree → List Lexeme → Type 0 where
+    index : {h : ℕ} {unique : Bool} {q r : Quoting} {name table : Name} {columns : List IndexedColumnTree}
+        {condition : Option ExprTree} {from last end : List Lexeme}
+        → MaybeUnique unique from (Lexeme.Reserved k.Index ∷ Lexeme.Name q name ∷ Lexeme.Reserved k.On ∷ Lexeme.Name r table ∷ last)
+        → IndexesAll columns last end → MaybePartial h condition end
+        → CreatesIndex h
+        (record { name = name; table = table; is_unique = unique; columns = columns; condition = condition })
+        (Lexeme.Reserved k.Create ∷ from)

@@ -1,10 +1,15 @@
 -- What a reader that goes from left to right makes of the tokens of a CREATE INDEX. No public clause cites it.
-use Rattle.std.specs.Prelude.{Bool, true, false, List, Option, Some, None, option_map, option_and_then}
+use Rattle.std.specs.Prelude.{Bool, true, false, ℕ, List, [], ◌∷◌, Option, Some, None, Ok, Err, option_map, option_and_then, if◌then◌else◌}
+use Rattle.phrases.specs.Outcomes.{Outcome, Read, Refusal, ◌>>=◌, needed}
 use Rattle.phrases.specs.Steps.{Rest, after_keyword, name}
+use Rattle.tokens.specs.Lexeme.{Lexeme}
 use Rattle.tokens.specs.declared.keyword.Keyword.TheVariants as k
 use Rattle.column_reader.specs.ColumnReading.{after_on}
-use Rattle.create_reader.specs.CreateReading.{after_create, finished, indexed_all}
-use Rattle.syntax.specs.CreateTrees.{IndexedColumnTree, IndexTree}
+use Rattle.create_reader.specs.CreateReading.{after_create, indexed_all}
+use Rattle.create_reader.specs.IndexGrammar.{has_query}
+use Rattle.create_trees.specs.CreateTrees.{IndexedColumnTree, IndexTree}
+use Rattle.grammar.specs.Reading.{expr}
+use Rattle.syntax.specs.ExprTree.{ExprTree}
 use Rattle.syntax.specs.Tree.{Name}
 
 abbrev pub after_unique : Rest → Option Rest
@@ -27,22 +32,42 @@ owned r = option_map (λ t. (r.0, t.0, t.1)) (option_and_then name (after_on r.1
 abbrev pub index_heading : Rest → Option (Name × Name × Rest)
 index_heading ts = option_and_then owned (option_and_then name (after_index ts))
 
-abbrev pub ended : List IndexedColumnTree × Rest → Option (List IndexedColumnTree)
-ended r = option_map (λ end. r.0) (finished r.1)
+abbrev pub index_tree : Bool → Name × Name × Rest → List IndexedColumnTree × Option ExprTree → IndexTree
+index_tree unique r cs = record { name = r.0; table = r.1; is_unique = unique; columns = cs.0; condition = cs.1 }
 
--- the columns, behind which nothing stands
-abbrev pub last_columns : Rest → Option (List IndexedColumnTree)
-last_columns ts = option_and_then ended (indexed_all ts)
+-- an expression behind which nothing stands
+abbrev pub ended : ExprTree → Rest → Outcome ExprTree
+ended e [] = Ok e
+ended e _ = Err Refusal.Syntax
 
-abbrev pub index_with : Bool → Name × Name × Rest → Option IndexTree
-index_with unique r =
-    option_map (λ cs. record { name = r.0; table = r.1; is_unique = unique; columns = cs }) (last_columns r.2)
+abbrev pub whole : Outcome (Read ExprTree) → Outcome ExprTree
+whole r = r >>= λ x. ended x.tree x.rest
 
-abbrev pub index_from : Bool × Rest → Option IndexTree
-index_from r = option_and_then (index_with r.0) (index_heading r.1)
+-- `source left behind` is the source text of a phrase at whose beginning so many tokens are left, and so many behind it;
+-- d is how many levels there may be
+module _ (source : ℕ → ℕ → List ℕ) (d : ℕ) where
+  -- the condition behind WHERE, which is all of the tokens
+  unfoldable pub predicate : Rest → Outcome ExprTree
+  predicate ts = if has_query ts then Err Refusal.Syntax else whole (expr source d 1 ts)
 
-abbrev pub behind_create : Rest → Option IndexTree
-behind_create ts = index_from (uniqueness ts)
+  abbrev pub some_predicate : Rest → Outcome (Option ExprTree)
+  some_predicate ts = predicate ts >>= λ e. Ok (Some e)
 
-abbrev pub create_index : Rest → Option IndexTree
-create_index ts = option_and_then behind_create (after_create ts)
+  -- a condition, if one stands there, which is all of the tokens
+  abbrev pub condition : Rest → Outcome (Option ExprTree)
+  condition [] = Ok None
+  condition (Lexeme.Reserved k.Where ∷ ts) = some_predicate ts
+  condition _ = Err Refusal.Syntax
+
+  -- the columns, and the condition behind them
+  abbrev pub last_columns : Rest → Outcome (List IndexedColumnTree × Option ExprTree)
+  last_columns ts = needed (indexed_all ts) >>= λ r. condition r.1 >>= λ c. Ok (r.0, c)
+
+  abbrev pub index_with : Bool → Name × Name × Rest → Outcome IndexTree
+  index_with unique r = last_columns r.2 >>= λ cs. Ok (index_tree unique r cs)
+
+  abbrev pub index_from : Bool × Rest → Outcome IndexTree
+  index_from r = needed (index_heading r.1) >>= index_with r.0
+
+  unfoldable pub create_index : Rest → Outcome IndexTree
+  create_index ts = needed (after_create ts) >>= λ rest. index_from (uniqueness rest)

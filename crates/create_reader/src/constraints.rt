@@ -3,13 +3,13 @@ ghost use Rattle.std.specs.Prelude.{◌≡◌, ◌<◌, ◌≤◌, IfOk, length}
 ghost use Rattle.create_reader.specs.CreateReading as spec;
 ghost use Rattle.phrases.specs.Steps.{Gives};
 ghost use Rattle.phrases.specs.Texts.{lexemes_of};
-ghost use Rattle.syntax.specs.CreateView.{table_constraint_of};
+ghost use Rattle.create_trees.specs.CreateView.{table_constraint_of};
 
 use crate::keys::indexed_columns;
 use column_reader::{after_reference, after_title, body, names};
+use create_trees::TableConstraint;
 use phrases::{after_keyword, after_sign, after_word, syntax_at};
 use std::alloc::Global;
-use syntax::TableConstraint;
 use tokens::{Keyword, Sign, Token, TokenKind};
 use values::Fault;
 

@@ -4,14 +4,14 @@ ghost use Rattle.create_reader.specs.CreateGrammar.{SpellsCreate};
 ghost use Rattle.create_reader.specs.CreateReading as spec;
 ghost use Rattle.phrases.specs.Steps.{Gives};
 ghost use Rattle.phrases.specs.Texts.{IsRefused, IsWithin, lexemes_of, max_text};
-ghost use Rattle.syntax.specs.CreateTrees.{columns_of_table};
-ghost use Rattle.syntax.specs.CreateView.{table_of};
+ghost use Rattle.create_trees.specs.CreateTrees.{columns_of_table};
+ghost use Rattle.create_trees.specs.CreateView.{table_of};
 
 use crate::definitions::definitions;
 use crate::options::table_options;
+use create_trees::{CreateTable, TableOption};
 use phrases::{MAX_COLUMNS, MAX_TEXT, after_keyword, after_sign, name, syntax_at};
 use std::alloc::Global;
-use syntax::{CreateTable, TableOption};
 use tokens::{Grammar, Keyword, Sign, Token, read_tokens};
 use values::Fault;
 

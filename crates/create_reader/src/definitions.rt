@@ -3,13 +3,13 @@ ghost use Rattle.std.specs.Prelude.{◌≡◌, ◌<◌, IfSome, length, map, opt
 ghost use Rattle.create_reader.specs.CreateReading as spec;
 ghost use Rattle.phrases.specs.Steps.{Gives};
 ghost use Rattle.phrases.specs.Texts.{lexemes_of};
-ghost use Rattle.syntax.specs.CreateView.{column_of, table_constraint_of};
+ghost use Rattle.create_trees.specs.CreateView.{column_of, table_constraint_of};
 
 use crate::constraints::constraint;
 use column_reader::column;
+use create_trees::{Column, TableConstraint};
 use phrases::after_sign;
 use std::alloc::Global;
-use syntax::{Column, TableConstraint};
 use tokens::{Sign, Token, TokenKind};
 use values::Fault;
 

@@ -1,16 +1,23 @@
 //! CREATE INDEX texts.
-ghost use Rattle.std.specs.Prelude.{◌≡◌, ◌<◌, ◌≤◌, Err, IfErr, IfOk, length, map, string_bytes};
-ghost use Rattle.create_reader.specs.IndexGrammar.{SpellsIndex};
+ghost use Rattle.std.specs.Prelude.{◌≡◌, ◌<◌, Err, IfErr, IfOk, length, map, option_map, string_bytes};
 ghost use Rattle.create_reader.specs.IndexReading as spec;
+ghost use Rattle.create_reader.specs.IndexTexts.{IsRefusedIndex, SpellsIndex};
+ghost use Rattle.create_reader.specs.Told.{Tells};
+ghost use Rattle.phrases.specs.Outcomes.{Yields};
 ghost use Rattle.phrases.specs.Steps.{Gives};
-ghost use Rattle.phrases.specs.Texts.{IsRefused, IsWithin, lexemes_of, max_text};
-ghost use Rattle.syntax.specs.CreateTrees.{columns_of_index};
-ghost use Rattle.syntax.specs.CreateView.{index_of, indexed_of};
+ghost use Rattle.phrases.specs.Texts.{IsWithin, lexemes_of, max_levels, max_text};
+ghost use Rattle.create_trees.specs.CreateTrees.{columns_of_index};
+ghost use Rattle.create_trees.specs.CreateView.{index_of, indexed_of};
+ghost use Rattle.source_texts.specs.Sources.{AreCut, source_of};
+ghost use Rattle.statement_trees.specs.TreeView.{expr_of};
 
+use crate::conditions::condition;
 use crate::keys::indexed_columns;
+use create_trees::{CreateIndex, IndexedColumn};
+use nested_reader::{MAX_LEVELS, Source};
 use phrases::{MAX_COLUMNS, MAX_TEXT, after_keyword, name, syntax_at};
+use statement_trees::Expr;
 use std::alloc::Global;
-use syntax::{CreateIndex, IndexedColumn};
 use tokens::{Grammar, Keyword, Token, read_tokens};
 use values::Fault;
 
@@ -44,54 +51,78 @@ fn index_heading<'t>(
     Ok((index, table, rest))
 }
 
-/// The columns of an index, which are all of the tokens.
-fn last_columns(
-    alloc: Global,
-    tokens: &[Token<'_>],
-    end: usize,
-) -> Result<Vec<IndexedColumn>, Fault>
-    ensures { Gives (λ r. map indexed_of r.items) result (spec.last_columns (lexemes_of tokens.now)) }
+/// The columns of an index, and the condition behind them; they are all of these tokens of a text.
+#[tactic(auto, using(phrases::proofs::OutcomeLemmas::gives_yields))]
+fn last_columns<'t>(
+    source: Source<'_>,
+    tokens: &'t [Token<'t>],
+) -> Result<(Vec<IndexedColumn>, Option<Expr>), Fault>
+    requires { AreCut source.text.now source.tokens.now }
+    ensures { Yields (λ r. (map indexed_of r.0.items, option_map expr_of r.1)) result
+        (spec.last_columns (source_of source.entry.text.now source.entry.tokens.now) max_levels (lexemes_of tokens.now)) }
 {
-    let (columns, rest) = indexed_columns(alloc, tokens, end)?;
-    if !rest.is_empty() {
-        return Err(syntax_at(rest, end));
-    }
-    Ok(columns)
+    let (columns, rest) = indexed_columns(source.alloc, tokens, source.text.len())?;
+    let condition = condition(source, rest)?;
+    Ok((columns, condition))
 }
 
-/// An index, which is all of the tokens.
-fn index(alloc: Global, tokens: &[Token<'_>], end: usize) -> Result<CreateIndex, Fault>
-    ensures { Gives index_of result (spec.create_index (lexemes_of tokens.now)) }
+/// An index, which is all of a text's tokens.
+#[tactic(auto, unfolding(crate::specs::IndexReading::create_index), using(phrases::proofs::OutcomeLemmas::gives_yields))]
+fn index(source: Source<'_>) -> Result<CreateIndex, Fault>
+    requires { AreCut source.text.now source.tokens.now }
+    ensures { Yields index_of result
+        (spec.create_index (source_of source.entry.text.now source.entry.tokens.now) max_levels
+        (lexemes_of source.entry.tokens.now)) }
 {
-    let Some(rest) = after_keyword(tokens, Keyword::Create) else {
-        return Err(syntax_at(tokens, end));
+    let (alloc, end) = (source.alloc, source.text.len());
+    let Some(rest) = after_keyword(source.tokens, Keyword::Create) else {
+        return Err(syntax_at(source.tokens, end));
     };
     let (is_unique, rest) = uniqueness(rest);
     let (name, table, rest) = index_heading(alloc, rest, end)?;
-    let columns = last_columns(alloc, rest, end)?;
+    let (columns, condition) = last_columns(source, rest)?;
     Ok(CreateIndex {
         name,
         table,
         is_unique,
         columns,
+        condition,
     })
+}
+
+/// The index that a text's tokens are. Where there are no more tokens than levels, a limit is met by nothing that is spelt.
+#[tactic(auto, using(crate::proofs::IndexTexts::told))]
+fn settled<'t>(alloc: Global, text: &'t str, tokens: &'t [Token<'t>]) -> Result<CreateIndex, Fault>
+    requires { AreCut text.now tokens.now }
+    ensures { Tells (source_of text.now tokens.now) (lexemes_of tokens.now) result }
+{
+    let source = Source {
+        alloc,
+        text,
+        tokens,
+    };
+    match index(source) {
+        Err(Fault::Limit) if tokens.len() <= MAX_LEVELS => Err(Fault::Syntax(text.len())),
+        read => read,
+    }
 }
 
 /// The CREATE INDEX that a text spells. (CREATE INDEX) The fault is `Syntax` where the text spells none, with the place
 /// where it stops being tokens, or else of the first token that no CREATE INDEX goes on with; `Limit` where the text is
-/// longer than 65,536 bytes or spells more than 100 columns; or `NoMemory`.
+/// longer than 65,536 bytes, spells more than 100 columns, or has more than 100 tokens and spells nothing but a condition of
+/// more than 100 levels; or `NoMemory`.
 #[tactic(auto, using(crate::proofs::IndexTexts::index_spelt, crate::proofs::IndexTexts::index_refused, crate::proofs::IndexTexts::index_tokens_refused))]
 pub fn read_create_index(alloc: Global, text: &str) -> Result<CreateIndex, Fault>
     ensures spelt { IfOk result (λ index. SpellsIndex text.now (index_of index)) }
     ensures within { IfOk result (λ index. IsWithin columns_of_index text.now (index_of index)) }
-    ensures refused { IfErr result (λ fault. IsRefused SpellsIndex columns_of_index text.now fault) }
+    ensures refused { IfErr result (IsRefusedIndex text.now) }
     ensures long { max_text < length text.now → result ≡ Err Fault.Limit }
 {
     if text.len() > MAX_TEXT {
         return Err(Fault::Limit);
     }
     let tokens = read_tokens(alloc, Grammar::Create, text)?;
-    let index = index(alloc, tokens.as_slice(), text.len())?;
+    let index = settled(alloc, text, tokens.as_slice())?;
     if index.columns.len() > MAX_COLUMNS {
         return Err(Fault::Limit);
     }

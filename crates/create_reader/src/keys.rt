@@ -4,12 +4,12 @@ ghost use Rattle.create_reader.specs.CreateReading as spec;
 ghost use Rattle.phrases.specs.Steps as steps;
 ghost use Rattle.phrases.specs.Steps.{Gives};
 ghost use Rattle.phrases.specs.Texts.{lexemes_of};
-ghost use Rattle.syntax.specs.CreateView.{indexed_of};
+ghost use Rattle.create_trees.specs.CreateView.{indexed_of};
 
 use column_reader::key_order;
+use create_trees::IndexedColumn;
 use phrases::{after_keyword, after_sign, name, syntax_at};
 use std::alloc::Global;
-use syntax::IndexedColumn;
 use tokens::{Keyword, Sign, Token};
 use values::Fault;
 

@@ -1,8 +1,11 @@
 //! What holds of the definitions alone.
 ghost use Rattle.std.specs.Prelude.{◌≡◌, List, ℕ};
 ghost use Rattle.create_reader.specs.CreateGrammar.{SpellsCreate};
-ghost use Rattle.create_reader.specs.IndexGrammar.{SpellsIndex};
-ghost use Rattle.syntax.specs.CreateTrees.{IndexTree, TableTree};
+ghost use Rattle.create_reader.specs.IndexTexts.{IsRefusedIndex, SpellsIndex, SpellsIndexAt};
+ghost use Rattle.create_trees.specs.CreateTrees.{IndexTree, TableTree, columns_of_index};
+ghost use Rattle.phrases.specs.Texts.{IsWithin};
+ghost use Rattle.values.specs.declared.fault.Fault.{Fault};
+ghost use Rattle.values.specs.declared.fault.Fault.TheVariants.{NoMemory};
 
 /// A text spells at most one CREATE TABLE.
 pub fn one_create()
@@ -10,8 +13,14 @@ pub fn one_create()
         → first ≡ second }
 {}
 
-/// A text spells at most one CREATE INDEX.
+/// A text spells at most one CREATE INDEX, whatever levels it has.
 pub fn one_index()
-    ensures { (text : List ℕ) (first second : IndexTree) → SpellsIndex text first → SpellsIndex text second
-        → first ≡ second }
+    ensures { (text : List ℕ) (levels others : ℕ) (first second : IndexTree) → SpellsIndexAt levels text first
+        → SpellsIndexAt others text second → first ≡ second }
+{}
+
+/// A text that spells a CREATE INDEX within the limits is refused by nothing but want of memory.
+pub fn allowed_index_is_taken()
+    ensures { (text : List ℕ) (tree : IndexTree) (fault : Fault) → SpellsIndex text tree
+        → IsWithin columns_of_index text tree → IsRefusedIndex text fault → fault ≡ NoMemory }
 {}

@@ -4,9 +4,9 @@ ghost use Rattle.create_reader.specs.CreateReading as spec;
 ghost use Rattle.phrases.specs.Steps.{Gives};
 ghost use Rattle.phrases.specs.Texts.{lexemes_of};
 
+use create_trees::TableOption;
 use phrases::{after_sign, after_word, syntax_at};
 use std::alloc::Global;
-use syntax::TableOption;
 use tokens::{Sign, Token};
 use values::Fault;
 

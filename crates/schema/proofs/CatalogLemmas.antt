@@ -10,14 +10,14 @@ use Rattle.create_reader.proofs.CreateTexts.{one_create}
 use Rattle.create_reader.specs.CreateGrammar.{SpellsCreate}
 use Rattle.phrases.specs.Texts.{IsRefused, IsWithin, max_columns}
 use Rattle.syntax.specs.Tree.{Name}
-use Rattle.syntax.specs.CreateTrees.{TableTree, columns_of_table}
+use Rattle.create_trees.specs.CreateTrees.{TableTree, columns_of_table}
 use Rattle.schema.specs.Created.{IsTable}
 use Rattle.schema.specs.Names.{AreDistinct, IsSameName}
 use Rattle.schema.specs.Refused as schema
 use Rattle.schema.specs.Rows.{AreTables, SaysTable, object_row}
 use Rattle.schema.specs.TableData.{TableData}
 use Rattle.schema.proofs.CreatedLemmas.{refused_part}
-use Rattle.schema.proofs.ListLemmas.{all_zip_push}
+use Rattle.schema.proofs.ListLemmas.{all_zip_push, beside}
 use Rattle.schema.proofs.NameLemmas.{distinct_more, not_distinct}
 
 -- a text that was refused, and not for want of memory, spells no table within the limits
@@ -77,14 +77,6 @@ one_name : (pages : ℕ) (row : Row) (a b : TableData) → SaysTable pages row a
 one_name pages row a b x y =
     let same = one_tree (codes "table") x.name x.owner (pos a.root) x.sql pages row x.tree x.row_is x.spelt b y in
     x.created.name_is ∙ sym (y.created.name_is ∙ ap (λ t. t.name) same)
-
--- what stands beside an element
-beside : {X Y : Type 0} (R : X → Y → Type 0) (xs : List X) (ys : List Y) (i : ℕ) (x : X) → i < length xs → x ≡ get_or xs i x
-    → AllZip R xs ys → (y : Y) × R x y
-beside R [] ys i x within is all = absurd (omega (arith, within))
-beside R (a ∷ xs) [] i x within is all = absurd all
-beside R (a ∷ xs) (b ∷ ys) zero x within is all = (b, subst (λ z. R z b) (sym is) all.0)
-beside R (a ∷ xs) (b ∷ ys) (suc i) x within is all = beside R xs ys i x (omega (arith, within)) is all.1
 
 all_zip_all : {X Y : Type 0} (R : X → Y → Type 0) (P : Y → Type 0) (xs : List X) (ys : List Y) → ((x : X) (y : Y) → R x y → P y)
     → AllZip R xs ys → All P ys

@@ -1,12 +1,12 @@
 -- The columns that definitions declare.
-use Rattle.std.proofs.Common.{◌≡◌, ◌<◌, Bool, true, false, Contains, IsTrue, ◌↔◌, List, [], ◌∷◌, ◌++◌, length, map, refl, sym, ap, ◌∙◌, subst, arith}
+use Rattle.std.proofs.Common.{◌≡◌, ℕ, ◌<◌, get_or, Bool, true, false, Contains, IsTrue, ◌↔◌, List, [], ◌∷◌, ◌++◌, length, map, refl, sym, ap, ◌∙◌, subst, arith}
 use Rattle.std.proofs.lemmas.List.{get_or-map, length-map, map_push}
 use Rattle.std.specs.List.{AllZip, Any}
-use Rattle.syntax.specs.CreateTrees.{ConstraintTree}
-use Rattle.syntax.specs.CreateView.{column_of, constraint_of}
-use Rattle.syntax.specs.declared.create.Column.{Column}
-use Rattle.syntax.specs.declared.create.ColumnConstraint.{ColumnConstraint}
-use Rattle.schema.proofs.ListLemmas.{all_zip_push, any_at}
+use Rattle.create_trees.specs.CreateTrees.{ConstraintTree}
+use Rattle.create_trees.specs.CreateView.{column_of, constraint_of}
+use Rattle.create_trees.specs.declared.create.Column.{Column}
+use Rattle.create_trees.specs.declared.create.ColumnConstraint.{ColumnConstraint}
+use Rattle.schema.proofs.ListLemmas.{all_zip_push, any_at, beside}
 use Rattle.schema.specs.Created.{IsColumn, is_not_null}
 use Rattle.schema.specs.TableData.{ColumnData}
 
@@ -39,3 +39,14 @@ one_column_more definitions columns more definition column e all here =
     subst (AllZip IsColumn (map column_of (definitions ++ definition ∷ []))) (sym e)
     (subst (λ ds. AllZip IsColumn ds (columns ++ column ∷ [])) (sym (map_push column_of definitions definition))
     (all_zip_push IsColumn (map column_of definitions) columns (column_of definition) column all here))
+
+-- a definition that declares no column
+pub no_columns : (definitions : List Column) (i : ℕ) (definition : Column) → (i < length definitions) × (definition ≡ get_or definitions i definition)
+    → ((column : ColumnData) → ¬ IsColumn (column_of definition) column) → (columns : List ColumnData)
+    → ¬ AllZip IsColumn (map column_of definitions) columns
+no_columns definitions i definition at none columns are =
+    let within : i < length (map column_of definitions) = let l = length-map definitions column_of in let w = at.0 in omega (arith, l, w) in
+    let is : column_of definition ≡ get_or (map column_of definitions) i (column_of definition) =
+    ap column_of at.1 ∙ sym (get_or-map column_of definitions i definition (column_of definition) at.0) in
+    let found = beside IsColumn (map column_of definitions) columns i (column_of definition) within is are in
+    none found.0 found.1

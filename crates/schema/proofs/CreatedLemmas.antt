@@ -4,11 +4,11 @@ use Rattle.std.proofs.lemmas.Option.{slice_get_within}
 use Rattle.std.proofs.lemmas.List.Elements.{All-map}
 use Rattle.std.specs.List.{AllZip}
 use Rattle.values.specs.declared.fault.Fault.{Fault}
-use Rattle.syntax.specs.CreateTrees.{ColumnTree}
+use Rattle.create_trees.specs.CreateTrees.{ColumnTree}
 use Rattle.syntax.specs.Tree.{Name}
-use Rattle.syntax.specs.CreateView.{column_of, constraint_of, table_of}
-use Rattle.syntax.specs.declared.create.Column.{Column}
-use Rattle.syntax.specs.declared.create.CreateTable.{CreateTable}
+use Rattle.create_trees.specs.CreateView.{column_of, constraint_of, table_of}
+use Rattle.create_trees.specs.declared.create.Column.{Column}
+use Rattle.create_trees.specs.declared.create.CreateTable.{CreateTable}
 use Rattle.schema.proofs.ListLemmas.{all_from_map}
 use Rattle.schema.specs.Created.{AreKeys, AreServed, IsColumn, IsKeyPlace, IsServed, IsTable, columns_with_keys}
 use Rattle.schema.specs.Names.{AreDistinct, IsReserved}
@@ -87,3 +87,9 @@ module _ (created : CreateTable) where
 
     pub keys_found : (place : Option ℕ) → AreKeys (map column_of columns) place → AreKeys (columns_with_keys (table_of created)) place
     keys_found place = subst (λ cs. AreKeys cs place) e
+
+    pub columns_refused : (fault : Fault) → IsRefused (λ (cs : List ColumnData). AllZip IsColumn (map column_of columns) cs) fault
+        → IsRefused (IsTable (table_of created)) fault
+    columns_refused fault refused =
+        refused_part (λ (cs : List ColumnData). AllZip IsColumn (map column_of columns) cs) (IsTable (table_of created)) fault refused
+        (λ table is. (table.columns, subst (λ ds. AllZip IsColumn ds table.columns) (sym e) is.columns_are))

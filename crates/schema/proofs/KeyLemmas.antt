@@ -3,9 +3,10 @@ use Rattle.std.proofs.Common.{◌≡◌, Bool, true, false, ℕ, suc, ◌+◌, �
 use Rattle.std.proofs.lemmas.Bool.{cond-true, cond-false}
 use Rattle.std.proofs.lemmas.List.Elements.{All-nil, All-push, All-contains, Contains-append_right}
 use Rattle.std.proofs.lemmas.List.Sums.{sum_by-append, sum_by-cons, sum_by_push, get_or-le-sum_by}
-use Rattle.syntax.specs.CreateTrees.{TypeTree, ConstraintTree, ColumnTree}
+use Rattle.create_trees.specs.CreateTrees.{ConstraintTree, ColumnTree}
 use Rattle.std.specs.List.{Any}
 use Rattle.schema.specs.Created.{AreKeys, IsKey, IsKeyPlace, is_key, key_count, keys_of}
+use Rattle.schema.specs.Types.{IsInteger}
 use Rattle.schema.proofs.ListLemmas.{get_front, get_middle}
 
 -- how many columns a place is that of
@@ -17,13 +18,13 @@ places_of (Some at) = 1
 pub record KeysSoFar (columns : List ColumnTree) (place : Option ℕ) : Type 0 where
   pub place_is : IsKeyPlace columns place
   pub count_is : key_count columns ≡ places_of place
-  pub integer : All (λ c. IsKey c → c.ty ≡ TypeTree.Integer) columns
+  pub integer : All (λ c. IsKey c → IsInteger c.ty) columns
 
 abbrev pub written : ColumnTree → ℕ
 written column = sum_by keys_of column.constraints
 
 abbrev IsFit : ColumnTree → Type 0
-IsFit column = IsKey column → column.ty ≡ TypeTree.Integer
+IsFit column = IsKey column → IsInteger column.ty
 
 -- where the column is the key, PRIMARY KEY is written
 pub key_written : (column : ColumnTree) → IsKey column → 1 ≤ written column
@@ -67,7 +68,7 @@ keys_more columns x place far none = record {
     stays (Some at) is = (is.0, get_front columns (x ∷ []) at is.0 is.1, is.2)
 
 pub keys_found : (columns : List ColumnTree) (x : ColumnTree) (at : ℕ) → length columns ≡ at → KeysSoFar columns None → written x ≡ 1
-    → x.ty ≡ TypeTree.Integer → KeysSoFar (columns ++ x ∷ []) (Some at)
+    → IsInteger x.ty → KeysSoFar (columns ++ x ∷ []) (Some at)
 keys_found columns x at e far one integer = record {
   place_is = (x, subst (λ n. slice_get (columns ++ x ∷ []) n ≡ Some x) e (get_middle columns x []), has_key x.constraints (omega (arith, one)));
   count_is = let sum = sum_by_push written columns x in let so_far = far.count_is in omega (arith, sum, so_far, one);
@@ -104,7 +105,7 @@ module _ (columns back : List ColumnTree) (x : ColumnTree) (place : Option ℕ) 
       counted None is = absurd cc
       counted (Some at) is = refl
 
-  pub no_integer : (x.ty ≡ TypeTree.Integer → ⊥) → (at : Option ℕ) → ¬ AreKeys (columns ++ x ∷ back) at
+  pub no_integer : ¬ IsInteger x.ty → (at : Option ℕ) → ¬ AreKeys (columns ++ x ∷ back) at
   no_integer other at are =
       other (All-contains IsFit (columns ++ x ∷ back) x are.integer
       (Contains-append_right columns (x ∷ back) x (0, omega arith, refl)) (has_key x.constraints some))

@@ -1,10 +1,10 @@
 -- The search for the PRIMARY KEY, one column on.
 use Rattle.std.proofs.Common.{◌≡◌, ℕ, ◌+◌, ◌<◌, ◌≤◌, Bool, true, false, IsTrue, ◌↔◌, List, ◌∷◌, ◌++◌, length, get_or, map, take, drop, is_some, Option, None, Some, refl, sym, ◌∙◌, subst, arith}
 use Rattle.std.proofs.lemmas.List.{length-map, length-take-le}
-use Rattle.syntax.specs.CreateTrees.{TypeTree}
-use Rattle.syntax.specs.CreateView.{column_of}
-use Rattle.syntax.specs.declared.create.Column.{Column}
+use Rattle.create_trees.specs.CreateView.{column_of}
+use Rattle.create_trees.specs.declared.create.Column.{Column}
 use Rattle.schema.specs.Created.{AreKeys}
+use Rattle.schema.specs.Types.{IsInteger}
 use Rattle.schema.proofs.KeyLemmas.{KeysSoFar, another_key, keys_found, keys_more, no_integer, twice_written, written}
 use Rattle.schema.proofs.ListLemmas.{map_next, map_split}
 
@@ -21,7 +21,7 @@ module _ (columns : List Column) (i : ℕ) (x : Column) (key : Option ℕ) (coun
       (keys_more (map column_of (take i columns)) (column_of x) key far (omega (arith, none, counted))))
 
   pub key_here : (next : Option ℕ) (found integer : Bool) → 0 < count → count ≤ 1 → found ≡ is_some key → found ≡ false
-      → IsTrue integer ↔ ((column_of x).ty ≡ TypeTree.Integer) → integer ≡ true → next ≡ Some i
+      → IsTrue integer ↔ IsInteger (column_of x).ty → integer ≡ true → next ≡ Some i
       → KeysSoFar (map column_of (take (i + 1) columns)) next
   key_here next found integer some most e first tested h g =
       subst (KeysSoFar (map column_of (take (i + 1) columns))) (sym g)
@@ -45,7 +45,7 @@ module _ (columns : List Column) (i : ℕ) (x : Column) (key : Option ℕ) (coun
       at_once (another_key (map column_of (take i columns)) (map column_of (drop (i + 1) columns)) (column_of x) key far
       (omega (arith, some, counted)) (sym e ∙ second))
 
-  pub key_elsewhere : (integer : Bool) → 0 < count → IsTrue integer ↔ ((column_of x).ty ≡ TypeTree.Integer) → integer ≡ false
+  pub key_elsewhere : (integer : Bool) → 0 < count → IsTrue integer ↔ IsInteger (column_of x).ty → integer ≡ false
       → (at : Option ℕ) → ¬ AreKeys (map column_of columns) at
   key_elsewhere integer some tested other =
       at_once (no_integer (map column_of (take i columns)) (map column_of (drop (i + 1) columns)) (column_of x) key far

@@ -2,16 +2,16 @@
 use Rattle.std.proofs.Common.{◌≡◌, ℕ, ◌+◌, ◌<◌, ◌≤◌, Bool, true, false, IsTrue, ◌↔◌, List, [], ◌∷◌, ◌++◌, length, get_or, map, take, string_bytes, Some, None, sym, ap, ◌∙◌, append_assoc, arith}
 use Rattle.std.proofs.lemmas.Bool.{cond-true, cond-false}
 use Rattle.std.proofs.lemmas.List.{append-nil, map_push}
-use Rattle.syntax.specs.CreateTrees.{ConstraintTree, TableConstraintTree}
-use Rattle.syntax.specs.CreateView.{column_of, constraint_of, indexed_of, table_constraint_of, table_of}
+use Rattle.create_trees.specs.CreateTrees.{ConstraintTree, TableConstraintTree}
+use Rattle.create_trees.specs.CreateView.{column_of, constraint_of, indexed_of, table_constraint_of, table_of}
 use Rattle.syntax.specs.Tree.{Name}
-use Rattle.syntax.specs.declared.create.Column.{Column}
-use Rattle.syntax.specs.declared.create.CreateTable.{CreateTable}
-use Rattle.syntax.specs.declared.create.ColumnConstraint.{ColumnConstraint}
-use Rattle.syntax.specs.declared.create.ColumnConstraint.TheVariants as c
-use Rattle.syntax.specs.declared.create.IndexedColumn.{IndexedColumn}
-use Rattle.syntax.specs.declared.create.KeyOrder.{KeyOrder}
-use Rattle.syntax.specs.declared.create.TableConstraint.{TableConstraint}
+use Rattle.create_trees.specs.declared.create.Column.{Column}
+use Rattle.create_trees.specs.declared.create.CreateTable.{CreateTable}
+use Rattle.create_trees.specs.declared.create.ColumnConstraint.{ColumnConstraint}
+use Rattle.create_trees.specs.declared.create.ColumnConstraint.TheVariants as c
+use Rattle.create_trees.specs.declared.create.IndexedColumn.{IndexedColumn}
+use Rattle.create_trees.specs.declared.create.KeyOrder.{KeyOrder}
+use Rattle.create_trees.specs.declared.create.TableConstraint.{TableConstraint}
 use Rattle.schema.proofs.NameLemmas.{tested_name}
 use Rattle.schema.proofs.ListLemmas.{map_next}
 use Rattle.schema.specs.Created.{as_constraint, columns_with_keys, key_at, keys_named, with_keys}

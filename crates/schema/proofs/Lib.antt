@@ -1,5 +1,6 @@
 pub mod ListLemmas
 pub mod NameLemmas
+pub mod TypeLemmas
 pub mod KeyLemmas
 pub mod KeyStepLemmas
 pub mod ColumnLemmas

@@ -71,3 +71,11 @@ all_zip_push R [] [] x y all here = (here, tt)
 all_zip_push R [] (b ∷ ys) x y all here = absurd all
 all_zip_push R (a ∷ xs) [] x y all here = absurd all
 all_zip_push R (a ∷ xs) (b ∷ ys) x y all here = (all.0, all_zip_push R xs ys x y all.1 here)
+
+-- what stands beside an element
+pub beside : {X Y : Type 0} (R : X → Y → Type 0) (xs : List X) (ys : List Y) (i : ℕ) (x : X) → i < length xs → x ≡ get_or xs i x
+    → AllZip R xs ys → (y : Y) × R x y
+beside R [] ys i x within is all = absurd (omega (arith, within))
+beside R (a ∷ xs) [] i x within is all = absurd all
+beside R (a ∷ xs) (b ∷ ys) zero x within is all = (b, subst (λ z. R z b) (sym is) all.0)
+beside R (a ∷ xs) (b ∷ ys) (suc i) x within is all = beside R xs ys i x (omega (arith, within)) is all.1

@@ -2,11 +2,10 @@
 use Rattle.std.proofs.Common.{◌≡◌, All, inl, inr, List, [], ◌∷◌, ◌++◌, map, refl, sym, ap, ◌∙◌, subst, append_assoc, arith}
 use Rattle.std.proofs.lemmas.List.{map_push}
 use Rattle.std.proofs.lemmas.List.Elements.{All-contains, All-nil, All-push, Contains-append_right}
-use Rattle.values.specs.Datum.{Datum}
-use Rattle.syntax.specs.CreateTrees.{ConstraintTree, DefaultTree}
-use Rattle.syntax.specs.CreateView.{constraint_of}
-use Rattle.syntax.specs.declared.create.ColumnConstraint.{ColumnConstraint}
-use Rattle.schema.specs.Missing.{IsLastDefault, IsMissing, IsOther, filled, missing_behind}
+use Rattle.create_trees.specs.CreateTrees.{ConstraintTree, DefaultTree}
+use Rattle.create_trees.specs.CreateView.{constraint_of}
+use Rattle.create_trees.specs.declared.create.ColumnConstraint.{ColumnConstraint}
+use Rattle.schema.specs.Missing.{IsMissing, IsOther, filled, missing_behind}
 use Rattle.schema.specs.TableData.{MissingData}
 
 missing_default : (constraints : List ConstraintTree) (value : DefaultTree) (missing : MissingData) → missing ≡ filled value

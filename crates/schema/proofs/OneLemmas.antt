@@ -5,7 +5,7 @@ use Rattle.std.proofs.lemmas.List.Sums.{get_or-le-sum_by, sum_by-cons}
 use Rattle.std.proofs.lemmas.Option.{get_or_from_slice_get, slice_get_within}
 use Rattle.std.specs.List.{AllZip}
 use Rattle.values.specs.Row.{Row}
-use Rattle.syntax.specs.CreateTrees.{ColumnTree, TableTree}
+use Rattle.create_trees.specs.CreateTrees.{ColumnTree, TableTree}
 use Rattle.schema.specs.Created.{IsColumn, IsKey, IsKeyPlace, IsTable, columns_with_keys, key_count}
 use Rattle.schema.specs.Rows.{AreTables, SaysTable}
 use Rattle.schema.specs.TableData.{ColumnData, TableData}
@@ -13,9 +13,10 @@ use Rattle.schema.proofs.CatalogLemmas.{one_tree, parts}
 use Rattle.schema.proofs.KeyLemmas.{key_written, written}
 use Rattle.schema.proofs.MissingLemmas.{one_missing}
 use Rattle.schema.proofs.NameLemmas.{same_test}
+use Rattle.schema.proofs.TypeLemmas.{one_type}
 
 -- a relation that gives one element for each gives one list for each
-zip_same : {X Y : Type 0} (R : X → Y → Type 0) → ((x : X) (a b : Y) → R x a → R x b → a ≡ b) → (xs : List X) (ys zs : List Y)
+pub zip_same : {X Y : Type 0} (R : X → Y → Type 0) → ((x : X) (a b : Y) → R x a → R x b → a ≡ b) → (xs : List X) (ys zs : List Y)
     → AllZip R xs ys → AllZip R xs zs → ys ≡ zs
 zip_same R one [] [] [] p q = refl
 zip_same R one [] [] (b ∷ zs) p q = absurd q
@@ -28,7 +29,7 @@ zip_same R one (x ∷ xs) (a ∷ ys) (b ∷ zs) p q =
 one_column : (tree : ColumnTree) (a b : ColumnData) → IsColumn tree a → IsColumn tree b → a ≡ b
 one_column tree a b p q =
     let name : a.name ≡ b.name = p.name_is ∙ sym q.name_is in
-    let ty : a.ty ≡ b.ty = p.ty_is ∙ sym q.ty_is in
+    let ty : a.ty ≡ b.ty = one_type tree.ty a.ty b.ty p.ty_is q.ty_is in
     let not_null : a.not_null ≡ b.not_null = same_test a.not_null b.not_null _ p.not_null_is q.not_null_is in
     let missing : a.missing ≡ b.missing = one_missing tree.constraints a.missing b.missing p.missing_is q.missing_is in
     λ i. record { name = name i; ty = ty i; not_null = not_null i; missing = missing i }

@@ -3,14 +3,14 @@ use Rattle.std.proofs.Common.{◌≡◌, Bool, true, false, IsTrue, ◌↔◌, A
 use Rattle.std.proofs.lemmas.List.{get_or-map, length-map}
 use Rattle.std.proofs.lemmas.List.Elements.{All-map}
 use Rattle.std.specs.List.{Any}
-use Rattle.syntax.specs.CreateTrees.{ColumnTree}
-use Rattle.syntax.specs.CreateView.{column_of, table_constraint_of, table_of}
+use Rattle.create_trees.specs.CreateTrees.{ColumnTree}
+use Rattle.create_trees.specs.CreateView.{column_of, table_constraint_of, table_of}
 use Rattle.syntax.specs.Tree.{Name}
-use Rattle.syntax.specs.declared.create.Column.{Column}
-use Rattle.syntax.specs.declared.create.CreateTable.{CreateTable}
-use Rattle.syntax.specs.declared.create.TableConstraint.{TableConstraint}
-use Rattle.syntax.specs.declared.create.TableOption.{TableOption}
-use Rattle.syntax.specs.declared.create.TableOption.TheVariants.{Strict}
+use Rattle.create_trees.specs.declared.create.Column.{Column}
+use Rattle.create_trees.specs.declared.create.CreateTable.{CreateTable}
+use Rattle.create_trees.specs.declared.create.TableConstraint.{TableConstraint}
+use Rattle.create_trees.specs.declared.create.TableOption.{TableOption}
+use Rattle.create_trees.specs.declared.create.TableOption.TheVariants.{Strict}
 use Rattle.schema.proofs.ListLemmas.{all_from_map, any_at}
 use Rattle.schema.specs.Created.{AreColumns, IsNamedIn, IsServedIn, IsTable, columns_with_keys}
 use Rattle.schema.specs.Names.{AreDistinct, IsSameName}

@@ -1,22 +1,15 @@
 -- The table that a CREATE TABLE makes. (CREATE TABLE; STRICT Tables; ROWIDs and the INTEGER PRIMARY KEY)
 use Rattle.std.specs.Prelude.{◌≡◌, ◌↔◌, ◌≤◌, Bool, true, false, IsTrue, ℕ, All, Contains, List, [], ◌∷◌, ◌++◌, codes, map, slice_get, sum_by, Option, None, Some, if◌then◌else◌}
 use Rattle.std.specs.List.{AllZip, Any}
-use Rattle.values.specs.declared.value.Ty.{Ty}
-use Rattle.values.specs.declared.value.Ty.TheVariants as class
-use Rattle.syntax.specs.CreateTrees.{TypeTree, ConstraintTree, ColumnTree, IndexedColumnTree, TableConstraintTree, TableTree}
+use Rattle.create_trees.specs.CreateTrees.{ConstraintTree, ColumnTree, IndexedColumnTree, TableConstraintTree, TableTree}
 use Rattle.schema.specs.Missing.{IsMissing}
 use Rattle.schema.specs.TableData.{ColumnData, TableData}
-use Rattle.syntax.specs.declared.create.KeyOrder.{KeyOrder}
-use Rattle.syntax.specs.declared.create.KeyOrder.TheVariants.{Ascending}
+use Rattle.create_trees.specs.declared.create.KeyOrder.{KeyOrder}
+use Rattle.create_trees.specs.declared.create.KeyOrder.TheVariants.{Ascending}
 use Rattle.syntax.specs.Tree.{Name}
-use Rattle.syntax.specs.declared.create.TableOption.TheVariants.{Strict}
+use Rattle.create_trees.specs.declared.create.TableOption.TheVariants.{Strict}
 use Rattle.schema.specs.Names.{AreDistinct, IsReserved, IsSameName, same_name}
-
-abbrev pub type_of : TypeTree → Ty
-type_of TypeTree.Int = class.Int
-type_of TypeTree.Integer = class.Int
-type_of TypeTree.Text = class.Text
-type_of TypeTree.Blob = class.Blob
+use Rattle.schema.specs.Types.{IsInteger, IsType}
 
 -- PRIMARY KEY
 abbrev pub is_key : ConstraintTree → Bool
@@ -95,7 +88,7 @@ IsKey column = Any (λ c. is_key c ≡ true) column.constraints
 -- the column that a column's text declares
 pub record IsColumn (tree : ColumnTree) (column : ColumnData) : Type 0 where
   pub name_is : column.name ≡ tree.name
-  pub ty_is : column.ty ≡ type_of tree.ty
+  pub ty_is : IsType tree.ty column.ty
   pub not_null_is : IsTrue column.not_null ↔ Contains tree.constraints ConstraintTree.NotNull
   pub missing_is : IsMissing tree.constraints column.missing
 
@@ -115,7 +108,7 @@ key_count columns = sum_by (λ c. sum_by keys_of c.constraints) columns
 pub record AreKeys (columns : List ColumnTree) (place : Option ℕ) : Type 0 where
   pub place_is : IsKeyPlace columns place
   pub one_key : key_count columns ≤ 1
-  pub integer : All (λ c. IsKey c → c.ty ≡ TypeTree.Integer) columns
+  pub integer : All (λ c. IsKey c → IsInteger c.ty) columns
 
 -- A table of this text. Its columns have different names, and PRIMARY KEY stands once at most, behind INTEGER: such a
 -- column is the rowid. There is no UNIQUE, no DESC, no AUTOINCREMENT, no collation but BINARY, and no option but STRICT; a
@@ -130,4 +123,4 @@ pub record IsTable (tree : TableTree) (table : TableData) : Type 0 where
   pub options_are : tree.options ≡ Strict ∷ []
   pub rowid_is : IsKeyPlace (columns_with_keys tree) table.rowid
   pub one_key : key_count (columns_with_keys tree) ≤ 1
-  pub integer : All (λ c. IsKey c → c.ty ≡ TypeTree.Integer) (columns_with_keys tree)
+  pub integer : All (λ c. IsKey c → IsInteger c.ty) (columns_with_keys tree)

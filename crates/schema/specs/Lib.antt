@@ -2,6 +2,7 @@ pub mod TableData
 pub mod MissingView
 pub mod Missing
 pub mod Names
+pub mod Types
 pub mod Created
 pub mod Rows
 pub mod Refused

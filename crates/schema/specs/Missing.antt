@@ -1,8 +1,8 @@
 -- What a row has in a column that was added after it was written. (ALTER TABLE ADD COLUMN; CREATE TABLE, "The DEFAULT
 -- clause")
-use Rattle.std.specs.Prelude.{◌≡◌, ◌⊎◌, ℤ, pos, negsuc, neg_ℤ, All, List, [], ◌∷◌, ◌++◌}
+use Rattle.std.specs.Prelude.{◌≡◌, ◌⊎◌, ℤ, pos, negsuc, neg_ℤ, All, List, ◌∷◌, ◌++◌}
 use Rattle.values.specs.Datum.{Datum}
-use Rattle.syntax.specs.CreateTrees.{ConstraintTree, DefaultTree}
+use Rattle.create_trees.specs.CreateTrees.{ConstraintTree, DefaultTree}
 use Rattle.schema.specs.TableData.{MissingData}
 
 -- a number behind a minus, which has no sign itself

@@ -32,8 +32,9 @@ abbrev pub IsPlaceIn : Option ℕ → ℕ → Type 0
 IsPlaceIn None count = Unit {0}
 IsPlaceIn (Some at) count = at < count
 
+-- a column of the schema's table, in which each row has its own value or NULL
 abbrev pub nullable : Name → Ty → ColumnData
-nullable name ty = record { name = name; ty = ty; not_null = false; missing = MissingData.Fill Datum.null }
+nullable name ty = record { name = name; ty = ty; not_null = false; missing = MissingData.Refused }
 
 -- the table in which each object of the schema has a row (The Schema Table)
 abbrev pub schema_table : TableData

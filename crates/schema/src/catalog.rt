@@ -1,10 +1,10 @@
 //! The tables that the rows of the schema say.
 ghost use Rattle.std.specs.Prelude.{◌≡◌, ◌≤◌, ◌↔◌, ℕ, ℤ, pos, All, IfErr, IfNone, IfOk, IfSome, IsTrue, List};
 ghost use Rattle.std.specs.List.{Any};
-ghost use Rattle.syntax.specs.CreateTrees.{columns_of_table};
+ghost use Rattle.create_trees.specs.CreateTrees.{columns_of_table};
 ghost use Rattle.create_reader.specs.CreateGrammar.{SpellsCreate};
 ghost use Rattle.phrases.specs.Texts.{IsWithin};
-ghost use Rattle.syntax.specs.CreateView.{table_of};
+ghost use Rattle.create_trees.specs.CreateView.{table_of};
 ghost use Rattle.schema.specs.Names.{IsSameName};
 ghost use Rattle.schema.specs.Refused.{IsRefused};
 ghost use Rattle.schema.specs.Rows.{AreTables, SaysTable, object_row};
@@ -12,9 +12,9 @@ ghost use Rattle.schema.specs.Rows.{AreTables, SaysTable, object_row};
 use crate::Table;
 use crate::created::{is_same_name, table_from};
 use create_reader::read_create;
+use create_trees::CreateTable;
 use std::alloc::Global;
 use std::marker::Model;
-use syntax::CreateTable;
 use values::{Fault, Row, Value};
 
 /// What a row of the schema has of an object: its kind, its name, its table's name, its root, and its text. (The Schema

@@ -1,21 +1,22 @@
 //! The table that a CREATE TABLE makes.
-ghost use Rattle.std.specs.Prelude.{◌≡◌, ◌↔◌, All, Contains, IfErr, IfOk, IsTrue, map, sum_by};
+ghost use Rattle.std.specs.Prelude.{◌≡◌, ◌↔◌, All, Contains, IfErr, IfNone, IfOk, IfSome, IsTrue, List, map, sum_by};
 ghost use Rattle.std.specs.List.{AllZip, Any};
-ghost use Rattle.syntax.specs.CreateTrees.{ConstraintTree, TypeTree};
-ghost use Rattle.syntax.specs.CreateView as view;
-ghost use Rattle.syntax.specs.CreateView.{column_of, constraint_of, table_of};
+ghost use Rattle.create_trees.specs.CreateTrees.{ConstraintTree};
+ghost use Rattle.create_trees.specs.CreateView.{column_of, constraint_of, table_of};
 ghost use Rattle.schema.specs.Created as spec;
 ghost use Rattle.schema.specs.Created.{AreKeys, AreServed, IsColumn, IsServed, IsTable, keys_of};
 ghost use Rattle.schema.specs.Names.{AreDistinct, IsReserved, IsSameName};
 ghost use Rattle.schema.specs.Refused.{IsRefused};
+ghost use Rattle.schema.specs.TableData.{ColumnData};
 
 use crate::keys::columns_with_keys;
 use crate::missing::missing_by;
 use crate::served::{constraints_are_served, has_rowids};
+use crate::types::{is_integer, type_of};
 use crate::{Column, Table};
-use std::alloc::{AllocError, Global};
-use syntax::{Column as ColumnDefinition, ColumnConstraint, ColumnType, CreateTable, KeyOrder};
-use values::{Fault, Ty};
+use create_trees::{Column as ColumnDefinition, ColumnConstraint, CreateTable, KeyOrder};
+use std::alloc::Global;
+use values::Fault;
 
 /// What the name of an object begins with that only SQLite makes.
 const RESERVED: &[u8] = b"sqlite_";
@@ -31,7 +32,7 @@ fn is_reserved(name: &str) -> bool
 }
 
 /// Whether two names differ in the case of ASCII letters alone.
-pub(crate) fn is_same_name(a: &str, b: &str) -> bool
+pub fn is_same_name(a: &str, b: &str) -> bool
     ensures { IsTrue result ↔ IsSameName a.now b.now }
 {
     a.eq_ignore_ascii_case(b)
@@ -116,13 +117,6 @@ fn count_keys(column: &ColumnDefinition) -> usize
         .count()
 }
 
-/// Whether a column is INTEGER, as the column that is the rowid has to be. (ROWIDs and the INTEGER PRIMARY KEY)
-fn is_integer(column: &ColumnDefinition) -> bool
-    ensures { IsTrue result ↔ ((column_of column.now).ty ≡ TypeTree.Integer) }
-{
-    column.ty == ColumnType::Integer
-}
-
 /// The place of the column that is the rowid, where there is one. (ROWIDs and the INTEGER PRIMARY KEY) The fault is
 /// `NotYet` where PRIMARY KEY is written twice, or at a column that isn't INTEGER.
 fn key_place(columns: &[ColumnDefinition]) -> Result<Option<usize>, Fault>
@@ -142,17 +136,6 @@ fn key_place(columns: &[ColumnDefinition]) -> Result<Option<usize>, Fault>
     Ok(key)
 }
 
-/// The type of a column's values.
-fn type_of(ty: ColumnType) -> Ty
-    ensures { result ≡ spec.type_of (view.type_of ty) }
-{
-    match ty {
-        ColumnType::Int | ColumnType::Integer => Ty::Int,
-        ColumnType::Text => Ty::Text,
-        ColumnType::Blob => Ty::Blob,
-    }
-}
-
 /// Whether no value of a column may be NULL.
 fn is_not_null(column: &ColumnDefinition) -> bool
     ensures { IsTrue result ↔ Contains (column_of column.now).constraints ConstraintTree.NotNull }
@@ -163,9 +146,10 @@ fn is_not_null(column: &ColumnDefinition) -> bool
         .any(|constraint| demands_value(constraint))
 }
 
-/// The column that a definition declares.
-fn column_from(definition: ColumnDefinition) -> Column
-    ensures { IsColumn (column_of definition) result }
+/// The column that a definition declares; `None` where its type isn't served. (STRICT Tables)
+fn column_from(definition: ColumnDefinition) -> Option<Column>
+    ensures found { IfSome result (IsColumn (column_of definition)) }
+    ensures none { IfNone result ((column : ColumnData) → ¬ IsColumn (column_of definition) column) }
 {
     let not_null = is_not_null(&definition);
     let ColumnDefinition {
@@ -173,32 +157,35 @@ fn column_from(definition: ColumnDefinition) -> Column
         ty,
         constraints,
     } = definition;
-    Column {
+    let ty = type_of(&ty)?;
+    Some(Column {
         name,
-        ty: type_of(ty),
+        ty,
         not_null,
         missing: missing_by(constraints),
-    }
+    })
 }
 
-/// The columns that the definitions declare.
-fn columns_from(
-    alloc: Global,
-    definitions: Vec<ColumnDefinition>,
-) -> Result<Vec<Column>, AllocError>
-    ensures { IfOk result (λ columns. AllZip IsColumn (map column_of definitions.items) columns.items) }
+/// The columns that the definitions declare. The fault is `NotYet` where a type isn't served, or `NoMemory`.
+fn columns_from(alloc: Global, definitions: Vec<ColumnDefinition>) -> Result<Vec<Column>, Fault>
+    ensures made { IfOk result (λ columns. AllZip IsColumn (map column_of definitions.items) columns.items) }
+    ensures refused { IfErr result
+        (IsRefused (λ (columns : List ColumnData). AllZip IsColumn (map column_of definitions.items) columns)) }
 {
     let mut columns = Vec::with_capacity(alloc, definitions.len())?;
     for definition in definitions {
-        columns.push(column_from(definition))?;
+        let Some(column) = column_from(definition) else {
+            return Err(Fault::NotYet);
+        };
+        columns.push(column)?;
     }
     Ok(columns)
 }
 
 /// The table that a CREATE TABLE makes, whose tree has this root. (CREATE TABLE) The fault is `NotYet` where it makes
-/// none: its name is reserved, two columns have one name, a constraint or an option isn't served, or a PRIMARY KEY isn't the
-/// rowid; or `NoMemory`.
-pub(crate) fn table_from(alloc: Global, created: CreateTable, root: u32) -> Result<Table, Fault>
+/// none: its name is reserved, two columns have one name, a type, a constraint or an option isn't served, or a PRIMARY KEY
+/// isn't the rowid; or `NoMemory`.
+pub fn table_from(alloc: Global, created: CreateTable, root: u32) -> Result<Table, Fault>
     ensures made { IfOk result (λ table. IsTable (table_of created) table) }
     ensures root { IfOk result (λ table. table.root ≡ root) }
     ensures refused { IfErr result (IsRefused (IsTable (table_of created))) }

@@ -1,11 +1,11 @@
 //! The keys behind the columns of a table.
 ghost use Rattle.std.specs.Prelude.{◌≡◌, IfOk, map};
-ghost use Rattle.syntax.specs.CreateView.{column_of, table_constraint_of};
+ghost use Rattle.create_trees.specs.CreateView.{column_of, table_constraint_of};
 ghost use Rattle.schema.specs.Created as spec;
 
 use crate::created::is_same_name;
+use create_trees::{Column as ColumnDefinition, ColumnConstraint, KeyOrder, TableConstraint};
 use std::alloc::{AllocError, Global};
-use syntax::{Column as ColumnDefinition, ColumnConstraint, KeyOrder, TableConstraint};
 
 /// The order of the key that a constraint of a table makes the column of this name, where it names it alone.
 fn key_at(name: &str, constraint: &TableConstraint) -> Option<KeyOrder>

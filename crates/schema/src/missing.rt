@@ -1,10 +1,10 @@
 //! What a row has in a column that was added after it was written. (ALTER TABLE ADD COLUMN)
 ghost use Rattle.std.specs.Prelude.{◌≡◌, map};
-ghost use Rattle.syntax.specs.CreateView.{constraint_of, default_of};
+ghost use Rattle.create_trees.specs.CreateView.{constraint_of, default_of};
 ghost use Rattle.schema.specs.Missing.{IsMissing, filled, missing_behind};
 ghost use Rattle.schema.specs.MissingView.{missing_of};
 
-use syntax::{ColumnConstraint, DefaultValue};
+use create_trees::{ColumnConstraint, DefaultValue};
 use values::Value;
 
 /// What a row that is older than a column has in it. (CREATE TABLE, "The DEFAULT clause")

@@ -1,12 +1,12 @@
 //! Which constraints and options of a table are served.
 ghost use Rattle.std.specs.Prelude.{◌≡◌, ◌↔◌, ◌∷◌, [], All, IsTrue, map, option_map, string_bytes};
 ghost use Rattle.std.specs.List.{Any};
-ghost use Rattle.syntax.specs.CreateView.{column_of, indexed_of, table_constraint_of};
+ghost use Rattle.create_trees.specs.CreateView.{column_of, indexed_of, table_constraint_of};
 ghost use Rattle.schema.specs.Created.{AreColumns, IsBinary, IsNamedIn, IsServedIn, IsSingle};
 ghost use Rattle.schema.specs.Names.{AreDistinct, IsSameName};
 
 use crate::created::{is_named, is_same_name};
-use syntax::{Column as ColumnDefinition, IndexedColumn, TableConstraint, TableOption};
+use create_trees::{Column as ColumnDefinition, IndexedColumn, TableConstraint, TableOption};
 
 /// Whether a table of these options is STRICT and has rowids. (STRICT Tables; WITHOUT ROWID Tables)
 pub(crate) fn has_rowids(options: &[TableOption]) -> bool
@@ -56,7 +56,7 @@ fn are_columns(columns: &[ColumnDefinition], names: &[String]) -> bool
 }
 
 /// Whether no collation is written, or BINARY.
-fn is_binary(collation: &Option<String>) -> bool
+pub fn is_binary(collation: &Option<String>) -> bool
     ensures { IsTrue result ↔ IsBinary (option_map (λ n. string_bytes n) collation.now) }
 {
     match collation {

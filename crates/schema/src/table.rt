@@ -6,7 +6,7 @@ ghost use Rattle.schema.specs.TableData.{IsPlaceIn, nullable, schema_table};
 use crate::Missing;
 use std::alloc::{AllocError, Global};
 use std::marker::Model;
-use values::{Ty, Value};
+use values::Ty;
 
 /// A column of a table. (STRICT Tables)
 #[derive(Debug, Drop)]
@@ -28,7 +28,7 @@ impl Model for Column {
 }
 
 impl Column {
-    /// A column whose values may be NULL.
+    /// A column whose values may be NULL, and which no row lacks.
     fn nullable(alloc: Global, name: &str, ty: Ty) -> Result<Column, AllocError>
         ensures { IfOk result (λ column. column ≡ nullable name.now ty) }
     {
@@ -37,7 +37,7 @@ impl Column {
             name,
             ty,
             not_null: false,
-            missing: Missing::Fill(Value::Null),
+            missing: Missing::Refused,
         })
     }
 

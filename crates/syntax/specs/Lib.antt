@@ -5,5 +5,3 @@ pub mod ExprView
 pub mod Functions
 pub mod SelectTrees
 pub mod SelectView
-pub mod CreateTrees
-pub mod CreateView

@@ -2,20 +2,15 @@
 //! the functions that a call may name are told apart by their names, and how many arguments each takes; of the trees
 //! themselves it promises nothing. Parentheses and quotes are gone.
 //!
-//! The modules: `expr` (expressions), `functions` (which they call), `query` (what joins queries and sorts rows),
-//! `select` and `create` (the statements).
+//! The modules: `expr` (expressions), `functions` (which they call), `query` (what joins queries and sorts rows), `select`
+//! (a SELECT).
 #![tactic(auto)]
 
-mod create;
 mod expr;
 mod functions;
 mod query;
 mod select;
 
-pub use create::{
-    Column, ColumnConstraint, ColumnType, CreateIndex, CreateTable, DefaultValue, IndexedColumn,
-    KeyOrder, TableConstraint, TableOption,
-};
 pub use expr::{Arm, BinaryOperator, Expr, Function, PostfixOperator, PrefixOperator};
 pub use query::{CompoundOperator, Direction, Edge, Exclusion, Frame, FrameUnit, Join};
 pub use select::{ResultColumn, ResultName, Select};

@@ -5,7 +5,7 @@ use Rattle.column_reader.proofs.ConstraintLemmas.{constraint_shortens}
 use Rattle.phrases.proofs.ListLemmas.{goes_from_nothing, goes_more}
 use Rattle.column_reader.proofs.columns.column.Goals as goal
 use Rattle.column_reader.specs.ColumnReading.{at_constraint, constraint, constraints}
-use Rattle.syntax.specs.CreateView.{constraint_of, type_of}
+use Rattle.create_trees.specs.CreateView.{constraint_of, type_of}
 use Rattle.phrases.specs.Texts.{lexemes_of}
 
 pub loop-alloc-init : goal.loop-alloc-init

@@ -2,7 +2,7 @@ use Rattle.std.proofs.Common.{length, ◌≤◌}
 use Rattle.phrases.proofs.ListLemmas.{GoesOn}
 use Rattle.column_reader.proofs.columns.column.Given as goal
 use Rattle.column_reader.specs.ColumnReading.{at_constraint, constraint, constraints}
-use Rattle.syntax.specs.CreateView.{constraint_of}
+use Rattle.create_trees.specs.CreateView.{constraint_of}
 use Rattle.phrases.specs.Texts.{lexemes_of}
 
 abbrev pub invariant-loop-alloc : goal.invariant-loop-alloc

@@ -1,4 +1,4 @@
-use Rattle.std.proofs.Common.{List, [], ◌∷◌, ◌++◌, refl, sym, arith}
+use Rattle.std.proofs.Common.{[], ◌∷◌, ◌++◌, refl, sym, arith}
 use Rattle.phrases.proofs.ListLemmas.{goes_from_nothing, goes_more}
 use Rattle.phrases.specs.Texts.{lexemes_of}
 use Rattle.column_reader.proofs.ReferenceLemmas.{act_shortens}

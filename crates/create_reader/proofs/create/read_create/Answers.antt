@@ -3,7 +3,7 @@ use Rattle.std.proofs.lemmas.List.{length-map}
 use Rattle.create_reader.proofs.CreateTexts.{create_spelt}
 use Rattle.create_reader.proofs.create.read_create.Goals as goal
 use Rattle.create_reader.specs.CreateReading.{create}
-use Rattle.syntax.specs.CreateView.{column_of, table_of}
+use Rattle.create_trees.specs.CreateView.{column_of, table_of}
 use Rattle.phrases.specs.Texts.{lexemes_of}
 use Rattle.tokens.specs.declared.token.Token.{Token}
 

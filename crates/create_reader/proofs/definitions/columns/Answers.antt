@@ -4,7 +4,7 @@ use Rattle.phrases.proofs.ListLemmas.{goes_more}
 use Rattle.create_reader.proofs.definitions.columns.Goals as goal
 use Rattle.column_reader.specs.ColumnReading.{column}
 use Rattle.create_reader.specs.CreateReading.{another_column, columns}
-use Rattle.syntax.specs.CreateView.{column_of}
+use Rattle.create_trees.specs.CreateView.{column_of}
 use Rattle.phrases.specs.Texts.{lexemes_of}
 
 pub loop-more-preserved : goal.loop-more-preserved

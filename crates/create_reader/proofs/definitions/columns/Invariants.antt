@@ -3,7 +3,7 @@ use Rattle.phrases.proofs.ListLemmas.{GoesOn}
 use Rattle.create_reader.proofs.definitions.columns.Given as goal
 use Rattle.column_reader.specs.ColumnReading.{column}
 use Rattle.create_reader.specs.CreateReading.{another_column, columns}
-use Rattle.syntax.specs.CreateView.{column_of}
+use Rattle.create_trees.specs.CreateView.{column_of}
 use Rattle.phrases.specs.Texts.{lexemes_of}
 
 abbrev pub invariant-loop-more : goal.invariant-loop-more

@@ -5,7 +5,7 @@ use Rattle.phrases.specs.Texts.{lexemes_of}
 use Rattle.create_reader.proofs.TableLemmas.{constraint_shortens}
 use Rattle.create_reader.proofs.definitions.definitions.Goals as goal
 use Rattle.create_reader.specs.CreateReading.{constraint, constraints}
-use Rattle.syntax.specs.CreateView.{table_constraint_of}
+use Rattle.create_trees.specs.CreateView.{table_constraint_of}
 
 pub loop-more-init : goal.loop-more-init
 loop-more-init c =

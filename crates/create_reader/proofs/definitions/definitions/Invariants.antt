@@ -4,7 +4,7 @@ use Rattle.phrases.specs.Steps.{after_comma}
 use Rattle.phrases.specs.Texts.{lexemes_of}
 use Rattle.create_reader.proofs.definitions.definitions.Given as goal
 use Rattle.create_reader.specs.CreateReading.{constraint, constraints}
-use Rattle.syntax.specs.CreateView.{table_constraint_of}
+use Rattle.create_trees.specs.CreateView.{table_constraint_of}
 
 abbrev pub invariant-loop-more : goal.invariant-loop-more
 invariant-loop-more l =

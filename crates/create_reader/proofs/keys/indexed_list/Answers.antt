@@ -5,7 +5,7 @@ use Rattle.phrases.specs.Texts.{lexemes_of}
 use Rattle.create_reader.proofs.KeyLemmas.{indexed_shortens}
 use Rattle.create_reader.proofs.keys.indexed_list.Goals as goal
 use Rattle.create_reader.specs.CreateReading.{indexed}
-use Rattle.syntax.specs.CreateView.{indexed_of}
+use Rattle.create_trees.specs.CreateView.{indexed_of}
 
 pub loop-more-preserved : goal.loop-more-preserved
 loop-more-preserved c = record {

@@ -4,7 +4,7 @@ use Rattle.phrases.specs.Steps.{after_comma, listed}
 use Rattle.phrases.specs.Texts.{lexemes_of}
 use Rattle.create_reader.proofs.keys.indexed_list.Given as goal
 use Rattle.create_reader.specs.CreateReading.{indexed}
-use Rattle.syntax.specs.CreateView.{indexed_of}
+use Rattle.create_trees.specs.CreateView.{indexed_of}
 
 abbrev pub invariant-loop-more : goal.invariant-loop-more
 invariant-loop-more l = record {

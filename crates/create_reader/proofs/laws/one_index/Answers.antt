@@ -2,4 +2,4 @@ use Rattle.create_reader.proofs.IndexTexts.{one_index}
 use Rattle.create_reader.proofs.laws.one_index.Goals as goal
 
 pub returns : goal.returns
-returns c text first second x y = one_index text first second x y
+returns c = one_index

@@ -5,7 +5,7 @@ use Rattle.phrases.specs.Texts.{lexemes_of}
 use Rattle.create_reader.proofs.OptionLemmas.{nothing_left, option_shortens, options_end}
 use Rattle.create_reader.proofs.options.table_options.Goals as goal
 use Rattle.create_reader.specs.CreateReading.{table_option}
-use Rattle.syntax.specs.declared.create.TableOption.{TableOption}
+use Rattle.create_trees.specs.declared.create.TableOption.{TableOption}
 
 pub loop-more-preserved : goal.loop-more-preserved
 loop-more-preserved c =

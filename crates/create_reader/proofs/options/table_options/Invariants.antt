@@ -4,7 +4,7 @@ use Rattle.phrases.specs.Steps.{after_comma, listed}
 use Rattle.phrases.specs.Texts.{lexemes_of}
 use Rattle.create_reader.proofs.options.table_options.Given as goal
 use Rattle.create_reader.specs.CreateReading.{table_option}
-use Rattle.syntax.specs.declared.create.TableOption.{TableOption}
+use Rattle.create_trees.specs.declared.create.TableOption.{TableOption}
 
 abbrev pub invariant-loop-more : goal.invariant-loop-more
 invariant-loop-more l =

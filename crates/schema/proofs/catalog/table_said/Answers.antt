@@ -1,6 +1,6 @@
 use Rattle.std.proofs.Common.{inr, refl}
 use Rattle.std.proofs.lemmas.Result.{MatchResult-weaker}
-use Rattle.syntax.specs.CreateView.{table_of}
+use Rattle.create_trees.specs.CreateView.{table_of}
 use Rattle.schema.proofs.CatalogLemmas.{no_table, other_name, other_owner}
 use Rattle.schema.proofs.NameLemmas.{differs}
 use Rattle.schema.proofs.catalog.table_said.Goals as goal

@@ -1,5 +1,5 @@
 use Rattle.std.proofs.Common.{◌<◌, length, rules, string_bytes}
-use Rattle.syntax.specs.declared.create.Column.{Column}
+use Rattle.create_trees.specs.declared.create.Column.{Column}
 use Rattle.schema.proofs.NameLemmas.{distinct_next, distinct_stops}
 use Rattle.schema.proofs.created.are_distinct.Goals as goal
 

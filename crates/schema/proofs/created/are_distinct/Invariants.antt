@@ -1,5 +1,5 @@
 use Rattle.std.proofs.Common.{map, take}
-use Rattle.syntax.specs.CreateView.{column_of}
+use Rattle.create_trees.specs.CreateView.{column_of}
 use Rattle.schema.specs.Names.{AreDistinct}
 use Rattle.schema.proofs.created.are_distinct.Given as goal
 

@@ -1,6 +1,6 @@
 use Rattle.std.proofs.Common.{rules, tests}
 use Rattle.std.proofs.lemmas.Iterator.{YieldsList-from_slice, cases_from_all}
-use Rattle.syntax.specs.CreateView.{constraint_of}
+use Rattle.create_trees.specs.CreateView.{constraint_of}
 use Rattle.schema.specs.Created.{IsServed}
 use Rattle.schema.proofs.ListLemmas.{all_is}
 use Rattle.schema.proofs.created.are_served.Goals as goal

@@ -1,7 +1,7 @@
 use Rattle.std.proofs.Common.{All, rules, tests}
 use Rattle.std.proofs.lemmas.Iterator.{YieldsList-from_slice, cases_from_all}
-use Rattle.syntax.specs.CreateView.{constraint_of}
-use Rattle.syntax.specs.declared.create.Column.{Column}
+use Rattle.create_trees.specs.CreateView.{constraint_of}
+use Rattle.create_trees.specs.declared.create.Column.{Column}
 use Rattle.schema.specs.Created.{IsServed}
 use Rattle.schema.proofs.ListLemmas.{all_is}
 use Rattle.schema.proofs.created.columns_are_served.Goals as goal

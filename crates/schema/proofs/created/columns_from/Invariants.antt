@@ -1,6 +1,6 @@
 use Rattle.std.proofs.Common.{map}
 use Rattle.std.specs.List.{AllZip}
-use Rattle.syntax.specs.CreateView.{column_of}
+use Rattle.create_trees.specs.CreateView.{column_of}
 use Rattle.schema.specs.Created.{IsColumn}
 use Rattle.schema.proofs.created.columns_from.Given as goal
 

@@ -1,7 +1,7 @@
 use Rattle.std.proofs.Common.{rules, tests, ◌≡◌}
 use Rattle.std.proofs.lemmas.Iterator.{YieldsList-from_slice, cases_from_any}
-use Rattle.syntax.specs.CreateTrees.{ConstraintTree}
-use Rattle.syntax.specs.CreateView.{constraint_of}
+use Rattle.create_trees.specs.CreateTrees.{ConstraintTree}
+use Rattle.create_trees.specs.CreateView.{constraint_of}
 use Rattle.schema.proofs.ColumnLemmas.{contains_constraint, not_null_is, not_null_other}
 use Rattle.schema.proofs.ListLemmas.{any_is}
 use Rattle.schema.proofs.created.is_not_null.Goals as goal

@@ -1,5 +1,5 @@
 use Rattle.std.proofs.Common.{map, take}
-use Rattle.syntax.specs.CreateView.{column_of}
+use Rattle.create_trees.specs.CreateView.{column_of}
 use Rattle.schema.proofs.KeyLemmas.{KeysSoFar}
 use Rattle.schema.proofs.created.key_place.Given as goal
 

@@ -1,10 +1,10 @@
 use Rattle.std.proofs.Common.{inr, refl, subst}
 use Rattle.std.proofs.lemmas.Result.{err_from_is_err_and}
 use Rattle.std.specs.List.{AllZip}
-use Rattle.syntax.specs.CreateView.{table_of}
+use Rattle.create_trees.specs.CreateView.{table_of}
 use Rattle.schema.specs.Created.{IsColumn, columns_with_keys}
 use Rattle.schema.proofs.KeyedLemmas.{keyed_columns}
-use Rattle.schema.proofs.CreatedLemmas.{distinct_names, doubled_refused, keys_found, keys_refused, place_within, reserved_refused, served_constraints, unreserved, unserved_refused}
+use Rattle.schema.proofs.CreatedLemmas.{columns_refused, distinct_names, doubled_refused, keys_found, keys_refused, place_within, reserved_refused, served_constraints, unreserved, unserved_refused}
 use Rattle.schema.proofs.ServedLemmas.{options_are, other_options, served_in, unserved_in}
 use Rattle.schema.proofs.created.table_from.Goals as goal
 use Rattle.schema.proofs.created.table_from.Goals.{
@@ -68,12 +68,19 @@ returns-in_err-rowid-clause-refused c =
     (keys_refused c.args.created c.as_slice-4.result.now (keyed_columns c.args.created c.in_ok-keyed.keyed.items c.as_slice-4.result.now
     c.as_slice.result.now c.as_slice.ensures.value c.in_ok-keyed.ensures c.as_slice-4.ensures.value) c.in_err-rowid.field-0.0 c.in_err-rowid.ensures.refused)
 
+pub returns-in_err-columns-clause-refused : goal.returns-in_err-columns-clause-refused
+returns-in_err-columns-clause-refused c =
+    let p = err_from_is_err_and c.from_residual-in_err-columns.result c.from_residual-in_err-columns.ensures.1 in
+    rw (p.1, p.2)
+    (columns_refused c.args.created c.in_ok-keyed.keyed.items (keyed_columns c.args.created c.in_ok-keyed.keyed.items c.in_ok-keyed.keyed.items
+    c.as_slice.result.now c.as_slice.ensures.value c.in_ok-keyed.ensures refl) c.in_err-columns.field-0.0 c.in_err-columns.ensures.refused)
+
 pub invariant_of-result : goal.invariant_of-result
 invariant_of-result c =
     let keys = keys_found c.args.created c.as_slice-4.result.now (keyed_columns c.args.created c.in_ok-keyed.keyed.items c.as_slice-4.result.now
     c.as_slice.result.now c.as_slice.ensures.value c.in_ok-keyed.ensures c.as_slice-4.ensures.value) c.in_ok-rowid.rowid c.in_ok-rowid.ensures.place in
     place_within (columns_with_keys (table_of c.args.created)) c.in_ok-columns.columns.items c.in_ok-rowid.rowid keys.place_is
-    (subst (λ cs. AllZip IsColumn cs c.in_ok-columns.columns.items) (keyed_columns c.args.created c.in_ok-keyed.keyed.items c.in_ok-keyed.keyed.items c.as_slice.result.now c.as_slice.ensures.value c.in_ok-keyed.ensures refl) c.in_ok-columns.ensures)
+    (subst (λ cs. AllZip IsColumn cs c.in_ok-columns.columns.items) (keyed_columns c.args.created c.in_ok-keyed.keyed.items c.in_ok-keyed.keyed.items c.as_slice.result.now c.as_slice.ensures.value c.in_ok-keyed.ensures refl) c.in_ok-columns.ensures.made)
 
 pub returns-clause-made : goal.returns-clause-made
 returns-clause-made c =
@@ -83,7 +90,7 @@ returns-clause-made c =
       name_is = refl;
       unreserved = unreserved c.args.created c.is_reserved.result c.as_str.result.now c.as_str.ensures.value c.is_reserved.ensures
           c.if-is_reserved.false;
-      columns_are = subst (λ cs. AllZip IsColumn cs c.in_ok-columns.columns.items) (keyed_columns c.args.created c.in_ok-keyed.keyed.items c.in_ok-keyed.keyed.items c.as_slice.result.now c.as_slice.ensures.value c.in_ok-keyed.ensures refl) c.in_ok-columns.ensures;
+      columns_are = subst (λ cs. AllZip IsColumn cs c.in_ok-columns.columns.items) (keyed_columns c.args.created c.in_ok-keyed.keyed.items c.in_ok-keyed.keyed.items c.as_slice.result.now c.as_slice.ensures.value c.in_ok-keyed.ensures refl) c.in_ok-columns.ensures.made;
       distinct = distinct_names c.args.created c.are_distinct.result c.as_slice-else-is_reserved.result.now (keyed_columns c.args.created c.in_ok-keyed.keyed.items c.as_slice-else-is_reserved.result.now
           c.as_slice.result.now c.as_slice.ensures.value c.in_ok-keyed.ensures c.as_slice-else-is_reserved.ensures.value) c.are_distinct.ensures
           c.if-not-are_distinct.false;

@@ -1,5 +1,5 @@
 use Rattle.std.proofs.Common.{◌≡◌, map}
-use Rattle.syntax.specs.CreateView.{column_of, table_constraint_of}
+use Rattle.create_trees.specs.CreateView.{column_of, table_constraint_of}
 use Rattle.schema.specs.Created.{with_keys}
 use Rattle.schema.proofs.keys.columns_with_keys.Given as goal
 

@@ -1,5 +1,5 @@
 use Rattle.std.proofs.Common.{◌∙◌, ap, sym}
-use Rattle.syntax.specs.CreateView.{table_constraint_of}
+use Rattle.create_trees.specs.CreateView.{table_constraint_of}
 use Rattle.schema.proofs.KeyedLemmas.{key_elsewhere, key_here, key_of_one}
 use Rattle.schema.proofs.keys.key_at.Goals as goal
 use Rattle.schema.specs.Created.{key_at}

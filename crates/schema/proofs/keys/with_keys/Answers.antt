@@ -1,5 +1,5 @@
 use Rattle.std.proofs.Common.{map, string_bytes, sym, ◌∙◌, ap}
-use Rattle.syntax.specs.CreateView.{constraint_of, table_constraint_of}
+use Rattle.create_trees.specs.CreateView.{constraint_of, table_constraint_of}
 use Rattle.schema.proofs.KeyedLemmas.{key_more, key_none}
 use Rattle.schema.proofs.keys.with_keys.Goals as goal
 use Rattle.schema.proofs.keys.with_keys.Goals.{in-Some+in_ok-push, in_default}

@@ -1,5 +1,5 @@
 use Rattle.std.proofs.Common.{map, string_bytes}
-use Rattle.syntax.specs.CreateView.{constraint_of}
+use Rattle.create_trees.specs.CreateView.{constraint_of}
 use Rattle.schema.proofs.KeyedLemmas.{KeyedSoFar}
 use Rattle.schema.proofs.keys.with_keys.Given as goal
 

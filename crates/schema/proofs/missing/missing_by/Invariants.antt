@@ -1,5 +1,5 @@
 use Rattle.std.proofs.Common.{map}
-use Rattle.syntax.specs.CreateView.{constraint_of}
+use Rattle.create_trees.specs.CreateView.{constraint_of}
 use Rattle.schema.specs.Missing.{IsMissing}
 use Rattle.schema.specs.MissingView.{missing_of}
 use Rattle.schema.proofs.missing.missing_by.Given as goal

@@ -1,5 +1,5 @@
 use Rattle.std.proofs.Common.{map, string_bytes}
-use Rattle.syntax.specs.CreateView.{column_of}
+use Rattle.create_trees.specs.CreateView.{column_of}
 use Rattle.schema.proofs.ServedLemmas.{columns_named, columns_unnamed}
 use Rattle.schema.proofs.served.are_columns.Goals as goal
 

@@ -1,6 +1,6 @@
 use Rattle.std.proofs.Common.{map, rules, string_bytes, tests}
 use Rattle.std.proofs.lemmas.Iterator.{YieldsList-from_slice, cases_from_all}
-use Rattle.syntax.specs.CreateView.{column_of}
+use Rattle.create_trees.specs.CreateView.{column_of}
 use Rattle.schema.specs.Created.{IsNamedIn}
 use Rattle.schema.proofs.ListLemmas.{all_is}
 use Rattle.schema.proofs.served.are_named.Goals as goal

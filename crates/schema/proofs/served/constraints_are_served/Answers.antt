@@ -1,6 +1,6 @@
 use Rattle.std.proofs.Common.{map, rules, tests}
 use Rattle.std.proofs.lemmas.Iterator.{YieldsList-from_slice, cases_from_all}
-use Rattle.syntax.specs.CreateView.{column_of, table_constraint_of}
+use Rattle.create_trees.specs.CreateView.{column_of, table_constraint_of}
 use Rattle.schema.specs.Created.{IsServedIn}
 use Rattle.schema.proofs.ListLemmas.{all_is}
 use Rattle.schema.proofs.served.constraints_are_served.Goals as goal

@@ -1,14 +1,14 @@
--- The tree of a CREATE TABLE, without where it lies in memory.
+-- The trees of a CREATE TABLE and of a CREATE INDEX, without where they lie in memory.
 use Rattle.std.specs.Prelude.{Bool, ℕ, ℤ, List, Option, length}
+use Rattle.syntax.specs.ExprTree.{ExprTree}
 use Rattle.syntax.specs.Tree.{Name}
-use Rattle.syntax.specs.declared.create.KeyOrder.{KeyOrder}
-use Rattle.syntax.specs.declared.create.TableOption.{TableOption}
+use Rattle.create_trees.specs.declared.create.KeyOrder.{KeyOrder}
+use Rattle.create_trees.specs.declared.create.TableOption.{TableOption}
 
-pub data TypeTree : Type 0 where
-  Int : TypeTree
-  Integer : TypeTree
-  Text : TypeTree
-  Blob : TypeTree
+-- the type of a column: its words, of which there may be none, and whether numbers in parentheses stand behind them
+pub record TypeTree : Type 0 where
+  pub words : List Name
+  pub is_sized : Bool
 
 -- what stands behind DEFAULT
 pub data DefaultTree : Type 0 where
@@ -70,6 +70,8 @@ pub record IndexTree : Type 0 where
   pub table : Name
   pub is_unique : Bool
   pub columns : List IndexedColumnTree
+  -- what stands behind WHERE
+  pub condition : Option ExprTree
 
 abbrev pub columns_of_index : IndexTree → ℕ
 columns_of_index tree = length tree.columns

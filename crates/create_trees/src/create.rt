@@ -1,12 +1,14 @@
 //! CREATE TABLEs and CREATE INDEXes, as they are written.
 
-/// The type of a column. (STRICT Tables)
-#[derive(Clone, Copy, Debug, PartialEq, Eq)]
-pub enum ColumnType {
-    Int,
-    Integer,
-    Text,
-    Blob,
+use statement_trees::Expr;
+
+/// The type of a column. (CREATE TABLE, "Column data types")
+#[derive(Debug, Drop)]
+pub struct ColumnType {
+    /// There may be none.
+    pub words: Vec<String>,
+    /// Whether numbers in parentheses stand behind the words. They aren't kept.
+    pub is_sized: bool,
 }
 
 /// The order of a key's column. (CREATE TABLE)
@@ -95,11 +97,13 @@ pub struct CreateTable {
 }
 
 /// An index that is created. (CREATE INDEX)
-#[derive(Debug, Drop)]
+#[derive(Drop)]
 pub struct CreateIndex {
     pub name: String,
     /// The name of the table whose index it is.
     pub table: String,
     pub is_unique: bool,
     pub columns: Vec<IndexedColumn>,
+    /// What stands behind WHERE. (Partial Indexes)
+    pub condition: Option<Expr>,
 }

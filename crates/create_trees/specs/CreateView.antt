@@ -1,24 +1,21 @@
--- What the program's CREATE TABLEs are.
+-- What the program's CREATE TABLEs and CREATE INDEXes are.
 use Rattle.std.specs.Prelude.{map, option_map, string_bytes}
-use Rattle.syntax.specs.CreateTrees.{TypeTree, DefaultTree, ConstraintTree, ColumnTree, IndexedColumnTree, IndexTree, TableConstraintTree, TableTree}
-use Rattle.syntax.specs.declared.create.Column.{Column}
-use Rattle.syntax.specs.declared.create.ColumnConstraint.{ColumnConstraint}
-use Rattle.syntax.specs.declared.create.ColumnConstraint.TheVariants as c
-use Rattle.syntax.specs.declared.create.ColumnType.{ColumnType}
-use Rattle.syntax.specs.declared.create.ColumnType.TheVariants as t
-use Rattle.syntax.specs.declared.create.CreateIndex.{CreateIndex}
-use Rattle.syntax.specs.declared.create.CreateTable.{CreateTable}
-use Rattle.syntax.specs.declared.create.DefaultValue.{DefaultValue}
-use Rattle.syntax.specs.declared.create.DefaultValue.TheVariants as d
-use Rattle.syntax.specs.declared.create.IndexedColumn.{IndexedColumn}
-use Rattle.syntax.specs.declared.create.TableConstraint.{TableConstraint}
-use Rattle.syntax.specs.declared.create.TableConstraint.TheVariants as x
+use Rattle.create_trees.specs.CreateTrees.{TypeTree, DefaultTree, ConstraintTree, ColumnTree, IndexedColumnTree, IndexTree, TableConstraintTree, TableTree}
+use Rattle.create_trees.specs.declared.create.Column.{Column}
+use Rattle.create_trees.specs.declared.create.ColumnConstraint.{ColumnConstraint}
+use Rattle.create_trees.specs.declared.create.ColumnConstraint.TheVariants as c
+use Rattle.create_trees.specs.declared.create.ColumnType.{ColumnType}
+use Rattle.create_trees.specs.declared.create.CreateIndex.{CreateIndex}
+use Rattle.create_trees.specs.declared.create.CreateTable.{CreateTable}
+use Rattle.create_trees.specs.declared.create.DefaultValue.{DefaultValue}
+use Rattle.create_trees.specs.declared.create.DefaultValue.TheVariants as d
+use Rattle.create_trees.specs.declared.create.IndexedColumn.{IndexedColumn}
+use Rattle.create_trees.specs.declared.create.TableConstraint.{TableConstraint}
+use Rattle.create_trees.specs.declared.create.TableConstraint.TheVariants as x
+use Rattle.statement_trees.specs.TreeView.{expr_of}
 
 abbrev pub type_of : ColumnType → TypeTree
-type_of t.Int = TypeTree.Int
-type_of t.Integer = TypeTree.Integer
-type_of t.Text = TypeTree.Text
-type_of t.Blob = TypeTree.Blob
+type_of t = record { words = map (λ n. string_bytes n) t.words.items; is_sized = t.is_sized }
 
 abbrev pub default_of : DefaultValue → DefaultTree
 default_of d.Null = DefaultTree.Null
@@ -71,4 +68,5 @@ index_of i = record {
   table = string_bytes i.table;
   is_unique = i.is_unique;
   columns = map indexed_of i.columns.items;
+  condition = option_map expr_of i.condition;
 }

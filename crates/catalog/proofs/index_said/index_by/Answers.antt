@@ -1,0 +1,81 @@
+use Rattle.std.proofs.Common.{sym, ◌∙◌, subst}
+use Rattle.std.proofs.lemmas.Result.{MatchResult-weaker, err_from_is_err_and}
+use Rattle.create_trees.specs.CreateView.{index_of}
+use Rattle.schema.proofs.NameLemmas.{differs}
+use Rattle.schema.specs.Names.{IsSameName}
+use Rattle.catalog.specs.ObjectView.{object_data}
+use Rattle.catalog.specs.Refused.{IsBadSchema}
+use Rattle.catalog.specs.Says.{HasTree}
+use Rattle.catalog.proofs.RefusalLemmas.{index_names, index_text, index_unmade, ownerless, rootless, says_index, text_none, text_some}
+use Rattle.catalog.proofs.index_said.index_by.Goals as goal
+use Rattle.catalog.proofs.index_said.index_by.Goals.{
+  then-not-is_same_name-via-else-not-is_same_name+then-not-is_same_name-2,
+  then-not-is_same_name-via-then-not-is_same_name,
+}
+
+pub returns-in_default-clause-refused : goal.returns-in_default-clause-refused
+returns-in_default-clause-refused c = λ rows has are.
+    rootless c.args.pages (object_data c.args.object.now) rows has (subst HasTree (sym c.requires) tt) c.in_default.ensures.none
+
+pub returns-in_default-table_named-clause-refused : goal.returns-in_default-table_named-clause-refused
+returns-in_default-table_named-clause-refused c = λ rows has are.
+    ownerless c.args.pages (object_data c.args.object.now) rows has c.args.tables.now c.requires are c.in_default-table_named.ensures.none
+
+pub returns-in_default-sql-clause-refused : goal.returns-in_default-sql-clause-refused
+returns-in_default-sql-clause-refused c = λ rows has are.
+    IsBadSchema.unwanted (object_data c.args.object.now) c.args.tables.now has c.requires
+    (text_none c.args.object.now.sql c.in_default-sql.is) are
+
+pub returns-in_err-created-clause-refused : goal.returns-in_err-created-clause-refused
+returns-in_err-created-clause-refused c =
+    let p = err_from_is_err_and c.from_residual.result c.from_residual.ensures.1 in
+    rw (p.1, p.2)
+    (λ rows has are. index_text c.args.pages (object_data c.args.object.now) rows has c.in-Some-sql.sql.now
+    (record { kind_is = c.requires; sql_is = text_some c.args.object.now.sql c.in-Some-sql.sql c.in-Some-sql.is })
+    c.in_err-created.field-0.0 c.in_err-created.ensures.refused)
+
+pub returns-then-not-is_same_name-clause-refused : goal.returns-then-not-is_same_name-clause-refused
+returns-then-not-is_same_name-clause-refused c = λ rows has are.
+    let o = object_data c.args.object.now in
+    let tree = index_of c.in_ok-created.created in
+    index_names c.args.pages o rows has c.in-Some-sql.sql.now
+    (record { kind_is = c.requires; sql_is = text_some c.args.object.now.sql c.in-Some-sql.sql c.in-Some-sql.is })
+    tree c.in_ok-created.ensures.spelt
+    (λ both. elim c.then-not-is_same_name.branch [
+      | then-not-is_same_name-via-then-not-is_same_name w ↦
+          differs c.is_same_name.result o.name c.as_str-name.result.now tree.name c.is_same_name.ensures c.as_str-name.ensures.value
+          w.if-not-is_same_name.true both.0
+      | then-not-is_same_name-via-else-not-is_same_name+then-not-is_same_name-2 w ↦
+          differs w.is_same_name-else-not-is_same_name.result o.owner c.as_str-owner.result.now tree.table
+          w.is_same_name-else-not-is_same_name.ensures c.as_str-owner.ensures.value w.if-not-is_same_name-2.true both.1
+    ])
+
+pub made_by-requires : goal.made_by-requires
+made_by-requires c =
+    let tree = index_of c.in_ok-created.created in
+    let owner = subst (λ n. IsSameName c.args.object.now.owner.now n) c.as_str-owner.ensures.value
+    (c.is_same_name-else-not-is_same_name.ensures.0 c.if-not-is_same_name-2.false) in
+    sym (c.in-Some-table_named.ensures.found.1 ∙ owner)
+
+pub returns-clause-said : goal.returns-clause-said
+returns-clause-said c =
+    let o = object_data c.args.object.now in
+    MatchResult-weaker c.made_by.result c.made_by.ensures.made
+    (λ index made. says_index c.args.pages o c.args.tables.now c.in-Some-table_named.table.now c.in-Some-sql.sql.now
+    (index_of c.in_ok-created.created) c.in-Some.root index
+    (record { kind_is = c.requires; sql_is = text_some c.args.object.now.sql c.in-Some-sql.sql c.in-Some-sql.is })
+    c.in-Some.ensures.found c.in_ok-created.ensures.spelt c.in_ok-created.ensures.within
+    (subst (λ n. IsSameName o.name n) c.as_str-name.ensures.value (c.is_same_name.ensures.0 c.if-not-is_same_name.false))
+    (subst (λ n. IsSameName o.owner n) c.as_str-owner.ensures.value
+    (c.is_same_name-else-not-is_same_name.ensures.0 c.if-not-is_same_name-2.false)) c.in-Some-table_named.ensures.found.0 made)
+    (λ fault u. u)
+
+pub returns-clause-refused : goal.returns-clause-refused
+returns-clause-refused c =
+    let owner = subst (λ n. IsSameName c.args.object.now.owner.now n) c.as_str-owner.ensures.value
+    (c.is_same_name-else-not-is_same_name.ensures.0 c.if-not-is_same_name-2.false) in
+    MatchResult-weaker c.made_by.result c.made_by.ensures.refused (λ index is. is)
+    (λ fault unmade rows has are. index_unmade c.args.pages (object_data c.args.object.now) rows has c.in-Some-sql.sql.now
+    (record { kind_is = c.requires; sql_is = text_some c.args.object.now.sql c.in-Some-sql.sql c.in-Some-sql.is })
+    (index_of c.in_ok-created.created) c.in_ok-created.ensures.spelt c.args.tables.now c.in-Some-table_named.table.now are
+    c.in-Some-table_named.ensures.found.0 (sym (c.in-Some-table_named.ensures.found.1 ∙ owner)) fault unmade)

@@ -1,0 +1,37 @@
+use Rattle.std.proofs.Common.{[], IfNone, IfSome, Option, sym, subst}
+use Rattle.std.proofs.lemmas.Result.{err_from_is_err_and}
+use Rattle.indexes.specs.IndexData.{IndexData}
+use Rattle.catalog.specs.Picks.{Picks}
+use Rattle.catalog.specs.Says.{AreIndexesOf, IsNoIndex, SaysIndex}
+use Rattle.catalog.proofs.PickLemmas.{other_more, said_more}
+use Rattle.catalog.proofs.whole.indexes_of.Goals as goal
+use Rattle.catalog.proofs.whole.indexes_of.Goals.{in-Some+in_ok-push, in_default}
+
+pub loop-row-init : goal.loop-row-init
+loop-row-init c = subst (AreIndexesOf c.args.pages c.args.tables.now []) (sym c.in_ok-indexes.ensures.items) Picks.end
+
+pub returns-in_err-index-clause-refused : goal.returns-in_err-index-clause-refused
+returns-in_err-index-clause-refused c =
+    let p = err_from_is_err_and c.from_residual-in_err-index.result c.from_residual-in_err-index.ensures.1 in
+    rw (p.1, p.2)
+    (c.in_err-index.ensures.refused c.args.rows.now (c.loop-row.row-index, c.loop-row-test.true, sym c.row-item.is) c.requires)
+
+pub loop-row-preserved : goal.loop-row-preserved
+loop-row-preserved c =
+    let pages = c.args.pages in
+    let tables = c.args.tables.now in
+    let rows = c.args.rows.now in
+    let row = c.row-item.result in
+    elim c.match-branch-3.branch [
+      | in-Some+in_ok-push w ↦
+          said_more (SaysIndex pages tables) IsNoIndex rows c.loop-row.row-index row c.loop-row-test.true c.row-item.is
+          c.loop-row.indexes.items c.match-branch-3.indexes.items w.in-Some.index
+          (let pushed = w.in_ok-push.ensures.items in let is = w.indexes-is in rw is pushed)
+          (subst (λ (found : Option IndexData). IfSome found (SaysIndex pages tables row)) w.in-Some.is c.in_ok-index.ensures.said)
+          c.loop-row.invariant
+      | in_default w ↦
+          other_more (SaysIndex pages tables) IsNoIndex rows c.loop-row.row-index row c.loop-row-test.true c.row-item.is
+          c.loop-row.indexes.items c.match-branch-3.indexes.items (let is = w.indexes-is in cc)
+          (subst (λ (found : Option IndexData). IfNone found (IsNoIndex row)) w.in_default.is c.in_ok-index.ensures.other)
+          c.loop-row.invariant
+    ]

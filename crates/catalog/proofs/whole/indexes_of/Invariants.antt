@@ -1,0 +1,6 @@
+use Rattle.std.proofs.Common.{take}
+use Rattle.catalog.specs.Says.{AreIndexesOf}
+use Rattle.catalog.proofs.whole.indexes_of.Given as goal
+
+abbrev pub invariant-loop-row : goal.invariant-loop-row
+invariant-loop-row l = AreIndexesOf l.pages l.fn.tables (take l.row-index l.rows) l.indexes.items

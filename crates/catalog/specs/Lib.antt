@@ -1,0 +1,9 @@
+pub mod Objects
+pub mod ObjectView
+pub mod Later
+pub mod CatalogData
+pub mod Picks
+pub mod Says
+pub mod Refused
+pub mod TextRefused
+pub mod Taken

@@ -1,0 +1,103 @@
+-- Why a schema was refused. (The Schema Table; the faults of docs/FAULTS.md)
+use Rattle.std.specs.Prelude.{◌≡◌, ◌≤◌, ◌<◌, ◌⊎◌, ℕ, pos, Contains, List, length, None, Some, string_bytes}
+use Rattle.values.specs.Row.{Row}
+use Rattle.values.specs.declared.fault.Fault.{Fault}
+use Rattle.values.specs.declared.fault.Fault.TheVariants as f
+use Rattle.create_reader.specs.CreateGrammar.{SpellsCreate}
+use Rattle.create_reader.specs.IndexTexts.{SpellsIndex, SpellsNoIndex}
+use Rattle.create_reader.specs.IndexTexts as index_texts
+use Rattle.phrases.specs.Texts.{max_columns, max_text}
+use Rattle.create_trees.specs.CreateTrees.{IndexTree, TableTree, columns_of_table}
+use Rattle.indexes.specs.IndexData.{IndexData}
+use Rattle.indexes.specs.Indexed.{IsIndex}
+use Rattle.schema.specs.Created.{IsTable}
+use Rattle.schema.specs.Names.{IsSameName}
+use Rattle.schema.specs.Rows.{SaysTable}
+use Rattle.schema.specs.TableData.{TableData}
+use Rattle.syntax.specs.Tree.{Name}
+use Rattle.catalog.specs.Later.{IsLater}
+use Rattle.catalog.specs.Objects.{ObjectData, object_row}
+use Rattle.catalog.specs.Says.{AreTablesOf, Doubled, HasTree}
+use Rattle.catalog.specs.declared.objects.Kind.{Kind}
+use Rattle.catalog.specs.declared.objects.Kind.TheVariants as k
+
+-- an object of this kind, with this text
+pub record HasText (kind : Kind) (sql : List ℕ) (object : ObjectData) : Type 0 where
+  pub kind_is : object.kind ≡ kind
+  pub sql_is : object.sql ≡ Some sql
+
+-- an object that isn't as SQLite writes it
+pub data IsBadObject (pages : ℕ) (object : ObjectData) : Type 0 where
+  -- its root is the first page, or none of the image
+  rootless : HasTree object.kind → ((page : ℕ) → 2 ≤ page → page ≤ pages → ¬ (object.root ≡ Some (pos page)))
+      → IsBadObject pages object
+  -- NULL stands for its text, as it does for that of an index alone
+  textless : object.sql ≡ None → ¬ (object.kind ≡ k.Index) → IsBadObject pages object
+  -- its names aren't those of its text
+  table_names : (sql : List ℕ) (tree : TableTree) → HasText k.Table sql object → SpellsCreate sql tree
+      → ¬ (IsSameName object.name tree.name × IsSameName object.owner tree.name) → IsBadObject pages object
+  index_names : (sql : List ℕ) (tree : IndexTree) → HasText k.Index sql object → SpellsIndex sql tree
+      → ¬ (IsSameName object.name tree.name × IsSameName object.owner tree.table) → IsBadObject pages object
+
+-- the text of a table spells nothing; it is too long, or spells too much
+abbrev pub SpellsNoTable : List ℕ → Type 0
+SpellsNoTable sql = (tree : TableTree) → ¬ SpellsCreate sql tree
+
+abbrev pub IsTooMuch : List ℕ → Type 0
+IsTooMuch sql = (max_text < length sql) ⊎ ((tree : TableTree) × SpellsCreate sql tree × (max_columns < columns_of_table tree))
+
+-- a table or an index whose text is none
+pub data IsUnread (object : ObjectData) : Type 0 where
+  table : (sql : List ℕ) → HasText k.Table sql object → SpellsNoTable sql → IsUnread object
+  index : (sql : List ℕ) → HasText k.Index sql object → SpellsNoIndex sql → IsUnread object
+
+-- an object of what is left out: a view, a text beyond the limits, one that makes no table, or one that makes no index on a
+-- table of the image
+pub data IsLeftOut (pages : ℕ) (rows : List Row) (object : ObjectData) : Type 0 where
+  view : object.kind ≡ k.View → IsLeftOut pages rows object
+  table_limit : (sql : List ℕ) → HasText k.Table sql object → IsTooMuch sql
+      → IsLeftOut pages rows object
+  index_limit : (sql : List ℕ) → HasText k.Index sql object → index_texts.IsTooMuch sql
+      → IsLeftOut pages rows object
+  table : (sql : List ℕ) (tree : TableTree) → HasText k.Table sql object → SpellsCreate sql tree → ¬ IsLater tree
+      → ((table : TableData) → ¬ IsTable tree table) → IsLeftOut pages rows object
+  index : (sql : List ℕ) (tree : IndexTree) (row : Row) (table : TableData) → HasText k.Index sql object → SpellsIndex sql tree
+      → Contains rows row → SaysTable pages row table → IsSameName tree.table table.name
+      → ((index : IndexData) → ¬ IsIndex tree table index) → IsLeftOut pages rows object
+
+-- a table that isn't served yet
+pub record IsLaterTable (object : ObjectData) : Type 0 where
+  pub sql : List ℕ
+  pub tree : TableTree
+  pub text : HasText k.Table sql object
+  pub spelt : SpellsCreate sql tree
+  pub later : IsLater tree
+
+-- SchemaRow: one of the rows isn't as SQLite writes it
+pub data IsBadSchema (pages : ℕ) (rows : List Row) : Type 0 where
+  row : (row : Row) → Contains rows row → ((object : ObjectData) → ¬ (row ≡ object_row object)) → IsBadSchema pages rows
+  object : (object : ObjectData) → Contains rows (object_row object) → IsBadObject pages object → IsBadSchema pages rows
+  -- an index is that of no table
+  ownerless : (object : ObjectData) → Contains rows (object_row object) → object.kind ≡ k.Index
+      → ((table : ObjectData) → Contains rows (object_row table) → table.kind ≡ k.Table → ¬ IsSameName object.owner table.name)
+      → IsBadSchema pages rows
+  -- an index has no text, and each table is served and so wants none
+  unwanted : (object : ObjectData) (tables : List TableData) → Contains rows (object_row object) → object.kind ≡ k.Index
+      → object.sql ≡ None → AreTablesOf pages rows tables → IsBadSchema pages rows
+  doubled : Doubled rows → IsBadSchema pages rows
+
+-- one of the rows is that of an object of this name that is so
+pub record HasObject (Is : ObjectData → Type 0) (rows : List Row) (name : Name) : Type 0 where
+  pub object : ObjectData
+  pub stands : Contains rows (object_row object)
+  pub name_is : name ≡ object.name
+  pub is : Is object
+
+-- why the rows of the schema were refused
+abbrev pub IsRefused : ℕ → List Row → Fault → Type 0
+IsRefused pages rows f.NoMemory = Unit {0}
+IsRefused pages rows f.SchemaRow = IsBadSchema pages rows
+IsRefused pages rows (f.SchemaText name) = HasObject IsUnread rows (string_bytes name)
+IsRefused pages rows (f.UnsupportedObject name) = HasObject (IsLeftOut pages rows) rows (string_bytes name)
+IsRefused pages rows f.NotYet = (object : ObjectData) × Contains rows (object_row object) × IsLaterTable object
+IsRefused pages rows _ = ⊥

@@ -1,0 +1,129 @@
+//! The index that a row of the schema says.
+ghost use Rattle.std.specs.Prelude.{◌≡◌, All, Contains, IfErr, IfNone, IfOk, IfSome, List};
+ghost use Rattle.values.specs.Row.{Row};
+ghost use Rattle.create_reader.specs.IndexTexts.{IsTooMuch, SpellsIndex, SpellsNoIndex};
+ghost use Rattle.phrases.specs.Texts.{IsWithin};
+ghost use Rattle.create_trees.specs.CreateTrees.{columns_of_index};
+ghost use Rattle.create_trees.specs.CreateView.{index_of};
+ghost use Rattle.indexes.specs.Indexed.{IsIndex};
+ghost use Rattle.indexes.specs.Refused.{IsRefused as IsUnmade};
+ghost use Rattle.schema.specs.Names.{IsSameName};
+ghost use Rattle.catalog.specs.Objects.{object_row};
+ghost use Rattle.catalog.specs.ObjectView.{object_data};
+ghost use Rattle.catalog.specs.Refused.{IsRefused};
+ghost use Rattle.catalog.specs.Says.{AreTablesOf, IsNoIndex, SaysIndex};
+ghost use Rattle.catalog.specs.TextRefused.{IsTextRefused};
+
+use crate::objects::{Kind, Object, object_of, root_within};
+use create_reader::read_create_index;
+use create_trees::CreateIndex;
+use indexes::{Index, index_from};
+use schema::{Table, is_same_name};
+use std::alloc::Global;
+use values::{Fault, Row};
+
+/// The CREATE INDEX that the text of an object of this name spells. The fault is `SchemaText` where it spells none, and
+/// `UnsupportedObject` where it is beyond the limits of `create_reader`, with that name; or `NoMemory`.
+fn created_by(alloc: Global, name: &str, sql: &str) -> Result<CreateIndex, Fault>
+    ensures spelt { IfOk result (λ created. SpellsIndex sql.now (index_of created)) }
+    ensures within { IfOk result (λ created. IsWithin columns_of_index sql.now (index_of created)) }
+    ensures refused { IfErr result (IsTextRefused (SpellsNoIndex sql.now) (IsTooMuch sql.now) name.now) }
+{
+    match read_create_index(alloc, sql) {
+        Ok(created) => Ok(created),
+        Err(Fault::Syntax(_)) => Err(Fault::SchemaText(String::from_str(alloc, name)?)),
+        Err(Fault::Limit) => Err(Fault::UnsupportedObject(String::from_str(alloc, name)?)),
+        Err(fault) => Err(fault),
+    }
+}
+
+/// The index that the CREATE INDEX of an object of this name makes on this table, whose tree has this root. The fault is
+/// `UnsupportedObject`, with that name, where it makes none; or `NoMemory`.
+fn made_by(
+    alloc: Global,
+    name: &str,
+    created: CreateIndex,
+    table: &Table,
+    root: u32,
+) -> Result<Index, Fault>
+    requires { IsSameName (index_of created).table table.now.name }
+    ensures made { IfOk result (λ index. IsIndex (index_of created) table.now index × (index.root ≡ root)) }
+    ensures refused { IfErr result (IsUnmade (IsIndex (index_of created) table.now) name.now) }
+{
+    match index_from(alloc, created, table, root) {
+        Ok(index) => Ok(index),
+        Err(fault) => match fault {
+            Fault::NoMemory => Err(Fault::NoMemory),
+            _ => Err(Fault::UnsupportedObject(String::from_str(alloc, name)?)),
+        },
+    }
+}
+
+/// The table of this name.
+fn table_named<'t>(tables: &'t [Table], name: &str) -> Option<&'t Table>
+    ensures found { IfSome result (λ table. Contains tables.now table.now × IsSameName table.now.name name.now) }
+    ensures none { IfNone result (All (λ table. ¬ IsSameName table.name name.now) tables.now) }
+{
+    for table in tables {
+        if is_same_name(table.name(), name) {
+            return Some(table);
+        }
+    }
+    None
+}
+
+/// The index of an object that is one, on one of these tables. The fault is `SchemaRow` where its root or its names aren't
+/// as they have to be, or its text is NULL; `SchemaText` and `UnsupportedObject`, with its name, where the text makes no
+/// index; or `NoMemory`.
+fn index_by(
+    alloc: Global,
+    object: &Object<'_>,
+    tables: &[Table],
+    pages: u32,
+) -> Result<Index, Fault>
+    requires { object.now.kind ≡ Kind.Index }
+    ensures said { IfOk result (SaysIndex pages tables.now (object_row (object_data object.now))) }
+    ensures refused { IfErr result (λ fault. (rows : List Row) → Contains rows (object_row (object_data object.now))
+        → AreTablesOf pages rows tables.now → IsRefused pages rows fault) }
+{
+    let Some(root) = root_within(object.root, pages) else {
+        return Err(Fault::SchemaRow);
+    };
+    let Some(table) = table_named(tables, object.owner) else {
+        return Err(Fault::SchemaRow);
+    };
+    let Some(sql) = object.sql else {
+        return Err(Fault::SchemaRow);
+    };
+    let created = created_by(alloc, object.name, sql)?;
+    let name = created.name.as_str();
+    let owner = created.table.as_str();
+    if !is_same_name(object.name, name) || !is_same_name(object.owner, owner) {
+        return Err(Fault::SchemaRow);
+    }
+    made_by(alloc, object.name, created, table, root)
+}
+
+/// The index that a row of the schema says, on one of these tables; `None` where it says a table or a trigger. (The Schema
+/// Table) The fault is one of those above.
+pub(crate) fn index_said(
+    alloc: Global,
+    row: &Row,
+    tables: &[Table],
+    pages: u32,
+) -> Result<Option<Index>, Fault>
+    ensures said { IfOk result (λ found. IfSome found (SaysIndex pages tables.now row.now)) }
+    ensures other { IfOk result (λ found. IfNone found (IsNoIndex row.now)) }
+    ensures refused { IfErr result (λ fault. (rows : List Row) → Contains rows row.now
+        → AreTablesOf pages rows tables.now → IsRefused pages rows fault) }
+{
+    let Some(object) = object_of(row) else {
+        return Err(Fault::SchemaRow);
+    };
+    match object.kind {
+        Kind::Index => Ok(Some(index_by(alloc, &object, tables, pages)?)),
+        Kind::Table => Ok(None),
+        Kind::Trigger => Ok(None),
+        Kind::View => Err(Fault::UnsupportedObject(String::from_str(alloc, object.name)?)),
+    }
+}

@@ -1,0 +1,24 @@
+//! What holds of the definitions alone.
+ghost use Rattle.std.specs.Prelude.{◌≡◌, List, ℕ};
+ghost use Rattle.values.specs.Row.{Row};
+ghost use Rattle.catalog.specs.CatalogData.{CatalogData};
+ghost use Rattle.catalog.specs.Refused.{HasObject, IsBadSchema, IsLeftOut, IsUnread};
+ghost use Rattle.catalog.specs.Says.{IsCatalog};
+ghost use Rattle.syntax.specs.Tree.{Name};
+
+/// The rows of a schema say at most one catalog.
+pub fn one_catalog()
+    ensures { (pages : ℕ) (rows : List Row) (first second : CatalogData) → IsCatalog pages rows first
+        → IsCatalog pages rows second → first ≡ second }
+{}
+
+/// Where rows say a catalog, each of them is as SQLite writes it, each text of a table or an index is read, and nothing that
+/// is left out stands there.
+pub fn catalog_is_sound()
+    ensures row { (pages : ℕ) (rows : List Row) (catalog : CatalogData) → IsCatalog pages rows catalog
+        → ¬ IsBadSchema pages rows }
+    ensures text { (pages : ℕ) (rows : List Row) (catalog : CatalogData) (name : Name) → IsCatalog pages rows catalog
+        → ¬ HasObject IsUnread rows name }
+    ensures object { (pages : ℕ) (rows : List Row) (catalog : CatalogData) (name : Name) → IsCatalog pages rows catalog
+        → ¬ HasObject (IsLeftOut pages rows) rows name }
+{}

@@ -1,0 +1,98 @@
+//! The table that a row of the schema says.
+ghost use Rattle.std.specs.Prelude.{◌≡◌, Contains, IfErr, IfNone, IfOk, IfSome, List};
+ghost use Rattle.values.specs.Row.{Row};
+ghost use Rattle.create_reader.specs.CreateGrammar.{SpellsCreate};
+ghost use Rattle.phrases.specs.Texts.{IsWithin};
+ghost use Rattle.create_trees.specs.CreateTrees.{columns_of_table};
+ghost use Rattle.create_trees.specs.CreateView.{table_of};
+ghost use Rattle.indexes.specs.Refused.{IsRefused as IsUnmade};
+ghost use Rattle.schema.specs.Created.{IsTable};
+ghost use Rattle.schema.specs.Rows.{SaysTable};
+ghost use Rattle.catalog.specs.Objects.{object_row};
+ghost use Rattle.catalog.specs.ObjectView.{object_data};
+ghost use Rattle.catalog.specs.Refused.{IsRefused, IsTooMuch, SpellsNoTable};
+ghost use Rattle.catalog.specs.Says.{IsNoTable};
+ghost use Rattle.catalog.specs.TextRefused.{IsTextRefused};
+
+use crate::later::is_later;
+use crate::objects::{Kind, Object, object_of, root_within};
+use create_reader::read_create;
+use create_trees::CreateTable;
+use schema::{Table, is_same_name, table_from};
+use std::alloc::Global;
+use values::{Fault, Row};
+
+/// The CREATE TABLE that the text of an object of this name spells. The fault is `SchemaText` where it spells none, and
+/// `UnsupportedObject` where it is beyond the limits of `create_reader`, with that name; or `NoMemory`.
+fn created_by(alloc: Global, name: &str, sql: &str) -> Result<CreateTable, Fault>
+    ensures spelt { IfOk result (λ created. SpellsCreate sql.now (table_of created)) }
+    ensures within { IfOk result (λ created. IsWithin columns_of_table sql.now (table_of created)) }
+    ensures refused { IfErr result (IsTextRefused (SpellsNoTable sql.now) (IsTooMuch sql.now) name.now) }
+{
+    match read_create(alloc, sql) {
+        Ok(created) => Ok(created),
+        Err(Fault::Syntax(_)) => Err(Fault::SchemaText(String::from_str(alloc, name)?)),
+        Err(Fault::Limit) => Err(Fault::UnsupportedObject(String::from_str(alloc, name)?)),
+        Err(fault) => Err(fault),
+    }
+}
+
+/// The table that the CREATE TABLE of an object of this name makes, whose tree has this root. The fault is
+/// `UnsupportedObject`, with that name, where it makes none; or `NoMemory`.
+fn made_by(alloc: Global, name: &str, created: CreateTable, root: u32) -> Result<Table, Fault>
+    ensures made { IfOk result (λ table. IsTable (table_of created) table × (table.root ≡ root)) }
+    ensures refused { IfErr result (IsUnmade (IsTable (table_of created)) name.now) }
+{
+    match table_from(alloc, created, root) {
+        Ok(table) => Ok(table),
+        Err(fault) => match fault {
+            Fault::NoMemory => Err(Fault::NoMemory),
+            _ => Err(Fault::UnsupportedObject(String::from_str(alloc, name)?)),
+        },
+    }
+}
+
+/// The table of an object that is one. The fault is `SchemaRow` where its root or its names aren't as they have to be, or
+/// its text is NULL; `SchemaText` and `UnsupportedObject`, with its name, where the text makes no table; `NotYet` where it
+/// makes one that isn't served yet; or `NoMemory`.
+fn table_by(alloc: Global, object: &Object<'_>, pages: u32) -> Result<Table, Fault>
+    requires { object.now.kind ≡ Kind.Table }
+    ensures said { IfOk result (SaysTable pages (object_row (object_data object.now))) }
+    ensures refused { IfErr result (λ fault. (rows : List Row) → Contains rows (object_row (object_data object.now))
+        → IsRefused pages rows fault) }
+{
+    let Some(root) = root_within(object.root, pages) else {
+        return Err(Fault::SchemaRow);
+    };
+    let Some(sql) = object.sql else {
+        return Err(Fault::SchemaRow);
+    };
+    let created = created_by(alloc, object.name, sql)?;
+    let name = created.name.as_str();
+    if !is_same_name(object.name, name) || !is_same_name(object.owner, name) {
+        return Err(Fault::SchemaRow);
+    }
+    if is_later(&created) {
+        return Err(Fault::NotYet);
+    }
+    made_by(alloc, object.name, created, root)
+}
+
+/// The table that a row of the schema says; `None` where it says an index or a trigger. (The Schema Table) The fault is one
+/// of those above, or `SchemaRow` where the row is that of no object, and `UnsupportedObject` where it is a view's.
+pub(crate) fn table_said(alloc: Global, row: &Row, pages: u32) -> Result<Option<Table>, Fault>
+    ensures said { IfOk result (λ found. IfSome found (SaysTable pages row.now)) }
+    ensures other { IfOk result (λ found. IfNone found (IsNoTable row.now)) }
+    ensures refused { IfErr result (λ fault. (rows : List Row) → Contains rows row.now → IsRefused pages rows fault) }
+{
+    let Some(object) = object_of(row) else {
+        return Err(Fault::SchemaRow);
+    };
+    match object.kind {
+        Kind::Table => Ok(Some(table_by(alloc, &object, pages)?)),
+        Kind::Index => Ok(None),
+        Kind::View => Err(Fault::UnsupportedObject(String::from_str(alloc, object.name)?)),
+        Kind::Trigger if object.sql.is_none() => Err(Fault::SchemaRow),
+        Kind::Trigger => Ok(None),
+    }
+}

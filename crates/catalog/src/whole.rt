@@ -1,0 +1,98 @@
+//! The rows of the schema.
+ghost use Rattle.std.specs.Prelude.{◌≡◌, ◌≤◌, All, IfErr, IfOk};
+ghost use Rattle.catalog.specs.Refused.{IsRefused};
+ghost use Rattle.catalog.specs.Says.{AreIndexesOf, AreTablesOf, IsCatalog};
+
+use crate::doubles::are_doubled;
+use crate::index_said::index_said;
+use crate::table_said::table_said;
+use indexes::Index;
+use schema::Table;
+use std::alloc::Global;
+use std::marker::Model;
+use values::{Fault, Row};
+
+/// The tables that the rows say, in their order.
+fn tables_of(alloc: Global, rows: &[Row], pages: u32) -> Result<Vec<Table>, Fault>
+    ensures said { IfOk result (λ tables. AreTablesOf pages rows.now tables.items) }
+    ensures refused { IfErr result (IsRefused pages rows.now) }
+{
+    let mut tables = Vec::with_capacity(alloc, rows.len())?;
+    for row in rows {
+        if let Some(table) = table_said(alloc, row, pages)? {
+            tables.push(table)?;
+        }
+    }
+    Ok(tables)
+}
+
+/// The indexes that the rows say, in their order, on the tables that they say.
+fn indexes_of(
+    alloc: Global,
+    rows: &[Row],
+    tables: &[Table],
+    pages: u32,
+) -> Result<Vec<Index>, Fault>
+    requires { AreTablesOf pages rows.now tables.now }
+    ensures said { IfOk result (λ indexes. AreIndexesOf pages tables.now rows.now indexes.items) }
+    ensures refused { IfErr result (IsRefused pages rows.now) }
+{
+    let mut indexes = Vec::with_capacity(alloc, rows.len())?;
+    for row in rows {
+        if let Some(index) = index_said(alloc, row, tables, pages)? {
+            indexes.push(index)?;
+        }
+    }
+    Ok(indexes)
+}
+
+/// The tables and indexes of an image.
+#[derive(Debug, Drop)]
+pub struct Catalog {
+    tables: Vec<Table>,
+    indexes: Vec<Index>,
+}
+
+impl Model for Catalog {
+    ghost use Rattle.catalog.specs.CatalogData.{CatalogData};
+
+    ghost Value = { CatalogData };
+
+    ghost view = { λ c. record { tables = c.tables.items; indexes = c.indexes.items } };
+}
+
+impl Catalog {
+    /// The catalog that the rows of the schema say, of an image of so many pages. (The Schema Table)
+    ///
+    /// # Errors
+    ///
+    /// `SchemaRow` where a row isn't as SQLite writes it; `SchemaText` with the name of a table or an index whose text can't
+    /// be read; `UnsupportedObject` with the name of a view, or of a table or an index that can be read and has what is left
+    /// out; `NotYet` where a table isn't served yet; `NoMemory`.
+    pub fn read(alloc: Global, rows: &[Row], pages: u32) -> Result<Catalog, Fault>
+        ensures said { IfOk result (IsCatalog pages rows.now) }
+        ensures roots { IfOk result (λ catalog. All (λ t. (2 ≤ t.root) × (t.root ≤ pages)) catalog.tables) }
+        ensures refused { IfErr result (IsRefused pages rows.now) }
+    {
+        let tables = tables_of(alloc, rows, pages)?;
+        let indexes = indexes_of(alloc, rows, tables.as_slice(), pages)?;
+        if are_doubled(rows) {
+            return Err(Fault::SchemaRow);
+        }
+        Ok(Catalog { tables, indexes })
+    }
+
+    /// The tables, in the order of the schema's rows.
+    pub fn tables(&self) -> &[Table]
+        ensures { result.now ≡ self.now.tables }
+    {
+        self.tables.as_slice()
+    }
+
+    /// The indexes, in the order of the schema's rows.
+    pub fn indexes(&self) -> &[Index]
+        ensures { result.now ≡ self.now.indexes }
+    {
+        self.indexes.as_slice()
+    }
+}

@@ -1,0 +1,2 @@
+pub mod CreateTrees
+pub mod CreateView

@@ -1,0 +1,120 @@
+-- The index that a CREATE INDEX makes.
+use Rattle.std.proofs.Common.{◌≡◌, ℕ, suc, zero, ◌+◌, ◌<◌, ◌≤◌, ◌⊎◌, inl, inr, Bool, true, false, IsTrue, ◌↔◌, List, [], ◌∷◌, ◌++◌, length, get_or, map, take, slice_get, Some, refl, sym, ap, ◌∙◌, subst, arith}
+use Rattle.std.proofs.lemmas.Bool.{cases_order}
+use Rattle.std.proofs.lemmas.Option.{slice_get-get_or, slice_get-map, slice_get_within}
+use Rattle.std.proofs.lemmas.List.{take_all}
+use Rattle.std.specs.List.{AllZip}
+use Rattle.std.specs.Option.{option_map}
+use Rattle.create_trees.specs.CreateTrees.{IndexedColumnTree, IndexTree}
+use Rattle.create_trees.specs.CreateView.{indexed_of}
+use Rattle.create_trees.specs.declared.create.IndexedColumn.{IndexedColumn}
+use Rattle.indexes.specs.IndexData.{IndexData, IndexedData}
+use Rattle.indexes.specs.Indexed.{AreIndexed, IsIndex, IsIndexed, IsPlaceOf}
+use Rattle.schema.proofs.ListLemmas.{all_zip_push, map_next}
+use Rattle.schema.proofs.OneLemmas.{zip_same}
+use Rattle.schema.specs.Names.{AreDistinct, IsSameName}
+use Rattle.schema.specs.TableData.{ColumnData, TableData}
+use Rattle.syntax.specs.Tree.{Name}
+
+-- The place of a column, where it was tested whether this one has the name
+module _ (columns : List ColumnData) (name : Name) (i : ℕ) (x : ColumnData) (given : Name) (found : Bool) (within : i < length columns)
+    (is : x ≡ get_or columns i x) (e : given ≡ x.name) (tested : IsTrue found ↔ IsSameName given name) where
+  stands : slice_get columns i ≡ Some x
+  stands = slice_get-get_or columns i x within ∙ ap Some (sym is)
+
+  pub place_here : found ≡ true → IsPlaceOf columns name i
+  place_here some = record { column = x; stands = stands; named = subst (λ n. IsSameName n name) e (tested.0 some) }
+
+  pub place_not_here : found ≡ false → ¬ IsPlaceOf columns name i
+  place_not_here none place =
+      let same : place.column ≡ x = let p = place.stands in let q = stands in cc in
+      let h : found ≡ true =
+      tested.1 (subst (λ n. IsSameName n name) (sym e) (subst (λ (c : ColumnData). IsSameName c.name name) same place.named)) in
+      cc
+
+pub no_place : (columns : List ColumnData) (name : Name) (count : ℕ) → length columns ≤ count
+    → ((k : ℕ) → k < count → ¬ IsPlaceOf columns name k) → (place : ℕ) → ¬ IsPlaceOf columns name place
+no_place columns name count all none place is =
+    let within = slice_get_within columns place is.column is.stands in
+    none place (omega (arith, all, within)) is
+
+-- one place
+
+named_twice : (columns : List ColumnData) (name : Name) (i j : ℕ) → AreDistinct (map (λ c. c.name) columns) → i < j
+    → IsPlaceOf columns name i → ¬ IsPlaceOf columns name j
+named_twice columns name i j distinct less p q =
+    distinct i j p.column.name q.column.name less (named i p) (named j q) (p.named ∙ sym q.named)
+  where
+    named : (k : ℕ) (is : IsPlaceOf columns name k) → slice_get (map (λ c. c.name) columns) k ≡ Some is.column.name
+    named k is = slice_get-map (λ (c : ColumnData). c.name) columns k ∙ ap (option_map (λ (c : ColumnData). c.name)) is.stands
+
+one_place : (columns : List ColumnData) (name : Name) (i j : ℕ) → AreDistinct (map (λ c. c.name) columns)
+    → IsPlaceOf columns name i → IsPlaceOf columns name j → i ≡ j
+one_place columns name i j distinct p q = go (cases_order i j)
+  where
+    go : (i ≡ j) ⊎ ((i < j) ⊎ (j < i)) → i ≡ j
+    go (inl e) = e
+    go (inr (inl less)) = absurd (named_twice columns name i j distinct less p q)
+    go (inr (inr less)) = absurd (named_twice columns name j i distinct less q p)
+
+one_indexed : (columns : List ColumnData) → AreDistinct (map (λ c. c.name) columns) → (tree : IndexedColumnTree) (a b : IndexedData)
+    → IsIndexed columns tree a → IsIndexed columns tree b → a ≡ b
+one_indexed columns distinct tree a b p q =
+    let place : a.place ≡ b.place = one_place columns tree.name a.place b.place distinct p.place_is q.place_is in
+    let order : a.order ≡ b.order = p.order_is ∙ sym q.order_is in
+    λ i. record { place = place i; order = order i }
+
+pub one_index : (tree : IndexTree) (table : TableData) (a b : IndexData) → AreDistinct (map (λ c. c.name) table.columns)
+    → IsIndex tree table a → IsIndex tree table b → a.root ≡ b.root → a ≡ b
+one_index tree table a b distinct p q root =
+    let name : a.name ≡ b.name = p.name_is ∙ sym q.name_is in
+    let owner : a.table ≡ b.table = p.table_is ∙ sym q.table_is in
+    let columns : a.columns ≡ b.columns =
+    zip_same (IsIndexed table.columns) (one_indexed table.columns distinct) tree.columns a.columns b.columns p.columns_are.each q.columns_are.each in
+    let is_unique : a.is_unique ≡ b.is_unique = p.unique_is ∙ sym q.unique_is in
+    let is_partial : a.is_partial ≡ b.is_partial = p.partial_is ∙ sym q.partial_is in
+    λ i. record { name = name i; table = owner i; root = root i; columns = columns i; is_unique = is_unique i; is_partial = is_partial i }
+
+-- The columns, one after the other
+
+beside : {X Y Z : Type 0} (R : Y → Z → Type 0) (f : X → Y) (xs : List X) (zs : List Z) (i : ℕ) (x : X) → i < length xs
+    → x ≡ get_or xs i x → AllZip R (map f xs) zs → (z : Z) × R (f x) z
+beside R f [] zs i x within is all = absurd (omega (arith, within))
+beside R f (y ∷ xs) [] i x within is all = absurd all
+beside R f (y ∷ xs) (z ∷ zs) zero x within is all = (z, subst (λ y. R (f y) z) (sym is) all.0)
+beside R f (y ∷ xs) (z ∷ zs) (suc i) x within is all = beside R f xs zs i x (omega (arith, within)) is all.1
+
+module _ (columns : List ColumnData) (named : List IndexedColumn) where
+  -- the columns of an index as far as so many are named
+  abbrev pub IndexedSoFar : ℕ → List IndexedData → Type 0
+  IndexedSoFar count all = AllZip (IsIndexed columns) (map indexed_of (take count named)) all
+
+  module _ (i : ℕ) (x : IndexedColumn) (within : i < length named) (is : x ≡ get_or named i x) where
+    pub indexed_more : (all more : List IndexedData) (next : IndexedData) → IsIndexed columns (indexed_of x) next
+        → more ≡ all ++ next ∷ [] → IndexedSoFar i all → IndexedSoFar (i + 1) more
+    indexed_more all more next here e far =
+        subst (IndexedSoFar (i + 1)) (sym e)
+        (subst (λ trees. AllZip (IsIndexed columns) trees (all ++ next ∷ [])) (sym (map_next indexed_of named i x within is))
+        (all_zip_push (IsIndexed columns) (map indexed_of (take i named)) all (indexed_of x) next far here))
+
+    pub none_indexed : ((column : IndexedData) → ¬ IsIndexed columns (indexed_of x) column) → (all : List IndexedData)
+        → ¬ AreIndexed columns (map indexed_of named) all
+    none_indexed none all are =
+        let found = beside (IsIndexed columns) indexed_of named all i x within is are.each in none found.0 found.1
+
+  names_of : (columns : List IndexedColumn)
+      → map (λ c. c.name) (map indexed_of columns) ≡ map (λ (c : IndexedColumn). (indexed_of c).name) columns
+  names_of [] = refl
+  names_of (c ∷ columns) = ap (λ names. (indexed_of c).name ∷ names) (names_of columns)
+
+  module _ (distinct : Bool) (tested : IsTrue distinct ↔ AreDistinct (map (λ (c : IndexedColumn). (indexed_of c).name) named)) where
+    pub named_twice_refused : distinct ≡ false → (all : List IndexedData) → ¬ AreIndexed columns (map indexed_of named) all
+    named_twice_refused none all are =
+        let h : distinct ≡ true = tested.1 (subst AreDistinct (names_of named) are.distinct) in cc
+
+    pub are_indexed : (count : ℕ) (all : List IndexedData) → distinct ≡ true → length named ≤ count → IndexedSoFar count all
+        → AreIndexed columns (map indexed_of named) all
+    are_indexed count all some end far = record {
+      each = subst (λ xs. AllZip (IsIndexed columns) (map indexed_of xs) all) (take_all count named end) far;
+      distinct = subst AreDistinct (sym (names_of named)) (tested.0 some);
+    }

@@ -1,0 +1,20 @@
+use Rattle.std.proofs.Common.{◌<◌, length, rules, string_bytes}
+use Rattle.create_trees.specs.declared.create.IndexedColumn.{IndexedColumn}
+use Rattle.schema.proofs.NameLemmas.{distinct_next, distinct_stops}
+use Rattle.indexes.proofs.places.are_distinct.Goals as goal
+
+pub returns-then-is_named : goal.returns-then-is_named
+returns-then-is_named c =
+    let within : c.loop-place.place < length c.args.columns.now = search rules in (
+      (λ e. absurd cc),
+      (λ distinct. absurd (distinct_stops (λ (x : IndexedColumn). string_bytes x.name) c.args.columns.now c.loop-place.place
+          c.index-columns-place.result c.as_str.result.now c.is_named.result within c.index-columns-place.is c.as_str.ensures.value
+          c.is_named.ensures c.if-is_named.true distinct)),
+    )
+
+pub loop-place-preserved : goal.loop-place-preserved
+loop-place-preserved c =
+    let within : c.loop-place.place < length c.args.columns.now = search rules in
+    distinct_next (λ (x : IndexedColumn). string_bytes x.name) c.args.columns.now c.loop-place.place
+    c.index-columns-place.result c.as_str.result.now c.is_named.result within c.index-columns-place.is c.as_str.ensures.value
+    c.is_named.ensures c.if-is_named.false c.loop-place.invariant

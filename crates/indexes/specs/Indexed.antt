@@ -1,0 +1,35 @@
+-- The index that a CREATE INDEX makes. (CREATE INDEX)
+use Rattle.std.specs.Prelude.{◌≡◌, ℕ, List, is_some, map, slice_get, Some}
+use Rattle.std.specs.List.{AllZip}
+use Rattle.create_trees.specs.CreateTrees.{IndexedColumnTree, IndexTree}
+use Rattle.indexes.specs.IndexData.{IndexData, IndexedData}
+use Rattle.schema.specs.Created.{IsBinary}
+use Rattle.schema.specs.Names.{AreDistinct, IsSameName}
+use Rattle.schema.specs.TableData.{ColumnData, TableData}
+use Rattle.syntax.specs.Tree.{Name}
+
+-- the column at this place has this name
+pub record IsPlaceOf (columns : List ColumnData) (name : Name) (place : ℕ) : Type 0 where
+  pub column : ColumnData
+  pub stands : slice_get columns place ≡ Some column
+  pub named : IsSameName column.name name
+
+-- a column of the table, whose texts are compared by their bytes (Indexed column)
+pub record IsIndexed (columns : List ColumnData) (tree : IndexedColumnTree) (indexed : IndexedData) : Type 0 where
+  pub place_is : IsPlaceOf columns tree.name indexed.place
+  pub order_is : indexed.order ≡ tree.order
+  pub binary : IsBinary tree.collation
+
+-- the columns of an index on a table of these columns, none of them twice
+pub record AreIndexed (columns : List ColumnData) (trees : List IndexedColumnTree) (indexed : List IndexedData) : Type 0 where
+  pub each : AllZip (IsIndexed columns) trees indexed
+  pub distinct : AreDistinct (map (λ c. c.name) trees)
+
+-- an index of this text, on this table
+pub record IsIndex (tree : IndexTree) (table : TableData) (index : IndexData) : Type 0 where
+  pub name_is : index.name ≡ tree.name
+  pub table_is : index.table ≡ tree.table
+  pub owner_is : IsSameName tree.table table.name
+  pub columns_are : AreIndexed table.columns tree.columns index.columns
+  pub unique_is : index.is_unique ≡ tree.is_unique
+  pub partial_is : index.is_partial ≡ is_some tree.condition

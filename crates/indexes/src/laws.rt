@@ -1,0 +1,14 @@
+//! What holds of the definitions alone.
+ghost use Rattle.std.specs.Prelude.{◌≡◌, map};
+ghost use Rattle.create_trees.specs.CreateTrees.{IndexTree};
+ghost use Rattle.indexes.specs.IndexData.{IndexData};
+ghost use Rattle.indexes.specs.Indexed.{IsIndex};
+ghost use Rattle.schema.specs.Names.{AreDistinct};
+ghost use Rattle.schema.specs.TableData.{TableData};
+
+/// A CREATE INDEX makes one index at most of a root, on a table whose columns have different names.
+pub fn one_index()
+    ensures { (tree : IndexTree) (table : TableData) (first second : IndexData)
+        → AreDistinct (map (λ c. c.name) table.columns) → IsIndex tree table first → IsIndex tree table second
+        → first.root ≡ second.root → first ≡ second }
+{}

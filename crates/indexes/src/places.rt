@@ -1,0 +1,61 @@
+//! Which columns of a table are named.
+ghost use Rattle.std.specs.Prelude.{◌≡◌, ◌↔◌, ℕ, All, IfErr, IfNone, IfOk, IfSome, IsTrue, List, map};
+ghost use Rattle.std.specs.List.{AllZip, Any};
+ghost use Rattle.create_trees.specs.CreateView.{indexed_of};
+ghost use Rattle.indexes.specs.IndexData.{IndexedData};
+ghost use Rattle.indexes.specs.Indexed.{IsIndexed, IsPlaceOf};
+ghost use Rattle.schema.specs.Names.{AreDistinct, IsSameName};
+
+use crate::IndexedColumn;
+use create_trees::IndexedColumn as NamedColumn;
+use schema::{Column, is_binary, is_same_name};
+
+/// Whether one of the columns is named so.
+fn is_named(columns: &[NamedColumn], name: &str) -> bool
+    ensures { IsTrue result ↔ Any (λ c. IsSameName (indexed_of c).name name.now) columns.now }
+{
+    columns
+        .iter()
+        .any(|column| is_same_name(column.name.as_str(), name))
+}
+
+/// Whether no column is named twice.
+pub(crate) fn are_distinct(columns: &[NamedColumn]) -> bool
+    ensures { IsTrue result ↔ AreDistinct (map (λ c. (indexed_of c).name) columns.now) }
+{
+    for (place, column) in columns.iter().enumerate() {
+        if is_named(&columns[..place], column.name.as_str()) {
+            return false;
+        }
+    }
+    true
+}
+
+/// The place of the column of this name.
+fn place_of(columns: &[Column], name: &str) -> Option<usize>
+    ensures found { IfSome result (IsPlaceOf columns.now name.now) }
+    ensures none { IfNone result ((place : ℕ) → ¬ IsPlaceOf columns.now name.now place) }
+{
+    for (place, column) in columns.iter().enumerate() {
+        if is_same_name(column.name(), name) {
+            return Some(place);
+        }
+    }
+    None
+}
+
+/// The column of an index that is named, over a table of these columns; `None` where none of them is called so, or where
+/// it has a collation other than BINARY.
+pub(crate) fn indexed(columns: &[Column], named: &NamedColumn) -> Option<IndexedColumn>
+    ensures found { IfSome result (IsIndexed columns.now (indexed_of named.now)) }
+    ensures none { IfNone result ((column : IndexedData) → ¬ IsIndexed columns.now (indexed_of named.now) column) }
+{
+    if !is_binary(&named.collation) {
+        return None;
+    }
+    let place = place_of(columns, named.name.as_str())?;
+    Some(IndexedColumn {
+        place,
+        order: named.order,
+    })
+}
