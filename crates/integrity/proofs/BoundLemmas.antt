@@ -5,7 +5,7 @@ use Rattle.image.specs.declared.kind.Level.TheVariants.{Interior}
 use Rattle.image.specs.Layout.{cell_count, cell_place}
 use Rattle.btree.specs.Bytes.{IsDividerCell, LacksChild}
 use Rattle.btree.proofs.CellLemmas.{no_divider_inside}
-use Rattle.integrity.specs.Keys.{HasCells}
+use Rattle.stored_rows.specs.Keys.{HasCells}
 
 module _ (at most : ℕ) (page : List ℕ) (cells : HasCells at most page Interior) where
   found : (i : ℕ) (result : Option ℤ) → IfSome result (λ key. IsDividerCell at page i key)

@@ -3,21 +3,22 @@ use Rattle.std.proofs.Common.{◌≡◌, ◌⊎◌, ℕ, zero, suc, refl, ◌<�
 use Rattle.std.specs.List.{AllZip}
 use Rattle.std.proofs.lemmas.List.Elements.{All-cons, All-head, All-nil, All-tail}
 use Rattle.values.specs.declared.fault.Fault.{Fault}
-use Rattle.values.specs.declared.fault.Fault.TheVariants.{NoMemory, NotYet}
+use Rattle.values.specs.declared.fault.Fault.TheVariants.{ReadFailed, NoMemory, PageUse, BadFreelist, NotYet}
 use Rattle.image.specs.declared.kind.TreeKind.TheVariants.{Table}
 use Rattle.image.specs.Pages.{Pages}
 use Rattle.image.specs.Shape.{places_under}
 use Rattle.image.specs.Sound.{AreRowsOf}
 use Rattle.image.specs.Tree.{IsPlaceOf, Place}
 use Rattle.image.proofs.TableLemmas.{rows_of}
+use Rattle.page_use.specs.Marks.{IsUseFault}
 use Rattle.values.specs.Row.{Row}
 use Rattle.schema.specs.Rows.{AreTables, SaysTable}
 use Rattle.schema.specs.TableData.{TableData, schema_table}
 use Rattle.integrity.specs.declared.walk.TreeCounts.{TreeCounts}
-use Rattle.integrity.specs.Checked.{HasCause, IsCheckedTree, IsTableOf, said, unsaid}
+use Rattle.integrity.specs.Checked.{HasCause, IsCheckedTree, IsTableOf, said}
 use Rattle.integrity.specs.Denotes.{HasTables, IsStoredTable}
-use Rattle.integrity.specs.RowFaults.{IsBrokenTable}
-use Rattle.integrity.specs.Stored.{Fits, HoldsRow, HoldsRows, StoresRow}
+use Rattle.stored_rows.specs.RowFaults.{IsBrokenTable}
+use Rattle.stored_rows.specs.Stored.{Fits, HoldsRow, HoldsRows, StoresRow}
 use Rattle.integrity.specs.Walked.{IsCheckFault, IsWalkFault}
 
 -- inside a list no default matters
@@ -88,13 +89,13 @@ module _ (pages : Pages) where
       → AreTables pages.count rows tables → Contains tables table → IsBrokenTable pages table fault → HasCause pages fault
   broken_table rows tables table fault stored are within broken =
       let all = tables_of stored.places rows tables (all_places stored.places stored.cells) stored.rows_are are.said in
-      inr (inl (table, subst (λ (t : TableData). IsTableOf pages t) within.2 (all within.0 table within.1), broken))
+      inr (inl (inl (table, subst (λ (t : TableData). IsTableOf pages t) within.2 (all within.0 table within.1), broken)))
 
   -- rows that say no tables are not served
   pub unsaid_rows : (rows : List Row) (fault : Fault) → HoldsRows pages schema_table rows
       → (fault ≡ NoMemory) ⊎ ((fault ≡ NotYet) × ((tables : List TableData) → ¬ AreTables pages.count rows tables)) → HasCause pages fault
   unsaid_rows rows fault stored (inl memory) = inl (inr memory)
-  unsaid_rows rows fault stored (inr (is, none)) = inr (inr (is, unsaid rows stored none))
+  unsaid_rows rows fault stored (inr (is, none)) = inr (inr (is, record { rows = rows; stored = stored; unsaid = none }))
 
 pub said_here : (n m : ℕ) (rows others : List Row) (tables : List TableData) → n ≡ m → rows ≡ others → AreTables n rows tables
     → AreTables m others tables
@@ -108,6 +109,15 @@ only_memory fault is = subst (λ (x : Fault). IsCheckFault x) (sym is) tt
 pub only_not_yet : (fault : Fault) → fault ≡ NotYet → IsCheckFault fault
 only_not_yet fault is = subst (λ (x : Fault). IsCheckFault x) (sym is) tt
 
+pub use_only : (fault : Fault) → IsUseFault fault → IsCheckFault fault
+use_only ReadFailed h = tt
+use_only NoMemory h = tt
+use_only (PageUse n) h = tt
+use_only BadFreelist h = tt
+use_only fault h = absurd h
+
 pub walk_only : (fault : Fault) → IsWalkFault fault → IsCheckFault fault
 walk_only NotYet h = tt
+walk_only (PageUse n) h = tt
+walk_only BadFreelist h = tt
 walk_only fault h = h

@@ -8,7 +8,7 @@ use Rattle.image.specs.Shape.{places_under}
 use Rattle.values.specs.Row.{Row}
 use Rattle.values.specs.Database.{Database}
 use Rattle.schema.specs.TableData.{TableData}
-use Rattle.integrity.specs.Stored.{Fits, HoldsRows, IsStored}
+use Rattle.stored_rows.specs.Stored.{Fits, HoldsRows, IsStored}
 use Rattle.integrity.specs.Denotes.{Denotes, HasTables, IsStoredTable}
 
 -- a table is stored with these rows

@@ -13,7 +13,7 @@ use Rattle.image.specs.Broken.{HasRowid, IsSound, IsRowOrder, IsBroken}
 use Rattle.image.proofs.RowidLemmas.{one_rowid}
 use Rattle.btree.proofs.PageLemmas.{flag_of-same}
 use Rattle.image.specs.Layout.{HasHeaderAt}
-use Rattle.integrity.specs.Keys.{IsAbove, IsAtMost, HasKeyAt, HasCells, KeysFit, IsHeadFault}
+use Rattle.stored_rows.specs.Keys.{IsAbove, IsAtMost, HasKeyAt, HasCells, KeysFit, IsHeadFault}
 use Rattle.integrity.specs.Walked.{StandsWithin}
 
 module _ (pages : Pages) (n : ℕ) (long : length (pages.page n) ≡ pages.usable) where

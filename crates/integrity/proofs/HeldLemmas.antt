@@ -6,17 +6,15 @@ use Rattle.std.proofs.lemmas.List.FromFn.{get_or-range_with_len, length-range_wi
 use Rattle.values.specs.declared.fault.Fault.{Fault}
 use Rattle.image.specs.declared.kind.TreeKind.TheVariants.{Table}
 use Rattle.image.specs.declared.kind.Level.TheVariants.{Leaf}
-use Rattle.image.specs.Cell.{CellData, IsTableCell}
-use Rattle.image.specs.Layout.{header_at, cell_count}
+use Rattle.image.specs.Layout.{cell_count}
 use Rattle.image.specs.Pages.{Pages}
 use Rattle.image.specs.Shape.{place_at, places_in, places_under}
-use Rattle.image.specs.Tree.{IsPageOf, IsRowAt, StandsAt, cell_at, child_at, count_at}
-use Rattle.btree.specs.Bytes as bytes
+use Rattle.image.specs.Tree.{IsPageOf, StandsAt, child_at, count_at}
 use Rattle.schema.specs.TableData.{TableData}
-use Rattle.integrity.specs.RowFaults.{AreRowsIn, HasCellFault, IsLeafFault}
-use Rattle.integrity.specs.Stored.{HoldsRow}
-use Rattle.integrity.specs.Walked.{IsSeen}
-use Rattle.integrity.proofs.WalkLemmas.{seen_count}
+use Rattle.stored_rows.specs.RowFaults.{AreRowsIn, HasCellFault, IsLeafFault}
+use Rattle.stored_rows.specs.Stored.{HoldsRow}
+use Rattle.stored_rows.specs.Keys.{IsSeen}
+use Rattle.stored_rows.proofs.LinkLemmas.{seen_cells, seen_row}
 
 -- what holds of the elements of each list that is made over a run of numbers
 all_fan : {X : Type 0} (P : X → Type 0) (f : ℕ → List X) (m i : ℕ) → ((k : ℕ) → i ≤ k → k < i + m → All P (f k))
@@ -47,21 +45,10 @@ module _ (pages : Pages) (table : TableData) where
 
   -- of a leaf, as its bytes were seen
   module _ (n at most : ℕ) (page : List ℕ) (seen : IsSeen pages n at most page) where
-    pub seen_row : (i : ℕ) (cell : CellData) → bytes.IsRowCell at most page i cell → IsRowAt pages (place_at n i) cell
-    seen_row i cell row =
-        let here : bytes.IsRowCell (header_at n) pages.size (pages.page n) i cell =
-        subst (λ (a : ℕ). bytes.IsRowCell a pages.size (pages.page n) i cell) seen.at_is
-        (subst (λ (m : ℕ). bytes.IsRowCell at m (pages.page n) i cell) seen.most_is (subst (λ (b : List ℕ). bytes.IsRowCell at most b i cell) seen.page_is row)) in
-        let long : length (pages.page n) ≡ pages.usable = sym (ap length seen.page_is) ∙ seen.long in
-        record { is = subst (λ (u : ℕ). IsTableCell u (cell_at pages Leaf n i) cell) long here.is.is; fits = here.is.fits }
-
-    pub seen_cells : cell_count at page ≡ count_at pages n
-    seen_cells = seen_count pages n at most page seen (cell_count at page) refl
-
     pub held_leaf : AreRowsIn pages table at most page → All (HoldsRow pages table) (places_in pages n)
     held_leaf rows = all_run (HoldsRow pages table) (place_at n) (count_at pages n) (λ k within.
-        let here = rows k (omega (arith, within, seen_cells)) in
-        record { row = here.row; stores = record { cell = here.cell; at = seen_row k here.cell here.here; is = here.is }; fits = here.fits })
+        let here = rows k (omega (arith, within, seen_cells pages n at most page seen)) in
+        record { row = here.row; stores = record { cell = here.cell; at = seen_row pages n at most page seen k here.cell here.here; is = here.is }; fits = here.fits })
 
     pub leaf_fault : (depth : ℕ) → IsPageOf pages Table Leaf n → StandsAt pages Table table.root depth n
         → (fault : Fault) → IsLeafFault pages table n at most page fault → HasCellFault pages table fault
@@ -73,8 +60,8 @@ module _ (pages : Pages) (table : TableData) where
         entries = tt;
         reaches = (depth, stands);
         page = leaf;
-        within = omega (arith, broken.within, seen_cells);
+        within = omega (arith, broken.within, seen_cells pages n at most page seen);
       };
-      at = seen_row broken.i broken.cell broken.here;
+      at = seen_row pages n at most page seen broken.i broken.cell broken.here;
       broken = broken.broken;
     }

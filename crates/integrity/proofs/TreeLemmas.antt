@@ -11,9 +11,9 @@ use Rattle.image.specs.Broken.{HasRowid, IsSound, IsRowOrder}
 use Rattle.image.specs.Sound.{IsSoundTable}
 use Rattle.image.proofs.RowidLemmas.{one_rowid}
 use Rattle.image.proofs.ShapeLemmas.{not_both}
-use Rattle.integrity.specs.Keys.{IsAbove, IsAtMost, KeysFit}
+use Rattle.stored_rows.specs.Keys.{IsAbove, IsAtMost, KeysFit}
 use Rattle.integrity.specs.Walked.{IsLowAt, IsHighAt, IsTree}
-use Rattle.integrity.proofs.KeyLemmas.{above_more, most_more}
+use Rattle.stored_rows.proofs.KeyLemmas.{above_more, most_more}
 
 module _ (pages : Pages) where
   low_tight : (n : ℕ) (low high l : Option ℤ) (i : ℕ) (k : ℤ) → KeysFit (HasRowid pages Interior n) (count_at pages n) low high → i ≤ count_at pages n

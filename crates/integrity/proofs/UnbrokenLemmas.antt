@@ -1,5 +1,5 @@
 -- Nothing is broken of tables that were checked.
-use Rattle.std.proofs.Common.{◌≡◌, All, ℕ, ℤ, zero, suc, Option, refl, ◌<◌, ◌∙◌, List, [], ◌∷◌, length, slice_index_or, sym, ap, arith, subst, inl, inr}
+use Rattle.std.proofs.Common.{◌≡◌, All, Contains, ℕ, ℤ, zero, suc, Option, refl, ◌<◌, ◌∙◌, List, [], ◌∷◌, length, slice_index_or, sym, arith, subst, inl, inr}
 use Rattle.std.proofs.lemmas.List.Elements.{All-cons, All-nil}
 use Rattle.std.specs.List.{AllZip}
 use Rattle.values.specs.Datum.{Datum}
@@ -18,11 +18,12 @@ use Rattle.image.proofs.TableLemmas as table_laws
 use Rattle.values.specs.Row.{Row}
 use Rattle.schema.proofs.OneLemmas.{one_table}
 use Rattle.schema.specs.Rows.{AreTables, SaysTable}
-use Rattle.schema.specs.TableData.{TableData, schema_table}
+use Rattle.schema.specs.TableData.{MissingData, TableData, schema_table}
 use Rattle.integrity.specs.declared.walk.TreeCounts.{TreeCounts}
-use Rattle.integrity.specs.Checked.{IsBrokenImage, IsCheckedTree, said, schema}
-use Rattle.integrity.specs.RowFaults.{HasCellFault, HasRecordFault, IsBrokenTable, IsCellFault, IsRecordFault}
-use Rattle.integrity.specs.Stored.{Fits, HoldsRow, HoldsRows, IsRowOf, IsRowRecord, StoresRow, row_from}
+use Rattle.integrity.specs.Checked.{IsBrokenImage, IsCheckedTree, IsMisused, said, schema}
+use Rattle.stored_rows.specs.RowFaults.{HasCellFault, HasRecordFault, IsBrokenTable, IsCellFault, IsRecordFault}
+use Rattle.stored_rows.specs.Stored.{Fits, HoldsRow, HoldsRows, IsNoRow, IsRowFrom, IsRowOf, IsRowRecord, StoresRow, filled_values, row_from}
+use Rattle.stored_rows.proofs.FilledLemmas.{fills_same, none_refused}
 
 bad_memory : r.Bad ≡ r.NoMemory → ⊥
 bad_memory e = cc
@@ -41,14 +42,23 @@ pub one_record_row : (table : TableData) (rowid : Option ℤ) (bytes : List ℕ)
     → IsRowRecord table rowid bytes b → a ≡ b
 one_record_row table rowid bytes a b one other =
     let values = one_record bytes one.values other.values one.record_is other.record_is in
-    one.makes.row_is ∙ (λ k. row_from table.rowid rowid (values k)) ∙ sym other.makes.row_is
+    let filled =
+    fills_same one.makes.filled other.makes.filled (one.makes.filled_is ∙ (λ k. filled_values table (values k)) ∙ sym other.makes.filled_is) in
+    one.makes.row_is ∙ (λ k. row_from table.rowid rowid (filled k)) ∙ sym other.makes.row_is
+
+-- a record that is that of a row isn't that of none
+is_some : (table : TableData) (rowid : Option ℤ) (values : List Datum) (row : Row) → IsRowFrom table rowid values row → ¬ IsNoRow table values
+is_some table rowid values row makes (inl more) = omega (arith, more, makes.few)
+is_some table rowid values row makes (inr refused) =
+    none_refused makes.filled (subst (λ (l : List MissingData). Contains l MissingData.Refused) (sym makes.filled_is) refused)
 
 -- bytes that are the record of a row have no fault
 pub no_record_fault : (table : TableData) (rowid : Option ℤ) (bytes : List ℕ) (row : Row) (fault : RecordFault) → IsRowRecord table rowid bytes row
     → IsRecordFault table bytes fault → fault ≡ r.NoMemory
 no_record_fault table rowid bytes row r.Bad is (inl breaks) = no_break r.Bad bytes is.values breaks is.record_is
-no_record_fault table rowid bytes row r.Bad is (inr (values, record_is, wide)) =
-    absurd (wide (ap length (one_record bytes values is.values record_is is.record_is) ∙ is.makes.wide))
+no_record_fault table rowid bytes row r.Bad is (inr (values, record_is, none)) =
+    absurd (is_some table rowid is.values row is.makes
+    (subst (λ (l : List Datum). IsNoRow table l) (one_record bytes values is.values record_is is.record_is) none))
 no_record_fault table rowid bytes row r.Float is breaks = no_break r.Float bytes is.values breaks is.record_is
 no_record_fault table rowid bytes row r.Text is breaks = no_break r.Text bytes is.values breaks is.record_is
 no_record_fault table rowid bytes row r.NoMemory is breaks = refl
@@ -66,7 +76,7 @@ module _ (pages : Pages) (table : TableData) (cell : CellData) where
       no_record_fault table cell.rowid is.bytes row fault is.is (subst (λ (x : List ℕ). IsRecordFault table x fault) same broken.broken)
 
   -- a cell that is a row, whose values are of its columns, has no fault
-  unbroken_cell : (n : ℕ) (row : Row) (fault : Fault) → IsRowOf pages table cell row → Fits table row → IsCellFault pages table n cell fault → ⊥
+  pub unbroken_cell : (n : ℕ) (row : Row) (fault : Fault) → IsRowOf pages table cell row → Fits table row → IsCellFault pages table n cell fault → ⊥
   unbroken_cell n row (BadChain m) is fits (e, none) = none is.bytes is.whole
   unbroken_cell n row (BadRecord m) is fits (e, broken) = bad_memory (no_fault row r.Bad is broken)
   unbroken_cell n row FloatValue is fits broken = float_memory (no_fault row r.Float is broken)
@@ -90,7 +100,7 @@ module _ (pages : Pages) where
       unbroken_place table fault broken (subst (λ (p : Place). HoldsRow pages table p) at.2 (tree.rows at.0 broken.place at.1))
 
   -- rows of one place are one
-  one_stored : (table : TableData) (place : Place) (a b : Row) → StoresRow pages table place a → StoresRow pages table place b → a ≡ b
+  pub one_stored : (table : TableData) (place : Place) (a b : Row) → StoresRow pages table place a → StoresRow pages table place b → a ≡ b
   one_stored table place a b one other =
       let same = one_cell pages place one.cell other.cell one.at other.at in
       one_row pages table other.cell a b (subst (λ (c : CellData). IsRowOf pages table c a) same one.is) other.is
@@ -135,9 +145,10 @@ module _ (pages : Pages) where
 
   pub unbroken_image : (rows : List Row) (tables : List TableData) (trees : List TreeCounts) (counts : TreeCounts) → IsCheckedTree pages schema_table counts
       → HoldsRows pages schema_table rows → AreTables pages.count rows tables → AllZip (IsCheckedTree pages) tables trees
-      → (fault : Fault) → IsBrokenImage pages fault → ⊥
-  unbroken_image rows tables trees counts tree stored are checked fault (table, schema, broken) = unbroken_table schema_table counts tree fault broken
-  unbroken_image rows tables trees counts tree stored are checked fault (table, said place row is_place is says, broken) =
+      → ((fault : Fault) → ¬ IsMisused pages fault) → (fault : Fault) → IsBrokenImage pages fault → ⊥
+  unbroken_image rows tables trees counts tree stored are checked free fault (inr broken) = free fault broken
+  unbroken_image rows tables trees counts tree stored are checked free fault (inl (table, schema, broken)) = unbroken_table schema_table counts tree fault broken
+  unbroken_image rows tables trees counts tree stored are checked free fault (inl (table, said place row is_place is says, broken)) =
       let at = stored.cells.cells.complete place is_place in
       let found = checked_said stored.places rows tables trees table place row stored.rows_are are.said checked is says at.0 at.1 at.2 in
       unbroken_table table found.0 found.1 fault broken

@@ -14,8 +14,8 @@ use Rattle.image.specs.Broken.{HasRowid, IsSound, IsBroken}
 use Rattle.image.proofs.ShapeLemmas.{one_level}
 use Rattle.image.specs.Layout.{HasHeaderAt}
 use Rattle.btree.specs.Bytes.{IsDividerCell}
-use Rattle.integrity.specs.Keys.{IsHead, IsHeadFault, KeysFit, HasCells}
-use Rattle.integrity.specs.Walked.{IsLowAt, IsHighAt, IsTree, IsBranch, StandsWithin, IsSeen}
+use Rattle.stored_rows.specs.Keys.{IsHead, IsHeadFault, IsSeen, KeysFit, HasCells}
+use Rattle.integrity.specs.Walked.{IsLowAt, IsHighAt, IsTree, IsBranch, StandsWithin}
 use Rattle.std.proofs.Common.{take, length-take, ◌*◌}
 use Rattle.std.proofs.lemmas.List.FromFn.{length-map-range_with_len}
 use Rattle.pager.specs.declared.header.Header.{Header}

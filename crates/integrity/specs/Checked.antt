@@ -1,24 +1,29 @@
 -- What the check of an image finds, and what is broken of an image. (Database File Format, section 1.6; The Schema
 -- Table; the faults of docs/FAULTS.md)
-use Rattle.std.specs.Prelude.{◌≡◌, ◌⊎◌, ◌<◌, All, List}
+use Rattle.std.specs.Prelude.{◌≡◌, ◌⊎◌, ◌<◌, All, Bool, List, []}
 use Rattle.std.specs.List.{AllZip}
 use Rattle.values.specs.declared.fault.Fault.{Fault}
-use Rattle.values.specs.declared.fault.Fault.TheVariants.{BadPage, BadChain, BadOrder, BadDepth, BadRecord, FloatValue, BadText, ValueBreaksColumn, NotYet}
+use Rattle.values.specs.declared.fault.Fault.TheVariants.{BadPage, BadChain, PageUse, BadFreelist, BadOrder, BadDepth, BadRecord, FloatValue, BadText, ValueBreaksColumn, NotYet}
 use Rattle.pager.specs.Calls.{IsReadFault}
 use Rattle.pager.specs.PagerState.{IsPageNumber, PagerState}
 use Rattle.image.specs.declared.kind.TreeKind.TheVariants.{Table}
 use Rattle.image.specs.declared.kind.Level.TheVariants.{Interior}
-use Rattle.image.specs.Pages.{Pages, WhereSteady}
+use Rattle.image.specs.Pages.{IsNumber, Pages, WhereSteady}
 use Rattle.image.specs.Shape.{HasShape, most_levels, places_under}
 use Rattle.image.specs.Sound.{IsSoundTable}
 use Rattle.image.specs.Tree.{Place, IsPageOf, IsPlaceOf}
+use Rattle.image.specs.Freelist.{IsFreelist}
+use Rattle.image.specs.Use.{IsUsedOnce}
+use Rattle.page_use.specs.Free.{header_on}
+use Rattle.page_use.specs.Marks.{IsUsedTwice}
 use Rattle.values.specs.Row.{Row}
 use Rattle.schema.specs.Rows.{AreTables, SaysTable}
 use Rattle.schema.specs.TableData.{TableData, schema_table}
 use Rattle.integrity.specs.declared.walk.TreeCounts.{TreeCounts}
-use Rattle.integrity.specs.Denotes.{HasTables}
-use Rattle.integrity.specs.RowFaults.{IsBrokenTable}
-use Rattle.integrity.specs.Stored.{HoldsRow, HoldsRows, StoresRow}
+use Rattle.integrity.specs.Denotes.{HasTables, IsCatalog}
+use Rattle.integrity.specs.Used.{IsTreeTwice, users_of}
+use Rattle.stored_rows.specs.RowFaults.{IsBrokenTable}
+use Rattle.stored_rows.specs.Stored.{HoldsRow, HoldsRows, StoresRow}
 use Rattle.integrity.specs.Walked.{AreCounts, IsCheckFault, IsWalkFault}
 
 -- A table's tree is sound and its cells are rows of the table, whose values are of its columns; and these are its
@@ -41,15 +46,24 @@ pub data IsTableOf (pages : Pages) : TableData → Type 0 where
   said : {table : TableData} (place : Place) (row : Row) → IsPlaceOf pages Table schema_table.root place
       → StoresRow pages schema_table place row → SaysTable pages.count row table → IsTableOf pages table
 
--- one of the tables has the condition that a fault says is broken
-abbrev pub IsBrokenImage : Pages → Fault → Type 0
-IsBrokenImage pages fault = (table : TableData) × IsTableOf pages table × IsBrokenTable pages table fault
+-- The condition on the use of pages that a fault says is broken. A page isn't used exactly once by the trees of the tables
+-- that the image has, with their chains, and the freelist; or it is used twice by the schema's tree and the freelist alone,
+-- whatever tables there are. Or the freelist is none of as many pages as the header says.
+abbrev pub IsMisused : Pages → Fault → Type 0
+IsMisused pages (PageUse n) = IsUsedTwice pages (users_of pages []) n
+    ⊎ ((rows : List Row) × (tables : List TableData) × IsCatalog pages rows tables × IsNumber pages n × (¬ IsUsedOnce pages (users_of pages tables) n))
+IsMisused pages BadFreelist = ¬ IsFreelist pages (header_on pages).freelist (header_on pages).free_pages
+IsMisused pages _ = ⊥
 
--- What isn't served yet: a schema on more than one page, and one whose rows aren't all those of tables.
-pub data IsBeyond (pages : Pages) : Type 0 where
-  levels : IsPageOf pages Table Interior schema_table.root → IsBeyond pages
-  unsaid : (rows : List Row) → HoldsRows pages schema_table rows → ((tables : List TableData) → ¬ AreTables pages.count rows tables)
-      → IsBeyond pages
+-- one of the tables has the condition that a fault says is broken, or the use of pages has
+abbrev pub IsBrokenImage : Pages → Fault → Type 0
+IsBrokenImage pages fault = ((table : TableData) × IsTableOf pages table × IsBrokenTable pages table fault) ⊎ IsMisused pages fault
+
+-- What isn't served yet: a schema whose rows aren't all those of tables.
+pub record IsBeyond (pages : Pages) : Type 0 where
+  pub rows : List Row
+  pub stored : HoldsRows pages schema_table rows
+  pub unsaid : (tables : List TableData) → ¬ AreTables pages.count rows tables
 
 -- The condition of an image that a fault of the check says is broken, or why the image isn't served yet.
 abbrev pub IsCheckCause : Pages → Fault → Type 0
@@ -59,11 +73,12 @@ IsCheckCause pages fault = IsBrokenImage pages fault ⊎ ((fault ≡ NotYet) × 
 abbrev pub HasCause : Pages → Fault → Type 0
 HasCause pages fault = IsReadFault fault ⊎ IsCheckCause pages fault
 
--- The faults whose conditions the check examines. Of those of indexes, of the freelist and of the use of pages it says
--- nothing.
+-- The faults whose conditions the check examines. Of those of indexes it says nothing.
 abbrev pub IsExamined : Fault → Type 0
 IsExamined (BadPage _) = Unit {0}
 IsExamined (BadChain _) = Unit {0}
+IsExamined (PageUse _) = Unit {0}
+IsExamined BadFreelist = Unit {0}
 IsExamined (BadOrder _) = Unit {0}
 IsExamined (BadDepth _) = Unit {0}
 IsExamined (BadRecord _) = Unit {0}
@@ -77,10 +92,10 @@ pub record HasCheckedTable (pager : PagerState) (table : TableData) (counts : Tr
   pub few : counts.levels < most_levels
   pub tree : WhereSteady pager (λ pages. IsCheckedTree pages table counts)
 
--- why it was not
-pub record IsTableFault (pager : PagerState) (table : TableData) (fault : Fault) : Type 0 where
+-- why it was not, where these were the marks of pages that are used
+pub record IsTableFault (pager : PagerState) (table : TableData) (marks : List Bool) (fault : Fault) : Type 0 where
   pub only : IsWalkFault fault
-  pub cause : WhereSteady pager (λ pages. IsReadFault fault ⊎ IsBrokenTable pages table fault)
+  pub cause : WhereSteady pager (λ pages. IsReadFault fault ⊎ IsBrokenTable pages table fault ⊎ IsTreeTwice pages table marks fault)
 
 -- An image was checked: these are its tables, with what the tree of each has, and none of the conditions that are examined
 -- is broken.

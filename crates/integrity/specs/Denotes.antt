@@ -7,7 +7,7 @@ use Rattle.values.specs.Row.{Row}
 use Rattle.values.specs.Database.{Database}
 use Rattle.schema.specs.Rows.{AreTables}
 use Rattle.schema.specs.TableData.{TableData, schema_table}
-use Rattle.integrity.specs.Stored.{Fits, HoldsRows, IsStored}
+use Rattle.stored_rows.specs.Stored.{Fits, HoldsRows, IsStored}
 
 -- the schema's own table has these rows, whose values are of its columns, and they say these tables, in their order
 pub record IsCatalog (pages : Pages) (rows : List Row) (tables : List TableData) : Type 0 where

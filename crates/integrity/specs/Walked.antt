@@ -2,16 +2,15 @@
 use Rattle.std.specs.Prelude.{◌≡◌, ◌≢◌, ℕ, ℤ, zero, suc, ◌+◌, ◌-◌, ◌^◌, ◌<◌, ◌≤◌, min, List, length, sum_by, Option, Some}
 use Rattle.std.specs.List.{range_with_len, flat_map}
 use Rattle.values.specs.declared.fault.Fault.{Fault}
-use Rattle.values.specs.declared.fault.Fault.TheVariants.{BadPage, BadOrder, BadDepth, NotYet}
+use Rattle.values.specs.declared.fault.Fault.TheVariants.{BadPage, PageUse, BadFreelist, BadOrder, BadDepth, NotYet}
 use Rattle.image.specs.declared.kind.TreeKind.TheVariants.{Table}
 use Rattle.image.specs.declared.kind.Level.TheVariants.{Leaf, Interior}
-use Rattle.image.specs.Layout.{header_at}
 use Rattle.image.specs.Pages.{Pages, IsNumber}
 use Rattle.image.specs.Tree.{count_at, child_at, IsPageOf, IsUnder, StandsAt, Reaches}
 use Rattle.image.specs.Broken.{HasRowid}
 use Rattle.image.specs.Shape.{places_under, size_under}
-use Rattle.integrity.specs.Keys.{KeysFit}
-use Rattle.integrity.specs.RowFaults.{IsRowFault}
+use Rattle.stored_rows.specs.Keys.{KeysFit}
+use Rattle.stored_rows.specs.RowFaults.{IsRowFault}
 
 -- the bounds of what is under child i of page n: the keys of the cells beside it, and at its ends those of the page
 abbrev pub IsLowAt : Pages → ℕ → Option ℤ → ℕ → Option ℤ → Type 0
@@ -65,13 +64,6 @@ pub record AreCounts (pages : Pages) (levels n rows size : ℕ) : Type 0 where
   pub rows_is : rows ≡ counted (length (places_under pages Table levels n))
   pub size_is : size ≡ counted (size_under pages levels n)
 
--- page n as its used bytes have it, of which the header begins at a place
-pub record IsSeen (pages : Pages) (n at most : ℕ) (page : List ℕ) : Type 0 where
-  pub at_is : at ≡ header_at n
-  pub page_is : page ≡ pages.page n
-  pub most_is : most ≡ pages.size
-  pub long : length page ≡ pages.usable
-
 -- the faults of a walk
 abbrev pub IsWalkFault : Fault → Type 0
 IsWalkFault (BadPage _) = Unit {0}
@@ -82,4 +74,6 @@ IsWalkFault fault = IsRowFault fault
 -- and those of the check of an image
 abbrev pub IsCheckFault : Fault → Type 0
 IsCheckFault NotYet = Unit {0}
+IsCheckFault (PageUse _) = Unit {0}
+IsCheckFault BadFreelist = Unit {0}
 IsCheckFault fault = IsWalkFault fault

@@ -5,6 +5,7 @@ ghost use Rattle.integrity.specs.Checked.{HasCheckedImage, IsCheckFailure};
 
 use crate::trees::{check_tables, read_schema};
 use crate::walk::TreeCounts;
+use page_use::check_rest;
 use pager::{Pager, Source};
 use schema::{Catalog, Table};
 use std::alloc::Global;
@@ -42,21 +43,25 @@ impl Checked {
     }
 }
 
-/// Checks an image: its schema, and the tree and the rows of each of its tables. (Database File Format, section 1.6; The
-/// Schema Table)
+/// Checks an image: its schema, the tree and the rows of each of its tables, its freelist, and that each of its pages is used
+/// once. (Database File Format, sections 1.5 and 1.6; The Schema Table)
 ///
 /// # Errors
 ///
 /// `BadPage`, `BadChain`, `BadOrder`, `BadDepth`, `BadRecord`, `FloatValue`, `BadText` and `ValueBreaksColumn` where a table
-/// has that condition; `NotYet` where the schema has more than one page, or one of its rows isn't that of a table that is
-/// served; `ReadFailed` and `NoMemory`.
+/// has that condition; `PageUse` of a page that isn't used once, and `BadFreelist`; `NotYet` where a row of the schema isn't
+/// that of a table that is served; `ReadFailed` and `NoMemory`.
 pub fn check<S: Source>(alloc: Global, pager: &mut Pager<S>) -> Result<Checked, Fault>
     ensures outcome { MatchResult result (HasCheckedImage pager.old.state) (IsCheckFailure pager.old.state) }
     ensures reads { ReadsPages result pager.old.state pager.new.state }
 {
+    let pages = pager.header().pages;
+    let mut marks = vec![in alloc; false; pages as usize + 1]?;
+    let used = marks.as_mut_slice();
     let schema = Table::schema(alloc)?;
-    let rows = read_schema(alloc, pager, &schema)?;
-    let catalog = Catalog::read(alloc, rows.as_slice(), pager.header().pages)?;
-    let trees = check_tables(alloc, pager, catalog.tables())?;
+    let rows = read_schema(alloc, pager, &schema, used)?;
+    let catalog = Catalog::read(alloc, rows.as_slice(), pages)?;
+    let trees = check_tables(alloc, pager, catalog.tables(), used)?;
+    check_rest(pager, used)?;
     Ok(Checked { catalog, trees })
 }

@@ -1,43 +1,48 @@
 //! The trees of an image's tables, and the rows of its schema.
-ghost use Rattle.std.specs.Prelude.{◌≡◌, ◌⊎◌, All, Contains, IfErr, IfOk, IsTrue, OnOk};
+ghost use Rattle.std.specs.Prelude.{◌≡◌, ◌⊎◌, All, Contains, IfErr, IfOk, MatchResult, OnOk, ◌<◌, length};
 ghost use Rattle.std.specs.List.{AllZip};
-ghost use Rattle.pager.specs.Calls.{IsReadFault, ReadsPages};
+ghost use Rattle.pager.specs.Calls.{IsReadFault, ReadsChainPages, ReadsPages};
 ghost use Rattle.pager.specs.PagerState.{IsPageNumber};
-ghost use Rattle.image.specs.declared.kind.TreeKind.TheVariants as kind;
-ghost use Rattle.image.specs.declared.kind.Level.TheVariants.{Leaf};
 ghost use Rattle.image.specs.Pages.{WhereSteady};
 ghost use Rattle.btree.specs.Views.{cell_data};
 ghost use Rattle.schema.specs.TableData.{TableData, schema_table};
 ghost use Rattle.integrity.specs.Checked.{HasCause, IsCheckedTree};
-ghost use Rattle.integrity.specs.RowFaults.{AreLeafRows, IsBrokenTable, IsCellFault, IsRowFault, IsRowsFault};
-ghost use Rattle.integrity.specs.Stored.{HoldsRows, IsRowOf};
-ghost use Rattle.integrity.specs.Walked.{IsCheckFault, IsWalkFault};
+ghost use Rattle.integrity.specs.Denotes.{IsStoredTable};
+ghost use Rattle.integrity.specs.Used.{AreTreesTwice, IsTreeTwice, MarksTree, MarksTrees};
+ghost use Rattle.stored_rows.specs.RowFaults.{IsBrokenTable, IsCellFault, IsRowFault};
+ghost use Rattle.stored_rows.specs.Stored.{HoldsRows, IsRowOf};
+ghost use Rattle.integrity.specs.Walked.{IsWalkFault};
 
-use crate::rows::{payload_of, read_row};
 use crate::walk::{TreeCounts, check_table};
-use btree::{Cell, PageView, view_of};
-use image::Level;
+use btree::Cell;
+use cursor::Cursor;
+use image::TreeKind;
 use pager::{Pager, Source};
 use schema::Table;
 use std::alloc::Global;
+use stored_rows::{payload_of, read_row};
 use values::{Fault, Row};
 
-/// Checks the tree of each table.
+/// Checks the tree of each table, and gives their pages and chains their marks.
 pub(crate) fn check_tables<S: Source>(
     alloc: Global,
     pager: &mut Pager<S>,
     tables: &[Table],
+    used: &mut [bool],
 ) -> Result<Vec<TreeCounts>, Fault>
-    requires { All (λ table. IsPageNumber pager.old.state table.root) tables.now }
+    requires roots { All (λ table. IsPageNumber pager.old.state table.root) tables.now }
+    requires long { pager.old.state.header.pages < length used.old }
     ensures checked { WhereSteady pager.old.state (λ pages. IfOk result (λ trees. AllZip (IsCheckedTree pages) tables.now trees.items)) }
+    ensures marks { WhereSteady pager.old.state (λ pages. OnOk result (MarksTrees pages tables.now used.old used.new)) }
     ensures fault { WhereSteady pager.old.state (λ pages. IfErr result (λ e. IsReadFault e
-        ⊎ ((table : TableData) × Contains tables.now table × IsBrokenTable pages table e))) }
+        ⊎ ((table : TableData) × Contains tables.now table × IsBrokenTable pages table e)
+        ⊎ AreTreesTwice pages tables.now used.old e)) }
     ensures only { IfErr result IsWalkFault }
     ensures reads { ReadsPages result pager.old.state pager.new.state }
 {
     let mut trees = Vec::with_capacity(alloc, tables.len())?;
     for table in tables {
-        let counts = check_table(alloc, pager, table)?;
+        let counts = check_table(alloc, pager, table, used)?;
         trees.push(counts)?;
     }
     Ok(trees)
@@ -55,7 +60,7 @@ fn row_in<S: Source>(
     ensures fault { WhereSteady pager.old.state (λ pages. IfErr result (λ e. IsReadFault e
         ⊎ IsCellFault pages table.now n (cell_data cell.now) e)) }
     ensures only { IfErr result IsRowFault }
-    ensures reads { ReadsPages result pager.old.state pager.new.state }
+    ensures reads { ReadsChainPages result pager.old.state pager.new.state }
 {
     let bytes = payload_of(alloc, pager, cell, n)?;
     let view = read_row(alloc, table, cell.rowid, bytes.as_slice(), n)?;
@@ -63,59 +68,53 @@ fn row_in<S: Source>(
     Ok(row)
 }
 
-/// The rows of a table that are the cells of a leaf, which is page `n`.
-fn leaf_rows<S: Source>(
+/// The rows of a table whose tree was checked, in the order of its tree.
+fn all_rows<S: Source>(
     alloc: Global,
     pager: &mut Pager<S>,
     table: &Table,
-    view: &PageView<'_>,
-    most: u64,
-    n: u32,
 ) -> Result<Vec<Row>, Fault>
-    requires kind { view.now.kind ≡ kind.Table }
-    requires level { view.now.level ≡ Leaf }
-    ensures rows { WhereSteady pager.old.state (λ pages. IfOk result (λ rows. AreLeafRows pages table.now view.now.at most view.now.page rows.items)) }
-    ensures fault { WhereSteady pager.old.state (λ pages. IfErr result (IsRowsFault pages table.now n view.now.at most view.now.page)) }
+    requires { IsPageNumber pager.old.state table.now.root }
+    ensures rows { WhereSteady pager.old.state (λ pages. (stored : IsStoredTable pages table.now)
+        → MatchResult result (λ rows. rows.items ≡ stored.rows) IsReadFault) }
     ensures only { IfErr result IsWalkFault }
     ensures reads { ReadsPages result pager.old.state pager.new.state }
 {
-    let mut rows = Vec::with_capacity(alloc, view.count() as usize)?;
-    for i in 0..u32::from(view.count()) {
-        let Some(cell) = view.row(most, i) else {
-            return Err(Fault::BadPage(n));
+    let root = table.root();
+    let mut cursor = Cursor::first(alloc, pager, TreeKind::Table, root)?;
+    let mut rows = Vec::new(alloc);
+    loop {
+        // A cell that was checked is there again, unless the source has changed.
+        let Ok(entry) = cursor.entry() else {
+            return Err(Fault::BadPage(root));
         };
-        let row = row_in(alloc, pager, table, &cell, n)?;
+        let Some(cell) = entry else {
+            return Ok(rows);
+        };
+        let row = row_in(alloc, pager, table, &cell, root)?;
         rows.push(row)?;
+        cursor.next(pager)?;
     }
-    Ok(rows)
 }
 
-/// The page at the root of the schema's tree.
-const SCHEMA_ROOT: u32 = 1;
-
-/// Checks the schema's tree, which has to be one leaf, and reads its rows.
+/// Checks the schema's tree, gives its pages and chains their marks, and reads its rows.
 pub(crate) fn read_schema<S: Source>(
     alloc: Global,
     pager: &mut Pager<S>,
     schema: &Table,
+    used: &mut [bool],
 ) -> Result<Vec<Row>, Fault>
-    requires { schema.now ≡ schema_table }
+    requires is { schema.now ≡ schema_table }
+    requires root { IsPageNumber pager.old.state schema.now.root }
+    requires long { pager.old.state.header.pages < length used.old }
     ensures rows { WhereSteady pager.old.state (λ pages. IfOk result (λ rows. HoldsRows pages schema_table rows.items)) }
     ensures checked { WhereSteady pager.old.state (λ pages. OnOk result ((counts : TreeCounts) × IsCheckedTree pages schema_table counts)) }
-    ensures fault { WhereSteady pager.old.state (λ pages. IfErr result (HasCause pages)) }
-    ensures only { IfErr result IsCheckFault }
+    ensures marks { WhereSteady pager.old.state (λ pages. OnOk result (MarksTree pages schema_table used.old used.new)) }
+    ensures fault { WhereSteady pager.old.state (λ pages. IfErr result (λ e. HasCause pages e ⊎ IsTreeTwice pages schema_table used.old e)) }
+    ensures only { IfErr result IsWalkFault }
     ensures reads { ReadsPages result pager.old.state pager.new.state }
 {
-    let header = pager.header();
-    check_table(alloc, pager, schema)?;
-    let page = pager.page(SCHEMA_ROOT)?;
-    let Some(view) = view_of(&page, SCHEMA_ROOT, header.usable as usize) else {
-        return Err(Fault::BadPage(SCHEMA_ROOT));
-    };
-    if view.level() == Level::Interior {
-        return Err(Fault::NotYet);
-    }
-    let most = header.pages as u64 * header.page_size as u64;
-    let rows = leaf_rows(alloc, pager, schema, &view, most, SCHEMA_ROOT)?;
+    check_table(alloc, pager, schema, used)?;
+    let rows = all_rows(alloc, pager, schema)?;
     Ok(rows)
 }

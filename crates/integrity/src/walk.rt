@@ -1,5 +1,5 @@
 //! A walk over a table's tree, from its root down.
-ghost use Rattle.std.specs.Prelude.{All, ◌≡◌, ◌≢◌, ◌⊎◌, ◌+◌, ◌<◌, ◌≤◌, ℤ, Option, IfErr, IfNone, IfOk, IfSome, IsFalse, IsTrue, MatchResult, None, Some, suc, ℕ};
+ghost use Rattle.std.specs.Prelude.{All, ◌≡◌, ◌≢◌, ◌⊎◌, ◌+◌, ◌<◌, ◌≤◌, ℤ, Option, IfErr, IfNone, IfOk, IfSome, IsFalse, IsTrue, MatchResult, None, OnOk, Some, length, suc, ℕ};
 ghost use Rattle.image.specs.declared.kind.TreeKind.TheVariants as kind;
 ghost use Rattle.image.specs.declared.kind.Level.TheVariants.{Interior};
 ghost use Rattle.image.specs.Layout.{cell_count, child};
@@ -9,19 +9,19 @@ ghost use Rattle.pager.specs.PagerState.{IsPageNumber};
 ghost use Rattle.btree.specs.Bytes.{IsDividerCell};
 ghost use Rattle.image.specs.Pages.{WhereSteady};
 ghost use Rattle.integrity.specs.Checked.{HasCheckedTable, IsTableFault};
-ghost use Rattle.integrity.specs.Keys.{HasCells, HasKeyAt};
-ghost use Rattle.integrity.specs.RowFaults.{IsBrokenTable};
-ghost use Rattle.integrity.specs.Stored.{HoldsRow};
+ghost use Rattle.stored_rows.specs.Keys.{HasCells, HasKeyAt};
+ghost use Rattle.stored_rows.specs.RowFaults.{IsBrokenTable};
+ghost use Rattle.stored_rows.specs.Stored.{HoldsRow};
+ghost use Rattle.integrity.specs.Used.{IsUnderTwice, MarksTree, MarksUnder};
 ghost use Rattle.integrity.specs.Walked.{AreCounts, StandsWithin, IsTree, IsWalkFault, counted};
 
-use crate::keys::read_head;
-use crate::leaf::is_leaf_of_rows;
-use crate::rows::check_rows;
 use btree::{PageView, view_of};
 use image::{Level, MOST_LEVELS};
+use page_use::use_page;
 use pager::{Pager, Source};
 use schema::Table;
 use std::alloc::Global;
+use stored_rows::{check_rows, is_leaf_of_rows, read_head};
 use values::Fault;
 
 /// What a table's tree has. Counts stay at the greatest number.
@@ -109,7 +109,8 @@ fn join(counts: TreeCounts, below: TreeCounts) -> TreeCounts
     }
 }
 
-/// Walks from page `n` down, which stands at this depth, and whose keys have to be above `low` and at most `high`.
+/// Walks from page `n` down, which stands at this depth, and whose keys have to be above `low` and at most `high`. Each page
+/// gets its mark before it is read, so that none is read twice.
 fn walk<S: Source>(
     alloc: Global,
     pager: &mut Pager<S>,
@@ -118,17 +119,22 @@ fn walk<S: Source>(
     depth: u32,
     low: Option<i64>,
     high: Option<i64>,
+    used: &mut [bool],
 ) -> Result<TreeCounts, Fault>
     requires number { IsPageNumber pager.old.state n }
+    requires long { pager.old.state.header.pages < length used.old }
     requires met { WhereSteady pager.old.state (λ pages. StandsWithin pages table.now.root depth low high n) }
     ensures deep { IfOk result (λ counts. counts.levels + depth ≤ most_levels) }
     ensures tree { WhereSteady pager.old.state (λ pages. IfOk result (λ counts. IsTree pages table.now.root counts.levels low high n)) }
     ensures counts { WhereSteady pager.old.state (λ pages. IfOk result (λ counts. AreCounts pages counts.levels n counts.rows counts.pages)) }
     ensures rows { WhereSteady pager.old.state (λ pages. IfOk result (λ counts. All (HoldsRow pages table.now) (places_under pages kind.Table counts.levels n))) }
-    ensures fault { WhereSteady pager.old.state (λ pages. IfErr result (λ e. IsReadFault e ⊎ IsBrokenTable pages table.now e)) }
+    ensures marks { WhereSteady pager.old.state (λ pages. IfOk result (λ counts. MarksUnder pages table.now.root counts.levels n used.old used.new)) }
+    ensures fault { WhereSteady pager.old.state (λ pages. IfErr result (λ e. IsReadFault e ⊎ IsBrokenTable pages table.now e
+        ⊎ IsUnderTwice pages table.now.root n used.old e)) }
     ensures only { IfErr result IsWalkFault }
     ensures reads { ReadsPages result pager.old.state pager.new.state }
 {
+    use_page(used, n)?;
     if depth > MOST_LEVELS {
         return Err(Fault::BadDepth(table.root()));
     }
@@ -144,7 +150,7 @@ fn walk<S: Source>(
     // An interior page, a leaf with overflow pages, or one with a fault, which a second reading finds.
     let level = read_head(&view, most, table, n, low, high)?;
     if level == Level::Leaf {
-        check_rows(alloc, pager, table, &view, most, n)?;
+        check_rows(alloc, pager, table, &view, most, n, used)?;
         return Ok(counts_of_page(u64::from(view.count())));
     }
     let mut counts = counts_of_page(0);
@@ -154,7 +160,7 @@ fn walk<S: Source>(
         };
         let low = low_bound(&view, low, i);
         let high = high_bound(&view, high, i);
-        let below = walk(alloc, pager, table, child, depth + 1, low, high)?;
+        let below = walk(alloc, pager, table, child, depth + 1, low, high, used)?;
         if is_uneven(i, counts.levels, below.levels) {
             return Err(Fault::BadDepth(table.root()));
         }
@@ -166,18 +172,21 @@ fn walk<S: Source>(
     })
 }
 
-/// Checks the tree of a table that has this root, with its rows, and counts what it has. Its faults are `ReadFailed`,
-/// `NoMemory`, and the conditions of a tree and of its cells that are broken. (Database File Format, section 1.6 "B-tree
-/// Pages")
+/// Checks the tree of a table that has this root, with its rows, counts what it has, and gives its pages and their chains
+/// their marks. Its faults are `ReadFailed`, `NoMemory`, the conditions of a tree and of its cells that are broken, and
+/// `PageUse` of a page that has its mark. (Database File Format, section 1.6 "B-tree Pages")
 pub fn check_table<S: Source>(
     alloc: Global,
     pager: &mut Pager<S>,
     table: &Table,
+    used: &mut [bool],
 ) -> Result<TreeCounts, Fault>
-    requires { IsPageNumber pager.old.state table.now.root }
-    ensures outcome { MatchResult result (HasCheckedTable pager.old.state table.now) (IsTableFault pager.old.state table.now) }
+    requires number { IsPageNumber pager.old.state table.now.root }
+    requires long { pager.old.state.header.pages < length used.old }
+    ensures outcome { MatchResult result (HasCheckedTable pager.old.state table.now) (IsTableFault pager.old.state table.now used.old) }
+    ensures marks { WhereSteady pager.old.state (λ pages. OnOk result (MarksTree pages table.now used.old used.new)) }
     ensures reads { ReadsPages result pager.old.state pager.new.state }
 {
-    let counts = walk(alloc, pager, table, table.root(), 1, None, None)?;
+    let counts = walk(alloc, pager, table, table.root(), 1, None, None, used)?;
     Ok(counts)
 }

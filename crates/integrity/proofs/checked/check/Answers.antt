@@ -1,20 +1,34 @@
-use Rattle.std.proofs.Common.{rules, ◌≡◌, Contains, List, sym, ◌∙◌, ap, subst, inl, inr, ⊎_elim}
+use Rattle.std.proofs.Common.{rules, ◌≡◌, ◌+◌, Contains, List, sym, ◌∙◌, ap, subst, inl, inr, ⊎_elim}
 use Rattle.std.specs.List.{AllZip}
 use Rattle.std.proofs.lemmas.Result.{err_from_is_err_and}
 use Rattle.pager.specs.declared.header.Header.{Header}
 use Rattle.image.specs.Pages.{pages_seen, Pages}
+use Rattle.pager.proofs.CallLemmas.{SameImage-trans}
+use Rattle.values.specs.declared.fault.Fault.{Fault}
+use Rattle.pager.specs.PagerState.{IsSoundHeader}
+use Rattle.image.specs.Freelist.{IsFreelist}
+use Rattle.page_use.specs.Free.{header_on}
+use Rattle.page_use.proofs.FrontLemmas.{front_is}
 use Rattle.btree.proofs.SeenLemmas.{still_steady, same_pages}
 use Rattle.schema.specs.TableData.{TableData, schema_table}
 use Rattle.integrity.specs.Checked.{IsCheckedTree}
-use Rattle.integrity.specs.RowFaults.{IsBrokenTable}
-use Rattle.integrity.proofs.CheckedLemmas.{broken_table, has_tables, only_memory, only_not_yet, said_here, unsaid_rows, walk_only}
+use Rattle.integrity.specs.Denotes.{IsCatalog}
+use Rattle.integrity.specs.Used.{AreTreesTwice, MarksTrees}
+use Rattle.stored_rows.specs.RowFaults.{IsBrokenTable}
+use Rattle.integrity.proofs.CheckedLemmas.{broken_table, has_tables, only_memory, only_not_yet, said_here, unsaid_rows, use_only, walk_only}
+use Rattle.integrity.proofs.TreesLemmas.{IsRestFault, IsRestOnce, no_misuse, rest_broken, rest_once, schema_twice, trees_twice}
 use Rattle.integrity.proofs.UnbrokenLemmas.{rows_fit, unbroken_image}
 use Rattle.integrity.proofs.checked.check.Goals as goal
 
 pub returns-in_err-rows-clause-outcome : goal.returns-in_err-rows-clause-outcome
 returns-in_err-rows-clause-outcome g c =
     let p = err_from_is_err_and c.from_residual-in_err-rows.result c.from_residual-in_err-rows.ensures.1 in
-    rw (p.1, p.2) (record { only = c.in_err-rows.ensures.only; cause = c.in_err-rows.ensures.fault })
+    rw (p.1, p.2) (record {
+      only = walk_only _ c.in_err-rows.ensures.only;
+      cause = λ steady. ⊎_elim (λ cause. cause)
+          (λ twice. inr (inl (inr (schema_twice (pages_seen c.args.pager.now.state) (c.header-pages.result.pages + 1) c.as_mut_slice-used.result.now (search rules) _ twice))))
+          (c.in_err-rows.ensures.fault steady);
+    })
 
 pub returns-in_err-catalog-clause-outcome : goal.returns-in_err-catalog-clause-outcome
 returns-in_err-catalog-clause-outcome g c =
@@ -24,7 +38,7 @@ returns-in_err-catalog-clause-outcome g c =
       only = ⊎_elim (λ memory. only_memory _ memory) (λ none. only_not_yet _ none.0) c.in_err-catalog.ensures.refused;
       cause = λ steady.
           let stays = c.read_schema.ensures.reads.image in
-          let count : c.header.result.pages ≡ (pages_seen c.args.pager.now.state).count = ap (λ (h : Header). h.pages) (c.header.ensures.is ∙ stays.header) in
+          let count : c.header-pages.result.pages ≡ (pages_seen c.args.pager.now.state).count = ap (λ (h : Header). h.pages) c.header-pages.ensures.is in
           (unsaid_rows (pages_seen c.args.pager.now.state) c.in_ok-rows.rows.items _ (c.in_ok-rows.ensures.rows steady)
           (⊎_elim inl (λ none. inr (
             none.0,
@@ -42,14 +56,61 @@ returns-in_err-trees-clause-outcome g c =
       cause = λ steady.
           let stays = c.read_schema.ensures.reads.image in
           let now = still_steady _ _ stays steady in
-          let count : c.header.result.pages ≡ (pages_seen c.args.pager.now.state).count = ap (λ (h : Header). h.pages) (c.header.ensures.is ∙ stays.header) in
+          let count : c.header-pages.result.pages ≡ (pages_seen c.args.pager.now.state).count = ap (λ (h : Header). h.pages) c.header-pages.ensures.is in
           let said = said_here _ _ _ _ c.in_ok-catalog.catalog count c.as_slice.ensures.value c.in_ok-catalog.ensures.tables in
+          let first = c.in_ok-rows.ensures.checked steady in
+          let catalog : IsCatalog (pages_seen c.args.pager.now.state) c.in_ok-rows.rows.items c.in_ok-catalog.catalog = record {
+            stored = c.in_ok-rows.ensures.rows steady;
+            fit = rows_fit (pages_seen c.args.pager.now.state) schema_table first.0 c.in_ok-rows.rows.items first.1 (c.in_ok-rows.ensures.rows steady);
+            tables_are = said;
+          } in
           (⊎_elim inl
-          (λ broken.
+          (λ cause. ⊎_elim
+          (λ (broken : (table : TableData) × Contains c.tables.result.now table × IsBrokenTable (pages_seen c.read_schema.new.pager.state) table c.in_err-trees.field-0.0).
           broken_table (pages_seen c.args.pager.now.state) c.in_ok-rows.rows.items c.in_ok-catalog.catalog broken.0 _ (c.in_ok-rows.ensures.rows steady) said
           (subst (λ (ts : List TableData). Contains ts broken.0) c.tables.ensures broken.1)
           (subst (λ (q : Pages). IsBrokenTable q broken.0 c.in_err-trees.field-0.0) (same_pages _ _ stays) broken.2))
+          (λ (twice : AreTreesTwice (pages_seen c.read_schema.new.pager.state) c.tables.result.now c.read_schema.new.used c.in_err-trees.field-0.0).
+          inr (inl (inr (trees_twice (pages_seen c.args.pager.now.state) c.in_ok-catalog.catalog c.in_ok-rows.rows.items catalog (c.header-pages.result.pages + 1)
+          c.as_mut_slice-used.result.now c.read_schema.new.used (search rules) (c.in_ok-rows.ensures.marks steady) c.in_err-trees.field-0.0
+          (subst (λ (q : Pages). AreTreesTwice q c.in_ok-catalog.catalog c.read_schema.new.used c.in_err-trees.field-0.0) (same_pages _ _ stays)
+          (subst (λ (ts : List TableData). AreTreesTwice (pages_seen c.read_schema.new.pager.state) ts c.read_schema.new.used c.in_err-trees.field-0.0) c.tables.ensures twice))))))
+          cause)
           (c.in_err-trees.ensures.fault now));
+    })
+
+pub returns-in_err-check_rest-clause-outcome : goal.returns-in_err-check_rest-clause-outcome
+returns-in_err-check_rest-clause-outcome g c =
+    let p = err_from_is_err_and c.from_residual-in_err-check_rest.result c.from_residual-in_err-check_rest.ensures.1 in
+    rw (p.1, p.2)
+    (record {
+      only = use_only _ c.in_err-check_rest.ensures.only;
+      cause = λ steady.
+          let state = c.args.pager.now.state in
+          let pages = pages_seen state in
+          let stays = c.read_schema.ensures.reads.image in
+          let both = SameImage-trans _ _ _ stays c.check_tables.ensures.reads.image in
+          let now = still_steady _ _ stays steady in
+          let count : c.header-pages.result.pages ≡ pages.count = ap (λ (h : Header). h.pages) c.header-pages.ensures.is in
+          let said = said_here _ _ _ _ c.in_ok-catalog.catalog count c.as_slice.ensures.value c.in_ok-catalog.ensures.tables in
+          let first = c.in_ok-rows.ensures.checked steady in
+          let catalog : IsCatalog pages c.in_ok-rows.rows.items c.in_ok-catalog.catalog = record {
+            stored = c.in_ok-rows.ensures.rows steady;
+            fit = rows_fit pages schema_table first.0 c.in_ok-rows.rows.items first.1 (c.in_ok-rows.ensures.rows steady);
+            tables_are = said;
+          } in
+          let is = c.header-pages.ensures.is in
+          let front = front_is state (subst (λ (h : Header). IsSoundHeader h) is c.header-pages.ensures.sound) (sym is ∙ c.header-pages.ensures.steady steady) in
+          let header : c.check_tables.new.pager.state.header ≡ header_on pages = both.header ∙ sym front in
+          let others = subst (λ (ts : List TableData). MarksTrees pages ts c.read_schema.new.used c.check_tables.new.used) c.tables.ensures
+          (subst (λ (q : Pages). MarksTrees q c.tables.result.now c.read_schema.new.used c.check_tables.new.used) (same_pages _ _ stays) (c.in_ok-trees.ensures.marks now)) in
+          (⊎_elim inl
+          (λ (broken : IsRestFault (pages_seen c.check_tables.new.pager.state) c.check_tables.new.pager.state.header c.check_tables.new.used c.in_err-check_rest.field-0.0).
+          inr (inl (inr (rest_broken pages c.in_ok-catalog.catalog c.in_ok-rows.rows.items catalog (c.header-pages.result.pages + 1)
+          c.as_mut_slice-used.result.now c.read_schema.new.used c.check_tables.new.used (search rules) (c.in_ok-rows.ensures.marks steady) others c.in_err-check_rest.field-0.0
+          (subst (λ (h : Header). IsRestFault pages h c.check_tables.new.used c.in_err-check_rest.field-0.0) header
+          (subst (λ (q : Pages). IsRestFault q c.check_tables.new.pager.state.header c.check_tables.new.used c.in_err-check_rest.field-0.0) (same_pages _ _ both) broken))))))
+          (c.in_err-check_rest.ensures.fault (still_steady _ _ both steady)));
     })
 
 pub returns-clause-outcome : goal.returns-clause-outcome
@@ -58,7 +119,7 @@ returns-clause-outcome g c = record {
   tables = λ steady.
       let stays = c.read_schema.ensures.reads.image in
       let now = still_steady _ _ stays steady in
-      let count : c.header.result.pages ≡ (pages_seen c.args.pager.now.state).count = ap (λ (h : Header). h.pages) (c.header.ensures.is ∙ stays.header) in
+      let count : c.header-pages.result.pages ≡ (pages_seen c.args.pager.now.state).count = ap (λ (h : Header). h.pages) c.header-pages.ensures.is in
       let said = said_here _ _ _ _ c.in_ok-catalog.catalog count c.as_slice.ensures.value c.in_ok-catalog.ensures.tables in
       let trees = subst (λ (q : Pages). AllZip (IsCheckedTree q) c.tables.result.now c.in_ok-trees.trees.items) (same_pages _ _ stays) (c.in_ok-trees.ensures.checked now) in
       let first = c.in_ok-rows.ensures.checked steady in
@@ -67,12 +128,34 @@ returns-clause-outcome g c = record {
       (subst (λ (ts : List TableData). AllZip (IsCheckedTree (pages_seen c.args.pager.now.state)) ts c.in_ok-trees.trees.items) c.tables.ensures trees);
   trees = search rules;
   unbroken = λ steady fault examined.
+      let state = c.args.pager.now.state in
+      let pages = pages_seen state in
       let stays = c.read_schema.ensures.reads.image in
+      let both = SameImage-trans _ _ _ stays c.check_tables.ensures.reads.image in
       let now = still_steady _ _ stays steady in
-      let count : c.header.result.pages ≡ (pages_seen c.args.pager.now.state).count = ap (λ (h : Header). h.pages) (c.header.ensures.is ∙ stays.header) in
+      let is = c.header-pages.ensures.is in
+      let front = front_is state (subst (λ (h : Header). IsSoundHeader h) is c.header-pages.ensures.sound) (sym is ∙ c.header-pages.ensures.steady steady) in
+      let header : c.check_tables.new.pager.state.header ≡ header_on pages = both.header ∙ sym front in
+      let count : c.header-pages.result.pages ≡ (pages_seen c.args.pager.now.state).count = ap (λ (h : Header). h.pages) c.header-pages.ensures.is in
       let said = said_here _ _ _ _ c.in_ok-catalog.catalog count c.as_slice.ensures.value c.in_ok-catalog.ensures.tables in
       let trees = subst (λ (q : Pages). AllZip (IsCheckedTree q) c.tables.result.now c.in_ok-trees.trees.items) (same_pages _ _ stays) (c.in_ok-trees.ensures.checked now) in
       let first = c.in_ok-rows.ensures.checked steady in
+      let catalog : IsCatalog pages c.in_ok-rows.rows.items c.in_ok-catalog.catalog = record {
+        stored = c.in_ok-rows.ensures.rows steady;
+        fit = rows_fit pages schema_table first.0 c.in_ok-rows.rows.items first.1 (c.in_ok-rows.ensures.rows steady);
+        tables_are = said;
+      } in
+      let others = subst (λ (ts : List TableData). MarksTrees pages ts c.read_schema.new.used c.check_tables.new.used) c.tables.ensures
+      (subst (λ (q : Pages). MarksTrees q c.tables.result.now c.read_schema.new.used c.check_tables.new.used) (same_pages _ _ stays) (c.in_ok-trees.ensures.marks now)) in
       unbroken_image (pages_seen c.args.pager.now.state) c.in_ok-rows.rows.items c.in_ok-catalog.catalog c.in_ok-trees.trees.items first.0 first.1 (c.in_ok-rows.ensures.rows steady) said
-      (subst (λ (ts : List TableData). AllZip (IsCheckedTree (pages_seen c.args.pager.now.state)) ts c.in_ok-trees.trees.items) c.tables.ensures trees) fault;
+      (subst (λ (ts : List TableData). AllZip (IsCheckedTree (pages_seen c.args.pager.now.state)) ts c.in_ok-trees.trees.items) c.tables.ensures trees)
+      (no_misuse pages c.in_ok-catalog.catalog c.in_ok-rows.rows.items catalog
+      (subst (λ (h : Header). IsFreelist pages h.freelist h.free_pages) header
+      (subst (λ (q : Pages). IsFreelist q c.check_tables.new.pager.state.header.freelist c.check_tables.new.pager.state.header.free_pages) (same_pages _ _ both)
+      (c.in_ok-check_rest.ensures.freelist (still_steady _ _ both steady))))
+      (rest_once pages c.in_ok-catalog.catalog c.in_ok-rows.rows.items catalog (c.header-pages.result.pages + 1)
+      c.as_mut_slice-used.result.now c.read_schema.new.used c.check_tables.new.used (search rules) (c.in_ok-rows.ensures.marks steady) others
+      (subst (λ (h : Header). IsRestOnce pages h c.check_tables.new.used) header
+      (subst (λ (q : Pages). IsRestOnce q c.check_tables.new.pager.state.header c.check_tables.new.used) (same_pages _ _ both)
+      (c.in_ok-check_rest.ensures.once (still_steady _ _ both steady)))))) fault;
 }

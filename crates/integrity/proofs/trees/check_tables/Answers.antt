@@ -4,8 +4,10 @@ use Rattle.pager.proofs.CallLemmas.{SameImage-trans}
 use Rattle.image.specs.Pages.{pages_seen, Pages}
 use Rattle.btree.proofs.SeenLemmas.{still_steady, same_pages}
 use Rattle.integrity.specs.Checked.{IsCheckedTree}
-use Rattle.integrity.specs.RowFaults.{IsBrokenTable}
-use Rattle.integrity.proofs.RowLemmas.{all_next, get_at}
+use Rattle.integrity.specs.Used.{IsTreeTwice, MarksTree}
+use Rattle.integrity.proofs.TreesLemmas.{next_twice, trees_all, trees_more, trees_none}
+use Rattle.stored_rows.specs.RowFaults.{IsBrokenTable}
+use Rattle.stored_rows.proofs.RowLemmas.{all_next, get_at}
 use Rattle.integrity.proofs.trees.check_tables.Goals as goal
 
 pub returns-in_err-counts-clause-fault : goal.returns-in_err-counts-clause-fault
@@ -14,8 +16,17 @@ returns-in_err-counts-clause-fault g c = λ steady.
     let now = still_steady _ _ inv.stays steady in
     let p = err_from_is_err_and c.from_residual-in_err-counts.result c.from_residual-in_err-counts.ensures.1 in
     rw (p.1, p.2)
+    let within : c.loop-table.table-index < length c.args.tables.now = search rules in
+    let here = get_at c.args.tables.now c.loop-table.table-index c.table-item.result within (search rules) in
     (⊎_elim inl
-    (λ broken. inr (c.table-item.result, search rules, subst (λ (q : Pages). IsBrokenTable q c.table-item.result c.in_err-counts.field-0.0) (same_pages _ _ inv.stays) broken))
+    (λ cause. inr (⊎_elim
+    (λ (broken : IsBrokenTable (pages_seen c.loop-table.pager.state) c.table-item.result c.in_err-counts.field-0.0).
+    inl (c.table-item.result, search rules, subst (λ (q : Pages). IsBrokenTable q c.table-item.result c.in_err-counts.field-0.0) (same_pages _ _ inv.stays) broken))
+    (λ (twice : IsTreeTwice (pages_seen c.loop-table.pager.state) c.table-item.result c.loop-table.used c.in_err-counts.field-0.0).
+    inr (next_twice (pages_seen c.args.pager.now.state) c.args.tables.now c.loop-table.table-index c.table-item.result here c.args.used.now c.loop-table.used (inv.marks steady)
+    c.in_err-counts.field-0.0
+    (subst (λ (q : Pages). IsTreeTwice q c.table-item.result c.loop-table.used c.in_err-counts.field-0.0) (same_pages _ _ inv.stays) twice)))
+    cause))
     (c.in_err-counts.ensures.outcome.cause now))
 
 pub loop-table-preserved : goal.loop-table-preserved
@@ -34,4 +45,22 @@ loop-table-preserved g c =
           let one = subst (λ (q : Pages). IsCheckedTree q c.table-item.result c.in_ok-counts.counts) (same_pages _ _ inv.stays) tree in
           all_next (IsCheckedTree (pages_seen c.args.pager.now.state)) c.args.tables.now c.loop-table.trees.items c.push.new.self.items c.loop-table.table-index
           c.table-item.result c.in_ok-counts.counts here c.in_ok-push.ensures.items (inv.checked steady) one;
+      marks = λ steady.
+          let now = still_steady _ _ inv.stays steady in
+          trees_more (pages_seen c.args.pager.now.state) c.args.tables.now c.loop-table.table-index c.table-item.result here c.args.used.now c.loop-table.used (inv.marks steady)
+          c.check_table.new.used
+          (subst (λ (q : Pages). MarksTree q c.table-item.result c.loop-table.used c.check_table.new.used) (same_pages _ _ inv.stays) (c.in_ok-counts.ensures.marks now));
     }
+
+pub loop-table-init : goal.loop-table-init
+loop-table-init g c = record {
+  stays = search rules;
+  failures = search rules;
+  checked = search rules;
+  marks = λ steady. trees_none (pages_seen c.args.pager.now.state) c.args.tables.now c.args.used.now;
+}
+
+pub returns-clause-marks : goal.returns-clause-marks
+returns-clause-marks g c = λ steady.
+    trees_all (pages_seen c.args.pager.now.state) c.args.tables.now c.loop-table.table-index c.args.used.now c.loop-table.used (search rules)
+    (c.loop-table.invariant.marks steady)

@@ -4,8 +4,8 @@ use Rattle.std.specs.Cow.{cow_slice_items}
 use Rattle.std.proofs.lemmas.Result.{err_from_is_err_and}
 use Rattle.values.specs.Datum.{Datum}
 use Rattle.btree.specs.Views.{cell_data}
-use Rattle.integrity.specs.Stored.{IsRowOf}
-use Rattle.integrity.proofs.CellLemmas.{record_breaks, row_is}
+use Rattle.stored_rows.specs.Stored.{IsRowOf}
+use Rattle.stored_rows.proofs.CellLemmas.{record_breaks, row_is}
 use Rattle.integrity.proofs.trees.row_in.Goals as goal
 
 pub returns-in_err-view-clause-fault : goal.returns-in_err-view-clause-fault

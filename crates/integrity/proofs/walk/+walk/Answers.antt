@@ -1,4 +1,4 @@
-use Rattle.std.proofs.Common.{All, ◌≡◌, ◌+◌, ◌*◌, ◌<◌, ◌≤◌, ℕ, rules, arith, sym, ◌∙◌, ap, subst, inl, inr, ⊎_elim, IsTrue, add-one}
+use Rattle.std.proofs.Common.{All, ◌≡◌, ◌+◌, ◌*◌, ◌<◌, ◌≤◌, ℕ, length, rules, arith, sym, ◌∙◌, ap, subst, inl, inr, ⊎_elim, IsTrue, add-one}
 use Rattle.std.proofs.lemmas.Result.{err_from_is_err_and}
 use Rattle.pager.specs.declared.header.Header.{Header}
 use Rattle.pager.proofs.CallLemmas.{SameImage-trans}
@@ -12,21 +12,25 @@ use Rattle.image.specs.Broken.{IsBroken}
 use Rattle.image.specs.Shape.{places_under}
 use Rattle.values.specs.declared.fault.Fault.TheVariants.{BadDepth}
 use Rattle.integrity.specs.declared.walk.TreeCounts.{TreeCounts}
-use Rattle.integrity.specs.Keys.{HasCells, IsHead}
-use Rattle.integrity.specs.RowFaults.{AreRowsIn, IsLeafFault}
-use Rattle.integrity.specs.Stored.{HoldsRow}
+use Rattle.stored_rows.specs.Keys.{HasCells, IsHead}
+use Rattle.stored_rows.specs.Links.{IsRowTwice, MarksRows}
+use Rattle.stored_rows.specs.RowFaults.{AreRowsIn, IsBrokenTable, IsLeafFault}
+use Rattle.stored_rows.specs.Stored.{HoldsRow}
+use Rattle.stored_rows.proofs.LinkLemmas.{no_links_in}
 use Rattle.integrity.proofs.HeldLemmas.{held_leaf, held_more, held_under, leaf_fault}
 use Rattle.integrity.proofs.WalkLemmas.{see, seen_child}
 use Rattle.btree.proofs.SeenLemmas.{still_steady, same_pages}
+use Rattle.integrity.specs.Used.{IsUnderTwice, MarksUnder}
 use Rattle.integrity.specs.Walked.{StandsWithin, IsTree, AreCounts, counted}
 use Rattle.integrity.proofs.WalkLemmas.{broken_header, broken_head, leaf_tree, leaf_counts, inner, broken_child, step_met, step_branch, step_under, here_within, uneven, more_branches, end_is, inner_tree}
+use Rattle.integrity.proofs.UsedLemmas.{child_twice, children_all, children_more, children_none, leaf_linked, leaf_plain, marked_twice, row_twice}
 use Rattle.integrity.proofs.CountLemmas.{rows_step, size_step, rows_all, size_all}
 use Rattle.integrity.proofs.walk.+walk.Goals as goal
 
 pub returns-in_default-clause-fault : goal.returns-in_default-clause-fault
 returns-in_default-clause-fault g t c = λ steady.
-    inr (inl (broken_header c.args.pager.now.state c.header-header.result c.header-header.ensures.is c.header-header.ensures.sound c.args.n c.in_ok-page.page
-    (c.in_ok-page.ensures.outcome.is steady) c.in_ok-page.ensures.outcome.long c.args.table.now.root c.args.depth c.args.low c.args.high (c.requires.met steady) c.in_default.ensures.none))
+    inr (inl (inl (broken_header c.args.pager.now.state c.header-header.result c.header-header.ensures.is c.header-header.ensures.sound c.args.n c.in_ok-page.page
+    (c.in_ok-page.ensures.outcome.is steady) c.in_ok-page.ensures.outcome.long c.args.table.now.root c.args.depth c.args.low c.args.high (c.requires.met steady) c.in_default.ensures.none)))
 
 pub returns-then-is_leaf_of_rows-clause-tree : goal.returns-then-is_leaf_of_rows-clause-tree
 returns-then-is_leaf_of_rows-clause-tree g t c = λ steady.
@@ -58,9 +62,9 @@ pub returns-in_err-level-clause-fault : goal.returns-in_err-level-clause-fault
 returns-in_err-level-clause-fault g t c = λ steady.
     let p = err_from_is_err_and c.from_residual-in_err-level.result c.from_residual-in_err-level.ensures.1 in
     rw (p.1, p.2)
-    (inr (inl (broken_head c.args.pager.now.state c.header-header.result c.header-header.ensures.is c.header-header.ensures.sound c.args.n c.in_ok-page.page
+    (inr (inl (inl (broken_head c.args.pager.now.state c.header-header.result c.header-header.ensures.is c.header-header.ensures.sound c.args.n c.in_ok-page.page
     (c.in_ok-page.ensures.outcome.is steady) c.in_ok-page.ensures.outcome.long c.args.table.now.root c.args.depth c.args.low c.args.high (c.requires.met steady)
-    c.in-Some.view c.in-Some.ensures.found.0.is c.in-Some.ensures.found.0.header _ c.in_err-level.ensures.fault)))
+    c.in-Some.view c.in-Some.ensures.found.0.is c.in-Some.ensures.found.0.header _ c.in_err-level.ensures.fault))))
 
 pub returns-then-eq-clause-tree : goal.returns-then-eq-clause-tree
 returns-then-eq-clause-tree g t c = λ steady.
@@ -85,7 +89,7 @@ returns-in_default-child_within-clause-fault g t c = λ steady.
     (c.in_ok-page.ensures.outcome.is steady) c.in_ok-page.ensures.outcome.long c.args.table.now.root c.args.depth c.args.low c.args.high (c.requires.met steady)
     c.in-Some.view c.in-Some.ensures.found.0.is c.in-Some.ensures.found.0.header c.in_ok-level.ensures.head interior in
     let header : c.header-header.result ≡ c.args.pager.now.state.header = c.header-header.ensures.is in
-    inr (inl (broken_child _ _ _ _ _ _ _ _ _ all c.loop-i.i within (subst (λ (h : Header). ¬ ((1 ≤ child c.in-Some.view.at c.in-Some.view.page c.loop-i.i) × (child c.in-Some.view.at c.in-Some.view.page c.loop-i.i ≤ h.pages))) header (c.in_default-child_within.ensures.none (c.header-header.result.pages * c.header-header.result.page_size) all.cells))))
+    inr (inl (inl (broken_child _ _ _ _ _ _ _ _ _ all c.loop-i.i within (subst (λ (h : Header). ¬ ((1 ≤ child c.in-Some.view.at c.in-Some.view.page c.loop-i.i) × (child c.in-Some.view.at c.in-Some.view.page c.loop-i.i ≤ h.pages))) header (c.in_default-child_within.ensures.none (c.header-header.result.pages * c.header-header.result.page_size) all.cells)))))
 
 pub walk-requires : goal.walk-requires
 walk-requires g t c κs within =
@@ -97,17 +101,20 @@ walk-requires g t c κs within =
         within,
         (
           (kid.1, subst (λ (h : Header). c.in-Some-child_within.child ≤ h.pages) (header ∙ sym inv.stays.header) kid.2),
-          λ now.
-              let steady : IsTrue c.args.pager.now.state.source.steady = sym inv.stays.steady ∙ now in
-              let interior : c.in-Some.view.level ≡ Interior = search rules in
-              let in_count : c.loop-i.i ≤ cell_count c.in-Some.view.at c.in-Some.view.page = search rules in
-              let all = inner c.args.pager.now.state c.header-header.result c.header-header.ensures.is c.header-header.ensures.sound c.args.n c.in_ok-page.page
-              (c.in_ok-page.ensures.outcome.is steady) c.in_ok-page.ensures.outcome.long c.args.table.now.root c.args.depth c.args.low c.args.high (c.requires.met steady)
-              c.in-Some.view c.in-Some.ensures.found.0.is c.in-Some.ensures.found.0.header c.in_ok-level.ensures.head interior in
-              subst (λ (p : Pages). StandsWithin p c.args.table.now.root (c.args.depth + 1) c.low_bound-low.result c.high_bound-high.result c.in-Some-child_within.child) (sym (same_pages _ _ inv.stays))
-              (step_met _ _ _ _ _ _ _ _ _ all c.loop-i.i in_count c.in-Some-child_within.child c.low_bound-low.result c.high_bound-high.result kid.0
-              (kid.1, subst (λ (h : Header). c.in-Some-child_within.child ≤ h.pages) header kid.2)
-              c.low_bound-low.ensures.first (λ k. c.low_bound-low.ensures.inner (c.header-header.result.pages * c.header-header.result.page_size) k all.cells) (c.high_bound-high.ensures.inner (c.header-header.result.pages * c.header-header.result.page_size) all.cells) c.high_bound-high.ensures.last),
+          (
+            search rules,
+            λ now.
+                let steady : IsTrue c.args.pager.now.state.source.steady = sym inv.stays.steady ∙ now in
+                let interior : c.in-Some.view.level ≡ Interior = search rules in
+                let in_count : c.loop-i.i ≤ cell_count c.in-Some.view.at c.in-Some.view.page = search rules in
+                let all = inner c.args.pager.now.state c.header-header.result c.header-header.ensures.is c.header-header.ensures.sound c.args.n c.in_ok-page.page
+                (c.in_ok-page.ensures.outcome.is steady) c.in_ok-page.ensures.outcome.long c.args.table.now.root c.args.depth c.args.low c.args.high (c.requires.met steady)
+                c.in-Some.view c.in-Some.ensures.found.0.is c.in-Some.ensures.found.0.header c.in_ok-level.ensures.head interior in
+                subst (λ (p : Pages). StandsWithin p c.args.table.now.root (c.args.depth + 1) c.low_bound-low.result c.high_bound-high.result c.in-Some-child_within.child) (sym (same_pages _ _ inv.stays))
+                (step_met _ _ _ _ _ _ _ _ _ all c.loop-i.i in_count c.in-Some-child_within.child c.low_bound-low.result c.high_bound-high.result kid.0
+                (kid.1, subst (λ (h : Header). c.in-Some-child_within.child ≤ h.pages) header kid.2)
+                c.low_bound-low.ensures.first (λ k. c.low_bound-low.ensures.inner (c.header-header.result.pages * c.header-header.result.page_size) k all.cells) (c.high_bound-high.ensures.inner (c.header-header.result.pages * c.header-header.result.page_size) all.cells) c.high_bound-high.ensures.last),
+          ),
         ),
       ),
     )
@@ -130,8 +137,8 @@ returns-then-is_uneven-clause-fault g t c = λ steady.
     c.in_ok-below.below.levels tree in
     let odd = c.is_uneven.ensures.uneven c.if-is_uneven.true in
     let here : c.loop-i.i ≤ _ = here_within _ _ _ _ _ _ _ _ _ all c.loop-i.i in_count in
-    inr (inl (subst (λ (r : ℕ). IsBroken (pages_seen c.args.pager.now.state) c.args.table.now.root (BadDepth r)) (sym c.root-then-is_uneven.ensures)
-    (uneven _ _ _ _ _ _ all.met c.loop-i.i c.loop-i.counts.levels c.in_ok-below.below.levels all.page_is here (inv.branches steady 0 odd.0) later odd.1)))
+    inr (inl (inl (subst (λ (r : ℕ). IsBroken (pages_seen c.args.pager.now.state) c.args.table.now.root (BadDepth r)) (sym c.root-then-is_uneven.ensures)
+    (uneven _ _ _ _ _ _ all.met c.loop-i.i c.loop-i.counts.levels c.in_ok-below.below.levels all.page_is here (inv.branches steady 0 odd.0) later odd.1))))
 
 pub loop-i-preserved : goal.loop-i-preserved
 loop-i-preserved g t c =
@@ -195,6 +202,20 @@ loop-i-preserved g t c =
           c.low_bound-low.ensures.first (λ k. c.low_bound-low.ensures.inner (c.header-header.result.pages * c.header-header.result.page_size) k all.cells) (c.high_bound-high.ensures.inner (c.header-header.result.pages * c.header-header.result.page_size) all.cells) c.high_bound-high.ensures.last
           c.in_ok-below.below.levels c.in_ok-below.below.rows c.in_ok-below.below.pages under) in
           size_step (pages_seen c.args.pager.now.state) c.args.n c.loop-i.i c.loop-i.counts.levels c.join-counts.result.levels same _ _ _ (inv.size steady) at.size_is c.join-counts.ensures.pages;
+      marks = λ steady.
+          let now = still_steady _ _ inv.stays steady in
+          let all = inner c.args.pager.now.state c.header-header.result c.header-header.ensures.is c.header-header.ensures.sound c.args.n c.in_ok-page.page
+          (c.in_ok-page.ensures.outcome.is steady) c.in_ok-page.ensures.outcome.long c.args.table.now.root c.args.depth c.args.low c.args.high (c.requires.met steady)
+          c.in-Some.view c.in-Some.ensures.found.0.is c.in-Some.ensures.found.0.header c.in_ok-level.ensures.head interior in
+          let at = seen_child _ _ _ _ _ all.seen c.loop-i.i c.in-Some-child_within.child kid.0 in
+          children_more (pages_seen c.args.pager.now.state) c.args.table.now.root c.args.n c.loop-i.i c.loop-i.counts.levels c.args.used.now c.loop-i.used
+          c.in_ok-use_page.ensures.blank (inv.marks steady) all.page_is (c.args.depth, all.met.stands) c.in-Some-child_within.child at
+          (here_within _ _ _ _ _ _ _ _ _ all c.loop-i.i in_count)
+          (kid.1, subst (λ (h : Header). c.in-Some-child_within.child ≤ h.pages) header kid.2)
+          c.walk.new.used c.join-counts.result.levels same
+          (subst (λ (l : ℕ). MarksUnder (pages_seen c.args.pager.now.state) c.args.table.now.root l c.in-Some-child_within.child c.loop-i.used c.walk.new.used) (sym levels)
+          (subst (λ (p : Pages). MarksUnder p c.args.table.now.root c.in_ok-below.below.levels c.in-Some-child_within.child c.loop-i.used c.walk.new.used) (same_pages _ _ inv.stays)
+          (c.in_ok-below.ensures.marks now)));
     }
 
 pub returns-clause-tree : goal.returns-clause-tree
@@ -240,8 +261,15 @@ returns-in_err-check_rows-clause-fault g t c = λ steady.
     let p = err_from_is_err_and c.from_residual-in_err-check_rows.result c.from_residual-in_err-check_rows.ensures.1 in
     rw (p.1, p.2)
     (⊎_elim inl
-    (λ broken. inr (inr (leaf_fault (pages_seen c.args.pager.now.state) c.args.table.now c.args.n _ _ _ seen c.args.depth tree.0 met.stands _
+    (λ cause. inr (⊎_elim
+    (λ (broken : IsLeafFault (pages_seen c.page.new.self.state) c.args.table.now c.args.n c.in-Some.view.at (c.header-header.result.pages * c.header-header.result.page_size) c.in-Some.view.page c.in_err-check_rows.field-0.0).
+    inl (inr (leaf_fault (pages_seen c.args.pager.now.state) c.args.table.now c.args.n _ _ _ seen c.args.depth tree.0 met.stands _
     (subst (λ (p : Pages). IsLeafFault p c.args.table.now c.args.n c.in-Some.view.at (c.header-header.result.pages * c.header-header.result.page_size) c.in-Some.view.page c.in_err-check_rows.field-0.0) (same_pages _ _ read) broken))))
+    (λ (twice : IsRowTwice (pages_seen c.page.new.self.state) c.args.table.now.root c.args.n c.in-Some.view.at (c.header-header.result.pages * c.header-header.result.page_size) c.in-Some.view.page c.use_page.new.used c.in_err-check_rows.field-0.0).
+    inr (row_twice (pages_seen c.args.pager.now.state) c.args.table.now.root c.args.n c.args.used.now c.use_page.new.used c.in_ok-use_page.ensures.blank (c.in_ok-use_page.ensures.marks (pages_seen c.args.pager.now.state))
+    tree.0 (c.args.depth, met.stands) _ _ _ seen _
+    (subst (λ (p : Pages). IsRowTwice p c.args.table.now.root c.args.n c.in-Some.view.at (c.header-header.result.pages * c.header-header.result.page_size) c.in-Some.view.page c.use_page.new.used c.in_err-check_rows.field-0.0) (same_pages _ _ read) twice)))
+    cause))
     (c.in_err-check_rows.ensures.fault (still_steady _ _ read steady)))
 
 pub returns-then-eq-clause-rows : goal.returns-then-eq-clause-rows
@@ -266,3 +294,96 @@ returns-clause-rows g t c = λ steady.
     let done = end_is _ _ _ _ _ _ _ _ _ all c.loop-i.i c.loop-i.counts.levels end in
     rw add-one (held_under (pages_seen c.args.pager.now.state) c.args.table.now c.loop-i.counts.levels c.args.n
     (λ k within. inv.held steady k (omega (arith, within, done))))
+
+pub loop-i-init : goal.loop-i-init
+loop-i-init g t c = record {
+  stays = search rules;
+  failures = search rules;
+  shallow = search rules;
+  branches = search rules;
+  held = search rules;
+  rows = search rules;
+  size = search rules;
+  marks = λ steady. children_none (pages_seen c.args.pager.now.state) c.args.table.now.root c.args.n c.args.used.now c.use_page.new.used
+      c.in_ok-use_page.ensures.blank (c.in_ok-use_page.ensures.marks (pages_seen c.args.pager.now.state)) c.counts_of_page-counts.result.levels;
+}
+
+pub returns-in_err-use_page-clause-fault : goal.returns-in_err-use_page-clause-fault
+returns-in_err-use_page-clause-fault g t c = λ steady.
+    let p = err_from_is_err_and c.from_residual.result c.from_residual.ensures.1 in
+    rw (p.1, p.2)
+    (inr (inr (marked_twice (pages_seen c.args.pager.now.state) c.args.table.now.root c.args.n c.args.used.now
+    (c.in_err-use_page.ensures.twice (pages_seen c.args.pager.now.state)) c.in_err-use_page.field-0.0 c.in_err-use_page.ensures.fault)))
+
+pub returns-then-is_leaf_of_rows-clause-marks : goal.returns-then-is_leaf_of_rows-clause-marks
+returns-then-is_leaf_of_rows-clause-marks g t c = λ steady.
+    let pages = pages_seen c.args.pager.now.state in
+    let leaf = c.is_leaf_of_rows.ensures.leaf c.if-is_leaf_of_rows.true in
+    let head = subst (λ (l : Level). IsHead c.in-Some.view.at (c.header-header.result.pages * c.header-header.result.page_size) c.in-Some.view.page l c.args.table.now.root c.args.n c.args.low c.args.high) (sym leaf)
+    (c.is_leaf_of_rows.ensures.head c.if-is_leaf_of_rows.true) in
+    let seen = see c.args.pager.now.state c.header-header.result c.header-header.ensures.is c.header-header.ensures.sound c.args.n c.in_ok-page.page
+    (c.in_ok-page.ensures.outcome.is steady) c.in_ok-page.ensures.outcome.long c.args.table.now.root c.args.depth c.args.low c.args.high (c.requires.met steady)
+    c.in-Some.view c.in-Some.ensures.found.0.is c.in-Some.ensures.found.0.header in
+    let tree = leaf_tree c.args.pager.now.state c.header-header.result c.header-header.ensures.is c.header-header.ensures.sound c.args.n c.in_ok-page.page
+    (c.in_ok-page.ensures.outcome.is steady) c.in_ok-page.ensures.outcome.long c.args.table.now.root c.args.depth c.args.low c.args.high (c.requires.met steady)
+    c.in-Some.view c.in-Some.ensures.found.0.is c.in-Some.ensures.found.0.header head leaf in
+    subst (λ (counts : TreeCounts). MarksUnder pages c.args.table.now.root counts.levels c.args.n c.args.used.now c.use_page.new.used) (sym c.counts_of_page.ensures)
+    (leaf_plain pages c.args.table.now.root c.args.n c.args.used.now c.use_page.new.used c.in_ok-use_page.ensures.blank (c.in_ok-use_page.ensures.marks pages) tree.0
+    (λ users. no_links_in pages users c.args.table.now c.args.n _ _ _ seen tree.0 (c.is_leaf_of_rows.ensures.rows c.if-is_leaf_of_rows.true)))
+
+pub returns-then-eq-clause-marks : goal.returns-then-eq-clause-marks
+returns-then-eq-clause-marks g t c = λ steady.
+    let pages = pages_seen c.args.pager.now.state in
+    let read = c.page.ensures.reads.image in
+    let leaf : c.in-Some.view.level ≡ Leaf = sym c.in_ok-level.ensures.level ∙ search rules in
+    let met = c.requires.met steady in
+    let seen = see c.args.pager.now.state c.header-header.result c.header-header.ensures.is c.header-header.ensures.sound c.args.n c.in_ok-page.page
+    (c.in_ok-page.ensures.outcome.is steady) c.in_ok-page.ensures.outcome.long c.args.table.now.root c.args.depth c.args.low c.args.high met
+    c.in-Some.view c.in-Some.ensures.found.0.is c.in-Some.ensures.found.0.header in
+    let tree = leaf_tree c.args.pager.now.state c.header-header.result c.header-header.ensures.is c.header-header.ensures.sound c.args.n c.in_ok-page.page
+    (c.in_ok-page.ensures.outcome.is steady) c.in_ok-page.ensures.outcome.long c.args.table.now.root c.args.depth c.args.low c.args.high met
+    c.in-Some.view c.in-Some.ensures.found.0.is c.in-Some.ensures.found.0.header c.in_ok-level.ensures.head leaf in
+    let rows = subst (λ (p : Pages). MarksRows p c.args.table.now.root c.args.n c.in-Some.view.at (c.header-header.result.pages * c.header-header.result.page_size) c.in-Some.view.page c.use_page.new.used c.check_rows.new.used) (same_pages _ _ read)
+    (c.in_ok-check_rows.ensures.marks (still_steady _ _ read steady)) in
+    subst (λ (counts : TreeCounts). MarksUnder pages c.args.table.now.root counts.levels c.args.n c.args.used.now c.check_rows.new.used) (sym c.counts_of_page-then-eq.ensures)
+    (leaf_linked pages c.args.table.now.root c.args.n c.args.used.now c.use_page.new.used c.in_ok-use_page.ensures.blank (c.in_ok-use_page.ensures.marks pages) tree.0
+    (c.args.depth, met.stands) _ _ _ seen c.check_rows.new.used rows)
+
+pub returns-in_err-below-clause-fault : goal.returns-in_err-below-clause-fault
+returns-in_err-below-clause-fault g t c = λ steady.
+    let inv = c.loop-i.invariant in
+    let header : c.header-header.result ≡ c.args.pager.now.state.header = c.header-header.ensures.is in
+    let kid = c.in-Some-child_within.ensures.found in
+    let now = still_steady _ _ inv.stays steady in
+    let interior : c.in-Some.view.level ≡ Interior = search rules in
+    let in_count : c.loop-i.i ≤ cell_count c.in-Some.view.at c.in-Some.view.page = search rules in
+    let all = inner c.args.pager.now.state c.header-header.result c.header-header.ensures.is c.header-header.ensures.sound c.args.n c.in_ok-page.page
+    (c.in_ok-page.ensures.outcome.is steady) c.in_ok-page.ensures.outcome.long c.args.table.now.root c.args.depth c.args.low c.args.high (c.requires.met steady)
+    c.in-Some.view c.in-Some.ensures.found.0.is c.in-Some.ensures.found.0.header c.in_ok-level.ensures.head interior in
+    let at = seen_child _ _ _ _ _ all.seen c.loop-i.i c.in-Some-child_within.child kid.0 in
+    let p = err_from_is_err_and c.from_residual-in_err-below.result c.from_residual-in_err-below.ensures.1 in
+    rw (p.1, p.2)
+    (⊎_elim inl
+    (λ cause. inr (⊎_elim
+    (λ (broken : IsBrokenTable (pages_seen c.loop-i.pager.state) c.args.table.now c.in_err-below.field-0.0).
+    inl (subst (λ (p : Pages). IsBrokenTable p c.args.table.now c.in_err-below.field-0.0) (same_pages _ _ inv.stays) broken))
+    (λ (twice : IsUnderTwice (pages_seen c.loop-i.pager.state) c.args.table.now.root c.in-Some-child_within.child c.loop-i.used c.in_err-below.field-0.0).
+    inr (child_twice (pages_seen c.args.pager.now.state) c.args.table.now.root c.args.n c.loop-i.i c.loop-i.counts.levels c.args.used.now c.loop-i.used
+    c.in_ok-use_page.ensures.blank (inv.marks steady) all.page_is (c.args.depth, all.met.stands) c.in-Some-child_within.child at
+    (here_within _ _ _ _ _ _ _ _ _ all c.loop-i.i in_count)
+    (kid.1, subst (λ (h : Header). c.in-Some-child_within.child ≤ h.pages) header kid.2) _
+    (subst (λ (p : Pages). IsUnderTwice p c.args.table.now.root c.in-Some-child_within.child c.loop-i.used c.in_err-below.field-0.0) (same_pages _ _ inv.stays) twice)))
+    cause))
+    (c.in_err-below.ensures.fault now))
+
+pub returns-clause-marks : goal.returns-clause-marks
+returns-clause-marks g t c = λ steady.
+    let inv = c.loop-i.invariant in
+    let interior : c.in-Some.view.level ≡ Interior = search rules in
+    let end : c.loop-i.i ≡ cell_count c.in-Some.view.at c.in-Some.view.page + 1 = search rules in
+    let all = inner c.args.pager.now.state c.header-header.result c.header-header.ensures.is c.header-header.ensures.sound c.args.n c.in_ok-page.page
+    (c.in_ok-page.ensures.outcome.is steady) c.in_ok-page.ensures.outcome.long c.args.table.now.root c.args.depth c.args.low c.args.high (c.requires.met steady)
+    c.in-Some.view c.in-Some.ensures.found.0.is c.in-Some.ensures.found.0.header c.in_ok-level.ensures.head interior in
+    let done = end_is _ _ _ _ _ _ _ _ _ all c.loop-i.i c.loop-i.counts.levels end in
+    rw add-one (children_all (pages_seen c.args.pager.now.state) c.args.table.now.root c.args.n c.loop-i.i c.loop-i.counts.levels c.args.used.now c.loop-i.used
+    c.in_ok-use_page.ensures.blank (inv.marks steady) all.page_is (c.args.depth, all.met.stands) done)

@@ -1,0 +1,5 @@
+pub mod MarkLemmas
+pub mod ChainMarks
+pub mod FreeLemmas
+pub mod WalkLemmas
+pub mod FrontLemmas

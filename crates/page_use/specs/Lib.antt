@@ -1,0 +1,4 @@
+pub mod Marks
+pub mod Links
+pub mod FreeWalk
+pub mod Free

@@ -1,0 +1,37 @@
+//! What is left of the use of pages once the trees were walked: the freelist, and that every page is used.
+ghost use Rattle.std.specs.Prelude.{◌≡◌, ◌⊎◌, ◌<◌, ℕ, IfErr, List, OnOk, length};
+ghost use Rattle.pager.specs.Calls.{IsReadFault, ReadsChainPages};
+ghost use Rattle.image.specs.Freelist.{IsFreelist};
+ghost use Rattle.image.specs.Pages.{IsNumber, WhereSteady};
+ghost use Rattle.image.specs.Use.{IsBrokenUse, IsUsedOnce, Use, Users};
+ghost use Rattle.page_use.specs.Marks.{AreAllOfTrees, AreTreeMarks, IsUseFault};
+
+use crate::freelist::check_freelist;
+use crate::marks::find_unused;
+use pager::{Pager, Source};
+use values::Fault;
+
+/// Tests the freelist, and that each page of the image is used once, where the marks are those of the trees with their
+/// chains. (Database File Format, section 1.5 "The Freelist")
+///
+/// # Errors
+///
+/// `BadFreelist` and `PageUse` where that condition is broken; `ReadFailed` and `NoMemory`.
+pub fn check_rest<S: Source>(pager: &mut Pager<S>, used: &mut [bool]) -> Result<(), Fault>
+    requires long { pager.old.state.header.pages < length used.old }
+    ensures freelist { WhereSteady pager.old.state (λ pages. OnOk result (IsFreelist pages pager.old.state.header.freelist pager.old.state.header.free_pages)) }
+    ensures once { WhereSteady pager.old.state (λ pages. OnOk result ((users : Users) (done : List Use) → users.first ≡ pager.old.state.header.freelist
+        → AreTreeMarks pages users done used.old → AreAllOfTrees pages users done → (n : ℕ) → IsNumber pages n → IsUsedOnce pages users n)) }
+    ensures fault { WhereSteady pager.old.state (λ pages. IfErr result (λ e. IsReadFault e
+        ⊎ ((users : Users) (done : List Use) → users.first ≡ pager.old.state.header.freelist → AreTreeMarks pages users done used.old
+        → AreAllOfTrees pages users done → IsBrokenUse pages users pager.old.state.header.free_pages e))) }
+    ensures only { IfErr result IsUseFault }
+    ensures reads { ReadsChainPages result pager.old.state pager.new.state }
+{
+    let header = pager.header();
+    check_freelist(pager, used)?;
+    if let Some(n) = find_unused(used, header.pages) {
+        return Err(Fault::PageUse(n));
+    }
+    Ok(())
+}
