@@ -1,0 +1,16 @@
+//! The columns that a FROM shows. It promises that a column's name stands for the one column that is called so, by its bare
+//! name or behind its source's, and is refused where none is or two are; and that `*` and `t.*` are the columns that the
+//! definition of names says.
+//!
+//! The modules, in the order in which data passes them: `shown` (one column), `lookup` (the column of a name), `stars` (`*`
+//! and `t.*`), `scope` (all columns of a FROM).
+#![tactic(auto)]
+
+mod lookup;
+mod scope;
+mod shown;
+mod stars;
+
+pub use scope::Scope;
+pub use shown::Shown;
+pub use stars::ResultColumn;

@@ -1,0 +1,44 @@
+//! The column of a name.
+ghost use Rattle.std.specs.Prelude.{◌≡◌, ◌≤◌, [], drop, length, option_map, MatchOption};
+ghost use Rattle.naming.specs.Scope as spec;
+ghost use Rattle.query_trees.specs.Outcome.{Gives};
+ghost use Rattle.query_trees.specs.TermView.{term};
+ghost use Rattle.scopes.specs.Next.{IsNext};
+
+use crate::Shown;
+use query_trees::Term;
+use std::alloc::Global;
+use values::Fault;
+
+/// The place of the first column that is called so, from this place on.
+fn next_called(scope: &[Shown], from: usize, table: Option<&str>, name: &str) -> Option<usize>
+    requires { from ≤ length scope.now }
+    ensures { let all = spec.called (option_map (λ t. t.now) table.entry) name.now from (drop from scope.now) in
+        MatchOption result (all ≡ []) (λ at. IsNext (option_map (λ t. t.now) table.entry) name.now scope.now at all) }
+{
+    for at in from..scope.len() {
+        if scope[at].is_called(table, name) {
+            return Some(at);
+        }
+    }
+    None
+}
+
+/// The term of the one column that is called so. The fault is `UnknownColumn` where none is, `Ambiguous` where two are, or
+/// `NoMemory`.
+pub(crate) fn column(
+    alloc: Global,
+    scope: &[Shown],
+    table: Option<&str>,
+    name: &str,
+) -> Result<Term, Fault>
+    ensures { Gives term result (spec.column_of scope.now (option_map (λ t. t.now) table.entry) name.now) }
+{
+    let Some(at) = next_called(scope, 0, table, name) else {
+        return Err(Fault::UnknownColumn);
+    };
+    if next_called(scope, at + 1, table, name).is_some() {
+        return Err(Fault::Ambiguous);
+    }
+    Ok(scope[at].term(alloc, table, at)?)
+}

@@ -1,0 +1,68 @@
+//! The columns that a FROM shows.
+ghost use Rattle.std.specs.Prelude.{◌≡◌, IfOk, length, map, option_map};
+ghost use Rattle.naming.specs.Scope.{column_of};
+ghost use Rattle.naming.specs.Statement as spec;
+ghost use Rattle.query_trees.specs.Outcome.{Gives};
+ghost use Rattle.query_trees.specs.TermView.{term};
+ghost use Rattle.scopes.specs.ResultView.{result_of};
+
+use crate::lookup::column;
+use crate::stars::{starred, starred_of};
+use crate::{ResultColumn, Shown};
+use query_trees::Term;
+use std::alloc::{AllocError, Global};
+use std::marker::Model;
+use values::Fault;
+
+/// The columns that a FROM shows, one for each value of its row. (SELECT, "Determination of input data")
+#[derive(Debug, Drop)]
+pub struct Scope {
+    columns: Vec<Shown>,
+}
+
+impl Model for Scope {
+    ghost use Rattle.std.specs.Prelude.{List};
+    ghost use Rattle.naming.specs.Scope.{Shown};
+
+    ghost Value = { List Shown };
+
+    ghost view = { λ s. s.columns.items };
+}
+
+impl Scope {
+    /// These columns.
+    pub fn new(columns: Vec<Shown>) -> Scope
+        ensures { result ≡ columns.items }
+    {
+        Scope { columns }
+    }
+
+    /// How many values the row has.
+    pub fn len(&self) -> usize
+        ensures { result ≡ length self.now }
+    {
+        self.columns.len()
+    }
+
+    /// The term of the one column that is called so, behind the name of its source or by its bare name. The fault is
+    /// `UnknownColumn` where none is, `Ambiguous` where two are, or `NoMemory`. (SELECT, "Determination of input data")
+    pub fn column(&self, alloc: Global, table: Option<&str>, name: &str) -> Result<Term, Fault>
+        ensures { Gives term result (column_of self.now (option_map (λ t. t.now) table.entry) name.now) }
+    {
+        column(alloc, self.columns.as_slice(), table, name)
+    }
+
+    /// The columns of `*`. (SELECT, "Generation of the set of result rows")
+    pub fn starred(&self, alloc: Global) -> Result<Vec<ResultColumn>, AllocError>
+        ensures { IfOk result (λ v. map result_of v.items ≡ spec.starred self.now) }
+    {
+        starred(alloc, self.columns.as_slice())
+    }
+
+    /// The columns of `t.*`. (SELECT, "Generation of the set of result rows")
+    pub fn starred_of(&self, alloc: Global, table: &str) -> Result<Vec<ResultColumn>, AllocError>
+        ensures { IfOk result (λ v. map result_of v.items ≡ spec.starred_of table.now 0 self.now) }
+    {
+        starred_of(alloc, self.columns.as_slice(), table)
+    }
+}
