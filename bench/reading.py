@@ -6,6 +6,7 @@ import os
 import re
 import shutil
 import subprocess
+from collections.abc import Iterator
 from pathlib import Path
 
 from program import PROGRAM, TOP, give_up
@@ -25,14 +26,37 @@ def padded(front: str, item: str, behind: str, length: int) -> str:
     return front + item * (room // len(item)) + " " * (room % len(item)) + behind
 
 
-# What is read: a front, a middle that is repeated as often as there is room, and an end. There are too many result columns.
+# How deep tables are derived from one another.
+DEPTH = 90
+
+# What is read: a front, a middle that is repeated as often as there is room, and an end. There are too many result columns
+# and too many sources.
 FORMS = {
     "a condition with a list": ("SELECT id FROM item WHERE id IN (1", ",1", ")"),
     "result columns": ("SELECT id", ",id", " FROM item"),
     "texts with quotes": ("SELECT id FROM item WHERE id IN ('a'", ",'it''s'", ")"),
     "comments": ("SELECT id", "/* a */", " FROM item"),
     "names and functions": ("SELECT id FROM item WHERE id IN (1", ",abs(item.id)", ")"),
+    "a chain of UNION ALL": ("SELECT id FROM item", " UNION ALL SELECT id FROM item", ""),
+    "a chain of JOIN": ("SELECT id FROM item", " JOIN item ON a = b", ""),
 }
+
+
+def derived(length: int) -> str:
+    """A text of so many bytes of tables that are derived from one another, each with as many conditions as there is room for."""
+    level = length // DEPTH - len("SELECT a FROM (SELECT a) AS t WHERE a")
+    condition = " AND a" * (level // len(" AND a"))
+    text = "SELECT a"
+    for _ in range(DEPTH - 1):
+        text = f"SELECT a FROM ({text}) AS t WHERE a{condition}"
+    return text.ljust(length)
+
+
+def texts() -> Iterator[tuple[str, list[str]]]:
+    """What is read, and the texts of growing length."""
+    for what, (front, item, behind) in FORMS.items():
+        yield what, [padded(front, item, behind, length) for length in LENGTHS]
+    yield "tables derived from tables", [derived(length) for length in LENGTHS]
 
 
 def instructions(text: str) -> int:
@@ -51,8 +75,8 @@ def reading_lines() -> list[str]:
         return ["Not measured: the program valgrind isn't there."]
     least = instructions("SELECT id FROM item")
     lines = [f"| Text of | {' | '.join(f'{length} bytes' for length in LENGTHS)} | Target |", "|---" * (len(LENGTHS) + 2) + "|"]
-    for what, (front, item, behind) in FORMS.items():
-        each = [(instructions(padded(front, item, behind, length)) - least) / length for length in LENGTHS]
+    for what, lengths in texts():
+        each = [(instructions(text) - least) / len(text) for text in lengths]
         linear = "met" if max(each) <= LINEAR_TARGET * min(each) else "missed"
         numbers = " | ".join(f"{number:.0f}" for number in each)
         lines.append(f"| {what} | {numbers} | within {LINEAR_TARGET} times: {linear} |")

@@ -20,8 +20,8 @@ Damage = Callable[[bytearray, Random], str]
 
 # What opening and preparing may answer of a file whose header is sound.
 OPENING_FAULTS = {*range(11, 27), 29, 31, 32}
-# Faults of trees and values that `PRAGMA integrity_check` finds too. It counts no values and reads no characters.
-SEEN_BY_SQLITE = {11, 12, 15, 16, 18, 23}
+# Faults of pages, trees and values that `PRAGMA integrity_check` finds too. It counts no values and reads no characters.
+SEEN_BY_SQLITE = {11, 12, 13, 15, 16, 18, 23}
 # Where SQLite can't read a damaged file. A message with bytes of the damage may be none that Python can read.
 UNREADABLE = (sqlite3.Error, UnicodeDecodeError, MemoryError)
 

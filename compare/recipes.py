@@ -145,7 +145,7 @@ def hundred_columns(connection: sqlite3.Connection, rng: Random) -> None:
 
 
 def many_tables(connection: sqlite3.Connection, rng: Random) -> None:
-    """A hundred tables, whose schema fits on one page where a page is long."""
+    """A hundred tables, whose schema has many leaves where a page is short."""
     for number in range(100):
         connection.execute(f"CREATE TABLE many_{number}(a INT, b TEXT) STRICT")
         fill(connection, f"many_{number}", ((row, random_text(rng, 20)) for row in range(number % 5)))
@@ -169,11 +169,15 @@ def vacuumed(connection: sqlite3.Connection, rng: Random) -> None:
 
 
 def altered(connection: sqlite3.Connection, _: Random) -> None:
-    """Tables that were renamed, lost a column, or got one before their first row or an update of each row."""
+    """Tables that were renamed, lost a column, or got some, before their first row, behind it, or before an update."""
     connection.executescript("""
         CREATE TABLE early(a INT) STRICT; ALTER TABLE early ADD COLUMN b TEXT; INSERT INTO early VALUES (1, 'x');
         CREATE TABLE late(a INT) STRICT; INSERT INTO late VALUES (1), (2); ALTER TABLE late ADD COLUMN b INT;
         UPDATE late SET b = a * a;
+        CREATE TABLE short(a INTEGER PRIMARY KEY, b TEXT) STRICT; INSERT INTO short VALUES (1, 'x'), (2, NULL);
+        ALTER TABLE short ADD COLUMN c INT; ALTER TABLE short ADD COLUMN d TEXT DEFAULT 'it''s';
+        INSERT INTO short VALUES (3, 'y', 7, NULL); ALTER TABLE short ADD COLUMN e INT NOT NULL DEFAULT -5;
+        ALTER TABLE short ADD COLUMN f BLOB DEFAULT x'00ff'; INSERT INTO short VALUES (4, 'z', NULL, 'd', 8, NULL);
         CREATE TABLE old(a INT, gone BLOB, b TEXT) STRICT; INSERT INTO old VALUES (1, x'00', 'y'), (2, NULL, NULL);
         ALTER TABLE old RENAME TO "the new"; ALTER TABLE "the new" RENAME COLUMN b TO "b'c";
         ALTER TABLE "the new" DROP COLUMN gone;""")
@@ -192,7 +196,7 @@ RECIPES = [
     Recipe("odd_texts", odd_texts, (512, 1024, 65536)),
     Recipe("no_rows", no_rows, ALL_SIZES),
     Recipe("hundred_columns", hundred_columns, (512, 1024, 8192)),
-    Recipe("many_tables", many_tables, (16384, 65536)),
+    Recipe("many_tables", many_tables, ALL_SIZES),
     Recipe("free_pages", free_pages, (512, 2048, 65536)),
     Recipe("vacuumed", vacuumed),
     Recipe("altered", altered),

@@ -7,6 +7,7 @@ from pathlib import Path
 from random import Random
 
 from oracle import Reader, header_line
+from pages import number_at, set_number
 from program import Tally, fault_line, refusal_problem, run
 from recipes import make_file
 from sound import answer_problem
@@ -28,6 +29,9 @@ UNSERVED = {
     "a column without a type": "CREATE TABLE x(a)",
     "a REAL column": "CREATE TABLE x(a REAL) STRICT",
     "an ANY column": "CREATE TABLE x(a ANY) STRICT",
+    "types of other databases": "CREATE TABLE x(a VARCHAR(10), b DOUBLE PRECISION, c DECIMAL(10, 2))",
+    "a type with a size": "CREATE TABLE x(a INT); PRAGMA writable_schema = ON;"
+    "UPDATE sqlite_schema SET sql = 'CREATE TABLE x(a INT(10)) STRICT' WHERE name = 'x'",
     "a key that isn't the rowid": "CREATE TABLE x(a INT PRIMARY KEY) STRICT",
     "a key of a text": "CREATE TABLE x(a TEXT PRIMARY KEY) STRICT",
     "a key that descends": "CREATE TABLE x(a INTEGER PRIMARY KEY DESC) STRICT",
@@ -37,14 +41,12 @@ UNSERVED = {
     "a table of a SELECT": "CREATE TABLE x AS SELECT 1 AS a",
     "statistics": "CREATE INDEX x ON item(name); ANALYZE; DROP INDEX x",
     "101 columns": f"CREATE TABLE x({', '.join(f'c{place} INT' for place in range(101))}) STRICT",
-    "a schema of two pages": ";".join(f"CREATE TABLE x{number}(a INT, b TEXT) STRICT" for number in range(100)),
 }
 
 # What a file has to be refused for after a table that is served, with the fault's line. The root of `item` is page 2, of
 # one leaf, and that of `x` is page 3.
 BROKEN = {
-    "an added column": ("ALTER TABLE item ADD COLUMN a INT", fault_line(17, 2)),
-    "an added column with a default": ("ALTER TABLE item ADD COLUMN a INT DEFAULT 5", fault_line(17, 2)),
+    "an added column with a default in parentheses": ("ALTER TABLE item ADD COLUMN a INT DEFAULT (5)", fault_line(17, 2)),
     "a text that isn't UTF-8": ("INSERT INTO item VALUES (3, CAST(x'62ff' AS TEXT))", fault_line(19)),
     "an overlong character": ("INSERT INTO item VALUES (3, CAST(x'c0af' AS TEXT))", fault_line(19)),
     "half a surrogate pair": ("INSERT INTO item VALUES (3, CAST(x'eda080' AS TEXT))", fault_line(19)),
@@ -70,12 +72,26 @@ BROKEN = {
     ),
 }
 
-# Texts that are no SELECT. They are answered by 29 today, and by 30 once all that a SELECT may be is read.
+# Texts that are no statement.
 NONSENSE = (
     *("", " ", ";", "drop", "SELECT", "* FROM item", "SELECT FROM item", "SELECT * item", "SELECT * FROM"),
     *("SELECT # FROM item", "SELECT , FROM item", "SELECT id,, name FROM item", "SELECT (* FROM item"),
     *("SELECT * FROM item)", "SELECT * FROM item ; ;x", "SELECT * FROM 'item", 'SELECT * FROM "item', "SELECT * FROM [item"),
     *("SELECT * FROM `item", "/* SELECT * FROM item", "\ufeffSELECT * FROM item", "SELECT\u00a0* FROM item"),
+)
+
+# Statements that aren't served yet, one of each clause, also of tables and columns that are none.
+STATEMENTS = (
+    *("SELECT 1", "EXPLAIN QUERY PLAN SELECT * FROM item", "WITH w AS (SELECT 1) SELECT * FROM w"),
+    *("SELECT DISTINCT name FROM item", "SELECT name FROM item WHERE id = 1", "SELECT name FROM item AS i"),
+    *("SELECT i.name FROM item i", "SELECT count(*) FROM item", "SELECT * FROM item, item"),
+    *("SELECT * FROM item LEFT JOIN item USING (id)", "SELECT * FROM (SELECT * FROM item)"),
+    *("SELECT name FROM item GROUP BY name HAVING sum(id) > 1", "SELECT rank() OVER (ORDER BY id) FROM item"),
+    "SELECT sum(id) FILTER (WHERE id) OVER w FROM item WINDOW w AS (ROWS 1 PRECEDING)",
+    *("SELECT name FROM item ORDER BY id", "SELECT name FROM item UNION ALL SELECT name FROM item"),
+    *("SELECT name FROM item LIMIT 1 OFFSET 1", "SELECT name FROM item LIMIT -1"),
+    *("SELECT id IN (SELECT id FROM item) FROM item", "SELECT EXISTS (SELECT nothing FROM nowhere)"),
+    *("SELECT nothing + 1 FROM nowhere", "SELECT nothing FROM nowhere, item"),
 )
 
 # Texts that take much to read, and are too deep or none.
@@ -103,6 +119,29 @@ def try_broken(tally: Tally, path: Path) -> None:
     """Tries files with rows that aren't of their tables."""
     for what, (script, line) in BROKEN.items():
         from_script(path, ITEM + script)
+        tally.add(f"a file with {what}", refusal_problem(run(path, SELECT), line))
+
+
+def try_freelists(tally: Tally, path: Path) -> None:
+    """Tries a file with free pages, which is served, and the same with other numbers in its freelist."""
+    from_script(path, ITEM + "CREATE TABLE x(a TEXT) STRICT; INSERT INTO x VALUES (hex(zeroblob(3000))); DROP TABLE x")
+    with Reader(path) as reader:
+        tally.add("a file with free pages", answer_problem(run(path, SELECT), reader.lines("item", ["id", "name"])))
+    sound = path.read_bytes()
+    first, count = number_at(sound, 32, 4), number_at(sound, 36, 4)
+    leaves = (first - 1) * 512 + 8
+    leaf = number_at(sound, leaves, 4)
+    for what, place, number, line in (
+        ("a free page too many", 36, count + 1, fault_line(14)),
+        ("a free page too few", 36, count - 1, fault_line(14)),
+        ("no first page of the freelist", 32, 0, fault_line(14)),
+        ("a freelist behind the image", 32, 2**32 - 1, fault_line(14)),
+        ("a free page that is named twice", leaves + 4, leaf, fault_line(13, leaf)),
+        ("a trunk page that is its own leaf", leaves, first, fault_line(13, first)),
+    ):
+        image = bytearray(sound)
+        set_number(image, place, 4, number)
+        path.write_bytes(image)
         tally.add(f"a file with {what}", refusal_problem(run(path, SELECT), line))
 
 
@@ -189,12 +228,14 @@ def try_texts(tally: Tally, path: Path) -> None:
         tally.add(what, refusal_problem(run(path, text), fault_line(number)))
     for text in NONSENSE:
         answer = run(path, text)
-        refused = answer.fault() in (29, 30) and answer.out == b""
-        tally.add(f"the text {text!r}", "" if refused else f"{answer}; wanted fault 29 or 30")
+        refused = answer.fault() == 30 and answer.out == b""
+        tally.add(f"the text {text!r}", "" if refused else f"{answer}; wanted fault 30")
+    for text in STATEMENTS:
+        tally.add(f"the text {text!r}", refusal_problem(run(path, text), NOT_YET))
     for text in HARD:
         answer = run(path, text)
-        refused = answer.fault() in (29, 30, 38) and answer.out == b""
-        tally.add(f"the text {text[:20]!r} and on", "" if refused else f"{answer}; wanted fault 29, 30 or 38")
+        refused = answer.fault() in (30, 38) and answer.out == b""
+        tally.add(f"the text {text[:20]!r} and on", "" if refused else f"{answer}; wanted fault 30 or 38")
 
 
 def try_commands(tally: Tally, path: Path) -> None:
@@ -234,5 +275,5 @@ def try_commands(tally: Tally, path: Path) -> None:
 def try_refusals(tally: Tally, folder: Path) -> None:
     """Tries each kind of refusal."""
     path = folder / "refused.db"
-    for attempt in (try_unserved, try_broken, try_headers, try_journals, try_texts, try_commands):
+    for attempt in (try_unserved, try_broken, try_freelists, try_headers, try_journals, try_texts, try_commands):
         attempt(tally, path)

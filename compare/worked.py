@@ -65,7 +65,16 @@ REFUSED = {
     "SELECT qty + 1 FROM item": 29,
     "SELECT qty FROM item WHERE qty = 7": 29,
     "SELECT name FROM item, sale": 29,
-    "": 29,
+}
+
+# Texts that are no statement, and the place at which they stop being one.
+NO_STATEMENTS = {
+    "": 0,
+    "SELEC name FROM item": 0,
+    "SELECT name FROM item WHERE": 27,
+    "SELECT name, FROM item": 13,
+    "SELECT name FROM item 7": 22,
+    "SELECT 'nut FROM item": 7,
 }
 
 # Tables that aren't served beside `item`: a name, and a text.
@@ -90,7 +99,7 @@ OBJECTS = {
 }
 
 # Records that are none of three columns: no byte; a header that is cut; one that ends within its own length; bodies that
-# are cut; the serial types 10 and 11, which no file has; two values; four.
+# are cut; the serial types 10 and 11, which no file has; four values.
 BAD_RECORDS = [
     b"",
     b"\x04\0\x13",
@@ -99,14 +108,27 @@ BAD_RECORDS = [
     b"\x04\0\x13\x01",
     b"\x04\0\x0a\x01\x07",
     b"\x04\0\x0b\x01\x07",
-    b"\x03\0\x13nut",
     b"\x05\0\x13\x01\0nut\x07",
+]
+
+# Columns that `item` got when it had its first rows, a row of all, and how its rows are answered then or why they are
+# refused: what a record lacks is the literal DEFAULT or NULL, and a NULL that is stored stays one.
+ADDED: list[tuple[str, list[Value], str | bytes]] = [
+    ("tag TEXT DEFAULT 'none', lot INT", ["x"], "'none',NULL 'none',NULL 'x',NULL"),
+    ("tag TEXT DEFAULT 'none', lot INT", [None, 3], "'none',NULL 'none',NULL NULL,3"),
+    ("tag TEXT DEFAULT 'one' DEFAULT 'none', lot INT DEFAULT -4", [], "'none',-4 'none',-4 'none',-4"),
+    ("tag BLOB DEFAULT x'00ff', lot INT NOT NULL DEFAULT 7", [b"a", 8], "X'00FF',7 X'00FF',7 X'61',8"),
+    ("tag TEXT, lot INT NOT NULL", ["x", 3], fault_line(23, "item")),
+    ("tag TEXT DEFAULT 5, lot INT", ["x", 3], fault_line(23, "item")),
+    ("tag TEXT DEFAULT ('none'), lot INT", ["x", 3], fault_line(17, 2)),
+    ("tag TEXT, lot INT", ["x", 3, 4], fault_line(17, 2)),
 ]
 
 NULL, NUT, SEVEN, BLOB = stored(None), stored("nut"), stored(7), stored(b"nut")
 
 # Rows of `item`: the fault of each. A float; a byte that begins no character, a character that is cut, a surrogate, and a
-# character in more bytes than needed; texts and blobs in INT, integers and blobs in TEXT, and NULL in NOT NULL.
+# character in more bytes than needed; texts and blobs in INT, integers and blobs in TEXT, and NULL in NOT NULL, stored or
+# since the record ends before it.
 BAD_ROWS: list[tuple[list[Field], bytes]] = [
     ([NULL, NUT, (7, b"\x3f\xe0\0\0\0\0\0\0")], fault_line(18)),
     *(
@@ -117,18 +139,21 @@ BAD_ROWS: list[tuple[list[Field], bytes]] = [
         (row, fault_line(23, "item"))
         for row in ([NULL, NUT, NUT], [NULL, NUT, BLOB], [NULL, SEVEN, SEVEN], [NULL, BLOB, SEVEN], [NULL, NULL, SEVEN])
     ),
+    *((row, fault_line(23, "item")) for row in ([], [NULL])),
 ]
 
-# Rows of `item` that are sound, as they are answered: a letter of two bytes, NULL in INT, a number in more bytes than
-# needed, and whatever is stored in the place of the rowid.
+# Rows of `item` that are sound, as they are answered: a letter of two bytes, NULL in INT, stored or since the record ends
+# before it, a number in more bytes than needed, and whatever is stored in the place of the rowid.
 SOUND_ROWS: list[tuple[list[Field], str]] = [
     ([NULL, NUT, SEVEN], "2,'nut',7\n"),
     ([NULL, stored("é"), SEVEN], "2,'é',7\n"),
     ([NULL, NUT, NULL], "2,'nut',NULL\n"),
+    ([NULL, NUT], "2,'nut',NULL\n"),
     ([NULL, NUT, integer(7, 6)], "2,'nut',7\n"),
     ([SEVEN, NUT, SEVEN], "2,'nut',7\n"),
     ([NUT, NUT, SEVEN], "2,'nut',7\n"),
     ([BLOB, NUT, SEVEN], "2,'nut',7\n"),
+    ([NULL, NUT], "2,'nut',NULL\n"),
 ]
 
 
@@ -196,6 +221,8 @@ def try_answers(trial: Trial) -> None:
             for words in ([], ["--header"]):
                 answer = run(*words, trial.path, sql)
                 trial.tally.add(f"page size {size}, {words}, {sql!r}", refusal_problem(answer, fault_line(number)))
+        for sql, place in NO_STATEMENTS.items():
+            trial.tally.add(f"page size {size}, {sql!r}", refusal_problem(run(trial.path, sql), fault_line(30, place)))
     longest = "SELECT n FROM sale".ljust(65536)
     trial.answered("65,536 bytes", [longest], "5\n2\n9\n1\n")
     trial.tally.add("65,537 bytes", refusal_problem(run(trial.path, longest + " "), fault_line(38)))
@@ -230,6 +257,20 @@ def try_records(trial: Trial) -> None:
         writer = shop()
         writer.object(*row)
         trial.refused(f"the schema's row {row}", bytes(writer.image()), line)
+
+
+def try_added_columns(trial: Trial) -> None:
+    """Rows that are older than some columns of their table."""
+    for columns, last, wanted in ADDED:
+        writer = Writer()
+        rows: list[list[Value]] = [[None, "nut", 7], [None, "cap", None], [None, "bolt", 40, *last]]
+        sql = f"CREATE TABLE item(id INTEGER PRIMARY KEY, name TEXT NOT NULL, qty INT, {columns}) STRICT"
+        writer.table("item", sql, [(rowid, record(row)) for rowid, row in enumerate(rows, 1)])
+        image = bytes(writer.image())
+        if isinstance(wanted, bytes):
+            trial.refused(columns, image, wanted)
+        else:
+            trial.sound(columns, image, {"SELECT tag, lot FROM item": wanted.replace(" ", "\n") + "\n"})
 
 
 def shop() -> Writer:
@@ -283,16 +324,16 @@ def broken_pages() -> Iterator[tuple[str, bytes, bytes]]:
         yield f"{piece!r} at {offset}", patched(image, page, offset, piece), fault_line(11, page)
     for rowid in (20, 22, 25):
         yield f"row {rowid}", patched(image, leaf, row, bytes([rowid])), fault_line(15, leaf)
-    # The first leaf stands under two pages: its rows aren't past what is before them.
-    yield "a leaf twice", patched(image, root, 8, first.to_bytes(4, "big")), fault_line(15, first)
+    # The first leaf stands under two pages.
+    yield "a leaf twice", patched(image, root, 8, first.to_bytes(4, "big")), fault_line(13, first)
     # The key of the root's first cell stands behind its child: where it is less, the keys under that child are past it.
     yield "a lesser key", patched(image, root, child + 4, b"\x03"), fault_line(15, tree.levels[1][0])
     # The last leaf stands right under the root, while others stand deeper; and pages that are their own right child.
     yield "a leaf too high", patched(image, root, 8, last.to_bytes(4, "big")), fault_line(16, root)
     for page, offset in ((root, 0), (1, 100)):
         own = bytes([INTERIOR]) + bytes(7) + page.to_bytes(4, "big")
-        yield f"page {page} below itself", patched(image, page, offset, own), fault_line(16, page)
-    yield "a first child that is its own page", patched(image, root, child, root.to_bytes(4, "big")), fault_line(16, root)
+        yield f"page {page} below itself", patched(image, page, offset, own), fault_line(13, page)
+    yield "a first child that is its own page", patched(image, root, child, root.to_bytes(4, "big")), fault_line(13, root)
 
 
 def broken_schemas() -> Iterator[tuple[str, bytes, bytes]]:
@@ -314,6 +355,29 @@ def broken_schemas() -> Iterator[tuple[str, bytes, bytes]]:
     for rowid in (0, 1):
         yield f"row {rowid} of the schema", patched(image, 1, row, bytes([rowid])), fault_line(15, 1)
     yield "row 3 of the schema", patched(image, 1, row, b"\x03"), fault_line(31)
+
+
+def leafed_schema(count: int, leaf: int) -> tuple[Writer, bytes]:
+    """An image of so many tables of a row each, of which so many have their rows of the schema on one leaf."""
+    writer = Writer()
+    for number in range(count):
+        writer.table(f"t{number}", f"CREATE TABLE t{number}(a INT) STRICT", [(1, record([number]))])
+    return writer, bytes(writer.image(leaf))
+
+
+def try_many_leaves(trial: Trial) -> None:
+    """Schemas of several leaves, one of which is broken."""
+    for count, leaf in ((5, 2), (9, 3), (60, 3)):
+        _, image = leafed_schema(count, leaf)
+        what = f"a schema of {count} tables, {leaf} on a leaf"
+        trial.counted(what, image, "".join(f"t{number} 1 1 0\n" for number in range(count)))
+        trial.sound(what, image, {f"SELECT a FROM t{number}": f"{number}\n" for number in (0, leaf, count - 1)})
+    writer, image = leafed_schema(5, 2)
+    _, second, last = writer.schema.leaves
+    trial.refused("a leaf of the schema without a flag", patched(image, second, 0, b"\0"), fault_line(11, second))
+    trial.refused("a leaf of the schema without a row", patched(image, last, 3, b"\0\0"), fault_line(11, last))
+    row = cell_offset(image, last, 0) + 1
+    trial.refused("a row of the schema out of order", patched(image, last, row, b"\x04"), fault_line(15, last))
 
 
 def try_trees(trial: Trial) -> None:
@@ -357,8 +421,6 @@ def broken_chains() -> Iterator[tuple[str, bytes, bytes]]:
     for page, offset, number in (
         # The last page names itself, those before it, the first and the second page of the image, a leaf, one past the last.
         *((c, 0, number) for number in (c, b, a, 1, 2, leaf, past, 2**32 - 1)),
-        # A page before the last names itself, or the one before it.
-        *((a, 0, a), (b, 0, b), (b, 0, a)),
         # There is no page, or one is left out.
         *((leaf, link, 0), (a, 0, 0), (b, 0, 0), (leaf, link, b), (leaf, link, c), (a, 0, c)),
         # The chain leaves the image.
@@ -366,6 +428,15 @@ def broken_chains() -> Iterator[tuple[str, bytes, bytes]]:
     ):
         what = f"page {page} names {number}"
         yield what, patched(image, page, offset, number.to_bytes(4, "big")), fault_line(12, leaf)
+    # A page before the last names itself, or the one before it; a chain begins at the first page, at its cell's own, or at a
+    # page of the other chain, or goes on there.
+    for page, offset, number in (
+        *((a, 0, a), (b, 0, b), (b, 0, a)),
+        *((leaf, link, number) for number in (1, leaf, *tree.chains[0])),
+        *((page, 0, number) for page in (a, b) for number in (1, leaf, *tree.chains[0])),
+    ):
+        what = f"page {page} goes on at {number}"
+        yield what, patched(image, page, offset, number.to_bytes(4, "big")), fault_line(13, number)
 
 
 def broken_sizes() -> Iterator[tuple[str, bytes, bytes]]:
@@ -405,10 +476,63 @@ def try_chains(trial: Trial) -> None:
     image = bytes(writer.image())
     trial.sound("a row of the schema with a chain", image, {"SELECT body FROM t": "1\n2\n3\n"})
     ((first, last),) = writer.schema.chains
-    for page, number in ((first, 0), (first, first), (last, last)):
+    none = fault_line(12, 1)
+    for page, number, line in ((first, 0, none), (first, first, fault_line(13, first)), (last, last, none)):
         other = patched(image, page, 0, number.to_bytes(4, "big"))
-        trial.refused(f"the schema's page {page} names {number}", other, fault_line(12, 1))
+        trial.refused(f"the schema's page {page} names {number}", other, line)
     for what, image, line in (*broken_chains(), *broken_sizes()):
+        trial.refused(what, image, line)
+
+
+def with_freelist(*counts: int) -> tuple[Writer, list[int]]:
+    """An image of the table `item` and of a freelist."""
+    writer = shop()
+    return writer, writer.freelist(*counts)
+
+
+def broken_freelists() -> Iterator[tuple[str, bytes, bytes]]:
+    """A freelist of two trunk pages, one that names two pages and one that names three, some bytes of which are others: what
+    it is, the image, and the fault's line."""
+    writer, (first, last) = with_freelist(2, 3)
+    image, past = bytes(writer.image()), len(writer.pages) + 1
+    none = fault_line(14)
+    # The header's count, which is 7.
+    for count in (0, 1, 3, 6, 8, 2**32 - 1):
+        yield f"{count} free pages of 7", patched(image, 1, 36, count.to_bytes(4, "big")), none
+    # No first trunk page though there are some, none behind the first, numbers that are no page's, as many pages as a trunk
+    # page has no room for.
+    for page, offset, number in (
+        *((1, 32, number) for number in (0, past, 2**32 - 1)),
+        *((first, 0, number) for number in (0, past)),
+        *((page, 8, number) for page in (first, last) for number in (0, past, 2**32 - 1)),
+        *((page, 4, number) for page in (first, last) for number in (0, 1, 127, 2**32 - 1)),
+    ):
+        yield f"page {page} has {number} at {offset}", patched(image, page, offset, number.to_bytes(4, "big")), none
+    # A trunk page that is its own leaf, one that is the other's, pages that are named twice, and the schema's.
+    for page, offset, number in (
+        *((first, 8, first), (last, 8, last), (last, 16, first), (first, 8, last)),
+        *((first, 12, first + 1), (last, 12, first + 1), (last, 16, last + 1), (first, 8, 1), (last, 16, 1)),
+    ):
+        yield f"page {page} names {number}", patched(image, page, offset, number.to_bytes(4, "big")), fault_line(13, number)
+    # Freelists that loop: the count of pages that are left ends them, or the mark of a page.
+    for page, number, line in ((first, first, fault_line(13, first)), (last, first, none), (last, last, none)):
+        looped = patched(image, page, 0, number.to_bytes(4, "big"))
+        yield f"page {number} behind page {page}", looped, line
+        yield f"page {number} behind page {page}, of many", patched(looped, 1, 36, b"\xff" * 4), fault_line(13, number)
+    more = patched(image + bytes(512), 1, 28, past.to_bytes(4, "big"))
+    yield "a page that nothing uses", more, fault_line(13, past)
+    writer, _ = with_freelist(1)
+    yield "a freelist of two pages, and 3 in the header", patched(bytes(writer.image()), 1, 36, b"\0\0\0\x03"), none
+
+
+def try_freelists(trial: Trial) -> None:
+    """Freelists of some trunk pages, the fullest too, and freelists that are broken."""
+    answers = {"SELECT name FROM item": "'bolt'\n'nut'\n'cap'\n'nut'\n"}
+    for counts in ((0,), (1,), (0, 0), (3, 0, 5), (126,), (126, 126, 7)):
+        writer, _ = with_freelist(*counts)
+        trial.sound(f"a freelist of {counts}", bytes(writer.image()), answers)
+        trial.counted(f"a freelist of {counts}", bytes(writer.image()), "item 4 1 0\n")
+    for what, image, line in broken_freelists():
         trial.refused(what, image, line)
 
 
@@ -475,7 +599,10 @@ def main() -> int:
     tally = Tally()
     with tempfile.TemporaryDirectory() as folder:
         trial = Trial(tally, Path(folder))
-        for attempt in (try_answers, try_records, try_schemas, try_trees, try_chains, try_layouts, try_kept):
+        for attempt in (
+            *(try_answers, try_records, try_added_columns, try_schemas, try_many_leaves),
+            *(try_trees, try_chains, try_freelists, try_layouts, try_kept),
+        ):
             attempt(trial)
     return tally.finish()
 

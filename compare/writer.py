@@ -1,5 +1,5 @@
-"""Writes images byte by byte, so that a page may have what SQLite never writes. (Database File Format, sections 1.3, 1.6
-and 2.1)"""
+"""Writes images byte by byte, so that a page may have what SQLite never writes. (Database File Format, sections 1.3, 1.5,
+1.6 and 2.1)"""
 
 from __future__ import annotations
 
@@ -69,8 +69,8 @@ class Tree:
 
 
 class Writer:
-    """An image in the making. The schema stands on page 1 alone. So many bytes are reserved at each page's end, and so many
-    lie unused before each cell, as deleted rows leave them."""
+    """An image in the making. So many bytes are reserved at each page's end, and so many lie unused before each cell, as
+    deleted rows leave them."""
 
     def __init__(self, size: int = 512, reserved: int = 0, gap: int = 0) -> None:
         self.size, self.reserved, self.gap = size, reserved, gap
@@ -78,6 +78,8 @@ class Writer:
         self.pages: list[bytes] = [b""]
         self.objects: list[bytes] = []
         self.schema = Tree([[1]])
+        self.trunks: list[int] = []
+        self.free_count = 0
 
     def add(self, page: bytes) -> int:
         """Adds a page, and tells its number."""
@@ -143,17 +145,42 @@ class Writer:
         right, last = children[-1]
         return self.add(self.page(bytes([INTERIOR]) + struct.pack(">I", right), cells)), last
 
+    def freelist(self, *counts: int) -> list[int]:
+        """Adds a freelist of trunk pages that name so many pages each, which stand behind them, and tells the trunk pages."""
+        for place, count in enumerate(counts):
+            number = len(self.pages) + 1
+            after = number + count + 1 if place + 1 < len(counts) else 0
+            leaves = struct.pack(f">{count}I", *range(number + 1, number + count + 1))
+            self.trunks.append(self.add((struct.pack(">II", after, count) + leaves).ljust(self.size, b"\0")))
+            for _ in range(count):
+                self.add(bytes(self.size))
+        self.free_count = sum(counts) + len(counts)
+        return self.trunks
+
     def object(self, *values: Field | Value) -> None:
         """Adds a row of the schema."""
         self.objects.append(record(values))
 
-    def image(self) -> bytearray:
-        """The image, whose header says what its pages are."""
+    def first_page(self, leaf: int) -> bytes:
+        """Page 1: a leaf of the schema's rows, or the root above leaves of so many rows each."""
         rows = enumerate(self.objects, 1)
         cells = [self.cell(rowid, payload, self.schema.chains) for rowid, payload in rows]
-        whole = bytearray(self.page(bytes([LEAF]), cells, 100) + b"".join(self.pages[1:]))
+        if len(cells) <= leaf:
+            return self.page(bytes([LEAF]), cells, 100)
+        groups = [cells[place : place + leaf] for place in range(0, len(cells), leaf)]
+        leaves = [self.add(self.page(bytes([LEAF]), group)) for group in groups]
+        self.schema.levels.append(leaves)
+        keys = [struct.pack(">I", number) + varint(place * leaf, 1) for place, number in enumerate(leaves[:-1], 1)]
+        return self.page(bytes([INTERIOR]) + struct.pack(">I", leaves[-1]), keys, 100)
+
+    def image(self, leaf: int = 1000) -> bytearray:
+        """The image, whose header says what its pages are, with so many rows of the schema on a leaf."""
+        first = self.first_page(leaf)
+        whole = bytearray(first + b"".join(self.pages[1:]))
         whole[:16] = b"SQLite format 3\0"
         whole[16:24] = struct.pack(">H6B", 1 if self.size == 65536 else self.size, 1, 1, self.reserved, 64, 32, 32)
+        for place, number in ((32, self.trunks[0] if self.trunks else 0), (36, self.free_count)):
+            set_number(whole, place, 4, number)
         for place, number in ((24, 1), (28, len(self.pages)), (40, 1), (44, 4), (56, 1), (92, 1), (96, 3040001)):
             set_number(whole, place, 4, number)
         return whole

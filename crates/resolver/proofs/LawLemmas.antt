@@ -7,7 +7,7 @@ use Rattle.values.specs.declared.fault.Fault.{Fault}
 use Rattle.values.specs.declared.fault.Fault.TheVariants as f
 use Rattle.meaning.specs.Query.{QueryData, columns_of_table}
 use Rattle.phrases.specs.Texts.{max_columns}
-use Rattle.syntax.specs.SelectTrees.{SelectTree}
+use Rattle.syntax.specs.StatementTree.{StatementTree}
 use Rattle.syntax.specs.Tree.{Name}
 use Rattle.schema.specs.TableData.{TableData}
 use Rattle.resolver.proofs.PlainLemmas.{one_plain, zip_one}
@@ -34,7 +34,7 @@ one_source tables name at other first second is also =
     let same : at ≡ other = also.place.alone at is.place.here in
     (same, some_one first second (sym is.found ∙ (ap (slice_get tables) same ∙ also.found)))
 
-pub one_query : (tables : List TableData) (tree : SelectTree) (first second : QueryData) (names others : List Name)
+pub one_query : (tables : List TableData) (tree : StatementTree) (first second : QueryData) (names others : List Name)
     → Resolves tables tree first names → Resolves tables tree second others → (first ≡ second) × (names ≡ others)
 one_query tables tree first second names others is also =
     let plain = one_plain tree also.columns is.columns also.name is.name also.plain is.plain in
@@ -79,7 +79,7 @@ width_is : (declared : List Name) (columns : Columns) (places : List ℕ) → Gi
 width_is declared Columns.All places e = ap length e ∙ length-range_with_len 0 (length declared)
 width_is declared (Columns.Named written) places z = AllZip-long (IsPlaceOf declared) written places z
 
-module _ (tables : List TableData) (tree : SelectTree) (query : QueryData) (names : List Name) (r : Resolves tables tree query names) where
+module _ (tables : List TableData) (tree : StatementTree) (query : QueryData) (names : List Name) (r : Resolves tables tree query names) where
   -- what holds of the table that the SELECT names
   of_table : (Holds : TableData → Type 0) → HasTable tables r.name Holds → Holds r.table
   of_table Holds h = subst Holds (one_source tables r.name h.0 r.at h.1 r.table h.2 r.source).1 h.3

@@ -10,7 +10,7 @@ use Rattle.meaning.specs.Query.{QueryData}
 use Rattle.meaning.specs.Typed.{IsTyped}
 use Rattle.meaning.proofs.OneTableLemmas.{scan_is_typed}
 use Rattle.schema.specs.ColumnTypes.{column_types, types_of}
-use Rattle.syntax.specs.SelectTrees.{SelectTree}
+use Rattle.syntax.specs.StatementTree.{StatementTree}
 use Rattle.syntax.specs.Tree.{Name}
 use Rattle.schema.specs.TableData.{TableData}
 use Rattle.resolver.specs.Named.{IsPlaceOf}
@@ -25,7 +25,7 @@ pub names_refused : (declared : List Name) (columns : Columns) (fault : Fault)
 names_refused declared columns f.Limit h = absurd h
 names_refused declared columns _ h = h
 
-pub columns_refused : (tables : List TableData) (tree : SelectTree) (columns : Columns) (name : Name) (at : ℕ) (table : TableData)
+pub columns_refused : (tables : List TableData) (tree : StatementTree) (columns : Columns) (name : Name) (at : ℕ) (table : TableData)
     (fault : Fault) → IsPlain tree columns name → IsSource tables name at table
     → AreColumnsRefused (column_names table.columns) columns fault → IsRefused tables tree fault
 columns_refused tables tree columns name at table f.UnknownColumn plain is h = (columns, name, plain, (at, table, is, h))
@@ -68,7 +68,7 @@ source_at tables name at table place is = record {
   found = slice_get_read tables (length tables) at table refl (source_within tables name at place) is;
 }
 
-pub resolved_is_typed : (tables : List TableData) (tree : SelectTree) (query : QueryData) (names : List Name)
+pub resolved_is_typed : (tables : List TableData) (tree : StatementTree) (query : QueryData) (names : List Name)
     → Resolves tables tree query names → IsTyped (column_types tables) query
 resolved_is_typed tables tree query names r =
     let row : slice_get (column_types tables) r.at ≡ Some (types_of r.table) = slice_get-map types_of tables r.at ∙ ap (option_map types_of) r.source.found in

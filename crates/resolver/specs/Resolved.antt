@@ -5,7 +5,7 @@ use Rattle.values.specs.declared.fault.Fault.{Fault}
 use Rattle.values.specs.declared.fault.Fault.TheVariants as f
 use Rattle.meaning.specs.Query.{QueryData, columns_of_table}
 use Rattle.phrases.specs.Texts.{max_columns}
-use Rattle.syntax.specs.SelectTrees.{SelectTree}
+use Rattle.syntax.specs.StatementTree.{StatementTree}
 use Rattle.syntax.specs.Tree.{Name}
 use Rattle.schema.specs.TableData.{ColumnData, TableData}
 use Rattle.schema.specs.Names.{IsSameName}
@@ -44,7 +44,7 @@ abbrev pub IsNameAt : List Name → ℕ → Name → Type 0
 IsNameAt declared at name = slice_get declared at ≡ Some name
 
 -- The SELECT is this query over tables of this catalog, and its result columns have these names.
-pub record Resolves (tables : List TableData) (tree : SelectTree) (query : QueryData) (names : List Name)
+pub record Resolves (tables : List TableData) (tree : StatementTree) (query : QueryData) (names : List Name)
     : Type 0 where
   pub columns : Columns
   pub name : Name
@@ -91,7 +91,7 @@ AreRefused tables columns name f.Limit =
 AreRefused tables columns name _ = ⊥
 
 -- Why a SELECT was refused: it isn't served yet, or it is plain and its names were refused, or memory ran out.
-abbrev pub IsRefused : List TableData → SelectTree → Fault → Type 0
+abbrev pub IsRefused : List TableData → StatementTree → Fault → Type 0
 IsRefused tables tree f.NotYet = IsNotPlain tree ⊎ IsPlainWith tree (λ columns name. AreRefused tables columns name f.NotYet)
 IsRefused tables tree f.NoMemory = Unit {0}
 IsRefused tables tree fault = IsPlainWith tree (λ columns name. AreRefused tables columns name fault)

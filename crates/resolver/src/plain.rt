@@ -1,14 +1,16 @@
-//! The SELECTs that are served: every column of a table, or columns of it by their names.
-ghost use Rattle.std.specs.Prelude.{◌↔◌, ◌≡◌, [], ◌∷◌, IfOk, IsTrue, List, map, MatchOption};
+//! The statements that are served: a SELECT of every column of a table, or of columns of it by their names.
+ghost use Rattle.std.specs.Prelude.{◌↔◌, ◌≡◌, [], ◌∷◌, IfOk, IsTrue, List, map, MatchOption, option_map};
 ghost use Rattle.std.specs.List.{AllZip};
-ghost use Rattle.syntax.specs.SelectTrees.{ResultTree};
-ghost use Rattle.syntax.specs.SelectView.{result_of, select_of};
+ghost use Rattle.statement_trees.specs.StatementView.{statement_of};
+ghost use Rattle.statement_trees.specs.TreeView.{core_of, maybe_from, result_of, source_of, sources_of};
+ghost use Rattle.syntax.specs.ExprTree.{CoreTree, FromTree, ResultTree, SourceTree};
 ghost use Rattle.syntax.specs.Tree.{Name};
-ghost use Rattle.resolver.specs.Plain.{AreColumns, Columns, IsName, IsNotPlain, IsPlain};
-ghost use Rattle.resolver.specs.PlainView.{columns_of};
+ghost use Rattle.resolver.specs.Plain.{alone, AreColumns, Columns, from_table, IsName, IsNotPlain, IsPlain};
+ghost use Rattle.resolver.specs.PlainView.{columns_of, IsBare, IsFirst};
 
+use statement_trees::{Core, Expr, ResultColumn, Source, Sources, Statement};
 use std::alloc::{AllocError, Global};
-use syntax::{Expr, ResultColumn, ResultName, Select};
+use syntax::ResultName;
 
 /// The columns that a SELECT gives of its table: all, or those with these names.
 #[derive(Debug, Drop)]
@@ -82,25 +84,97 @@ fn columns_alone<'a>(
     }
 }
 
-/// A SELECT as one that is served, `None` where it is none.
-pub(crate) fn plain_select<'a>(
-    alloc: Global,
-    select: &'a Select,
-) -> Result<Option<Plain<'a>>, AllocError>
-    ensures { IfOk result (λ plain. MatchOption plain (IsNotPlain (select_of select.now))
-        (λ plain. IsPlain (select_of select.now) (columns_of plain.columns) plain.table.now)) }
+/// Whether a statement is its first SELECT.
+fn is_first(statement: &Statement) -> bool
+    ensures { IsTrue result ↔ IsFirst statement.now }
 {
-    let Some(table) = &select.table else {
+    !statement.explain
+        && statement.items.is_empty()
+        && statement.query.others.is_empty()
+        && statement.order.is_empty()
+        && statement.limit.is_none()
+        && statement.offset.is_none()
+}
+
+/// The SELECT that is all of a statement.
+#[tactic(auto, using(crate::proofs::AloneLemmas::first_is_alone, crate::proofs::AloneLemmas::alone_is_first))]
+fn core_alone(statement: &Statement) -> Option<&Core>
+    ensures { MatchOption result ((core : CoreTree) → ¬ (statement_of statement.now ≡ alone core))
+        (λ core. statement_of statement.now ≡ alone (core_of core.now)) }
+{
+    if is_first(statement) {
+        Some(&statement.query.first)
+    } else {
+        None
+    }
+}
+
+/// Whether a SELECT is its result columns and FROM.
+fn is_bare(core: &Core) -> bool
+    ensures { IsTrue result ↔ IsBare core.now }
+{
+    !core.distinct
+        && core.condition.is_none()
+        && core.groups.is_empty()
+        && core.having.is_none()
+        && core.windows.is_empty()
+}
+
+/// The source that is all of what stands behind FROM.
+#[tactic(auto, using(crate::proofs::AloneLemmas::first_source, crate::proofs::AloneLemmas::first_alone))]
+fn source_alone(sources: &Sources) -> Option<&Source>
+    ensures { MatchOption result ((source : SourceTree) → ¬ (sources_of sources.now ≡ FromTree.First source))
+        (λ source. sources_of sources.now ≡ FromTree.First (source_of source.now)) }
+{
+    if sources.others.is_empty() {
+        Some(&sources.first)
+    } else {
+        None
+    }
+}
+
+/// The name of a source that is a table without an alias.
+fn table_name(source: &Source) -> Option<&str>
+    ensures { MatchOption result ((name : Name) → ¬ (source_of source.now ≡ SourceTree.Named name None))
+        (λ name. source_of source.now ≡ SourceTree.Named name.now None) }
+{
+    match source {
+        Source::Table(name, None) => Some(name.as_str()),
+        _ => None,
+    }
+}
+
+/// The name of the table that is all of FROM, without an alias.
+#[tactic(auto, using(crate::proofs::AloneLemmas::one_source))]
+fn table_alone(sources: &Option<Sources>) -> Option<&str>
+    ensures { MatchOption result ((name : Name) → ¬ (maybe_from (option_map sources_of sources.now) ≡ from_table name))
+        (λ name. maybe_from (option_map sources_of sources.now) ≡ from_table name.now) }
+{
+    let sources = sources.as_ref()?;
+    let source = source_alone(sources)?;
+    table_name(source)
+}
+
+/// A statement as one that is served, `None` where it is none.
+#[tactic(auto, using(crate::proofs::PlainLemmas::not_alone, crate::proofs::PlainLemmas::not_bare, crate::proofs::PlainLemmas::not_from_table, crate::proofs::PlainLemmas::not_of_columns, crate::proofs::PlainLemmas::plain_alone))]
+pub(crate) fn plain_statement<'a>(
+    alloc: Global,
+    statement: &'a Statement,
+) -> Result<Option<Plain<'a>>, AllocError>
+    ensures { IfOk result (λ plain. MatchOption plain (IsNotPlain (statement_of statement.now))
+        (λ plain. IsPlain (statement_of statement.now) (columns_of plain.columns) plain.table.now)) }
+{
+    let Some(core) = core_alone(statement) else {
         return Ok(None);
     };
-    if select.condition.is_some() {
+    if !is_bare(core) {
         return Ok(None);
     }
-    let Some(columns) = columns_alone(alloc, select.columns.as_slice())? else {
+    let Some(table) = table_alone(&core.sources) else {
         return Ok(None);
     };
-    Ok(Some(Plain {
-        columns,
-        table: table.as_str(),
-    }))
+    let Some(columns) = columns_alone(alloc, core.columns.as_slice())? else {
+        return Ok(None);
+    };
+    Ok(Some(Plain { columns, table }))
 }

@@ -2,16 +2,16 @@
 ghost use Rattle.std.specs.Prelude.{◌≡◌, IfErr, IfOk, map, string_bytes};
 ghost use Rattle.meaning.specs.Typed.{IsTyped};
 ghost use Rattle.schema.specs.ColumnTypes.{column_types};
-ghost use Rattle.syntax.specs.SelectView.{select_of};
+ghost use Rattle.statement_trees.specs.StatementView.{statement_of};
 ghost use Rattle.resolver.specs.Resolved.{IsRefused, Resolves, query_of};
 
 use crate::columns::{names_at, places_given};
-use crate::plain::plain_select;
+use crate::plain::plain_statement;
 use crate::tables::place_of_table;
 use schema::Table;
+use statement_trees::Statement;
 use std::alloc::Global;
 use std::marker::Model;
-use syntax::Select;
 use values::Fault;
 
 /// A SELECT whose names are resolved.
@@ -60,17 +60,17 @@ impl Query {
     }
 }
 
-/// The query that a SELECT is over the tables of a catalog. (SELECT) The fault is `UnknownTable` or `UnknownColumn`
+/// The query that a statement is over the tables of a catalog. (SELECT) The fault is `UnknownTable` or `UnknownColumn`
 /// where a name stands for nothing, `Ambiguous` where it stands for two tables or columns, `Limit` where more than 100
-/// columns are given, `NotYet` where the SELECT isn't one that is served, or names the table of the schema's rows, or
+/// columns are given, `NotYet` where the statement isn't one that is served, or names the table of the schema's rows, or
 /// `NoMemory`.
-pub fn resolve(alloc: Global, tables: &[Table], select: &Select) -> Result<Query, Fault>
+pub fn resolve(alloc: Global, tables: &[Table], statement: &Statement) -> Result<Query, Fault>
     ensures means { IfOk result (λ resolved.
-        Resolves tables.now (select_of select.now) (query_of resolved) resolved.names) }
+        Resolves tables.now (statement_of statement.now) (query_of resolved) resolved.names) }
     ensures typed { IfOk result (λ resolved. IsTyped (column_types tables.now) (query_of resolved)) }
-    ensures refused { IfErr result (IsRefused tables.now (select_of select.now)) }
+    ensures refused { IfErr result (IsRefused tables.now (statement_of statement.now)) }
 {
-    let Some(plain) = plain_select(alloc, select)? else {
+    let Some(plain) = plain_statement(alloc, statement)? else {
         return Err(Fault::NotYet);
     };
     let source = place_of_table(tables, plain.table)?;

@@ -1,5 +1,5 @@
 -- From the rows of one table to the answer of a query over the image.
-use Rattle.std.proofs.Common.{◌≡◌, ◌≢◌, ◌∙◌, ◌⊎◌, inl, inr, ◌<◌, arith, ℕ, zero, suc, IsTrue, All, List, [], ◌∷◌, length, map, get_or, slice_get, slice_index_or, Some, sym, ap, subst}
+use Rattle.std.proofs.Common.{◌≡◌, ◌≢◌, ◌∙◌, inl, inr, ◌-◌, ◌<◌, arith, ℕ, zero, suc, IsTrue, All, List, [], ◌∷◌, length, map, get_or, slice_get, slice_index_or, Some, sym, ap, subst}
 use Rattle.std.specs.List.{AllZip}
 use Rattle.std.specs.Option.{option_map}
 use Rattle.std.proofs.lemmas.List.{length-map, map-append}
@@ -9,12 +9,12 @@ use Rattle.values.specs.Database.{Database}
 use Rattle.values.specs.Datum.{Datum, null, int, text, blob}
 use Rattle.values.specs.Sink.{SinkFacts}
 use Rattle.values.specs.declared.fault.Fault.{Fault}
-use Rattle.values.specs.declared.fault.Fault.TheVariants.{Changed, NoMemory, Overflow, ReadFailed, WriteFailed}
+use Rattle.values.specs.declared.fault.Fault.TheVariants.{Changed, Overflow}
 use Rattle.pager.specs.declared.header.Header.{Header}
 use Rattle.pager.specs.Header.{header_of}
 use Rattle.pager.specs.PagerState.{PagerState, opened}
 use Rattle.pager.specs.Source.{SourceFacts}
-use Rattle.image.specs.Pages.{pages_seen, pages_in, pages_of}
+use Rattle.image.specs.Pages.{pages_seen, Pages, WhereSteady, pages_in, pages_of}
 use Rattle.expr.specs.Types.{IsOfType}
 use Rattle.meaning.specs.Typed.{FitTypes, IsTyped}
 use Rattle.meaning.specs.Typed as meant
@@ -23,15 +23,17 @@ use Rattle.meaning.proofs.OneTableLemmas.{scan_begins, scan_is_permitted, scan_n
 use Rattle.meaning.proofs.TypedLemmas.{Permits-typed}
 use Rattle.schema.specs.ColumnTypes.{column_types, types_of}
 use Rattle.schema.specs.TableData.{ColumnData, TableData, schema_table}
-use Rattle.integrity.specs.Denotes.{Denotes}
-use Rattle.integrity.specs.Stored.{Fits, FitsColumn, IsStored}
+use Rattle.integrity.specs.Denotes.{Denotes, IsStoredTable}
+use Rattle.stored_rows.specs.Stored.{Fits, FitsColumn, IsStored}
 use Rattle.integrity.proofs.DenotesLemmas.{HasDatabase, IsStoredAs, database_of}
 use Rattle.resolver.specs.Resolved.{ResolvedData, query_of}
-use Rattle.shell.specs.Answer.{Answers, Stops}
+use Rattle.shell.specs.Answer.{Answers, IsOutsideFault, IsRunFault, Stops}
 use Rattle.integrity.specs.Walked.{IsCheckFault}
 use Rattle.pager.specs.Calls.{IsOpenFault, IsReadFault}
-use Rattle.shell.specs.State.{IsOpeningFault, IsReady}
-use Rattle.shell.specs.Stream.{Streams, StreamsUntil, shown}
+use Rattle.shell.specs.State.{EngineState, IsOpeningFault, IsReady}
+use Rattle.shell.specs.Run.{HasRun, HasStopped, TookFew}
+use Rattle.shell.specs.Stream.{AsksFew, Streams, StreamsUntil, shown}
+use Rattle.shell.specs.declared.engine.Report.{Report}
 
 pub some_one : {X : Type 0} (x y : X) → Some x ≡ Some y → x ≡ y
 some_one x y e = cc
@@ -86,11 +88,16 @@ denoted_fits image tables db denotes = record {
   tables = tables_typed tables db.tables denotes.fit;
 }
 
-not_overflow : (e : Fault) → (e ≡ ReadFailed) ⊎ (e ≡ NoMemory) ⊎ (e ≡ Changed) ⊎ (e ≡ WriteFailed) → e ≢ Overflow
-not_overflow e (inl is) same = cc
-not_overflow e (inr (inl is)) same = cc
-not_overflow e (inr (inr (inl is))) same = cc
-not_overflow e (inr (inr (inr is))) same = cc
+-- a fault from outside is no overflow, and the image hasn't changed
+not_overflow : (e : Fault) → IsOutsideFault e → e ≢ Overflow
+not_overflow e (inl (inl is)) same = cc
+not_overflow e (inl (inr is)) same = cc
+not_overflow e (inr is) same = cc
+
+not_changed : (e : Fault) → IsOutsideFault e → ¬ (e ≡ Changed)
+not_changed e (inl (inl is)) same = cc
+not_changed e (inl (inr is)) same = cc
+not_changed e (inr is) same = cc
 
 module _ (pager : PagerState) (tables : List TableData) (query : ResolvedData) (table : TableData) (ready : IsReady pager tables)
     (at : slice_get tables query.table ≡ Some table) (steady : IsTrue pager.source.steady) where
@@ -100,49 +107,112 @@ module _ (pager : PagerState) (tables : List TableData) (query : ResolvedData) (
   abbrev rows : List Row
   rows = slice_index_or has.db.tables query.table []
 
-  stored : IsStoredAs (pages_of pager.source.bytes) table rows
-  stored = at_place (IsStoredAs (pages_of pager.source.bytes)) tables has.db.tables query.table table [] has.stored at
+  same_pages : pages_of pager.source.bytes ≡ pages_seen pager
+  same_pages = λ k. pages_in (sym (ready.header steady) k) pager.source.bytes
 
-  stored_seen : IsStored (pages_seen pager) table stored.levels rows
-  stored_seen =
-      subst (λ (header : Header). IsStored (pages_in header pager.source.bytes) table stored.levels rows) (sym (ready.header steady))
-      stored.stored
+  as_stored : IsStoredAs (pages_of pager.source.bytes) table rows
+  as_stored = at_place (IsStoredAs (pages_of pager.source.bytes)) tables has.db.tables query.table table [] has.stored at
+
+  pub stored : IsStoredTable (pages_seen pager) table
+  stored = record {
+    levels = as_stored.levels;
+    rows = rows;
+    few = as_stored.few;
+    stored = subst (λ (p : Pages). IsStored p table as_stored.levels rows) same_pages as_stored.stored;
+  }
 
   -- a scan that writes all rows answers the query
   pub answers : (n : ℕ) (old new : SinkFacts)
-      → ((levels : ℕ) (all : List Row) → IsStored (pages_seen pager) table levels all → levels < 20 → Streams query.columns all n old new)
+      → ((is : IsStoredTable (pages_seen pager) table) → Streams query.columns is.rows n old new)
       → Answers pager.source.bytes tables (query_of query) n old new
+  unfolding stored
   answers n old new streams = record {
     rows = map (shown query.columns) rows;
-    permitted = λ w is. record {
-      db = has.db;
+    answer = λ w is. record {
+      database = has.db;
       denotes = has.denotes;
-      permits = scan_is_permitted w has.db query.table query.width query.columns;
-      typed = λ types typed. Permits-typed w has.db (column_types tables) (query_of query) types (map (shown query.columns) rows) is
-          (denoted_fits pager.source.bytes tables has.db has.denotes) typed (scan_is_permitted w has.db query.table query.width query.columns);
+      says = record {
+        permits = scan_is_permitted w has.db query.table query.width query.columns;
+        typed = λ types typed. Permits-typed w has.db (column_types tables) (query_of query) types (map (shown query.columns) rows) is
+            (denoted_fits pager.source.bytes tables has.db has.denotes) typed (scan_is_permitted w has.db query.table query.width query.columns);
+      };
     };
-    prints = streams stored.levels rows stored_seen stored.few;
+    prints = streams stored;
   }
 
-  -- one that stops has written what an answer begins with
-  pub stops : (e : Fault) (old new : SinkFacts)
-      → ((levels : ℕ) (all : List Row) → IsStored (pages_seen pager) table levels all → levels < 20 → StreamsUntil e query.columns all old new)
-      → (e ≡ ReadFailed) ⊎ (e ≡ NoMemory) ⊎ (e ≡ Changed) ⊎ (e ≡ WriteFailed)
-      → Stops e pager.source.bytes tables (query_of query) old new
-  stops e old new streams only =
-      let until = streams stored.levels rows stored_seen stored.few in
+  -- one that stops has written what an answer begins with, and its fault came from outside
+  pub stops : (e told : Fault) (old new : SinkFacts)
+      → ((is : IsStoredTable (pages_seen pager) table) → StreamsUntil e query.columns is.rows old new)
+      → (IsOutsideFault e → told ≡ e) → Stops told pager.source.bytes tables (query_of query) old new
+  unfolding stored
+  stops e told old new streams same =
+      let until = streams stored in
+      let is_told = same until.outside in
+      let outside = subst IsOutsideFault (sym is_told) until.outside in
       record {
         given = map (shown query.columns) until.given;
         begins = λ w is. record {
-          db = has.db;
+          database = has.db;
           denotes = has.denotes;
-          begins = scan_begins w has.db query.table query.width query.columns (map (shown query.columns) until.given) (map (shown query.columns) until.rest)
+          says = scan_begins w has.db query.table query.width query.columns (map (shown query.columns) until.given) (map (shown query.columns) until.rest)
               (ap (map (shown query.columns)) (sym until.whole) ∙ map-append (shown query.columns) until.given until.rest);
         };
-        prints = until.prints;
-        same_image = until.same_image;
-        hits = λ over w is. absurd (not_overflow e only over);
+        prints = rw is_told until.prints;
+        same_image = not_changed told outside;
+        hits = λ over w is. absurd (not_overflow told outside over);
       }
+
+  -- what a scan asks for, as the report counts it
+  took_few : (is : IsStoredTable (pages_of pager.source.bytes) table) → (new : PagerState) → (report : Report)
+      → ((seen : IsStoredTable (pages_seen pager) table) → AsksFew (pages_seen pager) table seen.levels pager new)
+      → report.asked ≡ new.asked - pager.asked → report.chained ≡ new.chained - pager.chained
+      → TookFew (pages_of pager.source.bytes) table is.levels report
+  took_few is new report few asked chained =
+      let here = few (record {
+        levels = is.levels;
+        rows = is.rows;
+        few = is.few;
+        stored = subst (λ (p : Pages). IsStored p table is.levels is.rows) same_pages is.stored;
+      }) in
+      subst (λ (p : Pages). TookFew p table is.levels report) (sym same_pages) (record {
+        asked = let most = here.asked in omega (arith, most, asked);
+        unchained = λ every. let kept = here.unchained every in omega (arith, kept, chained);
+      })
+
+  pub reports_few : (found : TableData) → slice_get tables query.table ≡ Some found
+      → (is : IsStoredTable (pages_of pager.source.bytes) found) → (new : PagerState) → (report : Report)
+      → ((seen : IsStoredTable (pages_seen pager) table) → AsksFew (pages_seen pager) table seen.levels pager new)
+      → report.asked ≡ new.asked - pager.asked → report.chained ≡ new.chained - pager.chained
+      → TookFew (pages_of pager.source.bytes) found is.levels report
+  reports_few found there is new report few asked chained =
+      subst (λ (t : TableData). (is : IsStoredTable (pages_of pager.source.bytes) t) → TookFew (pages_of pager.source.bytes) t is.levels report)
+      (some_one table found (sym at ∙ there)) (λ here. took_few here new report few asked chained) is
+
+-- From what a scan promises to what a run does.
+module _ (pager : PagerState) (tables : List TableData) (query : ResolvedData) (table : TableData) (ready : IsReady pager tables)
+    (at : slice_get tables query.table ≡ Some table) where
+  abbrev engine : EngineState
+  engine = record { pager = pager; tables = tables }
+
+  pub has_run : (new : EngineState) (report : Report) (before after : SinkFacts)
+      → WhereSteady pager (λ pages. (is : IsStoredTable pages table) → Streams query.columns is.rows report.rows before after)
+      → WhereSteady pager (λ pages. (is : IsStoredTable pages table) → AsksFew pages table is.levels pager new.pager)
+      → report.asked ≡ new.pager.asked - pager.asked → report.chained ≡ new.pager.chained - pager.chained
+      → HasRun engine new query before after report
+  has_run new report before after streams few asked chained = record {
+    answer = λ steady. answers pager tables query table ready at steady report.rows before after (streams steady);
+    few = λ steady found there is. reports_few pager tables query table ready at steady found there is new.pager report (few steady) asked chained;
+    asked = asked;
+    chained = chained;
+  }
+
+  pub has_stopped : (e told : Fault) (before after : SinkFacts)
+      → WhereSteady pager (λ pages. (is : IsStoredTable pages table) → StreamsUntil e query.columns is.rows before after)
+      → IsRunFault told → (IsOutsideFault e → told ≡ e) → HasStopped engine query before after told
+  has_stopped e told before after streams only same = record {
+    only = only;
+    begins = λ steady. stops pager tables query table ready at steady e told before after (streams steady) same;
+  }
 
 -- the pages of a pager that was opened are those of its source's image
 pub pages_opened : (state : PagerState) (source : SourceFacts) (header : Header) (capacity : ℕ) → state ≡ opened source header capacity

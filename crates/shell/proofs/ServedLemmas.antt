@@ -15,7 +15,7 @@ module _ (image : List ℕ) (tables : List TableData) (prepared : ResolvedData) 
       → Answers image tables (query_of prepared) counted mid new → HasLines image tables prepared header old new
   lines_are u counted old mid new names answers = record {
     rows = answers.rows;
-    permitted = answers.permitted;
+    answer = answers.answer;
     written = Appends-then _ _ _ _ _ names.written answers.prints.written;
   }
 
@@ -32,6 +32,6 @@ module _ (image : List ℕ) (tables : List TableData) (prepared : ResolvedData) 
       → Appends gathered.inner.written new.written gathered.held → HasLines image tables prepared header old new
   lines_handed old new gathered lines handed = record {
     rows = lines.rows;
-    permitted = lines.permitted;
+    answer = lines.answer;
     written = handed_on _ _ _ gathered.held _ lines.written handed;
   }

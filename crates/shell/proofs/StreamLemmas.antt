@@ -1,53 +1,52 @@
 -- Rows that are written one after another.
-use Rattle.std.proofs.Common.{◌≡◌, ◌≢◌, ◌∙◌, ◌⊎◌, inl, inr, ◌+◌, ◌-◌, ◌^◌, ◌<◌, ◌≤◌, min, arith, ℕ, suc, IsTrue, All, List, [], ◌∷◌, ◌++◌, drop, length, map, Option, None, Some, Result, Ok, Err, MatchResult, IfErr, refl, sym, ap, append-nil, append_assoc, subst}
+use Rattle.std.proofs.Common.{◌≡◌, ◌≢◌, ◌∙◌, inl, inr, ◌+◌, ◌-◌, ◌^◌, min, arith, ℕ, suc, IsTrue, All, List, [], ◌∷◌, ◌++◌, drop, length, map, Option, None, Some, Result, Ok, Err, MatchResult, IfErr, refl, sym, ap, append-nil, append_assoc, subst}
 use Rattle.std.proofs.lemmas.Grind.{common_steps}
 use Rattle.std.specs.List.{AllZip}
 use Rattle.std.proofs.lemmas.List.Elements.{All-head, All-tail}
 use Rattle.std.specs.Io.KnownBytes.{Appends}
 use Rattle.values.specs.Sink.{SinkFacts, Writes}
 use Rattle.values.specs.declared.fault.Fault.{Fault}
-use Rattle.values.specs.declared.fault.Fault.TheVariants.{Changed, NoMemory, ReadFailed, WriteFailed}
+use Rattle.values.specs.declared.fault.Fault.TheVariants.{WriteFailed}
 use Rattle.values.proofs.SinkLemmas.{Appends-none, Appends-then}
-use Rattle.pager.specs.PagerState.{PagerState}
-use Rattle.pager.specs.Calls.{AsksChainsOnly, SameImage}
+use Rattle.pager.specs.PagerState.{IsPageNumber, PagerState}
+use Rattle.pager.specs.Calls.{AsksChainsOnly, IsReadFault, ReadsTreePages, SameImage}
 use Rattle.pager.proofs.CallLemmas.{SameImage-trans}
 use Rattle.image.specs.Cell.{CellData}
-use Rattle.image.specs.Pages.{pages_seen, Pages, pages_in}
+use Rattle.image.specs.Pages.{pages_seen, Pages, WhereSteady, pages_in}
 use Rattle.image.specs.declared.kind.TreeKind.TheVariants.{Table}
 use Rattle.image.specs.Tree.{IsRowAt, Place}
 use Rattle.cursor.specs.declared.cursor.Cursor.{Cursor}
+use Rattle.cursor.specs.Calls.{HasFailed, HasStepped, IsCursorFault, IsOpenedAt, IsStepFault}
 use Rattle.cursor.specs.Listing.{IsAt, IsEntry}
 use Rattle.cursor.proofs.RestLemmas.{standing_asked}
 use Rattle.values.specs.Row.{Row}
 use Rattle.schema.specs.TableData.{TableData}
-use Rattle.integrity.specs.Stored.{IsRowOf, IsStored, StoresRow}
+use Rattle.integrity.specs.Denotes.{IsStoredTable}
+use Rattle.stored_rows.specs.Stored.{IsRowOf, StoresRow}
 use Rattle.explain.specs.Text.{row_text, rows_text}
-use Rattle.shell.specs.Stream.{IsUnchained, Streams, StreamsUntil, cells_of, shown, size_of}
+use Rattle.shell.specs.Stream.{AsksFew, IsUnchained, Streams, StreamsUntil, cells_of, shown, size_of}
 use Rattle.image.proofs.CellLemmas.{one_cell}
 
--- at another fault than that of a write nothing is written of the rows
-pub nothing_given : (e : Fault) (columns : List ℕ) (rows : List Row) (old : SinkFacts) → e ≢ Changed → e ≢ WriteFailed
-    → StreamsUntil e columns rows old old
-nothing_given e columns rows old same other = record {
+-- at a fault of reading nothing is written of the rows
+pub not_write : (e : Fault) → IsReadFault e → e ≢ WriteFailed
+not_write e (inl is) same = cc
+not_write e (inr is) same = cc
+
+pub nothing_given : (e : Fault) (columns : List ℕ) (rows : List Row) (old : SinkFacts) → IsReadFault e → StreamsUntil e columns rows old old
+nothing_given e columns rows old read = record {
   given = [];
   rest = rows;
   whole = refl;
-  prints = record { cut = λ is. absurd (other is); whole = λ _. Appends-none old.written };
-  same_image = same;
+  prints = record { cut = λ is. absurd (not_write e read is); whole = λ _. Appends-none old.written };
+  outside = inl read;
 }
 
-pub failed_read : (e : Fault) (columns : List ℕ) (rows : List Row) (old : SinkFacts) → (e ≡ ReadFailed) ⊎ (e ≡ NoMemory)
-    → StreamsUntil e columns rows old old
-failed_read e columns rows old (inl is) = nothing_given e columns rows old (λ changed. cc) (λ failed. cc)
-failed_read e columns rows old (inr is) = nothing_given e columns rows old (λ changed. cc) (λ failed. cc)
+-- a cursor writes nothing
+pub cursor_never_writes : (root : ℕ) (e : Fault) → IsCursorFault root e → e ≢ WriteFailed
+cursor_never_writes root e only is = subst (λ (f : Fault). IsCursorFault root f) is only
 
-pub no_memory : (e : Fault) (columns : List ℕ) (rows : List Row) (old : SinkFacts) → e ≡ NoMemory → StreamsUntil e columns rows old old
-no_memory e columns rows old is = nothing_given e columns rows old (λ changed. cc) (λ failed. cc)
-
-pub not_write : (e : Fault) → (e ≡ ReadFailed) ⊎ (e ≡ NoMemory) ⊎ (e ≡ Changed) → e ≢ WriteFailed
-not_write e (inl is) same = cc
-not_write e (inr (inl is)) same = cc
-not_write e (inr (inr is)) same = cc
+pub step_never_writes : (cursor : Cursor) (e : Fault) → IsStepFault cursor e → e ≢ WriteFailed
+step_never_writes cursor e only is = subst (λ (f : Fault). IsStepFault cursor f) is only
 
 -- one row is written
 pub row_written : (columns : List ℕ) (row : Row) (result : Result (Unit {0}) Fault) (old new : SinkFacts)
@@ -68,7 +67,7 @@ row_written columns row (Err e) old new writes only = record {
     };
     whole = λ other. absurd (other only);
   };
-  same_image = λ changed. cc;
+  outside = inr only;
 }
 
 -- the text of the columns of rows
@@ -116,7 +115,7 @@ until_behind e columns given some more old mid new before until = record {
         rw (shown_text-append columns given until.given)
         (Appends-then _ _ _ (shown_text columns given) (shown_text columns until.given) before (until.prints.whole other));
   };
-  same_image = until.same_image;
+  outside = until.outside;
 }
 
 -- the cell at a place has no overflow page
@@ -207,17 +206,17 @@ module _ (pages : Pages) (table : TableData) (columns : List ℕ) (rows : List R
 
     -- a fault behind this row
     until_next : (e : Fault) (new : SinkFacts) → Appends mid.written new.written (row_text (shown columns first.row))
-        → e ≢ Changed → e ≢ WriteFailed → StreamsUntil e columns rows old new
-    until_next e new written same other =
+        → IsReadFault e → StreamsUntil e columns rows old new
+    until_next e new written read =
         until_given e first.more new (first.row ∷ []) first.rest_is (record {
           given = first.row ∷ [];
           rest = [];
           whole = refl;
           prints = record {
-            cut = λ is. absurd (other is);
+            cut = λ is. absurd (not_write e read is);
             whole = λ _. rw (append-nil (row_text (shown columns first.row))) written;
           };
-          same_image = same;
+          outside = inl read;
         })
 
 -- what the loop keeps
@@ -225,36 +224,33 @@ pub record Streaming (start now : PagerState) (table : TableData) (columns : Lis
   pub stays : SameImage start now
   pub reads : now.source.failures ≡ start.source.failures
   pub writes : new.failures ≡ old.failures
-  pub rows : IsTrue start.source.steady → (levels : ℕ) (rows : List Row) → IsStored (pages_seen start) table levels rows → levels < 20
-      → Given (pages_seen start) table columns rows (cells_of (pages_seen start) table levels) cursor now.asked (start.asked + size_of (pages_seen start) table levels) n old new
-  pub unchained : IsTrue start.source.steady → (levels : ℕ) (rows : List Row) → IsStored (pages_seen start) table levels rows → levels < 20
-      → IsUnchained (pages_seen start) table levels → now.chained ≡ start.chained
+  pub rows : WhereSteady start (λ pages. (stored : IsStoredTable pages table)
+      → Given pages table columns stored.rows (cells_of pages table stored.levels) cursor now.asked (start.asked + size_of pages table stored.levels) n old new)
+  pub unchained : WhereSteady start (λ pages. (stored : IsStoredTable pages table) → IsUnchained pages table stored.levels → now.chained ≡ start.chained)
 
 seen_same : (start now : PagerState) → SameImage start now → pages_seen now ≡ pages_seen start
 seen_same start now stays = λ k. pages_in (stays.header k) (stays.bytes k)
 
 pub Streaming-start : (start now : PagerState) (table : TableData) (columns : List ℕ) (cursor : Cursor) (n : ℕ) (old : SinkFacts)
-    → SameImage start now → now.source.failures ≡ start.source.failures → now.chained ≡ start.chained
-    → (IsTrue start.source.steady → (levels : ℕ) (rows : List Row) → IsStored (pages_seen start) table levels rows → levels < 20
-    → IsAt (pages_seen start) Table levels cursor (cells_of (pages_seen start) table levels) now.asked (start.asked + size_of (pages_seen start) table levels))
+    → ReadsTreePages {T = Cursor} (Ok cursor) start now → IsPageNumber start table.root → IsOpenedAt start now Table table.root cursor
     → n ≡ 0 → Streaming start now table columns cursor n old old
-Streaming-start start now table columns cursor n old stays reads chained lists is = record {
-  stays = stays;
-  reads = reads;
+Streaming-start start now table columns cursor n old reads root opened is = record {
+  stays = reads.image;
+  reads = reads.failures;
   writes = refl;
-  rows = λ steady levels rows stored few. record {
+  rows = λ steady stored. record {
     given = [];
-    rest = rows;
-    places = cells_of (pages_seen start) table levels;
+    rest = stored.rows;
+    places = cells_of (pages_seen start) table stored.levels;
     whole = refl;
     local = λ every. every;
-    levels = levels;
-    at = lists steady levels rows stored few;
-    stored = stored.rows_are;
+    levels = stored.levels;
+    at = opened.lists steady stored.levels (record { few = stored.few; number = root; shape = stored.stored.shape });
+    stored = stored.stored.rows_are;
     written = Appends-none old.written;
     counted = omega arith;
   };
-  unchained = λ steady levels rows stored few local. chained;
+  unchained = λ steady stored local. reads.unchained;
 }
 
 -- what the cursor says of the cell that it stands at
@@ -265,22 +261,19 @@ IsEntryOf cursor cell = (pages : Pages) (levels : ℕ) (places : List Place) (as
 abbrev pub Says : PagerState → TableData → CellData → (Row → Type 0) → Type 0
 Says now table cell Then = IsTrue now.source.steady → (row : Row) → IsRowOf (pages_seen now) table cell row → Then row
 
--- what a step says
-abbrev pub Steps : PagerState → Cursor → (ℕ → List Place → ℕ → Type 0) → Type 0
-Steps now cursor Then = IsTrue now.source.steady → (levels : ℕ) (places : List Place) (budget : ℕ)
-    → IsAt (pages_seen now) Table levels cursor places now.asked budget → Then levels places budget
-
 module _ (start now : PagerState) (table : TableData) (columns : List ℕ) (cursor : Cursor) (n : ℕ) (old mid : SinkFacts)
     (s : Streaming start now table columns cursor n old mid) where
   is_steady : IsTrue start.source.steady → IsTrue now.source.steady
   is_steady steady = rw s.stays.steady steady
 
-  module _ (steady : IsTrue start.source.steady) (levels : ℕ) (rows : List Row) (stored : IsStored (pages_seen start) table levels rows)
-      (few : levels < 20) where
-    now_given : Given (pages_seen start) table columns rows (cells_of (pages_seen start) table levels) cursor now.asked (start.asked + size_of (pages_seen start) table levels) n old mid
-    now_given = s.rows steady levels rows stored few
+  module _ (steady : IsTrue start.source.steady) (stored : IsStoredTable (pages_seen start) table) where
+    abbrev budget : ℕ
+    budget = start.asked + size_of (pages_seen start) table stored.levels
 
-    pub Streaming-done : IsEntryOf cursor None → Streams columns rows n old mid
+    now_given : Given (pages_seen start) table columns stored.rows (cells_of (pages_seen start) table stored.levels) cursor now.asked budget n old mid
+    now_given = s.rows steady stored
+
+    pub Streaming-done : IsEntryOf cursor None → Streams columns stored.rows n old mid
     Streaming-done entry =
         Given-all _ _ _ _ _ _ _ _ _ _ _ now_given
         (no_cell (pages_seen start) table now_given.places now_given.rest now_given.stored (entry _ _ _ _ _ now_given.at))
@@ -289,8 +282,11 @@ module _ (start now : PagerState) (table : TableData) (columns : List ℕ) (curs
     pub Streaming-never : ((pages : Pages) (levels : ℕ) (places : List Place) (asked budget : ℕ) → IsAt pages Table levels cursor places asked budget → ⊥) → ⊥
     Streaming-never never = never _ _ _ _ _ now_given.at
 
-    pub asked_most : now.asked ≤ start.asked + size_of (pages_seen start) table levels
-    asked_most = standing_asked _ _ _ _ _ _ _ _ now_given.at.stands
+    pub asked_few : AsksFew (pages_seen start) table stored.levels start now
+    asked_few = record {
+      asked = standing_asked _ _ _ _ _ _ _ _ now_given.at.stands;
+      unchained = s.unchained steady stored;
+    }
 
     now_first : (cell : CellData) → IsEntryOf cursor (Some cell)
         → BeginsRows (pages_seen start) table cell now_given.rest (drop 1 now_given.places)
@@ -304,7 +300,7 @@ module _ (start now : PagerState) (table : TableData) (columns : List ℕ) (curs
 
     pub Streaming-cut : (cell : CellData) (e : Fault) (new : SinkFacts) → IsEntryOf cursor (Some cell)
         → Says now table cell (λ row. StreamsUntil e columns (row ∷ []) mid new)
-        → StreamsUntil e columns rows old new
+        → StreamsUntil e columns stored.rows old new
     Streaming-cut cell e new entry written =
         let first = now_first cell entry in
         until_given _ _ _ _ _ _ _ _ _ _ _ now_given e first.more new (first.row ∷ []) first.rest_is
@@ -312,49 +308,48 @@ module _ (start now : PagerState) (table : TableData) (columns : List ℕ) (curs
 
     -- the cursor stands where it stood, once overflow pages were read
     still_at : (wrote : PagerState) → AsksChainsOnly now wrote
-        → IsAt (pages_seen wrote) Table now_given.levels cursor now_given.places wrote.asked (start.asked + size_of (pages_seen start) table levels)
+        → IsAt (pages_seen wrote) Table now_given.levels cursor now_given.places wrote.asked budget
     still_at wrote chained =
-        subst (λ (a : ℕ). IsAt (pages_seen wrote) Table now_given.levels cursor now_given.places a (start.asked + size_of (pages_seen start) table levels)) (sym chained.unasked)
-        (subst (λ (p : Pages). IsAt p Table now_given.levels cursor now_given.places now.asked (start.asked + size_of (pages_seen start) table levels))
+        subst (λ (a : ℕ). IsAt (pages_seen wrote) Table now_given.levels cursor now_given.places a budget) (sym chained.unasked)
+        (subst (λ (p : Pages). IsAt p Table now_given.levels cursor now_given.places now.asked budget)
         (sym (seen_same start wrote (SameImage-trans start now wrote s.stays chained.image))) now_given.at)
 
     wrote_steady : (wrote : PagerState) → AsksChainsOnly now wrote → IsTrue wrote.source.steady
     wrote_steady wrote chained = rw chained.image.steady (is_steady steady)
 
-    pub Streaming-stopped : (wrote : PagerState) (cell : CellData) (e : Fault) (new : SinkFacts) → IsEntryOf cursor (Some cell) → AsksChainsOnly now wrote
-        → Says now table cell (λ row. Appends mid.written new.written (row_text (shown columns row)))
-        → Steps wrote cursor (λ _ _ _. e ≢ Changed) → e ≢ WriteFailed → StreamsUntil e columns rows old new
-    Streaming-stopped wrote cell e new entry chained written sound other =
+    pub Streaming-stopped : (wrote : PagerState) (next : Cursor) (cell : CellData) (e : Fault) (new : SinkFacts) → IsEntryOf cursor (Some cell)
+        → AsksChainsOnly now wrote → Says now table cell (λ row. Appends mid.written new.written (row_text (shown columns row)))
+        → HasFailed wrote cursor next e → StreamsUntil e columns stored.rows old new
+    Streaming-stopped wrote next cell e new entry chained written failed =
         let first = now_first cell entry in
         until_next _ _ _ _ _ _ _ _ _ _ _ now_given cell first e new
         (said cell (λ row. Appends mid.written new.written (row_text (shown columns row))) written entry)
-        (sound (wrote_steady wrote chained) now_given.levels now_given.places _ (still_at wrote chained)) other
+        (failed.sound (wrote_steady wrote chained) Table now_given.levels now_given.places _ (still_at wrote chained))
 
-    now_local : (cell : CellData) → IsEntryOf cursor (Some cell) → IsUnchained (pages_seen start) table levels → cell.payload.overflow ≡ None
+    now_local : (cell : CellData) → IsEntryOf cursor (Some cell) → IsUnchained (pages_seen start) table stored.levels → cell.payload.overflow ≡ None
     now_local cell entry every =
         first_local (pages_seen start) cell now_given.places (entry _ _ _ _ _ now_given.at) (now_given.local every)
 
   pub Streaming-next : (wrote then : PagerState) (cell : CellData) (next : Cursor) (n' : ℕ) (new : SinkFacts) → IsEntryOf cursor (Some cell)
       → AsksChainsOnly now wrote → wrote.source.failures ≡ now.source.failures → (cell.payload.overflow ≡ None → wrote ≡ now)
       → Says now table cell (λ row. Appends mid.written new.written (row_text (shown columns row)))
-      → Steps wrote cursor (λ levels places budget. IsAt (pages_seen wrote) Table levels next (drop 1 places) then.asked budget)
-      → SameImage wrote then → then.source.failures ≡ wrote.source.failures → then.chained ≡ wrote.chained → new.failures ≡ mid.failures
+      → HasStepped wrote then cursor next → ReadsTreePages {T = Unit {0}} (Ok tt) wrote then → new.failures ≡ mid.failures
       → n' ≡ min (n + 1) (2 ^ 64 - 1)
       → Streaming start then table columns next n' old new
-  Streaming-next wrote then cell next n' new entry chained kept unread written lists stays reads no_chain writes is = record {
-    stays = SameImage-trans start wrote then (SameImage-trans start now wrote s.stays chained.image) stays;
-    reads = reads ∙ kept ∙ s.reads;
+  Streaming-next wrote then cell next n' new entry chained kept unread written stepped reads writes is = record {
+    stays = SameImage-trans start wrote then (SameImage-trans start now wrote s.stays chained.image) reads.image;
+    reads = reads.failures ∙ kept ∙ s.reads;
     writes = writes ∙ s.writes;
-    rows = λ steady levels rows stored few.
-        let first = now_first steady levels rows stored few cell entry in
-        let here = now_given steady levels rows stored few in
-        let budget = start.asked + size_of (pages_seen start) table levels in
-        let stands : IsAt (pages_seen start) Table here.levels next (drop 1 here.places) then.asked budget =
-        subst (λ (p : Pages). IsAt p Table here.levels next (drop 1 here.places) then.asked budget) (seen_same start wrote (SameImage-trans start now wrote s.stays chained.image))
-        (lists (wrote_steady steady levels rows stored few wrote chained) here.levels here.places budget (still_at steady levels rows stored few wrote chained)) in
+    rows = λ steady stored.
+        let first = now_first steady stored cell entry in
+        let here = now_given steady stored in
+        let most = budget steady stored in
+        let stands : IsAt (pages_seen start) Table here.levels next (drop 1 here.places) then.asked most =
+        subst (λ (p : Pages). IsAt p Table here.levels next (drop 1 here.places) then.asked most) (seen_same start wrote (SameImage-trans start now wrote s.stays chained.image))
+        (stepped.lists (wrote_steady steady stored wrote chained) Table here.levels here.places most (still_at steady stored wrote chained)).0 in
         Given-next _ _ _ _ _ _ _ _ _ _ _ here cell first next then.asked n' new stands
-        (said steady levels rows stored few cell (λ row. Appends mid.written new.written (row_text (shown columns row))) written entry) is;
-    unchained = λ steady levels rows stored few every.
-        no_chain ∙ ap (λ (p : PagerState). p.chained) (unread (now_local steady levels rows stored few cell entry every))
-        ∙ s.unchained steady levels rows stored few every;
+        (said steady stored cell (λ row. Appends mid.written new.written (row_text (shown columns row))) written entry) is;
+    unchained = λ steady stored every.
+        reads.unchained ∙ ap (λ (p : PagerState). p.chained) (unread (now_local steady stored cell entry every))
+        ∙ s.unchained steady stored every;
   }

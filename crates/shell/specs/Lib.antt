@@ -1,6 +1,7 @@
 pub mod Printed
+pub mod Answer
 pub mod Stream
 pub mod State
-pub mod Answer
+pub mod Run
 pub mod Prepared
 pub mod Served

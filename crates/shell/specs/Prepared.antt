@@ -1,32 +1,25 @@
--- What preparing a text answers, over the tables of an engine. (SELECT)
+-- What preparing a text answers, over the tables of an engine. (SELECT; EXPLAIN QUERY PLAN)
 use Rattle.std.specs.Prelude.{◌⊎◌, ℕ, List}
 use Rattle.values.specs.declared.fault.Fault.{Fault}
-use Rattle.values.specs.declared.fault.Fault.TheVariants as f
 use Rattle.resolver.specs.Resolved.{IsRefused, ResolvedData, Resolves, query_of}
 use Rattle.schema.specs.TableData.{TableData}
-use Rattle.sql_reader.specs.SelectTexts.{IsRefusedSelect, SpellsSelect, SpellsWithin}
-use Rattle.syntax.specs.SelectTrees.{SelectTree, columns_of_select}
-use Rattle.phrases.specs.Texts.{IsWithin}
+use Rattle.statement_texts.specs.StatementTexts.{IsAllowed, IsRefusedStatement, SpellsStatement}
+use Rattle.syntax.specs.StatementTree.{StatementTree}
 
--- the text spells a SELECT within the limits, which is this query over these tables
+-- the text spells a statement within the limits, which is this query over these tables
 pub record Means (tables : List TableData) (text : List ℕ) (prepared : ResolvedData) : Type 0 where
-  pub tree : SelectTree
-  pub spelt : SpellsSelect text tree
-  pub within : IsWithin columns_of_select text tree
+  pub tree : StatementTree
+  pub spelt : SpellsStatement text tree
+  pub within : IsAllowed text tree
   pub resolves : Resolves tables tree (query_of prepared) prepared.names
 
--- Why a text gives no SELECT. A text that spells none, of any number of levels, isn't called a wrong one: it may be one that
--- isn't served yet.
-abbrev pub IsUnserved : List ℕ → Fault → Type 0
-IsUnserved text f.Limit = IsRefusedSelect text f.Limit
-IsUnserved text f.NotYet = (levels : ℕ) (tree : SelectTree) → ¬ SpellsWithin levels text tree
-IsUnserved text f.NoMemory = Unit {0}
-IsUnserved text _ = ⊥
+-- the text spells a statement within the limits whose names give this fault, or which isn't served yet
+pub record IsUnresolved (tables : List TableData) (text : List ℕ) (fault : Fault) : Type 0 where
+  pub tree : StatementTree
+  pub spelt : SpellsStatement text tree
+  pub within : IsAllowed text tree
+  pub refused : IsRefused tables tree fault
 
--- the text spells a SELECT whose names give this fault
-abbrev pub IsUnresolved : List TableData → List ℕ → Fault → Type 0
-IsUnresolved tables text fault = (tree : SelectTree) × SpellsSelect text tree × IsRefused tables tree fault
-
--- why a text was refused
+-- why a text was refused: it spells no statement, or one that is too large, or what it spells is no query
 abbrev pub Refuses : List TableData → List ℕ → Fault → Type 0
-Refuses tables text fault = IsUnserved text fault ⊎ IsUnresolved tables text fault
+Refuses tables text fault = IsRefusedStatement text fault ⊎ IsUnresolved tables text fault

@@ -1,27 +1,25 @@
 -- What the program writes for a statement over an image. (SELECT)
 use Rattle.std.specs.Prelude.{Bool, List, [], ◌++◌, ℕ, if◌then◌else◌, map}
 use Rattle.std.specs.Io.KnownBytes.{Appends}
-use Rattle.values.specs.Datum.{Datum, text}
+use Rattle.values.specs.Datum.{text}
 use Rattle.values.specs.Sink.{SinkFacts}
 use Rattle.image.specs.Pages.{pages_of}
-use Rattle.meaning.specs.Answer.{IsStandIn}
 use Rattle.values.specs.Row.{Row}
 use Rattle.explain.specs.Text.{row_text, rows_text}
 use Rattle.schema.specs.TableData.{TableData}
 use Rattle.integrity.specs.Denotes.{HasTables}
 use Rattle.resolver.specs.Resolved.{ResolvedData, query_of}
-use Rattle.shell.specs.Answer.{Permitted}
+use Rattle.shell.specs.Answer.{IsAnswerOver}
 use Rattle.shell.specs.Prepared.{Means}
 
 -- the line of the column names, where it is wanted
 abbrev pub header_text : Bool → List (List ℕ) → List ℕ
 header_text wanted names = if wanted then row_text (map text names) else []
 
--- The exact answer behind the line of names: the text of one list of rows that the query permits over the tables that the
--- image denotes, whatever value stands for results out of range.
+-- the exact answer behind the line of names
 pub record HasLines (image : List ℕ) (tables : List TableData) (prepared : ResolvedData) (header : Bool) (old new : SinkFacts) : Type 0 where
   pub rows : List Row
-  pub permitted : (w : Datum) → IsStandIn w → Permitted w image tables (query_of prepared) rows
+  pub answer : IsAnswerOver image tables (query_of prepared) rows
   pub written : Appends old.written new.written (header_text header prepared.names ++ rows_text rows)
 
 -- the image has these tables, the text is this query over them, and its whole answer was written

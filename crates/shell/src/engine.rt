@@ -1,32 +1,23 @@
 //! An engine, which answers queries over one image.
-ghost use Rattle.std.specs.Prelude.{◌≡◌, ◌≢◌, ◌⊎◌, ◌-◌, ◌<◌, ◌≤◌, ℕ, IfErr, IfOk, IsTrue, List, MatchResult, Some, slice_get};
+ghost use Rattle.std.specs.Prelude.{◌≡◌, ◌<◌, IfErr, IfOk, MatchResult, Some, length, slice_get};
 ghost use Rattle.std.specs.NonZero.{non_zero_usize_get};
 ghost use Rattle.pager.specs.Calls.{HandsBack};
-ghost use Rattle.sql_reader.specs.SelectTexts.{SpellsSelect};
-ghost use Rattle.syntax.specs.SelectTrees.{columns_of_select};
-ghost use Rattle.syntax.specs.SelectView.{select_of};
-ghost use Rattle.phrases.specs.Texts.{IsWithin};
-ghost use Rattle.resolver.specs.Resolved.{query_of};
-ghost use Rattle.shell.specs.Prepared.{IsUnserved, Means, Refuses};
+ghost use Rattle.shell.specs.Prepared.{Means, Refuses};
 ghost use Rattle.values.specs.Fault.{Counts};
-ghost use Rattle.image.specs.Pages.{pages_of};
-ghost use Rattle.values.specs.Row.{Row};
-ghost use Rattle.schema.specs.TableData.{TableData};
-ghost use Rattle.integrity.specs.Stored.{IsStored};
-ghost use Rattle.shell.specs.Answer.{Answers, IsRunFault, Stops};
+ghost use Rattle.shell.specs.Answer.{IsOutsideFault, IsRunFault};
+ghost use Rattle.shell.specs.Run.{HasRun, HasStopped};
 ghost use Rattle.shell.specs.State.{IsOpenedOver, IsOpeningFault, IsPreparedFor, ReadsTables};
-ghost use Rattle.shell.specs.Stream.{IsUnchained, size_of};
 
-use crate::query::run_query;
-use crate::{Prepared, Report};
+use crate::Prepared;
+use crate::stream::write_rows;
 use integrity::{Checked, check};
 use pager::{Pager, Source};
 use resolver::resolve;
-use sql_reader::read_select;
+use schema::Table;
+use statement_texts::read_select;
 use std::alloc::Global;
 use std::marker::Model;
 use std::num::NonZeroUsize;
-use syntax::Select;
 use values::{Fault, Sink};
 
 /// An image that was checked whole, and its tables.
@@ -47,15 +38,37 @@ impl<S: Source> Model for Engine<S> {
     ghost invariant = { λ e. IsReady e.pager.state e.checked.tables };
 }
 
-/// The SELECT that a text spells. A text that spells none may be one that isn't served yet.
-fn served_select(alloc: Global, text: &str) -> Result<Select, Fault>
-    ensures spelt { IfOk result (λ select. SpellsSelect text.now (select_of select)) }
-    ensures within { IfOk result (λ select. IsWithin columns_of_select text.now (select_of select)) }
-    ensures refused { IfErr result (IsUnserved text.now) }
+/// What a run took: the rows that it wrote, and the pages that it asked for, those of overflow chains apart. Each count
+/// stops at the greatest number.
+#[derive(Clone, Copy, Debug, PartialEq, Eq)]
+pub struct Report {
+    /// How many rows were written.
+    pub rows: u64,
+    /// How many pages were asked for.
+    pub asked: u64,
+    /// How many pages of overflow chains were asked for.
+    pub chained: u64,
+}
+
+/// The table at a place of the catalog.
+fn table_of(tables: &[Table], source: usize) -> &Table
+    requires { source < length tables.now }
+    ensures { slice_get tables.now source ≡ Some result.now }
 {
-    match read_select(alloc, text) {
-        Err(Fault::Syntax(_)) => Err(Fault::NotYet),
-        read => read,
+    &tables[source]
+}
+
+/// A fault as a run answers it: a table that was sound and is not has changed.
+fn run_fault(fault: Fault) -> Fault
+    ensures only { IsRunFault result }
+    ensures outside { IsOutsideFault fault → result ≡ fault }
+    ensures inside { IsOutsideFault result → result ≡ fault }
+{
+    match fault {
+        Fault::ReadFailed => Fault::ReadFailed,
+        Fault::NoMemory => Fault::NoMemory,
+        Fault::WriteFailed => Fault::WriteFailed,
+        _ => Fault::Changed,
     }
 }
 
@@ -81,18 +94,18 @@ impl<S: Source> Engine<S> {
         }
     }
 
-    /// Reads a SELECT and resolves its names; no page is read.
+    /// Reads a statement and resolves its names; no page is read. (SELECT; EXPLAIN QUERY PLAN)
     ///
     /// # Errors
     ///
-    /// `Limit`; `NotYet` for a text that spells no SELECT that is served; `UnknownTable`, `UnknownColumn`, `Ambiguous`, and
-    /// `NoMemory`.
+    /// `Syntax` where the text spells no statement, with the place of a byte where it stopped being one; `Limit`; `NotYet` for
+    /// a statement that isn't served; `UnknownTable`, `UnknownColumn`, `Ambiguous`, and `NoMemory`.
     pub fn prepare(&self, text: &str) -> Result<Prepared, Fault>
         ensures { MatchResult result (λ prepared. IsPreparedFor self.now.tables prepared × Means self.now.tables text.now prepared)
             (Refuses self.now.tables text.now) }
     {
-        let select = served_select(self.alloc, text)?;
-        let query = resolve(self.alloc, self.checked.tables(), &select)?;
+        let statement = read_select(self.alloc, text)?;
+        let query = resolve(self.alloc, self.checked.tables(), &statement)?;
         let prepared = Prepared::new(self.alloc, query)?;
         Ok(prepared)
     }
@@ -106,26 +119,22 @@ impl<S: Source> Engine<S> {
     /// only where the source no longer has the bytes that were checked.
     pub fn run<W: Sink>(&mut self, prepared: &Prepared, out: &mut W) -> Result<Report, Fault>
         requires { IsPreparedFor self.old.tables prepared.now }
-        ensures answer { IsTrue self.old.pager.source.steady → MatchResult result
-            (λ report. Answers self.old.pager.source.bytes self.old.tables (query_of prepared.now) report.rows (W.facts out.old) (W.facts out.new))
-            (λ e. Stops e self.old.pager.source.bytes self.old.tables (query_of prepared.now) (W.facts out.old) (W.facts out.new)) }
-        ensures pages { IsTrue self.old.pager.source.steady → (stored : TableData) (levels : ℕ) (rows : List Row)
-            → slice_get self.old.tables prepared.now.table ≡ Some stored
-            → IsStored (pages_of self.old.pager.source.bytes) stored levels rows → levels < 20
-            → IfOk result (λ report. (report.asked ≤ size_of (pages_of self.old.pager.source.bytes) stored levels)
-            × (IsUnchained (pages_of self.old.pager.source.bytes) stored levels → report.chained ≡ 0)) }
-        ensures counts { IfOk result (λ report. (report.asked ≡ self.new.pager.asked - self.old.pager.asked)
-            × (report.chained ≡ self.new.pager.chained - self.old.pager.chained)) }
-        ensures only { IfErr result IsRunFault }
+        ensures outcome { MatchResult result (HasRun self.old self.new prepared.now (W.facts out.old) (W.facts out.new))
+            (HasStopped self.old prepared.now (W.facts out.old) (W.facts out.new)) }
         ensures reads { ReadsTables result self.old self.new }
         ensures writes { Counts Fault.WriteFailed result (W.facts out.old).failures (W.facts out.new).failures }
     {
-        run_query(
-            self.alloc,
-            &mut self.pager,
-            self.checked.tables(),
-            &prepared.query,
-            out,
-        )
+        let (asked, chained) = (self.pager.asked(), self.pager.chained());
+        let query = &prepared.query;
+        let table = table_of(self.checked.tables(), query.source());
+        let rows = match write_rows(self.alloc, &mut self.pager, table, query.columns(), out) {
+            Ok(rows) => rows,
+            Err(fault) => return Err(run_fault(fault)),
+        };
+        Ok(Report {
+            rows,
+            asked: self.pager.asked() - asked,
+            chained: self.pager.chained() - chained,
+        })
     }
 }

@@ -1,102 +1,173 @@
-//! Trees of expressions, as an operator or a function before its operands, in parentheses.
+//! Trees of expressions, as an operator or a function before its operands, in parentheses; and of windows.
+use crate::pieces::Piece;
+use crate::queries::{add_inner, add_terms};
+use statement_trees::{Arm, Behind, Expr, Over, Window};
 use std::alloc::AllocError;
-use syntax::{Arm, Expr};
+use syntax::Frame;
 
-/// Writes a column's name, behind that of its table where it is written.
-fn write_column(table: &Option<String>, name: &String, out: &mut String) -> Result<(), AllocError> {
+/// Writes the name of a column, behind that of its table where it is written.
+fn write_name(table: &Option<String>, name: &String, out: &mut String) -> Result<(), AllocError> {
     if let Some(table) = table {
         write!(out, "[{}].", table.as_str())?;
     }
     write!(out, "[{}]", name.as_str())
 }
 
-/// Writes the tree of an expression.
-#[cycle(write)]
-pub fn write_expr(expr: &Expr, out: &mut String) -> Result<(), AllocError> {
+/// Writes the front of an expression.
+pub fn write_expr<'a>(
+    expr: &'a Expr,
+    out: &mut String,
+    then: &mut Vec<Piece<'a>>,
+) -> Result<(), AllocError> {
     match expr {
         Expr::Null => out.push_str("null"),
         Expr::Number(number) => write!(out, "{number}"),
         Expr::Text(text) => write!(out, "{:?}", text.as_str()),
         Expr::Blob(bytes) => write!(out, "{bytes:?}"),
-        Expr::Column(table, name) => write_column(table, name, out),
-        Expr::CountRows => out.push_str("CountRows"),
+        Expr::Column(table, name) => write_name(table, name, out),
+        Expr::CountRows(behind) => {
+            out.push_str("CountRows")?;
+            add_behind(behind, then)
+        }
         _ => {
             out.push('(')?;
-            write_inside(expr, out)?;
-            out.push(')')
+            write_operator(expr, out)?;
+            add_operands(expr, then)?;
+            then.push(Piece::Word(")"))?;
+            Ok(())
         }
     }
 }
 
-/// Writes what stands between the parentheses of an operator, a call or a choice.
-#[cycle(write)]
-fn write_inside(expr: &Expr, out: &mut String) -> Result<(), AllocError> {
+/// Writes what stands behind the parenthesis of an operator, a call or a CASE.
+fn write_operator(expr: &Expr, out: &mut String) -> Result<(), AllocError> {
     match expr {
-        Expr::Prefix(operator, operand) => {
-            write!(out, "{operator:?}")?;
-            write_operand(operand, out)
+        Expr::Prefix(operator, _) => write!(out, "{operator:?}"),
+        Expr::Postfix(operator, _) => write!(out, "{operator:?}"),
+        Expr::Binary(operator, _, _) => write!(out, "{operator:?}"),
+        Expr::Between(true, _, _, _) => out.push_str("NotBetween"),
+        Expr::Between(false, _, _, _) => out.push_str("Between"),
+        Expr::In(true, _, _) | Expr::InQuery(true, _, _) => out.push_str("NotIn"),
+        Expr::In(false, _, _) | Expr::InQuery(false, _, _) => out.push_str("In"),
+        Expr::Exists(_) => out.push_str("Exists"),
+        Expr::Call(function, _, _) => write!(out, "{function:?}"),
+        Expr::Case(_, _, _) => out.push_str("Case"),
+        _ => Ok(()),
+    }
+}
+
+/// Adds the operands of an operator, a call or a CASE.
+fn add_operands<'a>(expr: &'a Expr, then: &mut Vec<Piece<'a>>) -> Result<(), AllocError> {
+    match expr {
+        Expr::Prefix(_, operand) | Expr::Postfix(_, operand) => add_operand(operand, then),
+        Expr::Binary(_, left, right) => {
+            add_operand(left, then)?;
+            add_operand(right, then)
         }
-        Expr::Postfix(operator, operand) => {
-            write!(out, "{operator:?}")?;
-            write_operand(operand, out)
+        Expr::Between(_, value, lower, upper) => {
+            add_operand(value, then)?;
+            add_operand(lower, then)?;
+            add_operand(upper, then)
         }
-        Expr::Binary(operator, left, right) => {
-            write!(out, "{operator:?}")?;
-            write_operand(left, out)?;
-            write_operand(right, out)
+        Expr::In(_, value, members) => {
+            add_operand(value, then)?;
+            add_list(members.as_slice(), then)
         }
-        Expr::Between(is_negated, value, lower, upper) => {
-            out.push_str(if *is_negated { "NotBetween" } else { "Between" })?;
-            write_operand(value, out)?;
-            write_operand(lower, out)?;
-            write_operand(upper, out)
+        Expr::InQuery(_, value, query) => {
+            add_operand(value, then)?;
+            add_inner(query, then)
         }
-        Expr::In(is_negated, value, members) => {
-            out.push_str(if *is_negated { "NotIn" } else { "In" })?;
-            write_operand(value, out)?;
-            write_operands(members, out)
-        }
-        Expr::Call(function, arguments) => {
-            write!(out, "{function:?}")?;
-            write_operands(arguments, out)
+        Expr::Exists(query) => add_inner(query, then),
+        Expr::Call(_, arguments, behind) => {
+            add_list(arguments.as_slice(), then)?;
+            add_behind(behind, then)
         }
         Expr::Case(operand, arms, otherwise) => {
-            out.push_str("Case")?;
-            if let Some(operand) = operand {
-                write_operand(operand, out)?;
-            }
-            write_arms(arms, out)?;
-            if let Some(otherwise) = otherwise {
-                out.push_str(" else")?;
-                write_operand(otherwise, out)?;
-            }
-            Ok(())
+            add_part("", operand, then)?;
+            add_arms(arms.as_slice(), then)?;
+            add_part(" else", otherwise, then)
         }
         _ => Ok(()),
     }
 }
 
-#[cycle(write)]
-fn write_operand(operand: &Expr, out: &mut String) -> Result<(), AllocError> {
-    out.push(' ')?;
-    write_expr(operand, out)
+/// Adds an expression behind a blank.
+pub fn add_operand<'a>(operand: &'a Expr, then: &mut Vec<Piece<'a>>) -> Result<(), AllocError> {
+    then.push(Piece::Word(" "))?;
+    then.push(Piece::Expr(operand))?;
+    Ok(())
 }
 
-#[cycle(write)]
-fn write_operands(operands: &[Expr], out: &mut String) -> Result<(), AllocError> {
+/// Adds expressions, each behind a blank.
+pub fn add_list<'a>(operands: &'a [Expr], then: &mut Vec<Piece<'a>>) -> Result<(), AllocError> {
     for operand in operands {
-        write_operand(operand, out)?;
+        add_operand(operand, then)?;
     }
     Ok(())
 }
 
-#[cycle(write)]
-fn write_arms(arms: &[Arm], out: &mut String) -> Result<(), AllocError> {
-    for arm in arms {
-        out.push_str(" when")?;
-        write_operand(&arm.when, out)?;
-        out.push_str(" then")?;
-        write_operand(&arm.then, out)?;
+/// Adds an expression that may be absent, behind a word.
+fn add_part<'a>(
+    word: &'a str,
+    part: &'a Option<Box<Expr>>,
+    then: &mut Vec<Piece<'a>>,
+) -> Result<(), AllocError> {
+    if let Some(part) = part {
+        then.push(Piece::Word(word))?;
+        add_operand(part, then)?;
     }
     Ok(())
+}
+
+fn add_arms<'a>(arms: &'a [Arm], then: &mut Vec<Piece<'a>>) -> Result<(), AllocError> {
+    for arm in arms {
+        then.push(Piece::Word(" when"))?;
+        add_operand(&arm.when, then)?;
+        then.push(Piece::Word(" then"))?;
+        add_operand(&arm.then, then)?;
+    }
+    Ok(())
+}
+
+/// Adds what stands behind a call.
+fn add_behind<'a>(behind: &'a Behind, then: &mut Vec<Piece<'a>>) -> Result<(), AllocError> {
+    add_part(" filter", &behind.filter, then)?;
+    match &behind.over {
+        Over::Absent => {}
+        Over::Name(name) => {
+            then.push(Piece::Word(" over "))?;
+            then.push(Piece::Name(name))?;
+        }
+        Over::Window(window) => {
+            then.push(Piece::Word(" over "))?;
+            then.push(Piece::Window(window))?;
+        }
+    }
+    Ok(())
+}
+
+/// Writes the front of a window, which stands in parentheses.
+pub fn write_window<'a>(
+    window: &'a Window,
+    out: &mut String,
+    then: &mut Vec<Piece<'a>>,
+) -> Result<(), AllocError> {
+    out.push_str("(partition")?;
+    add_list(window.partition.as_slice(), then)?;
+    then.push(Piece::Word(" order"))?;
+    add_terms(window.order.as_slice(), then)?;
+    if let Some(frame) = window.frame {
+        then.push(Piece::Frame(frame))?;
+    }
+    then.push(Piece::Word(")"))?;
+    Ok(())
+}
+
+/// Writes a frame.
+pub fn write_frame(frame: Frame, out: &mut String) -> Result<(), AllocError> {
+    write!(
+        out,
+        " {:?} {:?} {:?} {:?}",
+        frame.unit, frame.start, frame.end, frame.exclusion
+    )
 }

@@ -1,22 +1,27 @@
 //! Writes what SQL texts say, so that worked texts can be compared with their tokens and trees: of each line of standard
 //! input the line itself, and behind it its answer. A line is a word and a text: `tokens` and `create-tokens` list the
 //! tokens by the reserved words of either grammar, `select`, `create` and `create-index` write the tree, and `names` the
-//! names of a SELECT's result columns. A fault is answered by its line.
+//! names of the result columns of a statement's first SELECT. A fault is answered by its line.
 //!
-//! The modules, in the order in which data passes them: `lines` (the texts), `token_lists`, `expressions` and `statements`
-//! (their trees).
+//! The modules, in the order in which data passes them: `lines` (the texts), `token_lists`, `pieces` (what is still to be
+//! written of a tree), `expressions`, `queries` and `statements` (trees of statements) and `created` (trees of CREATE
+//! texts).
 #![tactic(auto)]
 
+mod created;
 mod expressions;
 mod lines;
+mod pieces;
+mod queries;
 mod statements;
 mod token_lists;
 
 use anyhow::{Context, Result};
 use create_reader::{read_create, read_create_index};
+use created::{write_create, write_index};
 use lines::text_of;
-use sql_reader::read_select;
-use statements::{write_create, write_index, write_names, write_select};
+use statement_texts::read_select;
+use statements::{write_headings, write_statement};
 use std::alloc::Global;
 use token_lists::write_tokens;
 use tokens::{Grammar, read_tokens};
@@ -30,10 +35,10 @@ fn write_answer(alloc: Global, word: &str, text: &str, out: &mut String) -> Resu
             read_tokens(alloc, Grammar::Create, text)?.as_slice(),
             out,
         )?,
-        "names" => write_names(&read_select(alloc, text)?, out)?,
+        "names" => write_headings(&read_select(alloc, text)?, out)?,
         "create" => write_create(&read_create(alloc, text)?, out)?,
-        "create-index" => write_index(&read_create_index(alloc, text)?, out)?,
-        _ => write_select(&read_select(alloc, text)?, out)?,
+        "create-index" => write_index(alloc, &read_create_index(alloc, text)?, out)?,
+        _ => write_statement(alloc, &read_select(alloc, text)?, out)?,
     }
     Ok(())
 }

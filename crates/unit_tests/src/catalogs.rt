@@ -70,7 +70,7 @@ const CATALOGS: [(&[Object], &str); 9] = [
             "CREATE TABLE old(a INT DEFAULT 1 DEFAULT -3, b TEXT DEFAULT 'x' DEFAULT (1), c BLOB DEFAULT x'00' CHECK (c), \
              d INT DEFAULT (2) NOT NULL DEFAULT NULL) STRICT",
         )],
-        "old at 7 | a: int or -3 | b: text or computed | c: blob or a blob | d: int filled\n",
+        "old at 7 | a: int or -3 | b: text or refused | c: blob or a blob | d: int filled\n",
     ),
     (
         &[(
@@ -228,7 +228,7 @@ fn write_missing(alloc: Global, text: &mut String, missing: &Missing) -> Result<
             text.push_str(format!(in alloc; " or '{content}'")?.as_str())
         }
         Missing::Fill(Value::Blob(_)) => text.push_str(" or a blob"),
-        Missing::Refused => text.push_str(" or computed"),
+        Missing::Refused => text.push_str(" or refused"),
     }
 }
 
@@ -286,7 +286,8 @@ fn catalogs(rt: HostRuntime) -> Result<(), Fail> {
     let schema = [Table::schema(rt.alloc())?];
     assert_eq!(rt;
         written(rt.alloc(), &schema)?.as_str(),
-        "sqlite_schema at 1 | type: text | name: text | tbl_name: text | rootpage: int | sql: text\n"
+        "sqlite_schema at 1 | type: text or refused | name: text or refused | \
+         tbl_name: text or refused | rootpage: int or refused | sql: text or refused\n"
     );
     Ok(())
 }

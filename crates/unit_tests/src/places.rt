@@ -1,7 +1,7 @@
 //! SELECTs over the table of the schema, and over no tables.
 use resolver::{Query, resolve};
 use schema::Table;
-use sql_reader::read_select;
+use statement_texts::read_select;
 use std::alloc::Global;
 use std::test::Fail;
 use values::Fault;

@@ -1,4 +1,4 @@
-use Rattle.syntax.specs.SelectView.{result_of}
+use Rattle.statement_trees.specs.TreeView.{result_of}
 use Rattle.resolver.specs.Plain.{IsName}
 use Rattle.resolver.proofs.ColumnLemmas.{zip_all, zip_map_left, zip_map_right, zip_more}
 use Rattle.resolver.proofs.PlainLemmas.{none_zipped}

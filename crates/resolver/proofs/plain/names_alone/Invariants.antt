@@ -1,6 +1,6 @@
 use Rattle.std.proofs.Common.{take}
 use Rattle.std.specs.List.{AllZip}
-use Rattle.syntax.specs.SelectView.{result_of}
+use Rattle.statement_trees.specs.TreeView.{result_of}
 use Rattle.resolver.specs.Plain.{IsName}
 use Rattle.resolver.proofs.plain.names_alone.Given as goal
 

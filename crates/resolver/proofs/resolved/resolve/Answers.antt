@@ -1,7 +1,7 @@
 use Rattle.std.proofs.Common.{refl, rules}
 use Rattle.std.proofs.lemmas.List.{length-map}
 use Rattle.std.proofs.lemmas.Result.{err_from_is_err_and}
-use Rattle.syntax.specs.SelectView.{select_of}
+use Rattle.statement_trees.specs.StatementView.{statement_of}
 use Rattle.resolver.specs.PlainView.{columns_of}
 use Rattle.resolver.specs.Resolved.{column_names}
 use Rattle.resolver.proofs.ResolvedLemmas.{columns_refused, places_within, resolved_is_typed, source_at, source_within}
@@ -24,7 +24,7 @@ returns-in_err-columns-clause-refused c =
     let plain = rw c.in-Some.is at c.in_ok-plain.ensures in
     let source = source_at c.args.tables.now _ c.in_ok-source.source c.index-tables-source.result c.in_ok-source.ensures.place c.index-tables-source.is in
     let p = err_from_is_err_and c.from_residual-in_err-columns.result c.from_residual-in_err-columns.ensures.1 in
-    rw (p.1, p.2) (columns_refused c.args.tables.now (select_of c.args.select.now) _ _ c.in_ok-source.source c.index-tables-source.result _ plain source
+    rw (p.1, p.2) (columns_refused c.args.tables.now (statement_of c.args.statement.now) _ _ c.in_ok-source.source c.index-tables-source.result _ plain source
     (rw c.columns-declared.ensures at c.in_err-columns.ensures.refused))
 
 pub returns-clause-means : goal.returns-clause-means
@@ -43,4 +43,4 @@ returns-clause-means c = record {
 }
 
 pub returns-clause-typed : goal.returns-clause-typed
-returns-clause-typed c = resolved_is_typed c.args.tables.now (select_of c.args.select.now) _ _ (returns-clause-means c)
+returns-clause-typed c = resolved_is_typed c.args.tables.now (statement_of c.args.statement.now) _ _ (returns-clause-means c)

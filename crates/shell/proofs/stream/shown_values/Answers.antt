@@ -10,7 +10,7 @@ returns-in_default-value-clause-shown c = λ row is. absurd (c.in_default-value.
 
 pub loop-column-preserved : goal.loop-column-preserved
 loop-column-preserved c = record {
-  wide = c.value.ensures.wide ∙ c.loop-column.invariant.wide;
+  table_is = c.value.ensures.table ∙ c.loop-column.invariant.table_is;
   reads = λ row is. (c.in-Some-value.ensures.found row (c.loop-column.invariant.reads row is)).1;
   shows = λ row is.
       rw c.in_ok-push.ensures.ok

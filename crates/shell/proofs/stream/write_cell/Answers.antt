@@ -1,21 +1,21 @@
-use Rattle.std.proofs.Common.{◌≡◌, ◌∙◌, ◌∷◌, [], List, ℕ, sym, subst}
+use Rattle.std.proofs.Common.{inr, ◌≡◌, ◌∙◌, ◌∷◌, [], List, ℕ, sym, subst}
 use Rattle.std.proofs.lemmas.Result.{err_from_is_err_and}
-use Rattle.integrity.specs.Stored.{IsRowRecord}
-use Rattle.shell.proofs.StreamLemmas.{failed_read, no_memory, row_written}
+use Rattle.stored_rows.specs.Stored.{IsRowRecord}
+use Rattle.shell.proofs.StreamLemmas.{nothing_given, row_written}
 use Rattle.shell.proofs.stream.write_cell.Goals as goal
 
 pub returns-in_err-bytes-clause-rows : goal.returns-in_err-bytes-clause-rows
 returns-in_err-bytes-clause-rows g c = λ steady row is.
     let p = err_from_is_err_and c.from_residual.result c.from_residual.ensures.1 in
-    rw (p.1, p.2) (failed_read _ c.args.columns.now (row ∷ []) _ (c.in_err-bytes.ensures.bytes steady is.bytes is.whole))
+    rw (p.1, p.2) (nothing_given _ c.args.columns.now (row ∷ []) _ (c.in_err-bytes.ensures.bytes steady is.bytes is.whole))
 
 pub returns-in_err-values-clause-rows : goal.returns-in_err-values-clause-rows
 returns-in_err-values-clause-rows g c = λ steady row is.
     let p = err_from_is_err_and c.from_residual-in_err-values.result c.from_residual-in_err-values.ensures.1 in
     let read : c.as_slice.result.now ≡ is.bytes = c.as_slice.ensures.value ∙ c.in_ok-bytes.ensures.bytes steady is.bytes is.whole in
     rw (p.1, p.2)
-    (no_memory _ c.args.columns.now (row ∷ []) _
-    (c.in_err-values.ensures.shown row (subst (λ (b : List ℕ). IsRowRecord c.args.table.now c.args.cell.now.rowid b row) (sym read) is.is)))
+    (nothing_given _ c.args.columns.now (row ∷ []) _
+    (inr (c.in_err-values.ensures.shown row (subst (λ (b : List ℕ). IsRowRecord c.args.table.now c.args.cell.now.rowid b row) (sym read) is.is))))
 
 pub returns-clause-rows : goal.returns-clause-rows
 returns-clause-rows g c = λ steady row is.

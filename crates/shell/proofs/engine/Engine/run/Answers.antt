@@ -1,22 +1,24 @@
-use Rattle.std.proofs.Common.{◌∙◌, ap, IfOk, IsTrue, Result, Ok, Err}
-use Rattle.values.specs.declared.fault.Fault.{Fault}
-use Rattle.shell.specs.declared.query.Report.{Report}
-use Rattle.resolver.specs.Resolved.{ResolvedData}
-use Rattle.shell.specs.State.{EngineState}
+use Rattle.shell.proofs.RunLemmas.{columns_within, has_run, has_stopped}
 use Rattle.shell.proofs.engine.Engine.run.Goals as goal
 
--- what a report says, once and under a condition
-both : (result : Result Report Fault) (P Q : Report → Type 0) (A : Type 0) → IfOk result P → (A → IfOk result Q) → IfOk result (λ r. P r × (A → Q r))
-both (Ok r) P Q A p q = (p, q)
-both (Err e) P Q A p q = tt
+pub write_rows-requires-clause-columns : goal.write_rows-requires-clause-columns
+write_rows-requires-clause-columns g c =
+    rw (← c.columns.ensures)
+    (columns_within c.self.inside.checked.tables c.prepared.inside.query c.table_of-table.result.now
+    (rw (← c.self.view_is, ← c.prepared.view_is) at c.requires) (rw (c.source.ensures, ← c.tables.ensures) c.table_of-table.ensures))
 
-pub returns-clause-pages : goal.returns-clause-pages
-returns-clause-pages g c = λ steady stored levels rows found held few.
-    let self = c.self.view_is in
-    let bytes = ap (λ (e : EngineState). e.pager.source.bytes) self in
-    let seen : IsTrue c.self.inside.pager.state.source.steady = rw (ap (λ (e : EngineState). e.pager.source.steady) self) steady in
-    let tables = c.tables.ensures ∙ ap (λ (e : EngineState). e.tables) self in
-    let source = ap (λ (p : ResolvedData). p.table) c.prepared.view_is in
-    both _ _ _ _
-    (rw (← bytes) (c.run_query.ensures.pages seen stored levels rows (rw (tables, source) found) (rw bytes held) few))
-    (λ every. c.run_query.ensures.unchained seen stored levels rows (rw (tables, source) found) (rw bytes held) few (rw bytes every))
+pub returns-in-Err-clause-outcome : goal.returns-in-Err-clause-outcome
+returns-in-Err-clause-outcome g c =
+    let at = rw (← c.source.ensures, c.tables.ensures) at c.table_of-table.ensures in
+    let streams = rw (← c.columns.ensures) at c.in-Err.ensures.rows in
+    rw (← c.self.view_is, ← c.prepared.view_is)
+    (has_stopped c.self.inside.pager.state c.self.inside.checked.tables c.prepared.inside.query c.table_of-table.result.now c.self.invariant at
+    _ _ _ _ streams c.run_fault.ensures.only c.run_fault.ensures.outside)
+
+pub returns-clause-outcome : goal.returns-clause-outcome
+returns-clause-outcome g c =
+    let at = rw (← c.source.ensures, c.tables.ensures) at c.table_of-table.ensures in
+    let streams = rw (← c.columns.ensures) at c.in-Ok.ensures.rows in
+    rw (← c.self.view_is, ← c.prepared.view_is)
+    (has_run c.self.inside.pager.state c.self.inside.checked.tables c.prepared.inside.query c.table_of-table.result.now c.self.invariant at
+    _ _ _ _ streams c.in-Ok.ensures.pages (rw (c.asked.ensures, c.asked-asked.ensures)) (rw (c.chained.ensures, c.chained-chained.ensures)))
