@@ -9,6 +9,10 @@ crate, and the check is asked for these functions alone. Such an edit counts as 
 function's contract isn't proved: one that says what holds when it returns. A function that is blamed for another goal or
 for a function that it calls is tried again in a further check. What is left, what stands in no body, and all edits of a
 check that ended in another way, are tried one at a time on a fresh copy by the kit's own judgement of an edit.
+
+The first check of a crate leaves the work of its definitions and lemmas for the others. Its other functions are proved
+again only where an edit is tried alone, since that judgement is one of the whole crate; that it is proved as it stands
+is what `rt ci` has found before.
 """
 
 from __future__ import annotations
@@ -27,7 +31,7 @@ from dataclasses import dataclass
 from pathlib import Path
 
 from kit import rt
-from sources import Function, functions_of, path_of
+from sources import functions_of, path_of
 from turns import Turn
 
 # How many edits one check takes. More save little, since each one's own failing proof remains.
@@ -38,14 +42,21 @@ NAMES = re.compile(r"has no field|is not in scope|has no `|was not admitted")
 
 @dataclass(frozen=True)
 class Edit:
-    """An edit, and the function in whose body all of it stands, by the name that the prover has for it."""
+    """An edit, and the function in whose body all of it stands, by its names from that of its file on: a method's are the
+    file's, its type's (for an impl of a trait, those of both) and its own."""
 
     file: str
-    function: str | None
+    function: tuple[str, ...] | None
+    is_method: bool = False
 
     @property
     def name(self) -> str:
         return os.path.basename(self.file)
+
+    @property
+    def word(self) -> str:
+        """The end of the name that the prover has for the function: that of a method begins with the file of its type."""
+        return "::".join(self.function[-2:] if self.is_method else self.function)
 
 
 @dataclass(frozen=True)
@@ -54,6 +65,11 @@ class Outcome:
 
     refused: bool
     line: str
+
+    @staticmethod
+    def judged(verdict: str, line: str) -> Outcome:
+        """The kit's own verdict, which is a word."""
+        return Outcome(verdict in (rt.REFUSED, rt.AT_LIMIT), line)
 
 
 class Room:
@@ -81,14 +97,14 @@ class Room:
         """Checks these functions, or all where there are none: the exit status, and what the prover says."""
         words = [rt.rtlib.RATTLE, "check", *self.crate.words(["--jobs", "1"], keeps=False), "--incremental", str(self.kept)]
         for function in functions:
-            words += ["--only", function.removeprefix(f"{self.crate.name}::")]
+            words += ["--only", function]
         how = {"cwd": self.folder, "stdin": subprocess.DEVNULL, "stdout": subprocess.PIPE, "stderr": subprocess.STDOUT}
         ran = subprocess.run([*rt.rtlib.guarded(), *words], errors="replace", check=False, **how)
         return ran.returncode, ran.stdout.rstrip("\n").split("\n")
 
 
-def function_of(edit: str, folder: str, known: list[str]) -> str | None:
-    """The function in whose body the whole edit stands, by the one of the known names that is its own."""
+def edit_of(edit: str, folder: str) -> Edit:
+    """An edit with the function in whose body all of it stands."""
     file, found = "", set()
     for line in Path(edit).read_text(encoding="utf-8").split("\n"):
         if line.startswith("file: "):
@@ -99,104 +115,94 @@ def function_of(edit: str, folder: str, known: list[str]) -> str | None:
             first = text.find(old)
             around = [it for it in functions_of(text) if it.body <= first and first + len(old) < it.end]
             if not around or around[-1].is_const:
-                return None
-            found.add((file, around[-1]))
-    return known_name(*found.pop(), known) if len(found) == 1 else None
+                return Edit(edit, None)
+            found.add((tuple(path_of(around[-1], file)), bool(around[-1].owner)))
+    return Edit(edit, *found.pop()) if len(found) == 1 else Edit(edit, None)
 
 
-def known_name(file: str, function: Function, known: list[str]) -> str | None:
-    """The one of the known names that a function of this file has."""
-    path = path_of(function, file)
-    owner = path[-2] if function.owner else ""
-    module = path[: -2 if owner else -1]
-    inside = [name for name in known if name.split("::")[1 : len(module) + 1] == module and name.split("::")[-1] == function.name]
-    inside = [name for name in inside if "fn" not in name.split("::") and len(name.split("::")) == len(path) + 1]
-    same = [name for name in inside if name.split("::")[-2] == owner]
-    alike = [name for name in inside if name.split("::")[-2].startswith(owner)]
-    for names in (same, alike, inside) if owner else (inside,):
-        if len(names) == 1:
-            return names[0]
-    return None
-
-
-def own_refusal(function: str, room: Room, lines: list[str]) -> str | None:
-    """The prover's line that a goal of this function's contract isn't proved."""
-    if not any(re.match(rf"fn {re.escape(function)}: (no proof|not proved)", line) for line in lines):
+def own_refusal(edit: Edit, room: Room, lines: list[str]) -> str | None:
+    """The prover's line that a goal of the contract of the edit's function isn't proved."""
+    blamed = re.compile(rf"fn {re.escape(room.crate.name)}::((?:.*::)?{re.escape(edit.word)}): (?:no proof|not proved)")
+    names = [found[1] for line in lines if (found := blamed.match(line))]
+    if len(names) != 1:
         return None
-    proofs = "/".join(function.split("::")[1:])
-    in_proof = re.compile(rf"\./proofs/{re.escape(proofs)}/\S+: error: `returns[^`]*`: (?P<why>.*)")
+    in_proof = re.compile(rf"\./proofs/{re.escape(names[0].replace('::', '/'))}/\S+: error: `returns[^`]*`: (?P<why>.*)")
     in_source = re.compile(r"note: (?P<file>src/\S+?):(?P<line>\d+):\d+: it is not proved that what the function ensures holds")
     for line in lines:
         proof, source = in_proof.match(line), in_source.match(line)
         if proof and not NAMES.search(proof["why"]):
             return line
-        if source and function_at(room, source["file"], int(source["line"]), function):
+        if source and function_at(room, source["file"], int(source["line"])) == edit.function:
             return line
     return None
 
 
-def function_at(room: Room, file: str, line: int, function: str) -> bool:
-    """Whether the line is one of this function's, by the names that it may have."""
+def function_at(room: Room, file: str, line: int) -> tuple[str, ...] | None:
+    """The names of the innermost function that stands at the line."""
     text = (room.folder / file).read_text(encoding="utf-8")
-    for it in functions_of(text):
-        first, last = text.count("\n", 0, it.start) + 1, text.count("\n", 0, it.end) + 1
-        if first <= line <= last and known_name(file, it, [function]) == function:
-            return True
-    return False
+    around = [it for it in functions_of(text) if text.count("\n", 0, it.start) < line <= text.count("\n", 0, it.end) + 1]
+    return tuple(path_of(around[-1], file)) if around else None
 
 
 class Trial:
     """The edits of one crate, which take a slot for each check."""
 
     def __init__(self, crate, edits: list[str], slots: threading.Semaphore, kept: Path | None) -> None:
-        self.crate, self.files, self.slots = crate, edits, slots
-        self.is_lent = kept is not None
+        self.crate, self.slots, self.began = crate, slots, time.time()
+        self.edits = [edit_of(file, crate.folder) for file in edits]
+        # What the checks begin with, and whether it has the proofs of all functions.
         self.kept = kept or Path(tempfile.mkdtemp(prefix="kept-", dir=os.environ.get("EDITS_ROOM")))
+        self.is_lent = self.is_whole = kept is not None
+        self.proving = threading.Lock()
 
     def run(self) -> list[Outcome]:
         """Tries all edits, and answers what came of each."""
-        began = time.time()
-        known = self.prove()
-        if known is None:
-            return [Outcome(False, f"{self.crate.name}: the crate itself isn't proved")]
-        edits = [Edit(file, function_of(file, self.crate.folder, known)) for file in self.files]
-        print(f"{self.crate.name}: proved in {time.time() - began:.0f} s; {len(edits)} edits", flush=True)
-        refused = self.try_together([it for it in edits if it.function])
-        left = [it for it in edits if it.name not in refused]
+        refused = self.try_together([it for it in self.edits if it.function])
+        left = [it for it in self.edits if it.name not in refused]
         with ThreadPoolExecutor(len(left) or 1) as pool:
             outcomes = dict(zip([it.name for it in left], pool.map(self.try_alone, left)))
         if not self.is_lent:
             shutil.rmtree(self.kept, ignore_errors=True)
-        return [outcomes.get(it.name) or Outcome(True, self.told(it, refused[it.name])) for it in edits]
+        print(f"{self.crate.name}: {len(self.edits)} edits, {len(left)} alone, {time.time() - self.began:.0f} s", flush=True)
+        return [outcomes.get(it.name) or Outcome(True, self.told(it, refused[it.name])) for it in self.edits]
 
     def told(self, edit: Edit, why: str) -> str:
         return f"must-fail {self.crate.name}/{edit.name}: refused, as it must be: {why[:160]}"
 
-    def prove(self) -> list[str] | None:
-        """Proves the crate as it stands, and keeps that work: the names of its functions."""
-        with self.slots, Room(self.crate, self.kept) as room:
-            status, lines = room.check([])
-            if not self.is_lent:
-                shutil.rmtree(self.kept)
-                room.kept.rename(self.kept)
-        if status:
-            return None
-        return [line[3:].removesuffix(": proved") for line in lines if re.fullmatch(r"fn \S+: proved", line)]
+    def keep(self, room: Room) -> None:
+        """Has the further checks begin with what this one kept."""
+        if not self.is_lent:
+            shutil.rmtree(self.kept)
+            room.kept.rename(self.kept)
+
+    def prove_whole(self) -> bool:
+        """Sees to it that what the checks begin with has all proofs of the crate as it stands."""
+        with self.proving:
+            if not self.is_whole:
+                with self.slots, Room(self.crate, self.kept) as room:
+                    self.is_whole = room.check([])[0] == 0
+                    self.keep(room)
+            return self.is_whole
 
     def try_together(self, edits: list[Edit]) -> dict[str, str]:
         """Tries edits several at a time, as long as that refuses some: the reasons of those that were refused."""
         refused: dict[str, str] = {}
+        is_first = not self.is_lent
         while edits:
             batches, edits = in_batches(edits), []
+            tried = [self.try_batch(batches[0], is_kept=True)] if is_first else []
             with ThreadPoolExecutor(len(batches)) as pool:
-                tried = list(pool.map(self.try_batch, batches))
+                tried += pool.map(self.try_batch, batches[len(tried) :])
+            is_first = False
             for batch, found in zip(batches, tried):
                 refused |= found
                 edits += [it for it in batch if it.name not in found] if found else []
         return refused
 
-    def try_batch(self, batch: list[Edit]) -> dict[str, str]:
+    def try_batch(self, batch: list[Edit], is_kept: bool = False) -> dict[str, str]:
         """Tries edits in one check: the reasons of those that were refused by goals of their own contracts."""
+        if not batch:
+            return {}
         with self.slots, Room(self.crate, self.kept) as room:
             changed = {}
             for edit in batch:
@@ -206,18 +212,24 @@ class Trial:
                 for path, text in texts.items():
                     (room.folder / path).write_text(text, encoding="utf-8")
                     changed[path] = text
-            status, lines = room.check([it.function for it in batch])
-            if status != 1 or not re.fullmatch(r"only=\d+ proved=\d+", lines[-1]) or any(rt.unread(it, changed) for it in lines):
-                return {}
-            reasons = {it.name: own_refusal(it.function, room, lines) for it in batch}
+            status, lines = room.check([it.word for it in batch])
+            is_read = status == 1 and re.fullmatch(r"only=\d+ proved=\d+", lines[-1]) and not any(rt.unread(it, changed) for it in lines)
+            reasons = {it.name: own_refusal(it, room, lines) for it in batch} if is_read else {}
+            if is_kept:
+                self.keep(room)
+        unknown = [it for it in batch if any(f"`{it.word}`" in line for line in lines if line.startswith("rattle: error"))]
+        if unknown:
+            return self.try_batch([it for it in batch if it not in unknown], is_kept)
         return {name: why for name, why in reasons.items() if why}
 
     def try_alone(self, edit: Edit) -> Outcome:
         """Tries one edit by the kit's own judgement: over kept work, and from nothing where it isn't refused so."""
+        if not self.prove_whole():
+            return Outcome(False, f"must-fail {self.crate.name}/{edit.name}: NOT TRIED: the crate itself isn't proved")
         with self.slots:
             with Room(self.crate, self.kept) as room:
-                outcome = Outcome(*rt.must_fail(self.crate, edit.file, ["--jobs", "1"], str(room.kept)))
-            return outcome if outcome.refused else Outcome(*rt.must_fail(self.crate, edit.file, ["--jobs", "1"]))
+                outcome = Outcome.judged(*rt.must_fail(self.crate, edit.file, ["--jobs", "1"], str(room.kept)))
+            return outcome if outcome.refused else Outcome.judged(*rt.must_fail(self.crate, edit.file, ["--jobs", "1"]))
 
 
 def in_batches(edits: list[Edit]) -> list[list[Edit]]:
@@ -266,7 +278,8 @@ def main() -> int:
     trials = [Trial(it, chosen[it], slots, kept_work(it) if words.kept else None) for it in order]
     with ThreadPoolExecutor(len(trials) or 1) as pool:
         outcomes = [it for tried in pool.map(Trial.run, trials) for it in tried]
-    for it in outcomes:
+    # What failed stands at the end, where it is seen first.
+    for it in sorted(outcomes, key=lambda it: not it.refused):
         print(it.line)
     passed = sum(it.refused for it in outcomes)
     failed = len(outcomes) - passed + sum(len(bad) for _, bad in found.values())
