@@ -9,4 +9,4 @@
 pub mod laws;
 mod statements;
 
-pub use statements::{MAX_LEVELS, read_select};
+pub use statements::read_select;

@@ -6,16 +6,13 @@ ghost use Rattle.statement_texts.specs.StatementTexts.{IsAllowed, IsRefusedState
 ghost use Rattle.statement_texts.specs.Told.{Tells};
 ghost use Rattle.statement_trees.specs.StatementView.{statement_of};
 
-use nested_reader::{Source, statement_within};
+use nested_reader::{MAX_LEVELS, Source, statement_within};
 use phrases::MAX_TEXT;
 use statement_limits::check_limits;
 use statement_trees::Statement;
 use std::alloc::Global;
 use tokens::{Grammar, Token, read_tokens};
 use values::Fault;
-
-/// The most SELECTs, operators, calls, CASEs and parentheses that a token stands in.
-pub const MAX_LEVELS: usize = 100;
 
 /// The statement that tokens are. Where there are no more tokens than levels, a limit is met by nothing that is spelt.
 #[tactic(auto, using(crate::proofs::TextLemmas::told))]
