@@ -7,6 +7,7 @@ import re
 import shutil
 import subprocess
 from collections.abc import Iterator
+from itertools import combinations
 from pathlib import Path
 
 from program import PROGRAM, TOP, give_up
@@ -14,7 +15,7 @@ from program import PROGRAM, TOP, give_up
 IMAGE = TOP / "crates" / "seleq" / "data" / "shop.db"
 # Bytes of a text, up to the most that may be.
 LENGTHS = [1 << 13, 1 << 14, 1 << 15, 1 << 16]
-# How many times as many instructions a byte of one length may take as of another.
+# How many times as many instructions a byte of a longer text may take as one of a shorter.
 LINEAR_TARGET = 1.25
 
 COUNT = re.compile(rb"Collected : ([0-9]+)")
@@ -77,7 +78,8 @@ def reading_lines() -> list[str]:
     lines = [f"| Text of | {' | '.join(f'{length} bytes' for length in LENGTHS)} | Target |", "|---" * (len(LENGTHS) + 2) + "|"]
     for what, lengths in texts():
         each = [(instructions(text) - least) / len(text) for text in lengths]
-        linear = "met" if max(each) <= LINEAR_TARGET * min(each) else "missed"
+        growth = max(longer / shorter for shorter, longer in combinations(each, 2))
+        linear = "met" if growth <= LINEAR_TARGET else "missed"
         numbers = " | ".join(f"{number:.0f}" for number in each)
-        lines.append(f"| {what} | {numbers} | within {LINEAR_TARGET} times: {linear} |")
+        lines.append(f"| {what} | {numbers} | grows at most {LINEAR_TARGET} times: {linear} |")
     return lines
