@@ -14,7 +14,7 @@ use Rattle.page_use.specs.Marks.{IsUseFault}
 use Rattle.values.specs.Row.{Row}
 use Rattle.schema.specs.Rows.{AreTables, SaysTable}
 use Rattle.schema.specs.TableData.{TableData, schema_table}
-use Rattle.integrity.specs.declared.walk.TreeCounts.{TreeCounts}
+use Rattle.tree_walk.specs.declared.counts.TreeCounts.{TreeCounts}
 use Rattle.integrity.specs.Checked.{HasCause, IsCheckedTree, IsTableOf, said}
 use Rattle.integrity.specs.Denotes.{HasTables, IsStoredTable}
 use Rattle.stored_rows.specs.RowFaults.{IsBrokenTable}

@@ -19,7 +19,7 @@ use Rattle.cursor.specs.Calls.{HasFailed, HasStepped, IsCursorFault, IsOpenedAt,
 use Rattle.cursor.specs.Left.{all_left, steps_left}
 use Rattle.cursor.specs.Listing.{IsAt, IsEntry}
 use Rattle.schema.specs.TableData.{TableData}
-use Rattle.integrity.specs.declared.walk.TreeCounts.{TreeCounts}
+use Rattle.tree_walk.specs.declared.counts.TreeCounts.{TreeCounts}
 use Rattle.integrity.specs.Checked.{IsCheckedTree}
 use Rattle.integrity.specs.Denotes.{IsStoredTable}
 use Rattle.stored_rows.specs.RowFaults.{IsCellFault, IsRowFault}

@@ -2,7 +2,6 @@ pub mod BoundLemmas
 pub mod HeadLemmas
 pub mod TreeLemmas
 pub mod WalkLemmas
-pub mod CountLemmas
 pub mod HeldLemmas
 pub mod CheckedLemmas
 pub mod UnbrokenLemmas

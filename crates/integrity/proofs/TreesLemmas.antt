@@ -20,9 +20,10 @@ use Rattle.values.specs.Row.{Row}
 use Rattle.schema.specs.TableData.{TableData, schema_table}
 use Rattle.integrity.specs.Checked.{IsMisused}
 use Rattle.integrity.specs.Denotes.{IsCatalog}
-use Rattle.integrity.specs.Used.{AreTreesComing, AreTreesGone, AreTreesTwice, IsDoneOn, IsTreeComing, IsTreeGone, IsTreeTwice, MarksTree, MarksTrees, tree_of, users_of}
+use Rattle.tree_walk.specs.Used.{IsDoneOn, IsTreeComing, IsTreeGone, IsTreeTwice, MarksTree}
+use Rattle.tree_walk.proofs.UsedLemmas.{done_on_later}
+use Rattle.integrity.specs.Used.{AreTreesComing, AreTreesGone, AreTreesTwice, MarksTrees, tree_of, users_of}
 use Rattle.integrity.proofs.OneLemmas.{one_tables}
-use Rattle.integrity.proofs.UsedLemmas.{done_on_later}
 
 -- the trees of the tables before table j were walked
 pub record AreTreesBefore (pages : Pages) (users : Users) (done : List Use) (tables : List TableData) (j : ℕ) (gone : List Use) (marks : List Bool) : Type 0 where
@@ -54,12 +55,12 @@ module _ (pages : Pages) (tables : List TableData) where
 
   module _ (j : ℕ) (table : TableData) (here : slice_get tables j ≡ Some table) (old now : List Bool) (befores : MarksTreesBefore pages tables j old now) where
     next_coming : (users : Users) (done : List Use) (coming : AreTreesComing pages users done tables old)
-        → IsTreeComing pages users (befores users done coming).0 (suc j) table now
+        → IsTreeComing pages users (befores users done coming).0 (suc j) (tree_of table) now
     next_coming users done coming =
         let before = befores users done coming in
-        record { tree = coming.trees j table here; marks_are = before.1.marks_are; new = before.1.new j (omega arith) }
+        record { is_tree = coming.trees j table here; marks_are = before.1.marks_are; new = before.1.new j (omega arith) }
 
-    pub trees_more : (new : List Bool) → MarksTree pages table now new → MarksTreesBefore pages tables (j + 1) old new
+    pub trees_more : (new : List Bool) → MarksTree pages (tree_of table) now new → MarksTreesBefore pages tables (j + 1) old new
     trees_more new walked users done coming =
         let before = befores users done coming in
         let found = walked users before.0 (suc j) (next_coming users done coming) in (
@@ -85,7 +86,7 @@ module _ (pages : Pages) (tables : List TableData) where
           },
         )
 
-    pub next_twice : (fault : Fault) → IsTreeTwice pages table now fault → AreTreesTwice pages tables old fault
+    pub next_twice : (fault : Fault) → IsTreeTwice pages (tree_of table) now fault → AreTreesTwice pages tables old fault
     next_twice (PageUse m) twice = λ users done coming. twice users (befores users done coming).0 (suc j) (next_coming users done coming)
     next_twice _ twice = absurd twice
 
@@ -124,14 +125,14 @@ module _ (pages : Pages) (tables : List TableData) where
   abbrev users : Users
   users = users_of pages tables
 
-  schema_coming : (n : ℕ) (marks : List Bool) → marks ≡ replicate n false → IsTreeComing pages users [] 0 schema_table marks
+  schema_coming : (n : ℕ) (marks : List Bool) → marks ≡ replicate n false → IsTreeComing pages users [] 0 (tree_of schema_table) marks
   schema_coming n marks blank = record {
-    tree = refl;
+    is_tree = refl;
     marks_are = subst (λ (m : List Bool). AreTreeMarks pages users [] m) (sym blank) (none_gone pages users n);
     new = λ h. omega (arith, h.1);
   }
 
-  trees_coming : (now : List Use) (marks : List Bool) → IsTreeGone pages users [] 0 schema_table now marks → AreTreesComing pages users now tables marks
+  trees_coming : (now : List Use) (marks : List Bool) → IsTreeGone pages users [] 0 (tree_of schema_table) now marks → AreTreesComing pages users now tables marks
   trees_coming now marks first = record {
     trees = λ k table at. slice_get-map tree_of tables k ∙ ap (option_map tree_of) at;
     marks_are = first.marks_are;
@@ -141,7 +142,7 @@ module _ (pages : Pages) (tables : List TableData) where
         (first.roots (suc k) h);
   }
 
-  module _ (first : List Use) (marks : List Bool) (first_gone : IsTreeGone pages users [] 0 schema_table first marks)
+  module _ (first : List Use) (marks : List Bool) (first_gone : IsTreeGone pages users [] 0 (tree_of schema_table) first marks)
       (now : List Use) (later : List Bool) (gone : AreTreesGone pages users first tables now later) where
     done_in : (tree : TreeData) → Contains users.trees tree → (n : ℕ) → Reaches pages tree.kind tree.root n → IsDoneOn pages users now n
     done_in tree has n reaches = ⊎_elim
@@ -208,7 +209,7 @@ module _ (pages : Pages) (tables : List TableData) where
 
   module _ (rows : List Row) (catalog : IsCatalog pages rows tables) where
     -- a tree has a page that is used twice
-    pub trees_twice : (n : ℕ) (blank marks : List Bool) → blank ≡ replicate n false → MarksTree pages schema_table blank marks
+    pub trees_twice : (n : ℕ) (blank marks : List Bool) → blank ≡ replicate n false → MarksTree pages (tree_of schema_table) blank marks
         → (fault : Fault) → AreTreesTwice pages tables marks fault → IsMisused pages fault
     trees_twice n blank marks is walked (PageUse m) twice =
         let first = walked users [] 0 (schema_coming n blank is) in
@@ -222,9 +223,9 @@ module _ (pages : Pages) (tables : List TableData) where
     misused _ broken = absurd broken
 
     -- behind the trees
-    module _ (n : ℕ) (blank marks later : List Bool) (is : blank ≡ replicate n false) (walked : MarksTree pages schema_table blank marks)
+    module _ (n : ℕ) (blank marks later : List Bool) (is : blank ≡ replicate n false) (walked : MarksTree pages (tree_of schema_table) blank marks)
         (others : MarksTrees pages tables marks later) where
-      first : (now : List Use) × IsTreeGone pages users [] 0 schema_table now marks
+      first : (now : List Use) × IsTreeGone pages users [] 0 (tree_of schema_table) now marks
       first = walked users [] 0 (schema_coming n blank is)
 
       last : (now : List Use) × AreTreesGone pages users first.0 tables now later
@@ -247,7 +248,7 @@ module _ (pages : Pages) (tables : List TableData) where
     no_misuse free once _ broken = broken
 
 -- the schema's tree has a page that is used twice
-pub schema_twice : (pages : Pages) (n : ℕ) (marks : List Bool) → marks ≡ replicate n false → (fault : Fault) → IsTreeTwice pages schema_table marks fault
+pub schema_twice : (pages : Pages) (n : ℕ) (marks : List Bool) → marks ≡ replicate n false → (fault : Fault) → IsTreeTwice pages (tree_of schema_table) marks fault
     → IsMisused pages fault
 schema_twice pages n marks blank (PageUse m) twice = inl (twice (users_of pages []) [] 0 (schema_coming pages [] n marks blank))
 schema_twice pages n marks blank _ twice = absurd twice

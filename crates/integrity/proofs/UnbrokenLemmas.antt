@@ -19,7 +19,7 @@ use Rattle.values.specs.Row.{Row}
 use Rattle.schema.proofs.OneLemmas.{one_table}
 use Rattle.schema.specs.Rows.{AreTables, SaysTable}
 use Rattle.schema.specs.TableData.{MissingData, TableData, schema_table}
-use Rattle.integrity.specs.declared.walk.TreeCounts.{TreeCounts}
+use Rattle.tree_walk.specs.declared.counts.TreeCounts.{TreeCounts}
 use Rattle.integrity.specs.Checked.{IsBrokenImage, IsCheckedTree, IsMisused, said, schema}
 use Rattle.stored_rows.specs.RowFaults.{HasCellFault, HasRecordFault, IsBrokenTable, IsCellFault, IsRecordFault}
 use Rattle.stored_rows.specs.Stored.{Fits, HoldsRow, HoldsRows, IsNoRow, IsRowFrom, IsRowOf, IsRowRecord, StoresRow, filled_values, row_from}

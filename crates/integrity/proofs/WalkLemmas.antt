@@ -24,7 +24,7 @@ use Rattle.pager.specs.PagerState.{PagerState, IsSoundHeader}
 use Rattle.image.specs.Shape.{place_at}
 use Rattle.btree.specs.ViewData.{ViewData}
 use Rattle.btree.proofs.SeenLemmas.{readable}
-use Rattle.integrity.specs.Walked.{AreCounts}
+use Rattle.tree_walk.specs.Counts.{AreCounts}
 use Rattle.integrity.proofs.HeadLemmas.{is_page, fit_here, no_header, head_fault}
 
 module _ (pages : Pages) (root : ℕ) where
@@ -227,11 +227,11 @@ module _ (state : PagerState) (header : Header) (header_is : header ≡ state.he
             p.2 leaf,
           )
 
-      pub leaf_counts : (count : ℕ) → count ≡ cell_count view.at view.page → count ≤ 65535 → AreCounts (pages_seen state) 0 n count 1
+      pub leaf_counts : (count : ℕ) → count ≡ cell_count view.at view.page → count ≤ 65535 → AreCounts (pages_seen state) Table 0 n count 1
       leaf_counts count is few =
           let at : count ≡ count_at (pages_seen state) n = seen_count (pages_seen state) n view.at (header.pages * header.page_size) view.page see count is in
           let all : length (places_under (pages_seen state) Table 0 n) ≡ count_at (pages_seen state) n = length-map-range_with_len (place_at n) 0 (count_at (pages_seen state) n) in
-          record { rows_is = omega (arith, at, all, few); size_is = omega arith }
+          record { cells_is = omega (arith, at, all, few); size_is = omega arith }
 
       pub inner : IsHead view.at (header.pages * header.page_size) view.page view.level root n low high → view.level ≡ Interior
           → IsInner (pages_seen state) root depth low high n view.at (header.pages * header.page_size) view.page
@@ -276,8 +276,8 @@ module _ (pages : Pages) (root depth : ℕ) (low high : Option ℤ) (n at most :
     step_branch levels tree =
         (subst (λ (x : ℕ). IsNumber pages x) child_is number, (l, h, low_is, high_is, subst (λ (x : ℕ). IsTree pages root levels l h x) child_is tree))
 
-    pub step_under : (levels rows size : ℕ) → AreCounts pages levels m rows size → AreCounts pages levels (child_at pages n i) rows size
-    step_under levels rows size counts = subst (λ (x : ℕ). AreCounts pages levels x rows size) child_is counts
+    pub step_under : (levels rows size : ℕ) → AreCounts pages Table levels m rows size → AreCounts pages Table levels (child_at pages n i) rows size
+    step_under levels rows size counts = subst (λ (x : ℕ). AreCounts pages Table levels x rows size) child_is counts
 
 -- all children were walked
 module _ (pages : Pages) (root depth : ℕ) (low high : Option ℤ) (n at most : ℕ) (page : List ℕ) (inner_is : IsInner pages root depth low high n at most page)

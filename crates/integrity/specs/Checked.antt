@@ -19,12 +19,14 @@ use Rattle.page_use.specs.Marks.{IsUsedTwice}
 use Rattle.values.specs.Row.{Row}
 use Rattle.schema.specs.Rows.{AreTables, SaysTable}
 use Rattle.schema.specs.TableData.{TableData, schema_table}
-use Rattle.integrity.specs.declared.walk.TreeCounts.{TreeCounts}
+use Rattle.tree_walk.specs.declared.counts.TreeCounts.{TreeCounts}
+use Rattle.tree_walk.specs.Counts.{AreCounts}
+use Rattle.tree_walk.specs.Used.{IsTreeTwice}
 use Rattle.integrity.specs.Denotes.{HasTables, IsCatalog}
-use Rattle.integrity.specs.Used.{IsTreeTwice, users_of}
+use Rattle.integrity.specs.Used.{tree_of, users_of}
 use Rattle.stored_rows.specs.RowFaults.{IsBrokenTable}
 use Rattle.stored_rows.specs.Stored.{HoldsRow, HoldsRows, StoresRow}
-use Rattle.integrity.specs.Walked.{AreCounts, IsCheckFault, IsWalkFault}
+use Rattle.integrity.specs.Walked.{IsCheckFault, IsWalkFault}
 
 -- A table's tree is sound and its cells are rows of the table, whose values are of its columns; and these are its
 -- levels, rows and pages.
@@ -33,7 +35,7 @@ pub record IsCheckedTree (pages : Pages) (table : TableData) (counts : TreeCount
   pub sound : IsSoundTable pages table.root
   pub shape : HasShape pages Table counts.levels table.root
   pub rows : All (HoldsRow pages table) (places_under pages Table counts.levels table.root)
-  pub counts_are : AreCounts pages counts.levels table.root counts.rows counts.pages
+  pub counts_are : AreCounts pages Table counts.levels table.root counts.cells counts.pages
 
 -- the tables that an image has, and what the tree of each has
 pub record CheckedData : Type 0 where
@@ -95,7 +97,7 @@ pub record HasCheckedTable (pager : PagerState) (table : TableData) (counts : Tr
 -- why it was not, where these were the marks of pages that are used
 pub record IsTableFault (pager : PagerState) (table : TableData) (marks : List Bool) (fault : Fault) : Type 0 where
   pub only : IsWalkFault fault
-  pub cause : WhereSteady pager (λ pages. IsReadFault fault ⊎ IsBrokenTable pages table fault ⊎ IsTreeTwice pages table marks fault)
+  pub cause : WhereSteady pager (λ pages. IsReadFault fault ⊎ IsBrokenTable pages table fault ⊎ IsTreeTwice pages (tree_of table) marks fault)
 
 -- An image was checked: these are its tables, with what the tree of each has, and none of the conditions that are examined
 -- is broken.

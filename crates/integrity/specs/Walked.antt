@@ -1,6 +1,5 @@
 -- What a walk from a page down knows of it, and what it is told.
-use Rattle.std.specs.Prelude.{◌≡◌, ◌≢◌, ℕ, ℤ, zero, suc, ◌+◌, ◌-◌, ◌^◌, ◌<◌, ◌≤◌, min, List, length, sum_by, Option, Some}
-use Rattle.std.specs.List.{range_with_len, flat_map}
+use Rattle.std.specs.Prelude.{◌≡◌, ◌≢◌, ℕ, ℤ, zero, suc, ◌+◌, ◌<◌, ◌≤◌, Option, Some}
 use Rattle.values.specs.declared.fault.Fault.{Fault}
 use Rattle.values.specs.declared.fault.Fault.TheVariants.{BadPage, PageUse, BadFreelist, BadOrder, BadDepth, NotYet}
 use Rattle.image.specs.declared.kind.TreeKind.TheVariants.{Table}
@@ -8,7 +7,6 @@ use Rattle.image.specs.declared.kind.Level.TheVariants.{Leaf, Interior}
 use Rattle.image.specs.Pages.{Pages, IsNumber}
 use Rattle.image.specs.Tree.{count_at, child_at, IsPageOf, IsUnder, StandsAt, Reaches}
 use Rattle.image.specs.Broken.{HasRowid}
-use Rattle.image.specs.Shape.{places_under, size_under}
 use Rattle.stored_rows.specs.Keys.{KeysFit}
 use Rattle.stored_rows.specs.RowFaults.{IsRowFault}
 
@@ -47,22 +45,6 @@ pub record StandsWithin (pages : Pages) (root depth : ℕ) (low high : Option �
       → (a i : ℕ) × Reaches pages Table root a × IsUnder pages Table a (i + 1) n × HasRowid pages Interior a i key
   pub high_from : (key : ℤ) → high ≡ Some key
       → (a i : ℕ) × Reaches pages Table root a × IsUnder pages Table a i n × (i < count_at pages a) × HasRowid pages Interior a i key
-
--- a number of 64 bits that stays at the greatest
-abbrev pub counted : ℕ → ℕ
-counted n = min n (2 ^ 64 - 1)
-
--- how many cells, and how many pages, there are from page n down without its children from child i on
-abbrev pub rows_before : Pages → ℕ → ℕ → ℕ → ℕ
-rows_before pages levels n i = length (flat_map (λ k. places_under pages Table levels (child_at pages n k)) (range_with_len 0 i))
-
-abbrev pub size_before : Pages → ℕ → ℕ → ℕ → ℕ
-size_before pages levels n i = 1 + sum_by (λ k. size_under pages levels (child_at pages n k)) (range_with_len 0 i)
-
--- so many cells and pages are under a page that has so many levels of pages below it
-pub record AreCounts (pages : Pages) (levels n rows size : ℕ) : Type 0 where
-  pub rows_is : rows ≡ counted (length (places_under pages Table levels n))
-  pub size_is : size ≡ counted (size_under pages levels n)
 
 -- the faults of a walk
 abbrev pub IsWalkFault : Fault → Type 0

@@ -4,12 +4,12 @@ ghost use Rattle.pager.specs.Calls.{ReadsPages};
 ghost use Rattle.integrity.specs.Checked.{HasCheckedImage, IsCheckFailure};
 
 use crate::trees::{check_tables, read_schema};
-use crate::walk::TreeCounts;
 use page_use::check_rest;
 use pager::{Pager, Source};
 use schema::{Catalog, Table};
 use std::alloc::Global;
 use std::marker::Model;
+use tree_walk::TreeCounts;
 use values::Fault;
 
 /// What the check of an image finds: its tables, and what the tree of each has.

@@ -13,4 +13,4 @@ mod walk;
 
 pub use checked::{Checked, check};
 pub use stored_rows::RowReader;
-pub use walk::TreeCounts;
+pub use tree_walk::TreeCounts;

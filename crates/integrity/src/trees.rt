@@ -8,12 +8,13 @@ ghost use Rattle.btree.specs.Views.{cell_data};
 ghost use Rattle.schema.specs.TableData.{TableData, schema_table};
 ghost use Rattle.integrity.specs.Checked.{HasCause, IsCheckedTree};
 ghost use Rattle.integrity.specs.Denotes.{IsStoredTable};
-ghost use Rattle.integrity.specs.Used.{AreTreesTwice, IsTreeTwice, MarksTree, MarksTrees};
+ghost use Rattle.tree_walk.specs.Used.{IsTreeTwice, MarksTree};
+ghost use Rattle.integrity.specs.Used.{AreTreesTwice, MarksTrees, tree_of};
 ghost use Rattle.stored_rows.specs.RowFaults.{IsBrokenTable, IsCellFault, IsRowFault};
 ghost use Rattle.stored_rows.specs.Stored.{HoldsRows, IsRowOf};
 ghost use Rattle.integrity.specs.Walked.{IsWalkFault};
 
-use crate::walk::{TreeCounts, check_table};
+use crate::walk::check_table;
 use btree::Cell;
 use cursor::Cursor;
 use image::TreeKind;
@@ -21,6 +22,7 @@ use pager::{Pager, Source};
 use schema::Table;
 use std::alloc::Global;
 use stored_rows::{payload_of, read_row};
+use tree_walk::TreeCounts;
 use values::{Fault, Row};
 
 /// Checks the tree of each table, and gives their pages and chains their marks.
@@ -109,8 +111,8 @@ pub(crate) fn read_schema<S: Source>(
     requires long { pager.old.state.header.pages < length used.old }
     ensures rows { WhereSteady pager.old.state (λ pages. IfOk result (λ rows. HoldsRows pages schema_table rows.items)) }
     ensures checked { WhereSteady pager.old.state (λ pages. OnOk result ((counts : TreeCounts) × IsCheckedTree pages schema_table counts)) }
-    ensures marks { WhereSteady pager.old.state (λ pages. OnOk result (MarksTree pages schema_table used.old used.new)) }
-    ensures fault { WhereSteady pager.old.state (λ pages. IfErr result (λ e. HasCause pages e ⊎ IsTreeTwice pages schema_table used.old e)) }
+    ensures marks { WhereSteady pager.old.state (λ pages. OnOk result (MarksTree pages (tree_of schema_table) used.old used.new)) }
+    ensures fault { WhereSteady pager.old.state (λ pages. IfErr result (λ e. HasCause pages e ⊎ IsTreeTwice pages (tree_of schema_table) used.old e)) }
     ensures only { IfErr result IsWalkFault }
     ensures reads { ReadsPages result pager.old.state pager.new.state }
 {

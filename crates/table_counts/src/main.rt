@@ -27,7 +27,7 @@ where
     };
     let checked = check(alloc, &mut pager)?;
     for (table, counts) in checked.tables().iter().zip(checked.trees()) {
-        let (name, rows, pages, levels) = (table.name(), counts.rows, counts.pages, counts.levels);
+        let (name, rows, pages, levels) = (table.name(), counts.cells, counts.pages, counts.levels);
         println!(rt; "{name} {rows} {pages} {levels}")?;
     }
     Ok(())

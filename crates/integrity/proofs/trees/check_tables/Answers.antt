@@ -4,7 +4,8 @@ use Rattle.pager.proofs.CallLemmas.{SameImage-trans}
 use Rattle.image.specs.Pages.{pages_seen, Pages}
 use Rattle.btree.proofs.SeenLemmas.{still_steady, same_pages}
 use Rattle.integrity.specs.Checked.{IsCheckedTree}
-use Rattle.integrity.specs.Used.{IsTreeTwice, MarksTree}
+use Rattle.tree_walk.specs.Used.{IsTreeTwice, MarksTree}
+use Rattle.integrity.specs.Used.{tree_of}
 use Rattle.integrity.proofs.TreesLemmas.{next_twice, trees_all, trees_more, trees_none}
 use Rattle.stored_rows.specs.RowFaults.{IsBrokenTable}
 use Rattle.stored_rows.proofs.RowLemmas.{all_next, get_at}
@@ -22,10 +23,10 @@ returns-in_err-counts-clause-fault g c = λ steady.
     (λ cause. inr (⊎_elim
     (λ (broken : IsBrokenTable (pages_seen c.loop-table.pager.state) c.table-item.result c.in_err-counts.field-0.0).
     inl (c.table-item.result, search rules, subst (λ (q : Pages). IsBrokenTable q c.table-item.result c.in_err-counts.field-0.0) (same_pages _ _ inv.stays) broken))
-    (λ (twice : IsTreeTwice (pages_seen c.loop-table.pager.state) c.table-item.result c.loop-table.used c.in_err-counts.field-0.0).
+    (λ (twice : IsTreeTwice (pages_seen c.loop-table.pager.state) (tree_of c.table-item.result) c.loop-table.used c.in_err-counts.field-0.0).
     inr (next_twice (pages_seen c.args.pager.now.state) c.args.tables.now c.loop-table.table-index c.table-item.result here c.args.used.now c.loop-table.used (inv.marks steady)
     c.in_err-counts.field-0.0
-    (subst (λ (q : Pages). IsTreeTwice q c.table-item.result c.loop-table.used c.in_err-counts.field-0.0) (same_pages _ _ inv.stays) twice)))
+    (subst (λ (q : Pages). IsTreeTwice q (tree_of c.table-item.result) c.loop-table.used c.in_err-counts.field-0.0) (same_pages _ _ inv.stays) twice)))
     cause))
     (c.in_err-counts.ensures.outcome.cause now))
 
@@ -49,7 +50,7 @@ loop-table-preserved g c =
           let now = still_steady _ _ inv.stays steady in
           trees_more (pages_seen c.args.pager.now.state) c.args.tables.now c.loop-table.table-index c.table-item.result here c.args.used.now c.loop-table.used (inv.marks steady)
           c.check_table.new.used
-          (subst (λ (q : Pages). MarksTree q c.table-item.result c.loop-table.used c.check_table.new.used) (same_pages _ _ inv.stays) (c.in_ok-counts.ensures.marks now));
+          (subst (λ (q : Pages). MarksTree q (tree_of c.table-item.result) c.loop-table.used c.check_table.new.used) (same_pages _ _ inv.stays) (c.in_ok-counts.ensures.marks now));
     }
 
 pub loop-table-init : goal.loop-table-init

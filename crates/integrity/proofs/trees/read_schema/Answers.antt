@@ -4,7 +4,8 @@ use Rattle.image.specs.Pages.{pages_seen}
 use Rattle.btree.proofs.SeenLemmas.{still_steady}
 use Rattle.schema.specs.TableData.{TableData, schema_table}
 use Rattle.integrity.specs.Checked.{IsCheckedTree, schema}
-use Rattle.integrity.specs.Used.{IsTreeTwice, MarksTree}
+use Rattle.tree_walk.specs.Used.{IsTreeTwice, MarksTree}
+use Rattle.integrity.specs.Used.{tree_of}
 use Rattle.stored_rows.specs.RowFaults.{IsBrokenTable}
 use Rattle.stored_rows.specs.Stored.{HoldsRows}
 use Rattle.integrity.proofs.GatherLemmas.{rows_held, still_stored}
@@ -18,8 +19,8 @@ returns-in_err-check_table-clause-fault g c = λ steady.
     (λ cause. ⊎_elim
     (λ (broken : IsBrokenTable (pages_seen c.args.pager.now.state) c.args.schema.now c.in_err-check_table.field-0.0).
     inl (inr (inl (inl (schema_table, schema, subst (λ (t : TableData). IsBrokenTable (pages_seen c.args.pager.now.state) t c.in_err-check_table.field-0.0) c.requires.is broken)))))
-    (λ (twice : IsTreeTwice (pages_seen c.args.pager.now.state) c.args.schema.now c.args.used.now c.in_err-check_table.field-0.0).
-    inr (subst (λ (t : TableData). IsTreeTwice (pages_seen c.args.pager.now.state) t c.args.used.now c.in_err-check_table.field-0.0) c.requires.is twice))
+    (λ (twice : IsTreeTwice (pages_seen c.args.pager.now.state) (tree_of c.args.schema.now) c.args.used.now c.in_err-check_table.field-0.0).
+    inr (subst (λ (t : TableData). IsTreeTwice (pages_seen c.args.pager.now.state) (tree_of t) c.args.used.now c.in_err-check_table.field-0.0) c.requires.is twice))
     cause)
     (c.in_err-check_table.ensures.outcome.cause steady))
 
@@ -48,5 +49,5 @@ returns-clause-checked g c = λ steady. (
 
 pub returns-clause-marks : goal.returns-clause-marks
 returns-clause-marks g c = λ steady.
-    subst (λ (t : TableData). MarksTree (pages_seen c.args.pager.now.state) t c.args.used.now c.check_table.new.used) c.requires.is
+    subst (λ (t : TableData). MarksTree (pages_seen c.args.pager.now.state) (tree_of t) c.args.used.now c.check_table.new.used) c.requires.is
     (c.in_ok-check_table.ensures.marks steady)

@@ -11,20 +11,23 @@ use Rattle.image.specs.declared.kind.TreeKind.TheVariants.{Table}
 use Rattle.image.specs.Broken.{IsBroken}
 use Rattle.image.specs.Shape.{places_under}
 use Rattle.values.specs.declared.fault.Fault.TheVariants.{BadDepth}
-use Rattle.integrity.specs.declared.walk.TreeCounts.{TreeCounts}
+use Rattle.tree_walk.specs.declared.counts.TreeCounts.{TreeCounts}
 use Rattle.stored_rows.specs.Keys.{HasCells, IsHead}
-use Rattle.stored_rows.specs.Links.{IsRowTwice, MarksRows}
+use Rattle.stored_rows.specs.Links.{IsRowTwice, MarksRows, table_tree}
 use Rattle.stored_rows.specs.RowFaults.{AreRowsIn, IsBrokenTable, IsLeafFault}
 use Rattle.stored_rows.specs.Stored.{HoldsRow}
 use Rattle.stored_rows.proofs.LinkLemmas.{no_links_in}
 use Rattle.integrity.proofs.HeldLemmas.{held_leaf, held_more, held_under, leaf_fault}
 use Rattle.integrity.proofs.WalkLemmas.{see, seen_child}
 use Rattle.btree.proofs.SeenLemmas.{still_steady, same_pages}
-use Rattle.integrity.specs.Used.{IsUnderTwice, MarksUnder}
-use Rattle.integrity.specs.Walked.{StandsWithin, IsTree, AreCounts, counted}
+use Rattle.tree_walk.specs.Counts.{AreCounts, counted}
+use Rattle.tree_walk.specs.Used.{IsUnderTwice, MarksUnder}
+use Rattle.integrity.specs.Walked.{StandsWithin, IsTree}
 use Rattle.integrity.proofs.WalkLemmas.{broken_header, broken_head, leaf_tree, leaf_counts, inner, broken_child, step_met, step_branch, step_under, here_within, uneven, more_branches, end_is, inner_tree}
-use Rattle.integrity.proofs.UsedLemmas.{child_twice, children_all, children_more, children_none, leaf_linked, leaf_plain, marked_twice, row_twice}
-use Rattle.integrity.proofs.CountLemmas.{rows_step, size_step, rows_all, size_all}
+use Rattle.integrity.proofs.UsedLemmas.{child_twice, children_all, children_more, children_none, leaf_linked, leaf_plain, row_twice}
+use Rattle.tree_walk.proofs.UsedLemmas.{marked_twice}
+use Rattle.integrity.proofs.BoundLemmas.{has_child}
+use Rattle.tree_walk.proofs.CountLemmas.{cells_all, cells_step, size_all, size_step}
 use Rattle.integrity.proofs.walk.+walk.Goals as goal
 
 pub returns-in_default-clause-fault : goal.returns-in_default-clause-fault
@@ -44,7 +47,7 @@ returns-then-is_leaf_of_rows-clause-tree g t c = λ steady.
 
 pub returns-then-is_leaf_of_rows-clause-counts : goal.returns-then-is_leaf_of_rows-clause-counts
 returns-then-is_leaf_of_rows-clause-counts g t c = λ steady.
-    subst (λ (counts : TreeCounts). AreCounts (pages_seen c.args.pager.now.state) counts.levels c.args.n counts.rows counts.pages) (sym c.counts_of_page.ensures)
+    subst (λ (counts : TreeCounts). AreCounts (pages_seen c.args.pager.now.state) Table counts.levels c.args.n counts.cells counts.pages) (sym c.counts_of_page.ensures)
     (leaf_counts c.args.pager.now.state c.header-header.result c.header-header.ensures.is c.header-header.ensures.sound c.args.n c.in_ok-page.page
     (c.in_ok-page.ensures.outcome.is steady) c.in_ok-page.ensures.outcome.long c.args.table.now.root c.args.depth c.args.low c.args.high (c.requires.met steady)
     c.in-Some.view c.in-Some.ensures.found.0.is c.in-Some.ensures.found.0.header c.from.result (search rules) (search rules))
@@ -76,7 +79,7 @@ returns-then-eq-clause-tree g t c = λ steady.
 
 pub returns-then-eq-clause-counts : goal.returns-then-eq-clause-counts
 returns-then-eq-clause-counts g t c = λ steady.
-    subst (λ (counts : TreeCounts). AreCounts (pages_seen c.args.pager.now.state) counts.levels c.args.n counts.rows counts.pages) (sym c.counts_of_page-then-eq.ensures)
+    subst (λ (counts : TreeCounts). AreCounts (pages_seen c.args.pager.now.state) Table counts.levels c.args.n counts.cells counts.pages) (sym c.counts_of_page-then-eq.ensures)
     (leaf_counts c.args.pager.now.state c.header-header.result c.header-header.ensures.is c.header-header.ensures.sound c.args.n c.in_ok-page.page
     (c.in_ok-page.ensures.outcome.is steady) c.in_ok-page.ensures.outcome.long c.args.table.now.root c.args.depth c.args.low c.args.high (c.requires.met steady)
     c.in-Some.view c.in-Some.ensures.found.0.is c.in-Some.ensures.found.0.header c.from-then-eq.result (search rules) (search rules))
@@ -89,7 +92,7 @@ returns-in_default-child_within-clause-fault g t c = λ steady.
     (c.in_ok-page.ensures.outcome.is steady) c.in_ok-page.ensures.outcome.long c.args.table.now.root c.args.depth c.args.low c.args.high (c.requires.met steady)
     c.in-Some.view c.in-Some.ensures.found.0.is c.in-Some.ensures.found.0.header c.in_ok-level.ensures.head interior in
     let header : c.header-header.result ≡ c.args.pager.now.state.header = c.header-header.ensures.is in
-    inr (inl (inl (broken_child _ _ _ _ _ _ _ _ _ all c.loop-i.i within (subst (λ (h : Header). ¬ ((1 ≤ child c.in-Some.view.at c.in-Some.view.page c.loop-i.i) × (child c.in-Some.view.at c.in-Some.view.page c.loop-i.i ≤ h.pages))) header (c.in_default-child_within.ensures.none (c.header-header.result.pages * c.header-header.result.page_size) all.cells)))))
+    inr (inl (inl (broken_child _ _ _ _ _ _ _ _ _ all c.loop-i.i within (subst (λ (h : Header). ¬ ((1 ≤ child c.in-Some.view.at c.in-Some.view.page c.loop-i.i) × (child c.in-Some.view.at c.in-Some.view.page c.loop-i.i ≤ h.pages))) header (c.in_default-child_within.ensures.none (has_child c.in-Some.view.at (c.header-header.result.pages * c.header-header.result.page_size) c.in-Some.view.page all.cells c.loop-i.i))))))
 
 pub walk-requires : goal.walk-requires
 walk-requires g t c κs within =
@@ -183,25 +186,25 @@ loop-i-preserved g t c =
           let all = inner c.args.pager.now.state c.header-header.result c.header-header.ensures.is c.header-header.ensures.sound c.args.n c.in_ok-page.page
           (c.in_ok-page.ensures.outcome.is steady) c.in_ok-page.ensures.outcome.long c.args.table.now.root c.args.depth c.args.low c.args.high (c.requires.met steady)
           c.in-Some.view c.in-Some.ensures.found.0.is c.in-Some.ensures.found.0.header c.in_ok-level.ensures.head interior in
-          let under = subst (λ (p : Pages). AreCounts p c.in_ok-below.below.levels c.in-Some-child_within.child c.in_ok-below.below.rows c.in_ok-below.below.pages) (same_pages _ _ inv.stays) (c.in_ok-below.ensures.counts now) in
-          let at = subst (λ (l : ℕ). AreCounts (pages_seen c.args.pager.now.state) l (child_at (pages_seen c.args.pager.now.state) c.args.n c.loop-i.i) c.in_ok-below.below.rows c.in_ok-below.below.pages) (sym levels)
+          let under = subst (λ (p : Pages). AreCounts p Table c.in_ok-below.below.levels c.in-Some-child_within.child c.in_ok-below.below.cells c.in_ok-below.below.pages) (same_pages _ _ inv.stays) (c.in_ok-below.ensures.counts now) in
+          let at = subst (λ (l : ℕ). AreCounts (pages_seen c.args.pager.now.state) Table l (child_at (pages_seen c.args.pager.now.state) c.args.n c.loop-i.i) c.in_ok-below.below.cells c.in_ok-below.below.pages) (sym levels)
           (step_under _ _ _ _ _ _ _ _ _ all c.loop-i.i in_count c.in-Some-child_within.child c.low_bound-low.result c.high_bound-high.result kid.0
           (kid.1, subst (λ (h : Header). c.in-Some-child_within.child ≤ h.pages) header kid.2)
           c.low_bound-low.ensures.first (λ k. c.low_bound-low.ensures.inner (c.header-header.result.pages * c.header-header.result.page_size) k all.cells) (c.high_bound-high.ensures.inner (c.header-header.result.pages * c.header-header.result.page_size) all.cells) c.high_bound-high.ensures.last
-          c.in_ok-below.below.levels c.in_ok-below.below.rows c.in_ok-below.below.pages under) in
-          rows_step (pages_seen c.args.pager.now.state) c.args.n c.loop-i.i c.loop-i.counts.levels c.join-counts.result.levels same _ _ _ (inv.rows steady) at.rows_is c.join-counts.ensures.rows;
+          c.in_ok-below.below.levels c.in_ok-below.below.cells c.in_ok-below.below.pages under) in
+          cells_step (pages_seen c.args.pager.now.state) Table c.args.n c.loop-i.i c.loop-i.counts.levels c.join-counts.result.levels same _ _ _ (inv.rows steady) at.cells_is c.join-counts.ensures.cells;
       size = λ steady.
           let now = still_steady _ _ inv.stays steady in
           let all = inner c.args.pager.now.state c.header-header.result c.header-header.ensures.is c.header-header.ensures.sound c.args.n c.in_ok-page.page
           (c.in_ok-page.ensures.outcome.is steady) c.in_ok-page.ensures.outcome.long c.args.table.now.root c.args.depth c.args.low c.args.high (c.requires.met steady)
           c.in-Some.view c.in-Some.ensures.found.0.is c.in-Some.ensures.found.0.header c.in_ok-level.ensures.head interior in
-          let under = subst (λ (p : Pages). AreCounts p c.in_ok-below.below.levels c.in-Some-child_within.child c.in_ok-below.below.rows c.in_ok-below.below.pages) (same_pages _ _ inv.stays) (c.in_ok-below.ensures.counts now) in
-          let at = subst (λ (l : ℕ). AreCounts (pages_seen c.args.pager.now.state) l (child_at (pages_seen c.args.pager.now.state) c.args.n c.loop-i.i) c.in_ok-below.below.rows c.in_ok-below.below.pages) (sym levels)
+          let under = subst (λ (p : Pages). AreCounts p Table c.in_ok-below.below.levels c.in-Some-child_within.child c.in_ok-below.below.cells c.in_ok-below.below.pages) (same_pages _ _ inv.stays) (c.in_ok-below.ensures.counts now) in
+          let at = subst (λ (l : ℕ). AreCounts (pages_seen c.args.pager.now.state) Table l (child_at (pages_seen c.args.pager.now.state) c.args.n c.loop-i.i) c.in_ok-below.below.cells c.in_ok-below.below.pages) (sym levels)
           (step_under _ _ _ _ _ _ _ _ _ all c.loop-i.i in_count c.in-Some-child_within.child c.low_bound-low.result c.high_bound-high.result kid.0
           (kid.1, subst (λ (h : Header). c.in-Some-child_within.child ≤ h.pages) header kid.2)
           c.low_bound-low.ensures.first (λ k. c.low_bound-low.ensures.inner (c.header-header.result.pages * c.header-header.result.page_size) k all.cells) (c.high_bound-high.ensures.inner (c.header-header.result.pages * c.header-header.result.page_size) all.cells) c.high_bound-high.ensures.last
-          c.in_ok-below.below.levels c.in_ok-below.below.rows c.in_ok-below.below.pages under) in
-          size_step (pages_seen c.args.pager.now.state) c.args.n c.loop-i.i c.loop-i.counts.levels c.join-counts.result.levels same _ _ _ (inv.size steady) at.size_is c.join-counts.ensures.pages;
+          c.in_ok-below.below.levels c.in_ok-below.below.cells c.in_ok-below.below.pages under) in
+          size_step (pages_seen c.args.pager.now.state) Table c.args.n c.loop-i.i c.loop-i.counts.levels c.join-counts.result.levels same _ _ _ (inv.size steady) at.size_is c.join-counts.ensures.pages;
       marks = λ steady.
           let now = still_steady _ _ inv.stays steady in
           let all = inner c.args.pager.now.state c.header-header.result c.header-header.ensures.is c.header-header.ensures.sound c.args.n c.in_ok-page.page
@@ -209,12 +212,12 @@ loop-i-preserved g t c =
           c.in-Some.view c.in-Some.ensures.found.0.is c.in-Some.ensures.found.0.header c.in_ok-level.ensures.head interior in
           let at = seen_child _ _ _ _ _ all.seen c.loop-i.i c.in-Some-child_within.child kid.0 in
           children_more (pages_seen c.args.pager.now.state) c.args.table.now.root c.args.n c.loop-i.i c.loop-i.counts.levels c.args.used.now c.loop-i.used
-          c.in_ok-use_page.ensures.blank (inv.marks steady) all.page_is (c.args.depth, all.met.stands) c.in-Some-child_within.child at
+          (inv.marks steady) all.page_is (c.args.depth, all.met.stands) c.in-Some-child_within.child at
           (here_within _ _ _ _ _ _ _ _ _ all c.loop-i.i in_count)
           (kid.1, subst (λ (h : Header). c.in-Some-child_within.child ≤ h.pages) header kid.2)
           c.walk.new.used c.join-counts.result.levels same
-          (subst (λ (l : ℕ). MarksUnder (pages_seen c.args.pager.now.state) c.args.table.now.root l c.in-Some-child_within.child c.loop-i.used c.walk.new.used) (sym levels)
-          (subst (λ (p : Pages). MarksUnder p c.args.table.now.root c.in_ok-below.below.levels c.in-Some-child_within.child c.loop-i.used c.walk.new.used) (same_pages _ _ inv.stays)
+          (subst (λ (l : ℕ). MarksUnder (pages_seen c.args.pager.now.state) (table_tree c.args.table.now.root) l c.in-Some-child_within.child c.loop-i.used c.walk.new.used) (sym levels)
+          (subst (λ (p : Pages). MarksUnder p (table_tree c.args.table.now.root) c.in_ok-below.below.levels c.in-Some-child_within.child c.loop-i.used c.walk.new.used) (same_pages _ _ inv.stays)
           (c.in_ok-below.ensures.marks now)));
     }
 
@@ -238,8 +241,8 @@ returns-clause-counts g t c = λ steady.
     c.in-Some.view c.in-Some.ensures.found.0.is c.in-Some.ensures.found.0.header c.in_ok-level.ensures.head interior in
     let done = end_is _ _ _ _ _ _ _ _ _ all c.loop-i.i c.loop-i.counts.levels end in
     rw add-one (record {
-      rows_is = inv.rows steady ∙ ap counted (rows_all (pages_seen c.args.pager.now.state) c.args.n c.loop-i.counts.levels c.loop-i.i done);
-      size_is = inv.size steady ∙ ap counted (size_all (pages_seen c.args.pager.now.state) c.args.n c.loop-i.counts.levels c.loop-i.i done);
+      cells_is = inv.rows steady ∙ ap counted (cells_all (pages_seen c.args.pager.now.state) Table c.args.n c.loop-i.counts.levels c.loop-i.i done);
+      size_is = inv.size steady ∙ ap counted (size_all (pages_seen c.args.pager.now.state) Table c.args.n c.loop-i.counts.levels c.loop-i.i done);
     })
 
 pub check_rows-requires-clause-cells : goal.check_rows-requires-clause-cells
@@ -312,7 +315,7 @@ pub returns-in_err-use_page-clause-fault : goal.returns-in_err-use_page-clause-f
 returns-in_err-use_page-clause-fault g t c = λ steady.
     let p = err_from_is_err_and c.from_residual.result c.from_residual.ensures.1 in
     rw (p.1, p.2)
-    (inr (inr (marked_twice (pages_seen c.args.pager.now.state) c.args.table.now.root c.args.n c.args.used.now
+    (inr (inr (marked_twice (pages_seen c.args.pager.now.state) (table_tree c.args.table.now.root) c.args.n c.args.used.now
     (c.in_err-use_page.ensures.twice (pages_seen c.args.pager.now.state)) c.in_err-use_page.field-0.0 c.in_err-use_page.ensures.fault)))
 
 pub returns-then-is_leaf_of_rows-clause-marks : goal.returns-then-is_leaf_of_rows-clause-marks
@@ -327,8 +330,8 @@ returns-then-is_leaf_of_rows-clause-marks g t c = λ steady.
     let tree = leaf_tree c.args.pager.now.state c.header-header.result c.header-header.ensures.is c.header-header.ensures.sound c.args.n c.in_ok-page.page
     (c.in_ok-page.ensures.outcome.is steady) c.in_ok-page.ensures.outcome.long c.args.table.now.root c.args.depth c.args.low c.args.high (c.requires.met steady)
     c.in-Some.view c.in-Some.ensures.found.0.is c.in-Some.ensures.found.0.header head leaf in
-    subst (λ (counts : TreeCounts). MarksUnder pages c.args.table.now.root counts.levels c.args.n c.args.used.now c.use_page.new.used) (sym c.counts_of_page.ensures)
-    (leaf_plain pages c.args.table.now.root c.args.n c.args.used.now c.use_page.new.used c.in_ok-use_page.ensures.blank (c.in_ok-use_page.ensures.marks pages) tree.0
+    subst (λ (counts : TreeCounts). MarksUnder pages (table_tree c.args.table.now.root) counts.levels c.args.n c.args.used.now c.use_page.new.used) (sym c.counts_of_page.ensures)
+    (leaf_plain pages c.args.table.now.root c.args.n c.args.used.now c.use_page.new.used c.in_ok-use_page.ensures.blank (c.in_ok-use_page.ensures.marks pages) tree.0 (c.args.depth, (c.requires.met steady).stands)
     (λ users. no_links_in pages users c.args.table.now c.args.n _ _ _ seen tree.0 (c.is_leaf_of_rows.ensures.rows c.if-is_leaf_of_rows.true)))
 
 pub returns-then-eq-clause-marks : goal.returns-then-eq-clause-marks
@@ -345,7 +348,7 @@ returns-then-eq-clause-marks g t c = λ steady.
     c.in-Some.view c.in-Some.ensures.found.0.is c.in-Some.ensures.found.0.header c.in_ok-level.ensures.head leaf in
     let rows = subst (λ (p : Pages). MarksRows p c.args.table.now.root c.args.n c.in-Some.view.at (c.header-header.result.pages * c.header-header.result.page_size) c.in-Some.view.page c.use_page.new.used c.check_rows.new.used) (same_pages _ _ read)
     (c.in_ok-check_rows.ensures.marks (still_steady _ _ read steady)) in
-    subst (λ (counts : TreeCounts). MarksUnder pages c.args.table.now.root counts.levels c.args.n c.args.used.now c.check_rows.new.used) (sym c.counts_of_page-then-eq.ensures)
+    subst (λ (counts : TreeCounts). MarksUnder pages (table_tree c.args.table.now.root) counts.levels c.args.n c.args.used.now c.check_rows.new.used) (sym c.counts_of_page-then-eq.ensures)
     (leaf_linked pages c.args.table.now.root c.args.n c.args.used.now c.use_page.new.used c.in_ok-use_page.ensures.blank (c.in_ok-use_page.ensures.marks pages) tree.0
     (c.args.depth, met.stands) _ _ _ seen c.check_rows.new.used rows)
 
@@ -367,12 +370,12 @@ returns-in_err-below-clause-fault g t c = λ steady.
     (λ cause. inr (⊎_elim
     (λ (broken : IsBrokenTable (pages_seen c.loop-i.pager.state) c.args.table.now c.in_err-below.field-0.0).
     inl (subst (λ (p : Pages). IsBrokenTable p c.args.table.now c.in_err-below.field-0.0) (same_pages _ _ inv.stays) broken))
-    (λ (twice : IsUnderTwice (pages_seen c.loop-i.pager.state) c.args.table.now.root c.in-Some-child_within.child c.loop-i.used c.in_err-below.field-0.0).
+    (λ (twice : IsUnderTwice (pages_seen c.loop-i.pager.state) (table_tree c.args.table.now.root) c.in-Some-child_within.child c.loop-i.used c.in_err-below.field-0.0).
     inr (child_twice (pages_seen c.args.pager.now.state) c.args.table.now.root c.args.n c.loop-i.i c.loop-i.counts.levels c.args.used.now c.loop-i.used
-    c.in_ok-use_page.ensures.blank (inv.marks steady) all.page_is (c.args.depth, all.met.stands) c.in-Some-child_within.child at
+    (inv.marks steady) all.page_is (c.args.depth, all.met.stands) c.in-Some-child_within.child at
     (here_within _ _ _ _ _ _ _ _ _ all c.loop-i.i in_count)
     (kid.1, subst (λ (h : Header). c.in-Some-child_within.child ≤ h.pages) header kid.2) _
-    (subst (λ (p : Pages). IsUnderTwice p c.args.table.now.root c.in-Some-child_within.child c.loop-i.used c.in_err-below.field-0.0) (same_pages _ _ inv.stays) twice)))
+    (subst (λ (p : Pages). IsUnderTwice p (table_tree c.args.table.now.root) c.in-Some-child_within.child c.loop-i.used c.in_err-below.field-0.0) (same_pages _ _ inv.stays) twice)))
     cause))
     (c.in_err-below.ensures.fault now))
 
@@ -386,4 +389,4 @@ returns-clause-marks g t c = λ steady.
     c.in-Some.view c.in-Some.ensures.found.0.is c.in-Some.ensures.found.0.header c.in_ok-level.ensures.head interior in
     let done = end_is _ _ _ _ _ _ _ _ _ all c.loop-i.i c.loop-i.counts.levels end in
     rw add-one (children_all (pages_seen c.args.pager.now.state) c.args.table.now.root c.args.n c.loop-i.i c.loop-i.counts.levels c.args.used.now c.loop-i.used
-    c.in_ok-use_page.ensures.blank (inv.marks steady) all.page_is (c.args.depth, all.met.stands) done)
+    (inv.marks steady) all.page_is (c.args.depth, all.met.stands) done)

@@ -5,8 +5,9 @@ use Rattle.image.specs.declared.kind.TreeKind.TheVariants.{Table}
 use Rattle.image.specs.Shape.{places_under}
 use Rattle.image.specs.Tree.{child_at}
 use Rattle.stored_rows.specs.Stored.{HoldsRow}
-use Rattle.integrity.specs.Walked.{IsBranch, counted, rows_before, size_before}
-use Rattle.integrity.proofs.UsedLemmas.{MarksChildren}
+use Rattle.tree_walk.specs.Counts.{cells_before, counted, size_before}
+use Rattle.integrity.specs.Walked.{IsBranch}
+use Rattle.integrity.proofs.UsedLemmas.{AreChildrenWalked}
 use Rattle.integrity.proofs.walk.+walk.Given as goal
 
 abbrev pub decreases-walk : goal.decreases-walk
@@ -21,8 +22,8 @@ invariant-loop-i g l = record {
       → IsBranch (pages_seen l.fn.pager.state) l.table.root l.counts.levels l.low l.high l.n k;
   held : IsTrue l.fn.pager.state.source.steady → (k : ℕ) → k < l.i
       → All (HoldsRow (pages_seen l.fn.pager.state) l.table) (places_under (pages_seen l.fn.pager.state) Table l.counts.levels (child_at (pages_seen l.fn.pager.state) l.n k));
-  rows : IsTrue l.fn.pager.state.source.steady → l.counts.rows ≡ counted (rows_before (pages_seen l.fn.pager.state) l.counts.levels l.n l.i);
+  rows : IsTrue l.fn.pager.state.source.steady → l.counts.cells ≡ counted (cells_before (pages_seen l.fn.pager.state) Table l.counts.levels l.n l.i);
   size : IsTrue l.fn.pager.state.source.steady → l.counts.pages ≡ counted (size_before (pages_seen l.fn.pager.state) l.counts.levels l.n l.i);
   marks : IsTrue l.fn.pager.state.source.steady
-      → MarksChildren (pages_seen l.fn.pager.state) l.table.root l.n l.i l.counts.levels l.fn.used l.used;
+      → AreChildrenWalked (pages_seen l.fn.pager.state) l.table.root l.n l.i l.counts.levels l.fn.used l.used;
 }

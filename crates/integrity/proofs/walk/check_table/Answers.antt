@@ -4,10 +4,13 @@ use Rattle.std.proofs.lemmas.Result.{err_from_is_err_and}
 use Rattle.image.specs.declared.kind.TreeKind.TheVariants.{Table}
 use Rattle.image.specs.Shape.{places_under}
 use Rattle.stored_rows.specs.Stored.{HoldsRow}
-use Rattle.integrity.specs.Used.{IsUnderTwice, MarksUnder}
-use Rattle.integrity.specs.Walked.{AreCounts, StandsWithin, IsTree}
+use Rattle.stored_rows.specs.Links.{table_tree}
+use Rattle.tree_walk.specs.Counts.{AreCounts}
+use Rattle.tree_walk.specs.Used.{IsUnderTwice, MarksUnder}
+use Rattle.integrity.specs.Used.{tree_of}
+use Rattle.integrity.specs.Walked.{StandsWithin, IsTree}
 use Rattle.integrity.proofs.TreeLemmas.{root_shape, sound_table}
-use Rattle.integrity.proofs.UsedLemmas.{tree_gone, tree_twice}
+use Rattle.tree_walk.proofs.UsedLemmas.{tree_gone, tree_twice}
 use Rattle.integrity.proofs.WalkLemmas.{start_met}
 use Rattle.integrity.proofs.walk.check_table.Goals as goal
 
@@ -30,7 +33,7 @@ returns-clause-outcome g c =
             sound = sound_table pages root levels c.in_ok-counts.ensures.deep tree;
             shape = root_shape pages root levels tree;
             rows = subst (λ (n : ℕ). All (HoldsRow pages c.args.table.now) (places_under pages Table levels n)) c.root.ensures (c.in_ok-counts.ensures.rows steady);
-            counts_are = subst (λ (n : ℕ). AreCounts pages levels n c.in_ok-counts.counts.rows c.in_ok-counts.counts.pages) c.root.ensures (c.in_ok-counts.ensures.counts steady);
+            counts_are = subst (λ (n : ℕ). AreCounts pages Table levels n c.in_ok-counts.counts.cells c.in_ok-counts.counts.pages) c.root.ensures (c.in_ok-counts.ensures.counts steady);
           };
     }
 
@@ -40,8 +43,8 @@ returns-clause-marks g c = λ steady.
     let root = c.args.table.now.root in
     let levels = c.in_ok-counts.counts.levels in
     let tree : IsTree pages root levels None None root = subst (λ (n : ℕ). IsTree pages root levels None None n) c.root.ensures (c.in_ok-counts.ensures.tree steady) in
-    tree_gone pages c.args.table.now c.args.used.now c.requires.number levels c.walk.new.used (root_shape pages root levels tree)
-    (subst (λ (n : ℕ). MarksUnder pages root levels n c.args.used.now c.walk.new.used) c.root.ensures (c.in_ok-counts.ensures.marks steady))
+    tree_gone pages (tree_of c.args.table.now) c.args.used.now c.requires.number levels c.walk.new.used (root_shape pages root levels tree)
+    (subst (λ (n : ℕ). MarksUnder pages (table_tree root) levels n c.args.used.now c.walk.new.used) c.root.ensures (c.in_ok-counts.ensures.marks steady))
 
 pub returns-in_err-counts-clause-outcome : goal.returns-in_err-counts-clause-outcome
 returns-in_err-counts-clause-outcome g c =
@@ -54,9 +57,9 @@ returns-in_err-counts-clause-outcome g c =
           let root = c.args.table.now.root in
           ⊎_elim inl
           (λ cause. inr (⊎_elim inl
-          (λ (twice : IsUnderTwice pages root c.root.result c.args.used.now c.in_err-counts.field-0.0).
-          inr (tree_twice pages c.args.table.now c.args.used.now c.requires.number c.in_err-counts.field-0.0
-          (subst (λ (n : ℕ). IsUnderTwice pages root n c.args.used.now c.in_err-counts.field-0.0) c.root.ensures twice)))
+          (λ (twice : IsUnderTwice pages (table_tree root) c.root.result c.args.used.now c.in_err-counts.field-0.0).
+          inr (tree_twice pages (tree_of c.args.table.now) c.args.used.now c.requires.number c.in_err-counts.field-0.0
+          (subst (λ (n : ℕ). IsUnderTwice pages (table_tree root) n c.args.used.now c.in_err-counts.field-0.0) c.root.ensures twice)))
           cause))
           (c.in_err-counts.ensures.fault steady);
     })

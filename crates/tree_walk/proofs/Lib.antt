@@ -1,0 +1,5 @@
+pub mod KindLemmas
+pub mod CountLemmas
+pub mod LinkLemmas
+pub mod UsedLemmas
+pub mod ShapeLemmas
