@@ -1,0 +1,22 @@
+//! Tests of the crates of storage by their public calls, as tables of rows that come from SQLite's documents or from what
+//! SQLite itself answers. They stand apart from the crates that they try, so that none of these is proved a second time for
+//! them. It holds no other code.
+//!
+//! The modules: `literals` and `sinks` (values as text, their order, and where text is written to), `headers` and `pages`
+//! (an image's bytes), `record_rows` (records), `lines` (rows as text) and `failing` (sources and sinks that fail).
+#![tactic(auto)]
+
+#[cfg(test)]
+mod failing;
+#[cfg(test)]
+mod headers;
+#[cfg(test)]
+mod lines;
+#[cfg(test)]
+mod literals;
+#[cfg(test)]
+mod pages;
+#[cfg(test)]
+mod record_rows;
+#[cfg(test)]
+mod sinks;
