@@ -2,21 +2,30 @@
 use Rattle.std.specs.Prelude.{◌≡◌, ◌⊎◌, ℕ, zero, suc, ◌<◌, ◌≤◌, Bool, false, Contains, List, [], ◌∷◌, ◌++◌, length, map, slice_get, Some}
 use Rattle.values.specs.declared.fault.Fault.{Fault}
 use Rattle.values.specs.declared.fault.Fault.TheVariants.{PageUse}
-use Rattle.image.specs.declared.kind.TreeKind.TheVariants.{Table}
+use Rattle.image.specs.declared.kind.TreeKind.TheVariants.{Index, Table}
 use Rattle.image.specs.Pages.{Pages}
 use Rattle.image.specs.Tree.{Reaches, child_at, count_at}
 use Rattle.image.specs.Use.{Use, as_root, as_child, as_link, as_trunk, as_leaf, Names, TreeData, Users}
 use Rattle.page_use.specs.Free.{header_on}
 use Rattle.page_use.specs.Marks.{AreTreeMarks, IsNewPlace, IsUsedTwice, is_marked}
 use Rattle.schema.specs.TableData.{TableData, schema_table}
+use Rattle.indexes.specs.IndexData.{IndexData}
+use Rattle.catalog.specs.CatalogData.{CatalogData}
 use Rattle.stored_rows.specs.Links.{table_tree}
 
 abbrev pub tree_of : TableData → TreeData
 tree_of table = table_tree table.root
 
--- what uses the pages of an image that has these tables: the tree of the schema, theirs, and the freelist
-abbrev pub users_of : Pages → List TableData → Users
-users_of pages tables = record { trees = tree_of schema_table ∷ map tree_of tables; first = (header_on pages).freelist }
+abbrev pub index_tree_of : IndexData → TreeData
+index_tree_of index = record { kind = Index; root = index.root }
+
+-- what uses the pages of an image that has this catalog: the tree of the schema, those of its tables and indexes, and the
+-- freelist
+abbrev pub users_of : Pages → CatalogData → Users
+users_of pages catalog = record {
+  trees = tree_of schema_table ∷ map tree_of catalog.tables ++ map index_tree_of catalog.indexes;
+  first = (header_on pages).freelist;
+}
 
 -- the place is a child or a link that a page tells which has no mark
 abbrev pub IsFresh : List Bool → Use → Type 0
