@@ -193,8 +193,8 @@ def report(sizes: list[int], all_costs: list[dict[str, Cost]], memory: list[str]
         keeps {CACHE} pages; `sqlite3` {version} answers in `.mode quote`. Seconds are those of the processor, user and
         system."""
     lacks = f"""Each run of seleq opens the file, which checks it, before it answers. **What opening doesn't examine yet:**
-        {unexamined()}; and what it answers by 29 NotYet: indexes, views, triggers, and tables without
-        rowids or not STRICT. `PRAGMA integrity_check` examines the use of each page and the freelist as well."""
+        {unexamined()}; and what it answers by 29 NotYet: indexes, and tables without rowids. `PRAGMA integrity_check`
+        examines these as well."""
     parts = [
         "# Time and memory beside `sqlite3`",
         *(textwrap.fill(" ".join(text.split()), 120, break_on_hyphens=False) for text in (how, lacks)),

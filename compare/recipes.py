@@ -183,6 +183,15 @@ def altered(connection: sqlite3.Connection, _: Random) -> None:
         ALTER TABLE "the new" DROP COLUMN gone;""")
 
 
+def triggered(connection: sqlite3.Connection, _: Random) -> None:
+    """Tables with triggers, which wrote some of their rows."""
+    connection.executescript("""
+        CREATE TABLE kept(a INTEGER PRIMARY KEY, b TEXT) STRICT; CREATE TABLE log(what TEXT NOT NULL, a INT) STRICT;
+        CREATE TRIGGER log AFTER INSERT ON kept BEGIN INSERT INTO log VALUES ('in', NEW.a); END;
+        CREATE TRIGGER r BEFORE DELETE ON kept WHEN OLD.a > 3 BEGIN INSERT INTO log VALUES ('out', OLD.a); END;
+        INSERT INTO kept(b) VALUES ('x'), ('y'), (NULL), ('z'), ('it''s'), (''); DELETE FROM kept WHERE a % 2 = 0;""")
+
+
 def no_tables(connection: sqlite3.Connection, _: Random) -> None:
     """A file whose one table is gone."""
     connection.executescript("CREATE TABLE a(a INT) STRICT; DROP TABLE a")
@@ -200,6 +209,7 @@ RECIPES = [
     Recipe("free_pages", free_pages, (512, 2048, 65536)),
     Recipe("vacuumed", vacuumed),
     Recipe("altered", altered),
+    Recipe("triggered", triggered),
     Recipe("no_tables", no_tables, ALL_SIZES),
 ]
 
@@ -230,7 +240,7 @@ SPELLINGS = [
     "CREATE TABLE t(a INT, b TEXT, CONSTRAINT c FOREIGN KEY (b, A) REFERENCES u(x, y) ON UPDATE CASCADE) STRICT",
 ]
 
-# Spellings that SQLite takes too, which the program may refuse as not served yet.
+# Spellings that SQLite takes too, which the program may refuse.
 EITHER = [
     "CREATE TABLE t(a INT, `b``c` TEXT) STRICT",
     "CREATE TABLE 't'(a INT, b TEXT) STRICT",

@@ -13,34 +13,39 @@ from recipes import make_file
 from sound import answer_problem
 
 NOT_YET = fault_line(29)
+LEFT_OUT = fault_line(22, "x")
 ITEM = """CREATE TABLE item(id INTEGER PRIMARY KEY, name TEXT NOT NULL) STRICT;
     INSERT INTO item VALUES (1, 'bolt'), (2, 'nut');"""
 SELECT = "SELECT * FROM item"
 
-# What SQLite makes and the program doesn't serve: a name, and what is made after a table that is served.
+# What SQLite makes and the program doesn't serve: a name, what is made after a table that is served, and the fault's line.
 UNSERVED = {
-    "a table without rowids": "CREATE TABLE x(a INTEGER PRIMARY KEY) STRICT, WITHOUT ROWID",
-    "an index": "CREATE INDEX x ON item(name)",
-    "a unique column": "CREATE TABLE x(a INT UNIQUE) STRICT",
-    "a view": "CREATE VIEW x AS SELECT 1",
-    "a trigger": "CREATE TRIGGER x AFTER INSERT ON item BEGIN SELECT 1; END",
-    "AUTOINCREMENT": "CREATE TABLE x(a INTEGER PRIMARY KEY AUTOINCREMENT) STRICT",
-    "a table that isn't STRICT": "CREATE TABLE x(a INT)",
-    "a column without a type": "CREATE TABLE x(a)",
-    "a REAL column": "CREATE TABLE x(a REAL) STRICT",
-    "an ANY column": "CREATE TABLE x(a ANY) STRICT",
-    "types of other databases": "CREATE TABLE x(a VARCHAR(10), b DOUBLE PRECISION, c DECIMAL(10, 2))",
-    "a type with a size": "CREATE TABLE x(a INT); PRAGMA writable_schema = ON;"
-    "UPDATE sqlite_schema SET sql = 'CREATE TABLE x(a INT(10)) STRICT' WHERE name = 'x'",
-    "a key that isn't the rowid": "CREATE TABLE x(a INT PRIMARY KEY) STRICT",
-    "a key of a text": "CREATE TABLE x(a TEXT PRIMARY KEY) STRICT",
-    "a key that descends": "CREATE TABLE x(a INTEGER PRIMARY KEY DESC) STRICT",
-    "a key behind the columns": "CREATE TABLE x(a INT, PRIMARY KEY(a)) STRICT",
-    "a collation": "CREATE TABLE x(a TEXT COLLATE NOCASE) STRICT",
-    "a computed column": "CREATE TABLE x(a INT, b INT AS (a + 1) STORED) STRICT",
-    "a table of a SELECT": "CREATE TABLE x AS SELECT 1 AS a",
-    "statistics": "CREATE INDEX x ON item(name); ANALYZE; DROP INDEX x",
-    "101 columns": f"CREATE TABLE x({', '.join(f'c{place} INT' for place in range(101))}) STRICT",
+    "a table without rowids": ("CREATE TABLE x(a INTEGER PRIMARY KEY) STRICT, WITHOUT ROWID", NOT_YET),
+    "an index": ("CREATE INDEX x ON item(name)", NOT_YET),
+    "a unique column": ("CREATE TABLE x(a INT UNIQUE) STRICT", NOT_YET),
+    "a key that isn't the rowid": ("CREATE TABLE x(a INT PRIMARY KEY) STRICT", NOT_YET),
+    "a key of a text": ("CREATE TABLE x(a TEXT PRIMARY KEY) STRICT", NOT_YET),
+    "a key behind the columns": ("CREATE TABLE x(a INT, PRIMARY KEY(a)) STRICT", NOT_YET),
+    "a view": ("CREATE VIEW x AS SELECT 1", LEFT_OUT),
+    "AUTOINCREMENT": ("CREATE TABLE x(a INTEGER PRIMARY KEY AUTOINCREMENT) STRICT", LEFT_OUT),
+    "a table that isn't STRICT": ("CREATE TABLE x(a INT)", LEFT_OUT),
+    "a column without a type": ("CREATE TABLE x(a)", LEFT_OUT),
+    "a REAL column": ("CREATE TABLE x(a REAL) STRICT", LEFT_OUT),
+    "an ANY column": ("CREATE TABLE x(a ANY) STRICT", LEFT_OUT),
+    "types of other databases": ("CREATE TABLE x(a VARCHAR(10), b DOUBLE PRECISION, c DECIMAL(10, 2))", LEFT_OUT),
+    "a type with a size": (
+        "CREATE TABLE x(a INT); PRAGMA writable_schema = ON;"
+        "UPDATE sqlite_schema SET sql = 'CREATE TABLE x(a INT(10)) STRICT' WHERE name = 'x'",
+        LEFT_OUT,
+    ),
+    "a key that descends": ("CREATE TABLE x(a INTEGER PRIMARY KEY DESC) STRICT", LEFT_OUT),
+    "a collation": ("CREATE TABLE x(a TEXT COLLATE NOCASE) STRICT", LEFT_OUT),
+    "a computed column": ("CREATE TABLE x(a INT, b INT AS (a + 1) STORED) STRICT", fault_line(21, "x")),
+    "a table of a SELECT": ("CREATE TABLE x AS SELECT 1 AS a", LEFT_OUT),
+    "statistics": ("CREATE INDEX x ON item(name); ANALYZE; DROP INDEX x", fault_line(22, "sqlite_stat1")),
+    "101 columns": (f"CREATE TABLE x({', '.join(f'c{place} INT' for place in range(101))}) STRICT", LEFT_OUT),
+    "an index on an expression": ("CREATE INDEX x ON item(id + 1)", fault_line(21, "x")),
+    "an index with a collation": ("CREATE INDEX x ON item(name COLLATE NOCASE)", LEFT_OUT),
 }
 
 # What a file has to be refused for after a table that is served, with the fault's line. The root of `item` is page 2, of
@@ -109,10 +114,10 @@ def from_script(path: Path, script: str) -> None:
 
 def try_unserved(tally: Tally, path: Path) -> None:
     """Tries the files of SQLite that aren't served, with each kind of text."""
-    for what, script in UNSERVED.items():
+    for what, (script, line) in UNSERVED.items():
         from_script(path, ITEM + script)
         for text in (SELECT, "SELECT a FROM x", "no text of SQL"):
-            tally.add(f"a file with {what}, {text!r}", refusal_problem(run(path, text), NOT_YET))
+            tally.add(f"a file with {what}, {text!r}", refusal_problem(run(path, text), line))
 
 
 def try_broken(tally: Tally, path: Path) -> None:

@@ -88,13 +88,13 @@ def spelling(text: str) -> Make:
 
 
 def try_either(tally: Tally, path: Path, text: str) -> None:
-    """Tries a file that may be served or refused: it is served as SQLite gives it, or it is fault 29."""
+    """Tries a file that may be served or refused: it is served as SQLite gives it, or its table's text is."""
     make_file(path, spelling(text), 1024, Random(text))
     with Reader(path) as reader:
         (table,) = reader.tables()
         wanted = reader.lines(table, reader.columns(table))
     answer = run(path, f"SELECT * FROM {named(table)}")
-    refused = refusal_problem(answer, fault_line(29))
+    refused = refusal_problem(answer, fault_line(21, table), fault_line(22, table))
     tally.add(f"the table {text!r}", refused and answer_problem(answer, wanted))
 
 

@@ -77,26 +77,86 @@ NO_STATEMENTS = {
     "SELECT 'nut FROM item": 7,
 }
 
-# Tables that aren't served beside `item`: a name, and a text.
-UNSERVED = [
-    ("ITEM", "CREATE TABLE ITEM(a INT) STRICT"),
-    ("item", "CREATE TABLE item(a INT) STRICT"),
-    ("t", "CREATE TABLE t(a INT)"),
-    ("t", "CREATE TABLE t(a INT UNIQUE) STRICT"),
-    ("t", "CREATE TABLE t(a TEXT COLLATE NOCASE) STRICT"),
-    ("t", "CREATE TABLE t(a REAL) STRICT"),
-    ("t", "CREATE TABLE t(a INTEGER PRIMARY KEY) STRICT, WITHOUT ROWID"),
-    ("t", "CREATE TABLE t(a TEXT PRIMARY KEY) STRICT"),
-    ("t", "CREATE TABLE t(a INT PRIMARY KEY) STRICT"),
-    ("t", "CREATE TABLE t(a INT, PRIMARY KEY(a)) STRICT"),
-    ("t", "CREATE TABLE u(a INT) STRICT"),
-]
-
-# Objects that aren't served beside `item`.
-OBJECTS = {
-    "a view": ("view", "v", "v", 0, "CREATE VIEW v AS SELECT name FROM item"),
-    "a trigger": ("trigger", "r", "item", 0, "CREATE TRIGGER r AFTER INSERT ON item BEGIN DELETE FROM item; END"),
+# Rows of the schema behind that of `item`, an image of two pages, by the fault of each: the kind, the name, the table's name,
+# the root and the text.
+PLAIN, INDEX = "CREATE TABLE t(a INT) STRICT", "CREATE INDEX i ON item(qty)"
+SCHEMA_ROWS: dict[bytes, list[tuple[Value, ...]]] = {
+    # Another kind of object, or none; roots that are no page, or the schema's own; other names than the text's; no text; a
+    # name twice; an index of no table.
+    fault_line(20): [
+        ("thing", "t", "t", 2, PLAIN),
+        (None, "t", "t", 2, PLAIN),
+        ("Table", "t", "t", 2, PLAIN),
+        ("table", None, "t", 2, PLAIN),
+        *(("table", "t", "t", root, PLAIN) for root in (None, -2, 0, 1, 3, 2**32 + 2)),
+        ("table", "u", "t", 2, PLAIN),
+        ("table", "t", "u", 2, PLAIN),
+        ("table", "t", "t", 2, None),
+        ("table", "ITEM", "ITEM", 2, "CREATE TABLE ITEM(a INT) STRICT"),
+        ("trigger", "r", "item", 0, None),
+        ("index", "i", "item", 2, None),
+        *(("index", "i", "item", root, INDEX) for root in (None, 0, 1, 3)),
+        ("index", "j", "item", 2, INDEX),
+        ("index", "i", "gone", 2, INDEX),
+        ("index", "i", "item", 2, "CREATE INDEX i ON gone(qty)"),
+        ("index", "Item", "item", 2, "CREATE INDEX item ON item(qty)"),
+    ],
+    # Texts that are none of a table, or of an index.
+    fault_line(21, "t"): [
+        ("table", "t", "t", 2, ""),
+        ("table", "t", "t", 2, "CREATE TABEL t(a INT) STRICT"),
+        ("table", "t", "t", 2, "CREATE INDEX t ON item(qty)"),
+        ("table", "t", "t", 2, "CREATE TABLE t(a INT, b INT AS (a + 1)) STRICT"),
+        ("table", "t", "t", 2, "CREATE VIRTUAL TABLE t USING fts5(a)"),
+        ("table", "t", "t", 2, "CREATE TABLE 't'(a INT) STRICT"),
+        ("table", "t", "t", 2, "CREATE TABLE t(a INT) STRICT STRICT"),
+    ],
+    fault_line(21, "i"): [
+        ("index", "i", "item", 2, "CREATE TABLE i(a INT) STRICT"),
+        ("index", "i", "item", 2, "CREATE INDEX i ON item(qty + 1)"),
+        ("index", "i", "item", 2, "CREATE INDEX i ON item(qty) WHERE"),
+    ],
+    # Texts that are read and have what is left out, and a view.
+    fault_line(22, "v"): [("view", "v", "v", 0, "CREATE VIEW v AS SELECT name FROM item")],
+    fault_line(22, "t"): [
+        *(
+            ("table", "t", "t", 2, f"CREATE TABLE t({columns}) STRICT")
+            for columns in (
+                *("a REAL", "a ANY", "a", "a INT(10)", "a TEXT COLLATE NOCASE", "a INTEGER PRIMARY KEY DESC"),
+                *("a INTEGER PRIMARY KEY AUTOINCREMENT", "a INT, A TEXT", "a INT, FOREIGN KEY (b) REFERENCES u"),
+                *("a INTEGER PRIMARY KEY, b INTEGER PRIMARY KEY", "a INTEGER PRIMARY KEY, PRIMARY KEY (a)"),
+                ", ".join(f"c{place} INT" for place in range(101)),
+            )
+        ),
+        ("table", "t", "t", 2, "CREATE TABLE t(a INT)"),
+        ("table", "t", "t", 2, "CREATE TABLE t(a INT) STRICT, STRICT"),
+    ],
+    fault_line(22, "sqlite_t"): [("table", "sqlite_t", "sqlite_t", 2, "CREATE TABLE sqlite_t(a INT) STRICT")],
+    fault_line(22, "i"): [
+        ("index", "i", "item", 2, "CREATE INDEX i ON item(price)"),
+        ("index", "i", "item", 2, "CREATE INDEX i ON item(qty, QTY)"),
+        ("index", "i", "item", 2, "CREATE INDEX i ON item(name COLLATE NOCASE)"),
+    ],
+    # An index, whose tree isn't checked yet; and tables that want an index, or have no rowids.
+    fault_line(29): [
+        ("index", "i", "item", 2, INDEX),
+        ("index", "I", "ITEM", 2, "CREATE UNIQUE INDEX i ON item(qty DESC, name) WHERE qty IS NOT NULL"),
+        *(
+            ("table", "t", "t", 2, f"CREATE TABLE t({columns}) STRICT")
+            for columns in (
+                *("a INT UNIQUE", "a TEXT PRIMARY KEY", "a INT PRIMARY KEY", "a INT, PRIMARY KEY(a)", "a INT, UNIQUE(a)"),
+                "a INTEGER, b INT, PRIMARY KEY(a, b)",
+            )
+        ),
+        ("table", "t", "t", 2, "CREATE TABLE t(a INTEGER PRIMARY KEY) STRICT, WITHOUT ROWID"),
+    ],
 }
+
+# Triggers, which are ignored: one of its own name, and one of its table's.
+TRIGGERS = [
+    ("trigger", "r", "item", 0, "CREATE TRIGGER r AFTER INSERT ON item BEGIN DELETE FROM item; END"),
+    ("trigger", "item", "item", 0, "CREATE TRIGGER item BEFORE UPDATE ON item WHEN NEW.qty > 7 BEGIN SELECT 1; END"),
+]
 
 # Records that are none of three columns: no byte; a header that is cut; one that ends within its own length; bodies that
 # are cut; the serial types 10 and 11, which no file has; four values.
@@ -281,7 +341,7 @@ def shop() -> Writer:
 
 
 def try_schemas(trial: Trial) -> None:
-    """Schemas of no table, of one and of some, and what isn't served."""
+    """Schemas of no table, of one and of some, with triggers, and those that are refused."""
     trial.counted("no table", bytes(Writer().image()), "")
     trial.counted("one table", bytes(shop().image()), "item 4 1 0\n")
     writer = Writer(1024)
@@ -292,14 +352,15 @@ def try_schemas(trial: Trial) -> None:
     trial.counted("three tables", bytes(writer.image()), "picture 300 36 2\nnote 0 1 0\nitem 4 1 0\n")
     answers = {"SELECT body FROM picture": "X'00FF'\n" * 300, "SELECT * FROM note": ""}
     trial.sound("three tables", bytes(writer.image()), answers)
-    for name, sql in UNSERVED:
-        writer = shop()
-        writer.table(name, sql, [])
-        trial.refused(f"the table {name}, {sql}", bytes(writer.image()), fault_line(29))
-    for what, row in OBJECTS.items():
-        writer = shop()
+    for line, rows in SCHEMA_ROWS.items():
+        for row in rows:
+            writer = shop()
+            writer.object(*row)
+            trial.refused(f"the schema's row {row}", bytes(writer.image()), line)
+    writer = shop()
+    for row in TRIGGERS:
         writer.object(*row)
-        trial.refused(what, bytes(writer.image()), fault_line(29))
+    trial.sound("triggers", bytes(writer.image()), {"SELECT name FROM item": "'bolt'\n'nut'\n'cap'\n'nut'\n"})
     writer = shop()
     checked = "A INT CONSTRAINT c NOT NULL CHECK (A > 0) DEFAULT 7 REFERENCES item"
     writer.table("items", f"CREATE TABLE items({checked}) STRICT", [(1, record([5]))])

@@ -1,11 +1,12 @@
 -- Rows say one catalog at most, and such rows are refused for no reason.
-use Rattle.std.proofs.Common.{◌≡◌, ℕ, ℤ, pos, ◌<◌, ◌≤◌, ◌⊎◌, inl, inr, Contains, List, [], ◌∷◌, map, slice_get, Option, None, Some, refl, sym, ap, ◌∙◌, subst, arith}
+use Rattle.std.proofs.Common.{◌≡◌, ℕ, ℤ, pos, ◌<◌, ◌≤◌, ◌⊎◌, inl, inr, Contains, List, [], ◌∷◌, map, slice_get, Option, None, Some, string_bytes, refl, sym, ap, ◌∙◌, subst, arith}
 use Rattle.std.proofs.lemmas.Bool.{cases_order}
 use Rattle.std.proofs.lemmas.Option.{slice_get-get_or}
 use Rattle.std.specs.Char.{to_ascii_lowercase}
 use Rattle.std.specs.List.{AllZip}
 use Rattle.values.specs.Datum.{text}
 use Rattle.values.specs.Row.{Row}
+use Rattle.values.specs.declared.fault.Fault.{Fault}
 use Rattle.values.specs.declared.fault.Fault.TheVariants as f
 use Rattle.create_reader.proofs.CreateTexts.{one_create}
 use Rattle.create_reader.proofs.IndexTexts as texts
@@ -25,10 +26,11 @@ use Rattle.syntax.specs.Tree.{Name}
 use Rattle.catalog.specs.CatalogData.{CatalogData}
 use Rattle.catalog.specs.Objects.{ObjectData, int_or_null, object_row, text_or_null}
 use Rattle.catalog.specs.Picks.{Picks}
-use Rattle.catalog.specs.Refused.{HasObject, IsBadObject, IsBadSchema, IsLeftOut, IsTooMuch, IsUnread}
+use Rattle.catalog.specs.Refused.{HasLaterTable, HasObject, IsBadObject, IsBadSchema, IsBrokenSchema, IsLeftOut, IsTooMuch, IsUnread}
 use Rattle.catalog.specs.Says.{AreTablesOf, Doubled, HasTree, IsCatalog, IsNoIndex, IsNoTable, IsOfKind, IsTrigger, SaysIndex}
 use Rattle.catalog.specs.declared.objects.Kind.{Kind}
 use Rattle.catalog.specs.declared.objects.Kind.TheVariants as k
+use Rattle.catalog.proofs.LaterLemmas.{is_served}
 use Rattle.catalog.proofs.ObjectLemmas.{one_kind, one_name}
 use Rattle.catalog.proofs.PickLemmas.{picks_from, picks_has}
 
@@ -79,7 +81,7 @@ one_object a b same =
     λ i. record { kind = kind i; name = name i; owner = owner i; root = root i; sql = sql i }
 
 -- the object of a row that says a table
-abbrev object_of : {pages : ℕ} {row : Row} {t : TableData} → SaysTable pages row t → ObjectData
+abbrev pub object_of : {pages : ℕ} {row : Row} {t : TableData} → SaysTable pages row t → ObjectData
 object_of {t = t} says = record {
   kind = k.Table;
   name = says.name;
@@ -132,7 +134,7 @@ stands_at : (rows : List Row) (row : Row) (at : Contains rows row) → slice_get
 stands_at rows row (i, within, is) = slice_get-get_or rows i row within ∙ ap Some is
 
 -- a table's row has its name
-row_name : {pages : ℕ} {row : Row} {t : TableData} → (says : SaysTable pages row t) → IsSameName says.name t.name
+pub row_name : {pages : ℕ} {row : Row} {t : TableData} → (says : SaysTable pages row t) → IsSameName says.name t.name
 row_name says = says.name_is ∙ sym (ap (map to_ascii_lowercase) says.created.name_is)
 
 names_of : (trees : List ColumnTree) (columns : List ColumnData) → AllZip IsColumn trees columns
@@ -421,3 +423,29 @@ module _ (pages : ℕ) (rows : List Row) (catalog : CatalogData) (is : IsCatalog
 
   pub no_left_out_object : (name : Name) → ¬ HasObject (IsLeftOut pages rows) rows name
   no_left_out_object name found = no_left_out found.object found.stands found.is
+
+  pub no_broken_schema : (fault : Fault) → ¬ IsBrokenSchema pages rows fault
+  no_broken_schema f.SchemaRow bad = no_bad_schema bad
+  no_broken_schema (f.SchemaText name) unread = no_unread_object (string_bytes name) unread
+  no_broken_schema (f.UnsupportedObject name) out = no_left_out_object (string_bytes name) out
+  no_broken_schema fault none = none
+
+  -- NotYet
+
+  pub no_later_table : ¬ HasLaterTable rows
+  no_later_table (object, has, later) =
+      let found = table_at object has later.text.kind_is in
+      let same = tree_of object found.0 found.2 later.sql later.tree later.text.sql_is later.spelt in
+      is_served later.tree found.0 (subst (λ t. IsTable t found.0) (sym same) found.2.created) later.later
+
+  -- what one of the rows says is one of the tables
+  pub said_of_them : (row : Row) → Contains rows row → (t : TableData) → SaysTable pages row t → Contains catalog.tables t
+  said_of_them row has t says = go (picks_has (SaysTable pages) IsNoTable is.tables_are row has)
+    where
+      go : ((other : TableData) × Contains catalog.tables other × SaysTable pages row other) ⊎ IsNoTable row → Contains catalog.tables t
+      go (inl (other, at, too)) = subst (Contains catalog.tables) (one_table pages row other t too says) at
+      go (inr none) = absurd (table_apart pages row t says none)
+
+  -- and each of them is said by a row
+  pub row_of_table : (t : TableData) → Contains catalog.tables t → (row : Row) × Contains rows row × SaysTable pages row t
+  row_of_table = picks_from (SaysTable pages) IsNoTable is.tables_are

@@ -4,3 +4,4 @@ pub mod LaterLemmas
 pub mod DoubleLemmas
 pub mod RefusalLemmas
 pub mod LawLemmas
+pub mod AloneLemmas

@@ -93,11 +93,19 @@ pub record HasObject (Is : ObjectData → Type 0) (rows : List Row) (name : Name
   pub name_is : name ≡ object.name
   pub is : Is object
 
+-- the condition of the rows of the schema that a fault says is broken
+abbrev pub IsBrokenSchema : ℕ → List Row → Fault → Type 0
+IsBrokenSchema pages rows f.SchemaRow = IsBadSchema pages rows
+IsBrokenSchema pages rows (f.SchemaText name) = HasObject IsUnread rows (string_bytes name)
+IsBrokenSchema pages rows (f.UnsupportedObject name) = HasObject (IsLeftOut pages rows) rows (string_bytes name)
+IsBrokenSchema pages rows _ = ⊥
+
+-- one of the rows is that of a table that isn't served yet
+abbrev pub HasLaterTable : List Row → Type 0
+HasLaterTable rows = (object : ObjectData) × Contains rows (object_row object) × IsLaterTable object
+
 -- why the rows of the schema were refused
 abbrev pub IsRefused : ℕ → List Row → Fault → Type 0
 IsRefused pages rows f.NoMemory = Unit {0}
-IsRefused pages rows f.SchemaRow = IsBadSchema pages rows
-IsRefused pages rows (f.SchemaText name) = HasObject IsUnread rows (string_bytes name)
-IsRefused pages rows (f.UnsupportedObject name) = HasObject (IsLeftOut pages rows) rows (string_bytes name)
-IsRefused pages rows f.NotYet = (object : ObjectData) × Contains rows (object_row object) × IsLaterTable object
-IsRefused pages rows _ = ⊥
+IsRefused pages rows f.NotYet = HasLaterTable rows
+IsRefused pages rows fault = IsBrokenSchema pages rows fault

@@ -1,9 +1,11 @@
 //! What holds of the definitions alone.
-ghost use Rattle.std.specs.Prelude.{◌≡◌, List, ℕ};
+ghost use Rattle.std.specs.Prelude.{◌≡◌, List, [], ℕ};
 ghost use Rattle.values.specs.Row.{Row};
 ghost use Rattle.catalog.specs.CatalogData.{CatalogData};
-ghost use Rattle.catalog.specs.Refused.{HasObject, IsBadSchema, IsLeftOut, IsUnread};
+ghost use Rattle.catalog.specs.Refused.{HasLaterTable, HasObject, IsBadSchema, IsLeftOut, IsUnread};
 ghost use Rattle.catalog.specs.Says.{IsCatalog};
+ghost use Rattle.schema.specs.Rows.{AreTables};
+ghost use Rattle.schema.specs.TableData.{TableData};
 ghost use Rattle.syntax.specs.Tree.{Name};
 
 /// The rows of a schema say at most one catalog.
@@ -12,8 +14,8 @@ pub fn one_catalog()
         → IsCatalog pages rows second → first ≡ second }
 {}
 
-/// Where rows say a catalog, each of them is as SQLite writes it, each text of a table or an index is read, and nothing that
-/// is left out stands there.
+/// Where rows say a catalog, each of them is as SQLite writes it, each text of a table or an index is read, nothing that is
+/// left out stands there, and each table is served.
 pub fn catalog_is_sound()
     ensures row { (pages : ℕ) (rows : List Row) (catalog : CatalogData) → IsCatalog pages rows catalog
         → ¬ IsBadSchema pages rows }
@@ -21,4 +23,12 @@ pub fn catalog_is_sound()
         → ¬ HasObject IsUnread rows name }
     ensures object { (pages : ℕ) (rows : List Row) (catalog : CatalogData) (name : Name) → IsCatalog pages rows catalog
         → ¬ HasObject (IsLeftOut pages rows) rows name }
+    ensures later { (pages : ℕ) (rows : List Row) (catalog : CatalogData) → IsCatalog pages rows catalog
+        → ¬ HasLaterTable rows }
+{}
+
+/// Where each row is that of a table, and no two have one name, the rows say these tables and no index.
+pub fn only_tables()
+    ensures { (pages : ℕ) (rows : List Row) (tables : List TableData) → AreTables pages rows tables
+        → IsCatalog pages rows (record { tables = tables; indexes = [] }) }
 {}

@@ -3,7 +3,7 @@ use Rattle.std.proofs.Common.{◌≡◌, ◌⊎◌, ℕ, zero, suc, refl, ◌<�
 use Rattle.std.specs.List.{AllZip}
 use Rattle.std.proofs.lemmas.List.Elements.{All-cons, All-head, All-nil, All-tail}
 use Rattle.values.specs.declared.fault.Fault.{Fault}
-use Rattle.values.specs.declared.fault.Fault.TheVariants.{ReadFailed, NoMemory, PageUse, BadFreelist, NotYet}
+use Rattle.values.specs.declared.fault.Fault.TheVariants.{ReadFailed, NoMemory, PageUse, BadFreelist, SchemaRow, SchemaText, UnsupportedObject, NotYet}
 use Rattle.image.specs.declared.kind.TreeKind.TheVariants.{Table}
 use Rattle.image.specs.Pages.{Pages}
 use Rattle.image.specs.Shape.{places_under}
@@ -12,11 +12,13 @@ use Rattle.image.specs.Tree.{IsPlaceOf, Place}
 use Rattle.image.proofs.TableLemmas.{rows_of}
 use Rattle.page_use.specs.Marks.{IsUseFault}
 use Rattle.values.specs.Row.{Row}
-use Rattle.schema.specs.Rows.{AreTables, SaysTable}
 use Rattle.schema.specs.TableData.{TableData, schema_table}
 use Rattle.tree_walk.specs.declared.counts.TreeCounts.{TreeCounts}
-use Rattle.integrity.specs.Checked.{HasCause, IsCheckedTree, IsTableOf, said}
-use Rattle.integrity.specs.Denotes.{HasTables, IsStoredTable}
+use Rattle.catalog.proofs.LawLemmas.{row_of_table}
+use Rattle.catalog.specs.CatalogData.{CatalogData}
+use Rattle.catalog.specs.Refused.{IsRefused}
+use Rattle.integrity.specs.Checked.{HasCause, IsCheckedTree, IsOfTables, IsTableOf, indexed, later, said}
+use Rattle.integrity.specs.Denotes.{HasCatalog, HasTables, IsStoredTable}
 use Rattle.stored_rows.specs.RowFaults.{IsBrokenTable}
 use Rattle.stored_rows.specs.Stored.{Fits, HoldsRow, HoldsRows, StoresRow}
 use Rattle.integrity.specs.Walked.{IsCheckFault, IsWalkFault}
@@ -62,52 +64,68 @@ module _ (pages : Pages) where
   stored_tables (table ∷ tables) (counts ∷ trees) all =
       All-cons (IsStoredTable pages) table tables (stored_table table counts all.0) (stored_tables tables trees all.1)
 
-  pub has_tables : (rows : List Row) (tables : List TableData) (trees : List TreeCounts) → HoldsRows pages schema_table rows → All (Fits schema_table) rows
-      → AreTables pages.count rows tables → AllZip (IsCheckedTree pages) tables trees → HasTables pages tables
-  has_tables rows tables trees stored fit are checked = record {
+  pub has_tables : (rows : List Row) (catalog : CatalogData) (trees : List TreeCounts) → HasCatalog pages rows catalog
+      → AllZip (IsCheckedTree pages) catalog.tables trees → HasTables pages catalog.tables
+  has_tables rows catalog trees has checked = record {
     schema = rows;
-    catalog = record { stored = stored; fit = fit; tables_are = are };
-    stored = stored_tables tables trees checked;
+    indexes = catalog.indexes;
+    catalog = has;
+    stored = stored_tables catalog.tables trees checked;
   }
 
-  -- each table that the rows say is one of the image
-  tables_of : (places : List Place) (rows : List Row) (tables : List TableData) → All (IsPlaceOf pages Table schema_table.root) places
-      → AllZip (StoresRow pages schema_table) places rows → AllZip (SaysTable pages.count) rows tables → All (IsTableOf pages) tables
-  tables_of [] [] [] at stored says = All-nil (IsTableOf pages)
-  tables_of [] [] (table ∷ tables) at stored says = absurd says
-  tables_of [] (row ∷ rows) tables at stored says = absurd stored
-  tables_of (place ∷ places) [] tables at stored says = absurd stored
-  tables_of (place ∷ places) (row ∷ rows) [] at stored says = absurd says
-  tables_of (place ∷ places) (row ∷ rows) (table ∷ tables) at stored says = All-cons (IsTableOf pages) table tables
-      (said place row (All-head (IsPlaceOf pages Table schema_table.root) place places at) stored.0 says.0)
-      (tables_of places rows tables (All-tail (IsPlaceOf pages Table schema_table.root) place places at) stored.1 says.1)
+  -- the place of a row
+  place_of : (places : List Place) (rows : List Row) (row : Row) → AllZip (StoresRow pages schema_table) places rows → Contains rows row
+      → (place : Place) × Contains places place × StoresRow pages schema_table place row
+  place_of [] [] row stored (k, within, is) = absurd (omega (arith, within))
+  place_of [] (r ∷ rows) row stored at = absurd stored
+  place_of (place ∷ places) [] row stored at = absurd stored
+  place_of (place ∷ places) (r ∷ rows) row stored (zero, within, is) =
+      (place, (0, omega arith, refl), subst (λ (x : Row). StoresRow pages schema_table place x) is stored.0)
+  place_of (place ∷ places) (r ∷ rows) row stored (suc k, within, is) =
+      let found = place_of places rows row stored.1 (k, omega (arith, within), is) in
+      let there = found.1 in
+      let less = there.1 in
+      (found.0, (suc there.0, omega (arith, less), there.2), found.2)
 
-  all_places : (places : List Place) → AreRowsOf pages schema_table.root places → All (IsPlaceOf pages Table schema_table.root) places
-  all_places places cells k d within = cells.cells.sound (slice_index_or places k d) (k, within, same_index places k d within)
+  module _ (rows : List Row) (catalog : CatalogData) (has : HasCatalog pages rows catalog) where
+    -- each table that the rows say is one of the image
+    table_of : (table : TableData) → Contains catalog.tables table → IsTableOf pages table
+    table_of table among =
+        let from = row_of_table pages.count rows catalog has.says table among in
+        let at = place_of has.stored.places rows from.0 has.stored.rows_are from.1 in
+        said at.0 from.0 (has.stored.cells.cells.sound at.0 at.1) at.2 from.2
 
-  pub broken_table : (rows : List Row) (tables : List TableData) (table : TableData) (fault : Fault) → HoldsRows pages schema_table rows
-      → AreTables pages.count rows tables → Contains tables table → IsBrokenTable pages table fault → HasCause pages fault
-  broken_table rows tables table fault stored are within broken =
-      let all = tables_of stored.places rows tables (all_places stored.places stored.cells) stored.rows_are are.said in
-      inr (inl (inl (table, subst (λ (t : TableData). IsTableOf pages t) within.2 (all within.0 table within.1), broken)))
+    pub broken_table : (table : TableData) (fault : Fault) → Contains catalog.tables table → IsBrokenTable pages table fault
+        → HasCause pages fault
+    broken_table table fault among broken = inr (inl (inl (table, table_of table among, broken)))
 
-  -- rows that say no tables are not served
-  pub unsaid_rows : (rows : List Row) (fault : Fault) → HoldsRows pages schema_table rows
-      → (fault ≡ NoMemory) ⊎ ((fault ≡ NotYet) × ((tables : List TableData) → ¬ AreTables pages.count rows tables)) → HasCause pages fault
-  unsaid_rows rows fault stored (inl memory) = inl (inr memory)
-  unsaid_rows rows fault stored (inr (is, none)) = inr (inr (is, record { rows = rows; stored = stored; unsaid = none }))
+    -- a catalog that has indexes isn't served
+    pub has_index : ¬ IsOfTables catalog → HasCause pages NotYet
+    has_index some = inr (inr (refl, indexed rows catalog has some))
 
-pub said_here : (n m : ℕ) (rows others : List Row) (tables : List TableData) → n ≡ m → rows ≡ others → AreTables n rows tables
-    → AreTables m others tables
-said_here n m rows others tables same_count same says =
-    subst (λ (k : ℕ). AreTables k others tables) same_count (subst (λ (r : List Row). AreTables n r tables) same says)
+  -- rows that were refused have the condition that a fault says, or aren't served
+  pub refused_rows : (rows : List Row) → HoldsRows pages schema_table rows → (fault : Fault) → IsRefused pages.count rows fault
+      → HasCause pages fault
+  refused_rows rows stored NoMemory is = inl (inr refl)
+  refused_rows rows stored NotYet is = inr (inr (refl, later rows stored is))
+  refused_rows rows stored fault is = inr (inl (inr (inr (rows, stored, is))))
+
+pub refused_here : (n m : ℕ) (rows others : List Row) (fault : Fault) → n ≡ m → rows ≡ others → IsRefused n rows fault
+    → IsRefused m others fault
+refused_here n m rows others fault same_count same refused =
+    subst (λ (k : ℕ). IsRefused k others fault) same_count (subst (λ (r : List Row). IsRefused n r fault) same refused)
 
 -- the faults of a check
 pub only_memory : (fault : Fault) → fault ≡ NoMemory → IsCheckFault fault
 only_memory fault is = subst (λ (x : Fault). IsCheckFault x) (sym is) tt
 
-pub only_not_yet : (fault : Fault) → fault ≡ NotYet → IsCheckFault fault
-only_not_yet fault is = subst (λ (x : Fault). IsCheckFault x) (sym is) tt
+pub refused_only : (n : ℕ) (rows : List Row) (fault : Fault) → IsRefused n rows fault → IsCheckFault fault
+refused_only n rows NoMemory h = tt
+refused_only n rows NotYet h = tt
+refused_only n rows SchemaRow h = tt
+refused_only n rows (SchemaText name) h = tt
+refused_only n rows (UnsupportedObject name) h = tt
+refused_only n rows fault h = absurd h
 
 pub use_only : (fault : Fault) → IsUseFault fault → IsCheckFault fault
 use_only ReadFailed h = tt
@@ -120,4 +138,7 @@ pub walk_only : (fault : Fault) → IsWalkFault fault → IsCheckFault fault
 walk_only NotYet h = tt
 walk_only (PageUse n) h = tt
 walk_only BadFreelist h = tt
+walk_only SchemaRow h = tt
+walk_only (SchemaText name) h = tt
+walk_only (UnsupportedObject name) h = tt
 walk_only fault h = h

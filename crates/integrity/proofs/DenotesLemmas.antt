@@ -44,6 +44,7 @@ database_of image tables has =
     record {
       db = record { schema = has.schema; tables = rows_of pages tables has.stored };
       denotes = record {
+        indexes = has.indexes;
         catalog = has.catalog;
         rows = each pages (HoldsRows pages)
             (λ table is. record {

@@ -1,4 +1,4 @@
--- A table's rows are one list, and so are the tables that an image has.
+-- A table's rows are one list, and an image has one catalog.
 use Rattle.std.proofs.Common.{◌≡◌, ◌∙◌, ℕ, ℤ, zero, suc, ◌<◌, ◌<ℤ◌, Contains, List, [], ◌∷◌, slice_get, Some, refl, sym, ap, subst, ⊎_elim, arith}
 use Rattle.std.specs.List.{AllZip}
 use Rattle.std.proofs.lemmas.Int.{ints}
@@ -13,11 +13,16 @@ use Rattle.image.proofs.ListLemmas.{cons_cases, in_head, in_none, in_tail}
 use Rattle.image.proofs.RowidLemmas.{one_rowid}
 use Rattle.image.proofs.TableLemmas.{leaf_place, rowids}
 use Rattle.values.specs.Row.{Row}
-use Rattle.schema.proofs.OneLemmas.{one_catalog, zip_same}
-use Rattle.schema.specs.Rows.{AreTables}
+use Rattle.values.specs.declared.fault.Fault.{Fault}
+use Rattle.schema.proofs.OneLemmas.{zip_same}
 use Rattle.schema.specs.TableData.{TableData, schema_table}
+use Rattle.catalog.proofs.LawLemmas.{no_broken_schema, no_later_table, one_catalog}
+use Rattle.catalog.specs.CatalogData.{CatalogData}
+use Rattle.catalog.specs.Refused.{HasLaterTable, IsBrokenSchema}
+use Rattle.catalog.specs.Says.{IsCatalog}
 use Rattle.stored_rows.specs.Stored.{HoldsRows, StoresRow}
-use Rattle.integrity.specs.Denotes.{IsCatalog}
+use Rattle.integrity.specs.Checked.{IsBeyond, IsOfTables, indexed, later}
+use Rattle.integrity.specs.Denotes.{HasCatalog}
 use Rattle.integrity.proofs.UnbrokenLemmas.{one_stored}
 
 module _ (pages : Pages) where
@@ -92,7 +97,22 @@ module _ (pages : Pages) where
       zip_same (StoresRow pages table) (one_stored pages table) q.places a b
       (subst (λ (l : List Place). AllZip (StoresRow pages table) l a) places p.rows_are) q.rows_are
 
-  pub one_tables : (rows others : List Row) (a b : List TableData) → IsCatalog pages rows a → IsCatalog pages others b → a ≡ b
-  one_tables rows others a b p q =
+  pub same_catalog : (rows others : List Row) (a b : CatalogData) → HasCatalog pages rows a → HasCatalog pages others b → a ≡ b
+  same_catalog rows others a b p q =
       let same = one_rows schema_table rows others p.stored q.stored in
-      one_catalog pages.count others a b (subst (λ (l : List Row). AreTables pages.count l a) same p.tables_are) q.tables_are
+      one_catalog pages.count others a b (subst (λ (l : List Row). IsCatalog pages.count l a) same p.says) q.says
+
+  -- what an image with a catalog hasn't
+  module _ (rows : List Row) (catalog : CatalogData) (has : HasCatalog pages rows catalog) where
+    pub sound_rows : (others : List Row) → HoldsRows pages schema_table others → (fault : Fault) → ¬ IsBrokenSchema pages.count others fault
+    sound_rows others stored fault broken =
+        let same = one_rows schema_table others rows stored has.stored in
+        no_broken_schema pages.count rows catalog has.says fault
+        (subst (λ (l : List Row). IsBrokenSchema pages.count l fault) same broken)
+
+    pub all_served : IsOfTables catalog → ¬ IsBeyond pages
+    all_served none (later others stored is) =
+        let same = one_rows schema_table others rows stored has.stored in
+        no_later_table pages.count rows catalog has.says (subst (λ (l : List Row). HasLaterTable l) same is)
+    all_served none (indexed others other too some) =
+        some (subst (λ (c : CatalogData). IsOfTables c) (same_catalog rows others catalog other has too) none)

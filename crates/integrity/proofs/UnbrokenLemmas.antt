@@ -16,9 +16,12 @@ use Rattle.image.proofs.CellLemmas.{one_cell}
 use Rattle.image.proofs.ChainLemmas.{one_payload}
 use Rattle.image.proofs.TableLemmas as table_laws
 use Rattle.values.specs.Row.{Row}
-use Rattle.schema.proofs.OneLemmas.{one_table}
-use Rattle.schema.specs.Rows.{AreTables, SaysTable}
 use Rattle.schema.specs.TableData.{MissingData, TableData, schema_table}
+use Rattle.catalog.proofs.LawLemmas.{said_of_them}
+use Rattle.catalog.specs.CatalogData.{CatalogData}
+use Rattle.catalog.specs.Refused.{IsBrokenSchema}
+use Rattle.catalog.specs.Says.{IsCatalog}
+use Rattle.integrity.specs.Denotes.{HasCatalog}
 use Rattle.tree_walk.specs.declared.counts.TreeCounts.{TreeCounts}
 use Rattle.integrity.specs.Checked.{IsBrokenImage, IsCheckedTree, IsMisused, said, schema}
 use Rattle.stored_rows.specs.RowFaults.{HasCellFault, HasRecordFault, IsBrokenTable, IsCellFault, IsRecordFault}
@@ -127,28 +130,48 @@ module _ (pages : Pages) where
       subst (λ (p : Place). HoldsRow pages table p) found.2 (tree.rows found.0 place found.1))
       stored.rows_are
 
-  -- what is said of a row at a place of the schema's tree is a table that was checked
-  checked_said : (places : List Place) (rows : List Row) (tables : List TableData) (trees : List TreeCounts) (table : TableData) (place : Place) (row : Row)
-      → AllZip (StoresRow pages schema_table) places rows → AllZip (SaysTable pages.count) rows tables → AllZip (IsCheckedTree pages) tables trees
-      → StoresRow pages schema_table place row → SaysTable pages.count row table
-      → (k : ℕ) → k < length places → slice_index_or places k place ≡ place → (counts : TreeCounts) × IsCheckedTree pages table counts
-  checked_said [] rows tables trees table place row stored says checked is is_said k within at = absurd (omega arith)
-  checked_said (p ∷ places) [] tables trees table place row stored says checked is is_said k within at = absurd stored
-  checked_said (p ∷ places) (r0 ∷ rows) [] trees table place row stored says checked is is_said k within at = absurd says
-  checked_said (p ∷ places) (r0 ∷ rows) (t ∷ tables) [] table place row stored says checked is is_said k within at = absurd checked
-  checked_said (p ∷ places) (r0 ∷ rows) (t ∷ tables) (c ∷ trees) table place row stored says checked is is_said zero within at =
-      let same_row : r0 ≡ row = one_stored schema_table place r0 row (subst (λ (x : Place). StoresRow pages schema_table x r0) at stored.0) is in
-      let same : t ≡ table = one_table pages.count row t table (subst (λ (x : Row). SaysTable pages.count x t) same_row says.0) is_said in
-      (c, subst (λ (x : TableData). IsCheckedTree pages x c) same checked.0)
-  checked_said (p ∷ places) (r0 ∷ rows) (t ∷ tables) (c ∷ trees) table place row stored says checked is is_said (suc k) within at =
-      checked_said places rows tables trees table place row stored.1 says.1 checked.1 is is_said k (omega arith) at
+  -- the catalog that rows say which were read from a tree that was checked
+  pub catalog_here : (n : ℕ) (rows others : List Row) (counts : TreeCounts) (catalog : CatalogData) → IsCheckedTree pages schema_table counts
+      → HoldsRows pages schema_table rows → n ≡ pages.count → others ≡ rows → IsCatalog n others catalog → HasCatalog pages rows catalog
+  catalog_here n rows others counts catalog tree stored same_count same rows_say = record {
+    stored = stored;
+    fit = rows_fit schema_table counts rows tree stored;
+    says = subst (λ (k : ℕ). IsCatalog k rows catalog) same_count (subst (λ (r : List Row). IsCatalog n r catalog) same rows_say);
+  }
 
-  pub unbroken_image : (rows : List Row) (tables : List TableData) (trees : List TreeCounts) (counts : TreeCounts) → IsCheckedTree pages schema_table counts
-      → HoldsRows pages schema_table rows → AreTables pages.count rows tables → AllZip (IsCheckedTree pages) tables trees
-      → ((fault : Fault) → ¬ IsMisused pages fault) → (fault : Fault) → IsBrokenImage pages fault → ⊥
-  unbroken_image rows tables trees counts tree stored are checked free fault (inr broken) = free fault broken
-  unbroken_image rows tables trees counts tree stored are checked free fault (inl (table, schema, broken)) = unbroken_table schema_table counts tree fault broken
-  unbroken_image rows tables trees counts tree stored are checked free fault (inl (table, said place row is_place is says, broken)) =
-      let at = stored.cells.cells.complete place is_place in
-      let found = checked_said stored.places rows tables trees table place row stored.rows_are are.said checked is says at.0 at.1 at.2 in
+  -- the row at a place
+  row_at : (places : List Place) (rows : List Row) (place : Place) (row : Row) → AllZip (StoresRow pages schema_table) places rows
+      → StoresRow pages schema_table place row → Contains places place → Contains rows row
+  row_at [] rows place row stored is (k, within, at) = absurd (omega (arith, within))
+  row_at (p ∷ places) [] place row stored is at = absurd stored
+  row_at (p ∷ places) (r ∷ rows) place row stored is (zero, within, at) =
+      (0, omega arith, one_stored schema_table place r row (subst (λ (x : Place). StoresRow pages schema_table x r) at stored.0) is)
+  row_at (p ∷ places) (r ∷ rows) place row stored is (suc k, within, at) =
+      let found = row_at places rows place row stored.1 is (k, omega (arith, within), at) in
+      let less = found.1 in
+      (suc found.0, omega (arith, less), found.2)
+
+  -- the tree of one of the tables was checked
+  checked_in : (tables : List TableData) (trees : List TreeCounts) (table : TableData) → AllZip (IsCheckedTree pages) tables trees
+      → Contains tables table → (counts : TreeCounts) × IsCheckedTree pages table counts
+  checked_in [] trees table checked (k, within, at) = absurd (omega (arith, within))
+  checked_in (t ∷ tables) [] table checked at = absurd checked
+  checked_in (t ∷ tables) (c ∷ trees) table checked (zero, within, at) =
+      (c, subst (λ (x : TableData). IsCheckedTree pages x c) at checked.0)
+  checked_in (t ∷ tables) (c ∷ trees) table checked (suc k, within, at) = checked_in tables trees table checked.1 (k, omega (arith, within), at)
+
+  -- nothing is broken where the trees were checked, no page is misused and the schema's rows are sound
+  pub unbroken_image : (rows : List Row) (catalog : CatalogData) (trees : List TreeCounts) (counts : TreeCounts)
+      → IsCheckedTree pages schema_table counts → HasCatalog pages rows catalog → AllZip (IsCheckedTree pages) catalog.tables trees
+      → ((fault : Fault) → ¬ IsMisused pages fault)
+      → ((others : List Row) → HoldsRows pages schema_table others → (fault : Fault) → ¬ IsBrokenSchema pages.count others fault)
+      → (fault : Fault) → IsBrokenImage pages fault → ⊥
+  unbroken_image rows catalog trees counts tree has checked free sound fault (inr (inl broken)) = free fault broken
+  unbroken_image rows catalog trees counts tree has checked free sound fault (inr (inr (others, stored, broken))) =
+      sound others stored fault broken
+  unbroken_image rows catalog trees counts tree has checked free sound fault (inl (table, schema, broken)) =
+      unbroken_table schema_table counts tree fault broken
+  unbroken_image rows catalog trees counts tree has checked free sound fault (inl (table, said place row is_place is says, broken)) =
+      let among = row_at has.stored.places rows place row has.stored.rows_are is (has.stored.cells.cells.complete place is_place) in
+      let found = checked_in catalog.tables trees table checked (said_of_them pages.count rows catalog has.says row among table says) in
       unbroken_table table found.0 found.1 fault broken

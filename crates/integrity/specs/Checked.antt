@@ -3,7 +3,7 @@
 use Rattle.std.specs.Prelude.{◌≡◌, ◌⊎◌, ◌<◌, All, Bool, List, []}
 use Rattle.std.specs.List.{AllZip}
 use Rattle.values.specs.declared.fault.Fault.{Fault}
-use Rattle.values.specs.declared.fault.Fault.TheVariants.{BadPage, BadChain, PageUse, BadFreelist, BadOrder, BadDepth, BadRecord, FloatValue, BadText, ValueBreaksColumn, NotYet}
+use Rattle.values.specs.declared.fault.Fault.TheVariants.{BadPage, BadChain, PageUse, BadFreelist, BadOrder, BadDepth, BadRecord, FloatValue, BadText, SchemaRow, SchemaText, UnsupportedObject, ValueBreaksColumn, NotYet}
 use Rattle.pager.specs.Calls.{IsReadFault}
 use Rattle.pager.specs.PagerState.{IsPageNumber, PagerState}
 use Rattle.image.specs.declared.kind.TreeKind.TheVariants.{Table}
@@ -17,12 +17,14 @@ use Rattle.image.specs.Use.{IsUsedOnce}
 use Rattle.page_use.specs.Free.{header_on}
 use Rattle.page_use.specs.Marks.{IsUsedTwice}
 use Rattle.values.specs.Row.{Row}
-use Rattle.schema.specs.Rows.{AreTables, SaysTable}
+use Rattle.schema.specs.Rows.{SaysTable}
 use Rattle.schema.specs.TableData.{TableData, schema_table}
+use Rattle.catalog.specs.CatalogData.{CatalogData}
+use Rattle.catalog.specs.Refused.{HasLaterTable, IsBrokenSchema}
 use Rattle.tree_walk.specs.declared.counts.TreeCounts.{TreeCounts}
 use Rattle.tree_walk.specs.Counts.{AreCounts}
 use Rattle.tree_walk.specs.Used.{IsTreeTwice}
-use Rattle.integrity.specs.Denotes.{HasTables, IsCatalog}
+use Rattle.integrity.specs.Denotes.{HasCatalog, HasTables}
 use Rattle.integrity.specs.Used.{tree_of, users_of}
 use Rattle.stored_rows.specs.RowFaults.{IsBrokenTable}
 use Rattle.stored_rows.specs.Stored.{HoldsRow, HoldsRows, StoresRow}
@@ -48,24 +50,32 @@ pub data IsTableOf (pages : Pages) : TableData → Type 0 where
   said : {table : TableData} (place : Place) (row : Row) → IsPlaceOf pages Table schema_table.root place
       → StoresRow pages schema_table place row → SaysTable pages.count row table → IsTableOf pages table
 
+-- a catalog of no table and no index
+abbrev pub empty_catalog : CatalogData
+empty_catalog = record { tables = []; indexes = [] }
+
 -- The condition on the use of pages that a fault says is broken. A page isn't used exactly once by the trees of the tables
--- that the image has, with their chains, and the freelist; or it is used twice by the schema's tree and the freelist alone,
--- whatever tables there are. Or the freelist is none of as many pages as the header says.
+-- and indexes that the image has, with their chains, and the freelist; or it is used twice by the schema's tree and the
+-- freelist alone, whatever the schema says. Or the freelist is none of as many pages as the header says.
 abbrev pub IsMisused : Pages → Fault → Type 0
-IsMisused pages (PageUse n) = IsUsedTwice pages (users_of pages []) n
-    ⊎ ((rows : List Row) × (tables : List TableData) × IsCatalog pages rows tables × IsNumber pages n × (¬ IsUsedOnce pages (users_of pages tables) n))
+IsMisused pages (PageUse n) = IsUsedTwice pages (users_of pages empty_catalog) n
+    ⊎ ((rows : List Row) × (catalog : CatalogData) × HasCatalog pages rows catalog × IsNumber pages n × (¬ IsUsedOnce pages (users_of pages catalog) n))
 IsMisused pages BadFreelist = ¬ IsFreelist pages (header_on pages).freelist (header_on pages).free_pages
 IsMisused pages _ = ⊥
 
--- one of the tables has the condition that a fault says is broken, or the use of pages has
+-- one of the tables has the condition that a fault says is broken, or the use of pages has, or the schema's rows have
 abbrev pub IsBrokenImage : Pages → Fault → Type 0
 IsBrokenImage pages fault = ((table : TableData) × IsTableOf pages table × IsBrokenTable pages table fault) ⊎ IsMisused pages fault
+    ⊎ ((rows : List Row) × HoldsRows pages schema_table rows × IsBrokenSchema pages.count rows fault)
 
--- What isn't served yet: a schema whose rows aren't all those of tables.
-pub record IsBeyond (pages : Pages) : Type 0 where
-  pub rows : List Row
-  pub stored : HoldsRows pages schema_table rows
-  pub unsaid : (tables : List TableData) → ¬ AreTables pages.count rows tables
+-- a catalog of tables alone: the tree of an index isn't checked yet
+abbrev pub IsOfTables : CatalogData → Type 0
+IsOfTables catalog = catalog.indexes ≡ []
+
+-- What isn't served yet: a table that the catalog doesn't serve, and an index.
+pub data IsBeyond (pages : Pages) : Type 0 where
+  later : (rows : List Row) → HoldsRows pages schema_table rows → HasLaterTable rows → IsBeyond pages
+  indexed : (rows : List Row) (catalog : CatalogData) → HasCatalog pages rows catalog → ¬ IsOfTables catalog → IsBeyond pages
 
 -- The condition of an image that a fault of the check says is broken, or why the image isn't served yet.
 abbrev pub IsCheckCause : Pages → Fault → Type 0
@@ -86,6 +96,9 @@ IsExamined (BadDepth _) = Unit {0}
 IsExamined (BadRecord _) = Unit {0}
 IsExamined FloatValue = Unit {0}
 IsExamined BadText = Unit {0}
+IsExamined SchemaRow = Unit {0}
+IsExamined (SchemaText _) = Unit {0}
+IsExamined (UnsupportedObject _) = Unit {0}
 IsExamined (ValueBreaksColumn _) = Unit {0}
 IsExamined _ = ⊥
 
@@ -99,13 +112,14 @@ pub record IsTableFault (pager : PagerState) (table : TableData) (marks : List B
   pub only : IsWalkFault fault
   pub cause : WhereSteady pager (λ pages. IsReadFault fault ⊎ IsBrokenTable pages table fault ⊎ IsTreeTwice pages (tree_of table) marks fault)
 
--- An image was checked: these are its tables, with what the tree of each has, and none of the conditions that are examined
--- is broken.
+-- An image was checked: these are its tables, with what the tree of each has, none of the conditions that are examined is
+-- broken, and it has nothing that isn't served yet.
 pub record HasCheckedImage (pager : PagerState) (checked : CheckedData) : Type 0 where
   pub roots : All (λ table. IsPageNumber pager table.root) checked.tables
   pub tables : WhereSteady pager (λ pages. HasTables pages checked.tables)
   pub trees : WhereSteady pager (λ pages. AllZip (IsCheckedTree pages) checked.tables checked.trees)
   pub unbroken : WhereSteady pager (λ pages. (fault : Fault) → IsExamined fault → ¬ IsBrokenImage pages fault)
+  pub served : WhereSteady pager (λ pages. ¬ IsBeyond pages)
 
 -- why it was not
 pub record IsCheckFailure (pager : PagerState) (fault : Fault) : Type 0 where

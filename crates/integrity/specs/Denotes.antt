@@ -5,19 +5,22 @@ use Rattle.image.specs.Pages.{pages_of, Pages}
 use Rattle.image.specs.Shape.{most_levels}
 use Rattle.values.specs.Row.{Row}
 use Rattle.values.specs.Database.{Database}
-use Rattle.schema.specs.Rows.{AreTables}
 use Rattle.schema.specs.TableData.{TableData, schema_table}
+use Rattle.indexes.specs.IndexData.{IndexData}
+use Rattle.catalog.specs.CatalogData.{CatalogData}
+use Rattle.catalog.specs.Says.{IsCatalog}
 use Rattle.stored_rows.specs.Stored.{Fits, HoldsRows, IsStored}
 
--- the schema's own table has these rows, whose values are of its columns, and they say these tables, in their order
-pub record IsCatalog (pages : Pages) (rows : List Row) (tables : List TableData) : Type 0 where
+-- the schema's own table has these rows, whose values are of its columns, and they say this catalog
+pub record HasCatalog (pages : Pages) (rows : List Row) (catalog : CatalogData) : Type 0 where
   pub stored : HoldsRows pages schema_table rows
   pub fit : All (Fits schema_table) rows
-  pub tables_are : AreTables pages.count rows tables
+  pub says : IsCatalog pages.count rows catalog
 
 -- the image has these tables, and each of them these rows, whose values are of their columns
 pub record Denotes (image : List ℕ) (tables : List TableData) (db : Database) : Type 0 where
-  pub catalog : IsCatalog (pages_of image) db.schema tables
+  pub indexes : List IndexData
+  pub catalog : HasCatalog (pages_of image) db.schema (record { tables = tables; indexes = indexes })
   pub rows : AllZip (HoldsRows (pages_of image)) tables db.tables
   pub fit : AllZip (λ table. All (Fits table)) tables db.tables
 
@@ -31,5 +34,6 @@ pub record IsStoredTable (pages : Pages) (table : TableData) : Type 0 where
 -- the tables of the pages, each with its rows
 pub record HasTables (pages : Pages) (tables : List TableData) : Type 0 where
   pub schema : List Row
-  pub catalog : IsCatalog pages schema tables
+  pub indexes : List IndexData
+  pub catalog : HasCatalog pages schema (record { tables = tables; indexes = indexes })
   pub stored : All (IsStoredTable pages) tables

@@ -2,7 +2,7 @@
 use Rattle.std.specs.Prelude.{◌≡◌, ℕ, suc, ◌<◌, Bool, Contains, List, ◌∷◌, length, map, slice_get, Some}
 use Rattle.values.specs.declared.fault.Fault.{Fault}
 use Rattle.values.specs.declared.fault.Fault.TheVariants.{PageUse}
-use Rattle.image.specs.declared.kind.TreeKind.TheVariants.{Table}
+use Rattle.image.specs.declared.kind.TreeKind.TheVariants.{Index, Table}
 use Rattle.image.specs.Pages.{Pages}
 use Rattle.image.specs.Tree.{Reaches}
 use Rattle.image.specs.Use.{Use, as_root, TreeData, Users}
@@ -10,14 +10,23 @@ use Rattle.page_use.specs.Free.{header_on}
 use Rattle.page_use.specs.Marks.{AreTreeMarks, IsUsedTwice}
 use Rattle.tree_walk.specs.Used.{IsDoneOn}
 use Rattle.schema.specs.TableData.{TableData, schema_table}
+use Rattle.indexes.specs.IndexData.{IndexData}
+use Rattle.catalog.specs.CatalogData.{CatalogData}
 use Rattle.stored_rows.specs.Links.{table_tree}
 
 abbrev pub tree_of : TableData → TreeData
 tree_of table = table_tree table.root
 
--- what uses the pages of an image that has these tables: the tree of the schema, theirs, and the freelist
-abbrev pub users_of : Pages → List TableData → Users
-users_of pages tables = record { trees = tree_of schema_table ∷ map tree_of tables; first = (header_on pages).freelist }
+abbrev pub index_tree_of : IndexData → TreeData
+index_tree_of index = record { kind = Index; root = index.root }
+
+-- what uses the pages of an image that has this catalog: the tree of the schema, those of its tables and indexes, and the
+-- freelist
+abbrev pub users_of : Pages → CatalogData → Users
+users_of pages catalog = record {
+  trees = tree_of schema_table ∷ map tree_of catalog.tables ++ map index_tree_of catalog.indexes;
+  first = (header_on pages).freelist;
+}
 
 -- the trees of tables, behind that of the schema
 pub record AreTreesComing (pages : Pages) (users : Users) (done : List Use) (tables : List TableData) (marks : List Bool) : Type 0 where
