@@ -1,5 +1,5 @@
 -- The pages that the trees of tables use, as a walk gives them their marks. (Database File Format, sections 1.5 to 1.7)
-use Rattle.std.specs.Prelude.{◌≡◌, ℕ, suc, ◌<◌, Bool, Contains, List, ◌∷◌, length, map, slice_get, Some}
+use Rattle.std.specs.Prelude.{◌≡◌, ℕ, suc, ◌<◌, Bool, Contains, List, ◌∷◌, ◌++◌, length, map, slice_get, Some}
 use Rattle.values.specs.declared.fault.Fault.{Fault}
 use Rattle.values.specs.declared.fault.Fault.TheVariants.{PageUse}
 use Rattle.image.specs.declared.kind.TreeKind.TheVariants.{Index, Table}
