@@ -333,9 +333,9 @@ def try_added_columns(trial: Trial) -> None:
             trial.sound(columns, image, {"SELECT tag, lot FROM item": wanted.replace(" ", "\n") + "\n"})
 
 
-def shop() -> Writer:
-    """An image of the table `item`."""
-    writer = Writer()
+def shop(size: int = 512) -> Writer:
+    """An image of the table `item`, in two pages of so many bytes."""
+    writer = Writer(size)
     writer.table("item", ITEM, [(rowid, record(row)) for rowid, row in enumerate(ITEMS, 1)])
     return writer
 
@@ -354,7 +354,7 @@ def try_schemas(trial: Trial) -> None:
     trial.sound("three tables", bytes(writer.image()), answers)
     for line, rows in SCHEMA_ROWS.items():
         for row in rows:
-            writer = shop()
+            writer = shop(2048)
             writer.object(*row)
             trial.refused(f"the schema's row {row}", bytes(writer.image()), line)
     writer = shop()
