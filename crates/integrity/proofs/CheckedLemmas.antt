@@ -1,5 +1,5 @@
 -- From what was checked to the tables that the pages have.
-use Rattle.std.proofs.Common.{◌≡◌, ◌⊎◌, ℕ, zero, suc, refl, ◌<◌, All, Contains, List, [], ◌∷◌, length, slice_index_or, arith, subst, sym, inl, inr}
+use Rattle.std.proofs.Common.{◌≡◌, ℕ, zero, suc, refl, ◌<◌, All, Contains, List, [], ◌∷◌, length, slice_index_or, arith, subst, sym, inl, inr}
 use Rattle.std.specs.List.{AllZip}
 use Rattle.std.proofs.lemmas.List.Elements.{All-cons, All-head, All-nil, All-tail}
 use Rattle.values.specs.declared.fault.Fault.{Fault}
@@ -7,8 +7,7 @@ use Rattle.values.specs.declared.fault.Fault.TheVariants.{ReadFailed, NoMemory, 
 use Rattle.image.specs.declared.kind.TreeKind.TheVariants.{Table}
 use Rattle.image.specs.Pages.{Pages}
 use Rattle.image.specs.Shape.{places_under}
-use Rattle.image.specs.Sound.{AreRowsOf}
-use Rattle.image.specs.Tree.{IsPlaceOf, Place}
+use Rattle.image.specs.Tree.{Place}
 use Rattle.image.proofs.TableLemmas.{rows_of}
 use Rattle.page_use.specs.Marks.{IsUseFault}
 use Rattle.values.specs.Row.{Row}

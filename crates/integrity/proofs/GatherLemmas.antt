@@ -1,5 +1,5 @@
 -- The rows of a stored table, as a cursor gives their cells one after another.
-use Rattle.std.proofs.Common.{◌≡◌, ◌∙◌, ◌⊎◌, inl, inr, ◌+◌, ◌<◌, ℕ, arith, IsTrue, All, List, [], ◌∷◌, ◌++◌, drop, Option, None, Some, Ok, refl, sym, ap, append-nil, append_assoc, subst, ⊎_elim}
+use Rattle.std.proofs.Common.{◌≡◌, ◌∙◌, ◌⊎◌, ◌+◌, ◌<◌, ℕ, arith, IsTrue, All, List, [], ◌∷◌, ◌++◌, drop, Option, None, Some, Ok, refl, sym, ap, append-nil, append_assoc, subst, ⊎_elim}
 use Rattle.std.specs.List.{AllZip}
 use Rattle.std.proofs.lemmas.List.Elements.{All-head, All-tail}
 use Rattle.values.specs.declared.fault.Fault.{Fault}

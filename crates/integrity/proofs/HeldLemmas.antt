@@ -1,12 +1,11 @@
 -- The cells under a page as rows of their table.
-use Rattle.std.proofs.Common.{◌≡◌, ℕ, zero, suc, ◌+◌, ◌<◌, ◌≤◌, All, List, length, map, refl, sym, ◌∙◌, ap, subst, arith, below_more}
+use Rattle.std.proofs.Common.{◌≡◌, ℕ, zero, suc, ◌+◌, ◌<◌, ◌≤◌, All, List, map, subst, arith, below_more}
 use Rattle.std.specs.List.{range_with_len, flat_map}
 use Rattle.std.proofs.lemmas.List.Elements.{All-append, All-nil, All-map}
 use Rattle.std.proofs.lemmas.List.FromFn.{get_or-range_with_len, length-range_with_len}
 use Rattle.values.specs.declared.fault.Fault.{Fault}
 use Rattle.image.specs.declared.kind.TreeKind.TheVariants.{Table}
 use Rattle.image.specs.declared.kind.Level.TheVariants.{Leaf}
-use Rattle.image.specs.Layout.{cell_count}
 use Rattle.image.specs.Pages.{Pages}
 use Rattle.image.specs.Shape.{place_at, places_in, places_under}
 use Rattle.image.specs.Tree.{IsPageOf, StandsAt, child_at, count_at}

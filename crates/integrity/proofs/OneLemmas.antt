@@ -1,16 +1,14 @@
 -- A table's rows are one list, and an image has one catalog.
-use Rattle.std.proofs.Common.{◌≡◌, ◌∙◌, ℕ, ℤ, zero, suc, ◌<◌, ◌<ℤ◌, Contains, List, [], ◌∷◌, slice_get, Some, refl, sym, ap, subst, ⊎_elim, arith}
+use Rattle.std.proofs.Common.{◌≡◌, ◌∙◌, ℕ, ℤ, suc, ◌<ℤ◌, Contains, List, [], ◌∷◌, Some, refl, sym, ap, subst, ⊎_elim, arith}
 use Rattle.std.specs.List.{AllZip}
 use Rattle.std.proofs.lemmas.Int.{ints}
 use Rattle.std.proofs.lemmas.Option.{slice_get-get_or}
-use Rattle.image.specs.declared.kind.TreeKind.TheVariants.{Table}
 use Rattle.image.specs.declared.kind.Level.TheVariants.{Leaf}
 use Rattle.image.specs.Broken.{HasRowid}
 use Rattle.image.specs.Pages.{Pages}
 use Rattle.image.specs.Sound.{AreRowsOf, RowidsAscend}
-use Rattle.image.specs.Tree.{IsPlaceOf, Place}
+use Rattle.image.specs.Tree.{Place}
 use Rattle.image.proofs.ListLemmas.{cons_cases, in_head, in_none, in_tail}
-use Rattle.image.proofs.RowidLemmas.{one_rowid}
 use Rattle.image.proofs.TableLemmas.{leaf_place, rowids}
 use Rattle.values.specs.Row.{Row}
 use Rattle.values.specs.declared.fault.Fault.{Fault}

@@ -1,5 +1,5 @@
 -- The pages of all trees of an image, as they get their marks.
-use Rattle.std.proofs.Common.{◌≡◌, ◌⊎◌, ◌∙◌, ℕ, zero, suc, ◌+◌, ◌<◌, ◌≤◌, Bool, false, Contains, List, [], ◌∷◌, ◌++◌, length, map, replicate, slice_get, Some, None, option_map, refl, sym, ap, subst, inl, inr, ⊎_elim, arith}
+use Rattle.std.proofs.Common.{◌≡◌, ◌∙◌, ℕ, zero, suc, ◌+◌, ◌<◌, ◌≤◌, Bool, false, Contains, List, [], ◌∷◌, ◌++◌, length, map, replicate, slice_get, Some, option_map, refl, sym, ap, subst, inl, inr, ⊎_elim, arith}
 use Rattle.std.proofs.lemmas.Bool.{cases_lt}
 use Rattle.std.proofs.lemmas.List.{append-nil, length-map}
 use Rattle.std.proofs.lemmas.Option.{slice_get-map, slice_get_within}
@@ -13,7 +13,7 @@ use Rattle.image.specs.Tree.{Reaches}
 use Rattle.image.specs.Use.{Use, as_root, as_child, as_link, as_trunk, as_leaf, IsBrokenUse, IsUsedOnce, Names, TreeData, Users}
 use Rattle.image.proofs.ListLemmas.{cons_cases, in_head, in_none}
 use Rattle.page_use.specs.Free.{header_on}
-use Rattle.page_use.specs.Marks.{AreAllOfTrees, AreTreeMarks, IsOfFreelist, IsUsedTwice}
+use Rattle.page_use.specs.Marks.{AreAllOfTrees, AreTreeMarks, IsUsedTwice}
 use Rattle.page_use.proofs.FrontLemmas.{none_gone}
 use Rattle.page_use.proofs.WalkLemmas.{twice_not, twice_number}
 use Rattle.values.specs.Row.{Row}

@@ -1,5 +1,5 @@
 -- The pages of a table's tree, as a walk gives them their marks.
-use Rattle.std.proofs.Common.{◌≡◌, ℕ, suc, ◌+◌, ◌<◌, ◌≤◌, Bool, false, Contains, List, ◌∷◌, [], ◌++◌, refl}
+use Rattle.std.proofs.Common.{◌≡◌, ℕ, suc, ◌+◌, ◌<◌, ◌≤◌, Bool, false, List, ◌∷◌, [], ◌++◌, refl}
 use Rattle.values.specs.declared.fault.Fault.{Fault}
 use Rattle.values.specs.declared.fault.Fault.TheVariants.{PageUse}
 use Rattle.image.specs.declared.kind.TreeKind.TheVariants.{Table}

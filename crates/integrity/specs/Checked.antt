@@ -7,11 +7,10 @@ use Rattle.values.specs.declared.fault.Fault.TheVariants.{BadPage, BadChain, Pag
 use Rattle.pager.specs.Calls.{IsReadFault}
 use Rattle.pager.specs.PagerState.{IsPageNumber, PagerState}
 use Rattle.image.specs.declared.kind.TreeKind.TheVariants.{Table}
-use Rattle.image.specs.declared.kind.Level.TheVariants.{Interior}
 use Rattle.image.specs.Pages.{IsNumber, Pages, WhereSteady}
 use Rattle.image.specs.Shape.{HasShape, most_levels, places_under}
 use Rattle.image.specs.Sound.{IsSoundTable}
-use Rattle.image.specs.Tree.{Place, IsPageOf, IsPlaceOf}
+use Rattle.image.specs.Tree.{Place, IsPlaceOf}
 use Rattle.image.specs.Freelist.{IsFreelist}
 use Rattle.image.specs.Use.{IsUsedOnce}
 use Rattle.page_use.specs.Free.{header_on}

@@ -4,7 +4,6 @@ use Rattle.std.proofs.lemmas.Result.{err_from_is_err_and}
 use Rattle.pager.specs.declared.header.Header.{Header}
 use Rattle.image.specs.Pages.{pages_seen, Pages}
 use Rattle.pager.proofs.CallLemmas.{SameImage-trans}
-use Rattle.values.specs.declared.fault.Fault.{Fault}
 use Rattle.pager.specs.PagerState.{IsSoundHeader}
 use Rattle.image.specs.Freelist.{IsFreelist}
 use Rattle.page_use.specs.Free.{header_on}
@@ -14,7 +13,7 @@ use Rattle.schema.specs.TableData.{TableData}
 use Rattle.integrity.specs.Checked.{IsCheckedTree}
 use Rattle.integrity.specs.Used.{AreTreesTwice, MarksTrees}
 use Rattle.stored_rows.specs.RowFaults.{IsBrokenTable}
-use Rattle.integrity.proofs.CheckedLemmas.{broken_table, has_index, has_tables, only_memory, refused_here, refused_only, refused_rows, use_only, walk_only}
+use Rattle.integrity.proofs.CheckedLemmas.{broken_table, has_index, has_tables, refused_here, refused_only, refused_rows, use_only, walk_only}
 use Rattle.integrity.proofs.OneLemmas.{all_served, sound_rows}
 use Rattle.integrity.proofs.TreesLemmas.{IsRestFault, IsRestOnce, no_misuse, rest_broken, rest_once, schema_twice, trees_twice}
 use Rattle.integrity.proofs.UnbrokenLemmas.{catalog_here, unbroken_image}
