@@ -1,7 +1,7 @@
 -- What a caller's proof cites of the words in `specs/Calls.antt`.
 use Rattle.std.proofs.Common.{◌+◌, ◌≤◌, ◌∙◌, arith, ap, refl, Result, Ok, Err}
-use Rattle.std.specs.Prelude.{IfErr}
-use Rattle.pager.specs.PagerState.{PagerState}
+use Rattle.std.specs.Prelude.{ℕ, IfErr}
+use Rattle.pager.specs.PagerState.{Opened, PagerState}
 use Rattle.pager.specs.Calls.{AsksChainsOnly, AsksPage, SameImage}
 
 pub SameImage-none : (p : PagerState) → SameImage p p
@@ -25,8 +25,8 @@ AsksChainsOnly-trans a b c one other = record {
 }
 
 -- a call of `page` counts one at most
-pub asks_one : (old new : PagerState) → AsksPage old new → new.asked ≤ old.asked + 1
-asks_one old new asks = let e = ap (λ (p : PagerState). p.asked) asks.after in omega (arith, e)
+pub asks_one : {S : Type 0} (n : ℕ) (old new : Opened S) → AsksPage n old new → new.state.asked ≤ old.state.asked + 1
+asks_one n old new asks = let e = ap (λ (p : PagerState). p.asked) asks.after in omega (arith, e)
 
 -- a condition on an error that follows from another
 pub IfErr-weaker : {T E : Type 0} {P Q : E → Type 0} (r : Result T E) → ((e : E) → P e → Q e) → IfErr r P → IfErr r Q

@@ -1,10 +1,10 @@
 -- What a call leaves of a pager, and how its result tells of failed reads.
-use Rattle.std.specs.Prelude.{◌≡◌, ◌≢◌, ◌≤◌, ◌⊎◌, ℕ, IsTrue, List, length, Result, MatchResult}
+use Rattle.std.specs.Prelude.{◌≡◌, ◌≢◌, ◌≤◌, ◌⊎◌, ℕ, Contains, IsTrue, List, length, Result, MatchResult}
 use Rattle.values.specs.declared.fault.Fault.{Fault}
 use Rattle.values.specs.declared.fault.Fault.TheVariants.{ReadFailed, NoMemory}
 use Rattle.pager.specs.Header.{IsHeaderFault, IsLeastBroken, KeepsAll, header_of}
 use Rattle.pager.specs.Page.{page_of}
-use Rattle.pager.specs.PagerState.{IsSoundHeader, PagerState, after_chain_page, after_page, opened}
+use Rattle.pager.specs.PagerState.{IsSoundHeader, Opened, PagerState, after_chain_page, after_page, opened}
 use Rattle.pager.specs.Source.{ChangesCount, SourceFacts}
 use Rattle.pager.specs.declared.header.Header.{Header}
 
@@ -58,11 +58,12 @@ pub record IsPage (pager : PagerState) (n : ℕ) (page : List ℕ) : Type 0 wher
   pub is : IsTrue pager.source.steady → page ≡ page_of pager.source.bytes n
   pub long : length page ≡ pager.header.page_size
 
--- one call of `page`: nothing else has changed
-pub record AsksPage (old new : PagerState) : Type 0 where
-  pub after : new ≡ after_page old new.source.failures new.cached
-  pub few : length new.cached ≤ new.capacity
-  pub sound : IsSoundHeader old.header
+-- One call of `page` n: nothing else has changed, and where the page was kept its source is as it was.
+pub record AsksPage {S : Type 0} (n : ℕ) (old new : Opened S) : Type 0 where
+  pub after : new.state ≡ after_page old.state new.state.source.failures new.state.cached
+  pub few : length new.state.cached ≤ new.state.capacity
+  pub sound : IsSoundHeader old.state.header
+  pub held : Contains old.state.cached n → (new.from ≡ old.from) × (new.state.source ≡ old.state.source)
 
 -- one call of `chain_page`
 pub record AsksChainPage (old new : PagerState) : Type 0 where
