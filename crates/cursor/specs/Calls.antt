@@ -7,7 +7,7 @@ use Rattle.pager.specs.Calls.{IsReadFault}
 use Rattle.image.specs.declared.kind.TreeKind.{TreeKind}
 use Rattle.image.specs.Broken.{BlamesMet}
 use Rattle.image.specs.Cell.{CellData}
-use Rattle.image.specs.Pages.{WhereSteady}
+use Rattle.image.specs.Pages.{IsNumber, WhereSteady, pages_seen}
 use Rattle.image.specs.Shape.{IsTreeAt, most_levels, places_under, size_under}
 use Rattle.image.specs.Tree.{Place}
 use Rattle.cursor.specs.declared.cursor.Cursor.{Cursor}
@@ -32,6 +32,20 @@ IsDescentFault root held NoMemory = Unit {0}
 IsDescentFault root held (BadPage _) = held < most_levels
 IsDescentFault root held (BadDepth n) = (n ≡ root) × (most_levels ≤ held)
 IsDescentFault root held _ = ⊥
+
+-- A tree has so many levels of pages; over a steady source, as its shape has them. No page more is asked for, and none is there
+-- without a page of that number.
+pub record HasDepth (old new : PagerState) (kind : TreeKind) (root depth : ℕ) : Type 0 where
+  pub number : IsNumber (pages_seen old) root
+  pub levels : WhereSteady old (λ pages. (levels : ℕ) → IsTreeAt pages kind levels root → depth ≡ levels + 1)
+  pub most : depth ≤ most_levels
+  pub asks : new.asked ≤ old.asked + depth
+
+-- Why its levels weren't counted. Over a steady source the fault is one of reading where a tree is there.
+pub record IsDepthFault (old : PagerState) (kind : TreeKind) (root : ℕ) (fault : Fault) : Type 0 where
+  pub only : IsCursorFault root fault
+  pub sound : WhereSteady old (λ pages. (levels : ℕ) → IsTreeAt pages kind levels root → IsReadFault fault)
+  pub outside : ¬ IsNumber (pages_seen old) root → fault ≡ BadPage root
 
 -- A cursor was opened at a root. Over a steady source, all the cells of a tree are to come, and no more pages are asked
 -- for than the tree has; of any tree it has come down from the root. Over any source it has few steps to go.

@@ -14,7 +14,7 @@ ghost use Rattle.image.specs.Pages.{Pages, IsNumber, WhereSteady, pages_seen};
 ghost use Rattle.image.specs.Shape.{IsTreeAt, most_levels, place_at, size_under};
 ghost use Rattle.image.specs.Search.{IsBoundary, row_before};
 ghost use Rattle.image.specs.Tree.{Place, HasEntries, HasHeader, IsEntryAt, IsNamedChild, IsPageOf, child_at, count_at};
-ghost use Rattle.cursor.specs.Calls.{GivesEntry, HasFailed, HasStepped, IsCursorFault, IsDescentFault, IsEntryFault, IsOpenedAt, IsOpeningFault};
+ghost use Rattle.cursor.specs.Calls.{GivesEntry, HasDepth, HasFailed, HasStepped, IsCursorFault, IsDepthFault, IsDescentFault, IsEntryFault, IsOpenedAt, IsOpeningFault};
 ghost use Rattle.cursor.specs.Held.{GoesDown, HasEntryHere, IsLast, IsPassed, TakesNext};
 ghost use Rattle.cursor.specs.Left.{IsLess, all_left, frame_left, frames_left, here_left, worth};
 ghost use Rattle.cursor.specs.Listing.{IsAt, IsEnded, IsEntry};
@@ -117,12 +117,7 @@ fn cell_of(kind: TreeKind, frame: &Frame, usable: usize, most: u64) -> Option<Ce
 /// How many levels of pages a tree has, those of its root and its leaves included, as the way down its first children has
 /// them. Its faults are those of `Cursor::first`.
 pub fn depth<S: Source>(pager: &mut Pager<S>, kind: TreeKind, root: u32) -> Result<u32, Fault>
-    ensures levels { WhereSteady pager.old.state (λ pages. (levels : ℕ) → IsTreeAt pages kind levels root
-        → MatchResult result (λ depth. depth ≡ levels + 1) IsReadFault) }
-    ensures most { IfOk result (λ depth. depth ≤ most_levels) }
-    ensures asks { IfOk result (λ depth. pager.new.state.asked ≤ pager.old.state.asked + depth) }
-    ensures fault { IfErr result (IsCursorFault root) }
-    ensures outside { ¬ IsNumber (pages_seen pager.old.state) root → result ≡ Err (Fault.BadPage root) }
+    ensures outcome { MatchResult result (HasDepth pager.old.state pager.new.state kind root) (IsDepthFault pager.old.state kind root) }
     ensures reads { ReadsTreePages result pager.old.state pager.new.state }
 {
     let pages = pager.header().pages;
