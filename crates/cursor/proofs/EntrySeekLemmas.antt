@@ -114,17 +114,6 @@ module _ (pages : Pages) (frame : Frame) (usable : ℕ) (holds : Holds pages fra
   pub view_level : (level : Level) → HasHeader pages Index level frame.number → view.level ≡ level
   view_level level header = frame_level pages Index frame usable holds same level view.level header of.header
 
--- a fault of a page's entries is one of a search of an index
-pub entry_fault : (root n : ℕ) (e : Fault) → IsCompareFault n e → IsIndexFault root e
-entry_fault root n ReadFailed is = tt
-entry_fault root n NoMemory is = tt
-entry_fault root n (BadPage m) is = tt
-entry_fault root n (BadChain m) is = tt
-entry_fault root n (BadRecord m) is = tt
-entry_fault root n FloatValue is = tt
-entry_fault root n BadText is = tt
-entry_fault root n other is = absurd is
-
 pub read_fault : (root : ℕ) (e : Fault) → IsCursorFault root e → IsIndexFault root e
 read_fault root ReadFailed is = tt
 read_fault root NoMemory is = tt

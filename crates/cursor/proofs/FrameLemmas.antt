@@ -23,10 +23,6 @@ pub IsSome-unless : {T : Type 0} {P : Type 0} (r : Option T) → IfNone r P → 
 IsSome-unless None p refused = absurd (refused p)
 IsSome-unless (Some x) p refused = refl
 
-pub none_unless : {T : Type 0} {P : Type 0} (r : Option T) → IfNone r P → IsFalse (is_some r) → P
-none_unless None p is = p
-none_unless (Some x) p is = absurd (cc)
-
 -- behind its child a cell of an interior page has a byte
 cell_some : (image : Pages) (kind : TreeKind) (bytes : List ℕ) → HasCell image kind Interior bytes → 0 < length (drop 4 bytes)
 cell_some image Table bytes cell = begins_some _ _ _ cell.1.key_is

@@ -9,9 +9,6 @@ use Rattle.cursor.specs.Held.{HasTakenFirst, IsPassed, GoesDown, TakesNext}
 abbrev pub IsDown : List Frame → List Frame → Type 0
 IsDown old now = (below : List Frame) × ((now ≡ old ++ below) × All HasTakenFirst below)
 
-pub down_starts : (old : List Frame) → IsDown old old
-down_starts old = ([], (sym (append-nil old), All-nil HasTakenFirst))
-
 pub down_more : (old now all : List Frame) (frame : Frame) → IsDown old now → all ≡ now ++ frame ∷ [] → frame.at ≡ 0 → IsDown old all
 down_more old now all frame down is first = (
   down.0 ++ frame ∷ [],
@@ -24,9 +21,6 @@ down_more old now all frame down is first = (
 -- frames that have no child left were dropped
 abbrev pub IsUp : List Frame → List Frame → Type 0
 IsUp old now = (passed : List Frame) × ((old ≡ now ++ passed) × All IsPassed passed)
-
-pub up_starts : (old : List Frame) → IsUp old old
-up_starts old = ([], (sym (append-nil old), All-nil IsPassed))
 
 split_last : (old now rest passed : List Frame) (frame : Frame) → old ≡ now ++ passed → now ≡ rest ++ frame ∷ [] → old ≡ rest ++ frame ∷ passed
 split_last old now rest passed frame old_is is =

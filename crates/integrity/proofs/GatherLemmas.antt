@@ -86,22 +86,6 @@ pub record Gathering (start now : PagerState) (table : TableData) (cursor : Curs
   pub rows : WhereSteady start (λ pages. (stored : IsStoredTable pages table)
       → Gathered pages table stored.rows cursor now.asked (start.asked + size_under pages stored.levels table.root) given)
 
-pub Gathering-start : (start now : PagerState) (table : TableData) (cursor : Cursor) → ReadsTreePages {T = Cursor} (Ok cursor) start now
-    → IsPageNumber start table.root → IsOpenedAt start now Table table.root cursor → Gathering start now table cursor []
-Gathering-start start now table cursor reads root opened = record {
-  stays = reads.image;
-  failures = reads.failures;
-  rows = λ steady stored. record {
-    rest = stored.rows;
-    places = places_under (pages_seen start) Table stored.levels table.root;
-    levels = stored.levels;
-    whole = refl;
-    at = opened.lists steady stored.levels (record { few = stored.few; number = root; shape = stored.stored.shape });
-    stored = stored.stored.rows_are;
-    fit = stored.stored.fit;
-  };
-}
-
 -- the fault of a row is one of a walk
 pub row_fault : (fault : Fault) → IsRowFault fault → IsWalkFault fault
 row_fault (BadPage n) is = tt

@@ -121,7 +121,7 @@ fn walk<S: Source>(
 /// Checks the tree of a table that has this root, with its rows, counts what it has, and gives its pages and their chains
 /// their marks. Its faults are `ReadFailed`, `NoMemory`, the conditions of a tree and of its cells that are broken, and
 /// `PageUse` of a page that has its mark. (Database File Format, section 1.6 "B-tree Pages")
-pub fn check_table<S: Source>(
+pub(crate) fn check_table<S: Source>(
     alloc: Global,
     pager: &mut Pager<S>,
     table: &Table,

@@ -24,10 +24,6 @@ AsksChainsOnly-trans a b c one other = record {
   cached = other.cached ∙ one.cached;
 }
 
--- a call of `page` counts one at most
-pub asks_one : {S : Type 0} (n : ℕ) (old new : Opened S) → AsksPage n old new → new.state.asked ≤ old.state.asked + 1
-asks_one n old new asks = let e = ap (λ (p : PagerState). p.asked) asks.after in omega (arith, e)
-
 -- a condition on an error that follows from another
 pub IfErr-weaker : {T E : Type 0} {P Q : E → Type 0} (r : Result T E) → ((e : E) → P e → Q e) → IfErr r P → IfErr r Q
 IfErr-weaker (Ok v) f h = tt

@@ -41,13 +41,6 @@ nothing_given e columns rows old read = record {
   outside = inl read;
 }
 
--- a cursor writes nothing
-pub cursor_never_writes : (root : ℕ) (e : Fault) → IsCursorFault root e → e ≢ WriteFailed
-cursor_never_writes root e only is = subst (λ (f : Fault). IsCursorFault root f) is only
-
-pub step_never_writes : (cursor : Cursor) (e : Fault) → IsStepFault cursor e → e ≢ WriteFailed
-step_never_writes cursor e only is = subst (λ (f : Fault). IsStepFault cursor f) is only
-
 -- one row is written
 pub row_written : (columns : List ℕ) (row : Row) (result : Result (Unit {0}) Fault) (old new : SinkFacts)
     → Writes (row_text (shown columns row)) result old new → IfErr result (λ e. e ≡ WriteFailed)

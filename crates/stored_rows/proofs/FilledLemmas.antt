@@ -113,22 +113,6 @@ set_other (y ∷ ys) zero (suc j) x other = refl
 set_other (y ∷ ys) (suc k) zero x other = refl
 set_other (y ∷ ys) (suc k) (suc j) x other = set_other ys k j x (λ same. other (ap suc same))
 
-pub older_key : (table : TableData) (column : ℕ) → table.rowid ≡ Some column → column < length table.columns
-    → slice_get (older_values table) column ≡ Some (MissingData.Fill null)
-older_key table column key within =
-    ap (λ (k : Option ℕ). slice_get (without_rowid k (map (λ c. c.missing) table.columns)) column) key
-    ∙ set_here (map (λ c. c.missing) table.columns) column (MissingData.Fill null) (omega (arith, within, length-map table.columns (λ c. c.missing)))
-
-pub older_other : (table : TableData) (at : ℕ) (column : ColumnData) → table.rowid ≢ Some at → slice_get table.columns at ≡ Some column
-    → slice_get (older_values table) at ≡ Some column.missing
-older_other table at column other here =
-    not_key table.rowid other ∙ slice_get-map (λ c. c.missing) table.columns at ∙ ap (option_map (λ c. c.missing)) here
-  where
-    not_key : (key : Option ℕ) → key ≢ Some at
-        → slice_get (without_rowid key (map (λ c. c.missing) table.columns)) at ≡ slice_get (map (λ c. c.missing) table.columns) at
-    not_key None other = refl
-    not_key (Some k) other = set_other (map (λ c. c.missing) table.columns) k at (MissingData.Fill null) (λ same. other (ap Some same))
-
 -- a map of a list in which one element is another
 pub map_set : {A B : Type 0} (f : A → B) (xs : List A) (k : ℕ) (x : A) → map f (slice_set xs k x) ≡ slice_set (map f xs) k (f x)
 map_set f [] k x = refl

@@ -26,24 +26,6 @@ at_other (Some key) (Some rowid) values column other = set_other values key colu
 at_other (Some key) None values column other = refl
 at_other None rowid values column other = refl
 
--- the reader of a row before the first field again
-pub reading_again : (reading : Reading) (row : Row) (unread : Unread) → ((values : List Datum) → AreUnread unread values ↔ IsRecord reading.payload values)
-    → IsReading reading row → IsReading (record { table = reading.table; rowid = reading.rowid; payload = reading.payload; unread = unread; at = 0 }) row
-reading_again reading row unread found is = record {
-  values = is.values;
-  record_is = is.record_is;
-  makes = is.makes;
-  unread_are = (found is.values).1 is.record_is;
-}
-
--- the rowid of a row that is read
-pub key_read : (reading : Reading) (row : Row) (rowid : ℤ) (column : ℕ) → reading.table.rowid ≡ Some column → reading.rowid ≡ Some rowid
-    → column < length reading.table.columns → IsReading reading row → slice_get row column ≡ Some (int rowid)
-key_read reading row rowid column has_key has_rowid within is =
-    let m = is.makes in
-    ap (λ (r : Row). slice_get r column) (m.row_is ∙ (λ k. row_from (has_key k) (has_rowid k) m.filled))
-    ∙ set_here m.filled column (int rowid) (omega (arith, within, length-map m.filled MissingData.Fill, ap length m.filled_is, length-filled reading.table is.values m.few))
-
 -- another of its values
 pub value_stored : (reading : Reading) (row : Row) (column : ℕ) (value : Datum) → IsStoredAt reading.table.rowid reading.rowid column
     → (is : IsReading reading row) → slice_get is.values column ≡ Some value → slice_get row column ≡ Some value

@@ -5,9 +5,6 @@ use Rattle.std.proofs.lemmas.List.{length_push}
 use Rattle.std.specs.List.{AllZip}
 use Rattle.schema.specs.TableData.{IsPlaceIn}
 
-pub place_in : (place : Option ℕ) (columns count : ℕ) → columns ≡ count → IsPlaceIn place columns → IsPlaceIn place count
-place_in place columns count e within = subst (λ n. IsPlaceIn place n) e within
-
 some_same : {A : Type 0} (x y : A) → Some x ≡ Some y → x ≡ y
 some_same x y e = cc
 
