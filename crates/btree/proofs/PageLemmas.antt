@@ -56,10 +56,6 @@ module _ (at most : ℕ) (level : Level) (page : List ℕ) (i from : ℕ) (is : 
       → (cell : CellData) → ¬ IsEntryCell at most level page i cell
   no_entry none cell h = none cell (subst (λ (b : List ℕ). FitsIn most (IsIndexCell (length page) b) cell) entry_there h.is)
 
-  pub entry_here : (cell : CellData) → places_end at level page ≤ cell_place at level page i → FitsIn most (IsIndexCell (length page) (take (length page - from) (drop from page))) cell
-      → IsEntryCell at most level page i cell
-  entry_here cell begins h = record { begins = begins; is = subst (λ (b : List ℕ). FitsIn most (IsIndexCell (length page) b) cell) (sym entry_there) h }
-
 -- what the reader of a header learns
 module _ (at found : ℕ) (kind : TreeKind) (level : Level) (page : List ℕ) (size count : ℕ)
     (flag_is : found ≡ flag at page) (level_is : found ≡ flag_of kind level) (size_is : size ≡ header_size level) (count_is : count ≡ cell_count at page) where

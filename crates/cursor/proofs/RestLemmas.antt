@@ -81,9 +81,6 @@ module _ (pages : Pages) (kind : TreeKind) where
       let b : suc (count_at pages n) - (i + 1) ≡ count_at pages n - i = omega arith in
       rw (a, b) (sum_by-cons (λ k. size_under pages levels (child_at pages n k)) i (range_with_len (i + 1) (count_at pages n - i)))
 
-  pub size_past : (levels n i : ℕ) → count_at pages n < i → size_from pages levels n i ≡ 0
-  size_past levels n i past = let a : suc (count_at pages n) - i ≡ 0 = omega arith in rw a refl
-
   -- a stack has a frame for each level above
   pub stack_length : (total : ℕ) {levels : ℕ} {frames : List Frame} {rest : List Place} {ahead : ℕ} → IsStack pages kind total levels frames rest ahead → levels + length frames ≡ total
   stack_length total bottom = omega arith

@@ -588,6 +588,14 @@ impl Cursor {
         Ok(())
     }
 
+    /// The page that the cursor stands on; `None` after a fault of `next`.
+    pub fn page(&self) -> Option<u32>
+        ensures { result ≡ option_map (λ here. here.number) self.now.here }
+    {
+        let here = self.here.as_ref()?;
+        Some(here.number)
+    }
+
     /// The cell that the cursor stands at, or none past the last. Its faults are `Finished` after a fault of `next`, and
     /// `BadPage` where the page has no cell there, which no sound tree gives.
     pub fn entry(&self) -> Result<Option<Cell<'_>>, Fault>

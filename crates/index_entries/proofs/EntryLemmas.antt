@@ -43,7 +43,7 @@ module _ (usable : ℕ) (bytes : List ℕ) (a b : CellData) (one : IsIndexCell u
   body_same : drop one.size_length bytes ≡ drop other.size_length bytes
   body_same = ap (λ (k : ℕ). drop k bytes) sizes.1
 
-  one_index_cell : a ≡ b
+  pub one_index_cell : a ≡ b
   one_index_cell = λ k. record {
     rowid = (one.no_rowid ∙ sym other.no_rowid) k;
     payload = record {

@@ -3,7 +3,7 @@ ghost use Rattle.std.specs.Prelude.{◌≡◌, ◌⊎◌, ℕ, IfErr, List, Matc
 ghost use Rattle.values.specs.Datum.{Datum};
 ghost use Rattle.pager.specs.Calls.{IsReadFault, ReadsChainPages};
 ghost use Rattle.pager.specs.PagerState.{image_size};
-ghost use Rattle.records.specs.Record.{IsRecord};
+ghost use Rattle.records.specs.Record.{Breaks, IsRecord};
 ghost use Rattle.image.specs.declared.kind.TreeKind.TheVariants.{Index};
 ghost use Rattle.image.specs.Cell.{CellData};
 ghost use Rattle.image.specs.Pages.{WhereSteady};
@@ -21,16 +21,28 @@ use records::{FieldReader, RecordFault, RecordView};
 use std::alloc::Global;
 use values::Fault;
 
+/// The fault of a record of page `n` that isn't read, once its page is known.
+pub fn record_fault(fault: RecordFault, n: u32) -> Fault
+    ensures broken { (bytes : List ℕ) → Breaks fault bytes → BreaksRecord bytes n result }
+    ensures memory { fault ≡ RecordFault.NoMemory → result ≡ Fault.NoMemory }
+    ensures only { IsCompareFault n result }
+{
+    match fault {
+        RecordFault::Bad => Fault::BadRecord(n),
+        RecordFault::Float => Fault::FloatValue,
+        RecordFault::Text => Fault::BadText,
+        RecordFault::NoMemory => Fault::NoMemory,
+    }
+}
+
 /// Why these bytes of page `n` are no record.
-fn record_fault(alloc: Global, bytes: &[u8], n: u32) -> Fault
+fn why_unread(alloc: Global, bytes: &[u8], n: u32) -> Fault
     ensures broken { ((values : List Datum) → ¬ IsRecord bytes.now values) → BreaksRecord bytes.now n result }
     ensures only { IsCompareFault n result }
 {
     match RecordView::read(alloc, bytes) {
-        Ok(_) | Err(RecordFault::Bad) => Fault::BadRecord(n),
-        Err(RecordFault::Float) => Fault::FloatValue,
-        Err(RecordFault::Text) => Fault::BadText,
-        Err(RecordFault::NoMemory) => Fault::NoMemory,
+        Ok(_) => Fault::BadRecord(n),
+        Err(fault) => record_fault(fault, n),
     }
 }
 
@@ -47,11 +59,11 @@ fn record_comes_before(
     ensures only { IfErr result (IsCompareFault n) }
 {
     let Some(mut fields) = FieldReader::new(bytes) else {
-        return Err(record_fault(alloc, bytes, n));
+        return Err(why_unread(alloc, bytes, n));
     };
     match key.order(&mut fields) {
         Some(order) => Ok(key.is_behind(order)),
-        None => Err(record_fault(alloc, bytes, n)),
+        None => Err(why_unread(alloc, bytes, n)),
     }
 }
 

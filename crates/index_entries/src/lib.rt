@@ -11,4 +11,5 @@ mod entries;
 mod search;
 
 pub use columns::IndexKey;
+pub use entries::record_fault;
 pub use search::entry_boundary;

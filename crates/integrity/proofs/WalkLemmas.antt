@@ -32,9 +32,6 @@ module _ (pages : Pages) (root : ℕ) where
   start_met number = record { number = number; stands = top; low_from = λ k e. cc; high_from = λ k e. cc }
 
   module _ (depth : ℕ) (low high : Option ℤ) (n : ℕ) (met : StandsWithin pages root depth low high n) where
-    pub too_deep : 20 < depth → IsBroken pages root (BadDepth root)
-    too_deep deep = (refl, inr (record { page = n; depth = depth; stands = met.stands; deep = deep }))
-
     pub bad_child : (i : ℕ) → IsPageOf pages Table Interior n → i ≤ count_at pages n → ¬ IsNumber pages (child_at pages n i) → IsBroken pages root (BadPage n)
     bad_child i page within not =
         ((depth, met.stands), λ (sound : IsSound pages Table root n). not (sound.children (one_level pages Table sound.level Interior n sound.page page) i within))

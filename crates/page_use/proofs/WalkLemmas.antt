@@ -78,12 +78,6 @@ module _ (pages : Pages) (number : ℕ) (bytes : List ℕ) (count all : ℕ) (se
   leaf_seen : (i : ℕ) → leaf_in bytes i ≡ leaf_of pages number i
   leaf_seen i = ap (λ (b : List ℕ). leaf_in b i) seen.bytes_are
 
-  pub next_seen : (n : ℕ) → n ≡ field bytes 0 4 → n ≡ next_trunk pages number
-  next_seen n is = is ∙ ap (λ (b : List ℕ). field b 0 4) seen.bytes_are
-
-  pub no_room : pages.usable < 8 + 4 * count → ¬ IsSoundTrunk pages number
-  no_room much sound = let room : 8 + 4 * leaf_count pages number ≤ pages.usable = sound.trunk.room in omega (arith, count_seen, much, room)
-
   pub bad_leaf : (i : ℕ) → i < count → ¬ IsWithin all (leaf_in bytes i) → ¬ IsSoundTrunk pages number
   bad_leaf i less none sound =
       let n : IsNumber pages (leaf_of pages number i) = sound.leaves i (omega (arith, less, count_seen)) in
@@ -92,13 +86,6 @@ module _ (pages : Pages) (number : ℕ) (bytes : List ℕ) (count all : ℕ) (se
   module _ (room : 8 + 4 * count ≤ pages.usable) where
     trunk_seen : IsTrunk pages number
     trunk_seen = record { number = seen.number_is; room = omega (arith, count_seen, room) }
-
-    pub sound_seen : ((i : ℕ) → i < count → IsWithin all (leaf_in bytes i)) → IsSoundTrunk pages number
-    sound_seen leaves = record {
-      trunk = trunk_seen;
-      leaves = λ i less. let w : IsWithin all (leaf_in bytes i) = leaves i (omega (arith, less, count_seen)) in
-          (omega (arith, w.0, leaf_seen i), omega (arith, w.1, leaf_seen i, seen.all_is));
-    }
 
     module _ (users : Users) (done : List Use) (k : ℕ) (old : List Bool) (next : IsNextTrunk pages users done k number old) where
       trunk_names : Names pages users (as_trunk k) number

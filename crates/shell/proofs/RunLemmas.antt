@@ -27,7 +27,7 @@ use Rattle.integrity.specs.Denotes.{Denotes, IsStoredTable}
 use Rattle.stored_rows.specs.Stored.{Fits, FitsColumn, IsStored}
 use Rattle.integrity.proofs.DenotesLemmas.{HasDatabase, IsStoredAs, database_of}
 use Rattle.resolver.specs.Resolved.{ResolvedData, query_of}
-use Rattle.shell.specs.Answer.{Answers, IsOutsideFault, IsRunFault, Stops}
+use Rattle.shell.specs.Answer.{IsOutsideFault, IsRunFault, PrintsAnswer, PrintsBeginning}
 use Rattle.integrity.specs.Walked.{IsCheckFault}
 use Rattle.pager.specs.Calls.{IsOpenFault, IsReadFault}
 use Rattle.shell.specs.State.{EngineState, IsOpeningFault, IsReady}
@@ -124,7 +124,7 @@ module _ (pager : PagerState) (tables : List TableData) (query : ResolvedData) (
   -- a scan that writes all rows answers the query
   pub answers : (n : ℕ) (old new : SinkFacts)
       → ((is : IsStoredTable (pages_seen pager) table) → Streams query.columns is.rows n old new)
-      → Answers pager.source.bytes tables (query_of query) n old new
+      → PrintsAnswer pager.source.bytes tables (query_of query) n old new
   unfolding stored
   answers n old new streams = record {
     rows = map (shown query.columns) rows;
@@ -143,7 +143,7 @@ module _ (pager : PagerState) (tables : List TableData) (query : ResolvedData) (
   -- one that stops has written what an answer begins with, and its fault came from outside
   pub stops : (e told : Fault) (old new : SinkFacts)
       → ((is : IsStoredTable (pages_seen pager) table) → StreamsUntil e query.columns is.rows old new)
-      → (IsOutsideFault e → told ≡ e) → Stops told pager.source.bytes tables (query_of query) old new
+      → (IsOutsideFault e → told ≡ e) → PrintsBeginning told pager.source.bytes tables (query_of query) old new
   unfolding stored
   stops e told old new streams same =
       let until = streams stored in

@@ -6,19 +6,9 @@ use Rattle.values.specs.Sink.{SinkFacts, Writes}
 use Rattle.values.proofs.SinkLemmas.{Appends-then}
 use Rattle.schema.specs.TableData.{TableData}
 use Rattle.resolver.specs.Resolved.{ResolvedData, query_of}
-use Rattle.shell.specs.Answer.{Answers}
 use Rattle.shell.specs.Served.{HasLines, header_text}
 
 module _ (image : List ℕ) (tables : List TableData) (prepared : ResolvedData) (header : Bool) where
-  -- the rows go behind the line of names
-  pub lines_are : (u : Unit {0}) (counted : ℕ) (old mid new : SinkFacts) → Writes (header_text header prepared.names) (Ok u) old mid
-      → Answers image tables (query_of prepared) counted mid new → HasLines image tables prepared header old new
-  lines_are u counted old mid new names answers = record {
-    rows = answers.rows;
-    answer = answers.answer;
-    written = Appends-then _ _ _ _ _ names.written answers.prints.written;
-  }
-
   handed_on : (a b c : Option (List ℕ)) (held text : List ℕ) → Appends (option_map (λ bytes. bytes ++ []) a) (option_map (λ bytes. bytes ++ held) b) text
       → Appends b c held → Appends a c text
   handed_on None b c held text wrote handed = tt

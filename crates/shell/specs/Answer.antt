@@ -41,14 +41,14 @@ abbrev pub IsAnswerOver : List ℕ → List TableData → QueryData → List Row
 IsAnswerOver image tables query rows = (w : Datum) → IsStandIn w → OverTables image tables (IsAnswer w tables query rows)
 
 -- the exact answer: what was written is the text of one list of rows that is an answer
-pub record Answers (image : List ℕ) (tables : List TableData) (query : QueryData) (counted : ℕ) (old new : SinkFacts) : Type 0 where
+pub record PrintsAnswer (image : List ℕ) (tables : List TableData) (query : QueryData) (counted : ℕ) (old new : SinkFacts) : Type 0 where
   pub rows : List Row
   pub answer : IsAnswerOver image tables query rows
   pub prints : Prints rows counted old new
 
 -- The same of the rows that were given before a fault, which an answer may begin with. The image hasn't changed, and where
 -- it was an overflow, the query has to compute what leaves 64 bits.
-pub record Stops (fault : Fault) (image : List ℕ) (tables : List TableData) (query : QueryData) (old new : SinkFacts) : Type 0 where
+pub record PrintsBeginning (fault : Fault) (image : List ℕ) (tables : List TableData) (query : QueryData) (old new : SinkFacts) : Type 0 where
   pub given : List Row
   pub begins : (w : Datum) → IsStandIn w → OverTables image tables (λ database. Begins w database query given)
   pub prints : PrintsUntil fault given old new

@@ -7,7 +7,7 @@ use Rattle.schema.specs.TableData.{TableData}
 use Rattle.integrity.specs.Denotes.{IsStoredTable}
 use Rattle.resolver.specs.Resolved.{ResolvedData, query_of}
 use Rattle.shell.specs.declared.engine.Report.{Report}
-use Rattle.shell.specs.Answer.{Answers, IsRunFault, Stops}
+use Rattle.shell.specs.Answer.{IsRunFault, PrintsAnswer, PrintsBeginning}
 use Rattle.shell.specs.State.{EngineState}
 use Rattle.shell.specs.Stream.{IsUnchained, size_of}
 
@@ -19,7 +19,7 @@ pub record TookFew (pages : Pages) (table : TableData) (levels : ℕ) (report : 
 -- A query was run whole. Over a steady source its exact answer was written, and few pages were asked for of its table.
 -- The report counts the pages that were asked for.
 pub record HasRun (old new : EngineState) (prepared : ResolvedData) (before after : SinkFacts) (report : Report) : Type 0 where
-  pub answer : IsTrue old.pager.source.steady → Answers old.pager.source.bytes old.tables (query_of prepared) report.rows before after
+  pub answer : IsTrue old.pager.source.steady → PrintsAnswer old.pager.source.bytes old.tables (query_of prepared) report.rows before after
   pub few : IsTrue old.pager.source.steady → (table : TableData) → slice_get old.tables prepared.table ≡ Some table
       → (stored : IsStoredTable (pages_of old.pager.source.bytes) table) → TookFew (pages_of old.pager.source.bytes) table stored.levels report
   pub asked : report.asked ≡ new.pager.asked - old.pager.asked
@@ -28,4 +28,4 @@ pub record HasRun (old new : EngineState) (prepared : ResolvedData) (before afte
 -- Why one wasn't: over a steady source what was written is a beginning of such an answer.
 pub record HasStopped (old : EngineState) (prepared : ResolvedData) (before after : SinkFacts) (fault : Fault) : Type 0 where
   pub only : IsRunFault fault
-  pub begins : IsTrue old.pager.source.steady → Stops fault old.pager.source.bytes old.tables (query_of prepared) before after
+  pub begins : IsTrue old.pager.source.steady → PrintsBeginning fault old.pager.source.bytes old.tables (query_of prepared) before after

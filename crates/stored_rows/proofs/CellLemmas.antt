@@ -46,10 +46,6 @@ module _ (pages : Pages) (table : TableData) (n : ℕ) (cell : CellData) where
   record_breaks bytes found whole same e fault is broken =
       rw is (fault_is fault (record { bytes = bytes; whole = whole; broken = subst (λ (b : List ℕ). IsRecordFault table b fault) same broken }))
 
-  -- a payload without bytes is a broken chain
-  pub chain_breaks : (e : Fault) → e ≡ BadChain n → ((bytes : List ℕ) → ¬ HasBytes pages cell.payload bytes) → IsCellFault pages table n cell e
-  chain_breaks e is none = rw is (refl, none)
-
 pub fault_of_row : (fault : RecordFault) (n : ℕ) → IsRowFault (fault_of fault n)
 fault_of_row r.Bad n = tt
 fault_of_row r.Float n = tt

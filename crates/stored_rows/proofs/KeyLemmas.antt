@@ -43,12 +43,6 @@ most_more (Some high) x k most less = omega (arith, ints)
 
 -- of keys of which each cell has one
 module _ (HasKey : ℕ → ℤ → Type 0) (one : (i : ℕ) (x y : ℤ) → HasKey i x → HasKey i y → x ≡ y) (low high : Option ℤ) where
-  pub fit_start : FitSoFar HasKey low high low 0
-  fit_start = record {
-    last_is = refl;
-    fit = record { ascends = λ i j x y less within. absurd (omega arith); above = λ i x within. absurd (omega arith); most = λ i x within. absurd (omega arith) };
-  }
-
   -- what is above the last key is above each key before it, and above the bound
   above_all : (last : Option ℤ) (i : ℕ) (k : ℤ) → FitSoFar HasKey low high last i → IsAbove last k
       → ((j : ℕ) (x : ℤ) → j < i → HasKey j x → x <ℤ k) × IsAbove low k

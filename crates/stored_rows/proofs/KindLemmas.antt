@@ -23,6 +23,3 @@ interior_flag Index Interior e = let f : ◌≡◌ {A = ℕ} 5 2 = e in absurd c
 module _ (pages : Pages) (n : ℕ) (kind : TreeKind) (level : Level) where
   pub only_leaf : IsPageOf pages Table Leaf n → IsPageOf pages kind level n → (kind ≡ Table) × (level ≡ Leaf)
   only_leaf leaf other = leaf_flag kind level (sym leaf.header.flag_is ∙ other.header.flag_is)
-
-  pub only_interior : IsPageOf pages Table Interior n → IsPageOf pages kind level n → (kind ≡ Table) × (level ≡ Interior)
-  only_interior interior other = interior_flag kind level (sym interior.header.flag_is ∙ other.header.flag_is)

@@ -8,4 +8,4 @@ returns-in-None-clause-found c = λ values is. absurd (c.in-None.ensures.none va
 
 pub returns-in-None-clause-broken : goal.returns-in-None-clause-broken
 returns-in-None-clause-broken c =
-    c.record_fault-in-None.ensures.broken (λ values is. c.in-None.ensures.none values ((c.in-Some.ensures.found values).1 is))
+    c.why_unread-in-None.ensures.broken (λ values is. c.in-None.ensures.none values ((c.in-Some.ensures.found values).1 is))

@@ -1,0 +1,19 @@
+use Rattle.std.proofs.Common.{◌≡◌, inr, subst, List, ℕ}
+use Rattle.std.proofs.lemmas.Result.{MatchResult-weaker}
+use Rattle.std.specs.Cow.{cow_slice_items}
+use Rattle.records.specs.Record.{IsRecord}
+use Rattle.image.specs.Pages.{pages_seen}
+use Rattle.image.proofs.ChainLemmas.{one_payload}
+use Rattle.entry_rows.proofs.rows.entry_row.Goals as goal
+
+pub returns-in_default-clause-row : goal.returns-in_default-clause-row
+returns-in_default-clause-row g c = λ steady values has.
+    absurd ((rw c.in_default.is at (c.in_ok-bytes.ensures.outcome steady)) has.bytes has.whole)
+
+pub returns-clause-row : goal.returns-clause-row
+returns-clause-row g c = λ steady values has.
+    let same : has.bytes ≡ cow_slice_items c.in-Some.bytes =
+    one_payload (pages_seen c.args.pager.now.state) _ _ _ has.whole (rw c.in-Some.is at (c.in_ok-bytes.ensures.outcome steady)) in
+    let found : has.bytes ≡ c.as_slice.result.now = cc in
+    MatchResult-weaker c.record_row.result
+    (c.record_row.ensures.row values (subst (λ (b : List ℕ). IsRecord b values) found has.record_is)) (λ row is. is) (λ e is. inr is)

@@ -1,0 +1,7 @@
+use Rattle.entry_rows.proofs.rows.record_row.Goals as goal
+
+pub returns-in_ok-row_of-in-Ok-clause-row : goal.returns-in_ok-row_of-in-Ok-clause-row
+returns-in_ok-row_of-in-Ok-clause-row c = λ values is. let e = c.in-Ok.ensures.only values is in let f = c.in_ok-row_of-in-Ok.ensures in cc
+
+pub returns-in-Err-clause-row : goal.returns-in-Err-clause-row
+returns-in-Err-clause-row c = λ values is. c.record_fault.ensures.memory (c.in-Err.ensures.only values is)

@@ -1,0 +1,90 @@
+//! The rows that the entries of an index are.
+ghost use Rattle.std.specs.Prelude.{◌≡◌, ◌+◌, ◌≤◌, ℕ, Bool, IfErr, IfOk, List, MatchResult, OnOk};
+ghost use Rattle.values.specs.Datum.{Datum};
+ghost use Rattle.pager.specs.Calls.{IsReadFault, ReadsChainPages, ReadsPages};
+ghost use Rattle.records.specs.Record.{IsRecord};
+ghost use Rattle.image.specs.Pages.{WhereSteady};
+ghost use Rattle.image.specs.Shape.{size_under};
+ghost use Rattle.image.specs.Tree.{Place};
+ghost use Rattle.btree.specs.Views.{cell_data};
+ghost use Rattle.index_entries.specs.Entries.{BreaksRecord, HasRecord};
+ghost use Rattle.cursor.specs.Search.{IsSearchableIndex};
+ghost use Rattle.entry_rows.specs.Rows.{AreEntryRows};
+
+use btree::{Cell, payload};
+use cursor::Cursor;
+use image::TreeKind;
+use index_entries::record_fault;
+use pager::{Pager, Source};
+use records::RecordView;
+use std::alloc::{AllocError, Global};
+use values::{Fault, Row};
+
+/// The row of the values of a record.
+fn row_of(alloc: Global, stored: &RecordView<'_>) -> Result<Row, AllocError>
+    ensures { IfOk result (λ row. row ≡ stored.now) }
+{
+    let mut row = Row::with_capacity(alloc, stored.count())?;
+    for index in 0..stored.count() {
+        let value = stored.field(index).to_value(alloc)?;
+        row.push(value)?;
+    }
+    Ok(row)
+}
+
+/// The row of the values of a record of page `n`. Its faults are `NoMemory`, and `BadRecord`, `FloatValue` and `BadText` where
+/// the bytes are no record.
+fn record_row(alloc: Global, bytes: &[u8], n: u32) -> Result<Row, Fault>
+    ensures row { (values : List Datum) → IsRecord bytes.now values
+        → MatchResult result (λ row. row ≡ values) (λ e. e ≡ Fault.NoMemory) }
+    ensures broken { IfErr result (BreaksRecord bytes.now n) }
+{
+    match RecordView::read(alloc, bytes) {
+        Ok(stored) => Ok(row_of(alloc, &stored)?),
+        Err(fault) => Err(record_fault(fault, n)),
+    }
+}
+
+/// The row of the values of an entry of page `n`. Its faults are those of reading, and `BadChain`, `BadRecord`, `FloatValue`
+/// and `BadText` where the entry can't be read.
+fn entry_row<S: Source>(
+    alloc: Global,
+    pager: &mut Pager<S>,
+    cell: &Cell<'_>,
+    n: u32,
+) -> Result<Row, Fault>
+    ensures row { WhereSteady pager.old.state (λ pages. (values : List Datum) → HasRecord pages (cell_data cell.now) values
+        → MatchResult result (λ row. row ≡ values) IsReadFault) }
+    ensures reads { ReadsChainPages result pager.old.state pager.new.state }
+{
+    let Some(bytes) = payload(alloc, pager, cell)? else {
+        return Err(Fault::BadChain(n));
+    };
+    record_row(alloc, bytes.as_slice(), n)
+}
+
+/// All entries of the index that has this root, in their order, each as the row of its values. Its faults are those of a
+/// cursor, and `BadChain`, `BadRecord`, `FloatValue` and `BadText` of an entry that can't be read.
+pub fn all_entries<S: Source>(
+    alloc: Global,
+    pager: &mut Pager<S>,
+    root: u32,
+) -> Result<Vec<Row>, Fault>
+    ensures rows { WhereSteady pager.old.state (λ pages. (descends : List Bool) (values : Place → List Datum) (levels : ℕ)
+        → IsSearchableIndex pages descends values levels root
+        → MatchResult result (λ rows. AreEntryRows pages descends values root rows.items) IsReadFault) }
+    ensures asks { WhereSteady pager.old.state (λ pages. (descends : List Bool) (values : Place → List Datum) (levels : ℕ)
+        → IsSearchableIndex pages descends values levels root
+        → OnOk result (pager.new.state.asked ≤ pager.old.state.asked + size_under pages levels root)) }
+    ensures reads { ReadsPages result pager.old.state pager.new.state }
+{
+    let mut cursor = Cursor::first(alloc, pager, TreeKind::Index, root)?;
+    let mut rows = Vec::new(alloc);
+    while let Some(cell) = cursor.entry()? {
+        let page = cursor.page().ok_or(Fault::Finished)?;
+        let row = entry_row(alloc, pager, &cell, page)?;
+        rows.push(row)?;
+        cursor.next(pager)?;
+    }
+    Ok(rows)
+}
