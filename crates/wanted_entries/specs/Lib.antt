@@ -1,0 +1,4 @@
+pub mod Bags
+pub mod Wanted
+pub mod Unique
+pub mod Examples
