@@ -46,7 +46,7 @@ map-push values [] place = refl
 map-push values (first ∷ given) place = ap (λ (l : List (List Datum)). values first ∷ l) (map-push values given place)
 
 module _ (pages : Pages) (descends : List Bool) (values : Place → List Datum) (levels root : ℕ) (index : IsSearchableIndex pages descends values levels root) where
-  strict : IsStrictOrder (entry_order descends values)
+  pub strict : IsStrictOrder (entry_order descends values)
   strict = let keys = entry_keys descends values pages in record { never = keys.never; after = keys.after }
 
   pub all_rows : (rows : List (List Datum)) → rows ≡ map values (places_under pages Index levels root) → AreEntryRows pages descends values root rows
@@ -87,7 +87,7 @@ pub begins : (pages : Pages) (places : List Place) (cell : CellData) → IsEntry
 begins pages [] cell entry = absurd cc
 begins pages (place ∷ more) cell entry = record { place = place; more = more; is = refl; entry = entry }
 
-ended : (pages : Pages) (places : List Place) → IsEntry pages Index places None → places ≡ []
+pub ended : (pages : Pages) (places : List Place) → IsEntry pages Index places None → places ≡ []
 ended pages [] entry = refl
 ended pages (place ∷ more) entry = absurd entry
 

@@ -47,7 +47,7 @@ fn record_row(alloc: Global, bytes: &[u8], n: u32) -> Result<Row, Fault>
 
 /// The row of the values of an entry of page `n`. Its faults are those of reading, and `BadChain`, `BadRecord`, `FloatValue`
 /// and `BadText` where the entry can't be read.
-fn entry_row<S: Source>(
+pub(crate) fn entry_row<S: Source>(
     alloc: Global,
     pager: &mut Pager<S>,
     cell: &Cell<'_>,

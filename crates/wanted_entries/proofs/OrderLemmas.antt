@@ -67,13 +67,33 @@ directed_equal : (d : Bool) → directed d Equal ≡ Equal
 directed_equal false = refl
 directed_equal true = refl
 
-same_itself : (descends : List Bool) (a : Row) → key_cmp descends a a ≡ Equal
+-- an entry is as itself
+pub same_itself : (descends : List Bool) (a : Row) → key_cmp descends a a ≡ Equal
 same_itself descends [] = refl
 same_itself descends (x ∷ a) =
     by_column descends x x a a
     ∙ ap (λ (o : Ordering). ordering_then (directed (first_of descends) o) (key_cmp (rest_of descends) a a)) (tied_itself datum_cmp_total x)
     ∙ ap (λ (o : Ordering). ordering_then o (key_cmp (rest_of descends) a a)) (directed_equal (first_of descends))
     ∙ same_itself (rest_of descends) a
+
+turned : (d : Bool) (o r s : Ordering) → ordering_then (directed d o) r ≡ Less → (r ≡ Less → s ≡ Greater)
+    → ordering_then (directed d (ordering_reverse o)) s ≡ Greater
+turned false Less r s e rest = refl
+turned false Equal r s e rest = rest e
+turned false Greater r s e rest = absurd (let g : Greater ≡ Less = e in cc)
+turned true Less r s e rest = absurd (let g : Greater ≡ Less = e in cc)
+turned true Equal r s e rest = rest e
+turned true Greater r s e rest = refl
+
+-- what comes before an entry is met by it from behind
+pub reversed : (descends : List Bool) (a b : Row) → key_cmp descends a b ≡ Less → key_cmp descends b a ≡ Greater
+reversed descends [] b less = absurd (let g : Equal ≡ Less = less in cc)
+reversed descends (x ∷ a) [] less = absurd (let g : Greater ≡ Less = sym (no_rest descends x a) ∙ less in cc)
+reversed descends (x ∷ a) (y ∷ b) less =
+    by_column descends y x b a
+    ∙ ap (λ (o : Ordering). ordering_then (directed (first_of descends) o) (key_cmp (rest_of descends) b a)) (datum_cmp_total.antisymm y x)
+    ∙ turned (first_of descends) (datum_cmp x y) (key_cmp (rest_of descends) a b) (key_cmp (rest_of descends) b a)
+    (sym (by_column descends x y a b) ∙ less) (reversed (rest_of descends) a b)
 
 module _ (descends : List Bool) (entries : List Row) (stand : StandInOrder descends entries) where
   before : (i j : ℕ) (a b : Row) → i < j → slice_get entries i ≡ Some a → slice_get entries j ≡ Some b → key_cmp descends a b ≡ Less
