@@ -1,0 +1,85 @@
+-- Nothing is broken of the tree of an index that was checked.
+use Rattle.std.proofs.Common.{◌≡◌, ℕ, List, length, ◌∙◌, ap, subst, inl, inr, ⊎_elim}
+use Rattle.values.specs.Datum.{Datum}
+use Rattle.values.specs.declared.fault.Fault.{Fault}
+use Rattle.values.specs.declared.fault.Fault.TheVariants.{BadPage, BadChain, BadDepth, BadRecord, FloatValue, BadText}
+use Rattle.records.specs.declared.fault.RecordFault.{RecordFault}
+use Rattle.records.specs.declared.fault.RecordFault.TheVariants as r
+use Rattle.records.specs.Record.{Breaks, IsRecord}
+use Rattle.records.proofs.RecordLemmas.{not_broken, one_record}
+use Rattle.image.specs.declared.kind.TreeKind.{TreeKind}
+use Rattle.image.specs.declared.kind.TreeKind.TheVariants.{Index}
+use Rattle.image.specs.Cell.{CellData}
+use Rattle.image.specs.Pages.{Pages}
+use Rattle.image.specs.Shape.{place_at}
+use Rattle.image.specs.Sound.{IsSoundTree}
+use Rattle.image.specs.Tree.{Place}
+use Rattle.image.proofs.ChainLemmas.{one_payload}
+use Rattle.image.proofs.PlaceLemmas.{complete}
+use Rattle.index_entries.specs.Entries.{BreaksEntry, HasBrokenChain, HasBrokenRecord, HasEntryThat, HasRecord}
+use Rattle.tree_walk.specs.declared.counts.TreeCounts.{TreeCounts}
+use Rattle.tree_walk.proofs.KindLemmas.{one_entry}
+use Rattle.index_walk.specs.Broken.{HasBrokenEntry, HasOtherWidth, IsBrokenIndex, IsBrokenTree}
+use Rattle.index_walk.specs.Checked.{HoldsEntry, IsCheckedIndex}
+use Rattle.index_walk.proofs.EntryLemmas.{entry_at_place}
+
+bad_memory : r.Bad ≡ r.NoMemory → ⊥
+bad_memory e = cc
+
+float_memory : r.Float ≡ r.NoMemory → ⊥
+float_memory e = cc
+
+text_memory : r.Text ≡ r.NoMemory → ⊥
+text_memory e = cc
+
+unbroken_tree : (pages : Pages) (kind : TreeKind) (root : ℕ) → IsSoundTree pages kind root → (fault : Fault) → IsBrokenTree pages kind root fault → ⊥
+unbroken_tree pages kind root sound (BadPage n) (reaches, not) = not (sound.each n reaches)
+unbroken_tree pages kind root sound (BadDepth n) (e, inl uneven) = sound.even uneven
+unbroken_tree pages kind root sound (BadDepth n) (e, inr deep) = sound.shallow deep
+unbroken_tree pages kind root sound fault broken = absurd broken
+
+-- a cell whose payload is a record of so many values
+module _ (pages : Pages) (width : ℕ) (cell : CellData) (values : List Datum) (has : HasRecord pages cell values) (width_is : length values ≡ width) where
+  no_record_fault : (fault : RecordFault) → HasBrokenRecord pages fault cell → fault ≡ r.NoMemory
+  no_record_fault fault (bytes, whole, breaks) =
+      not_broken fault has.bytes values (subst (λ (b : List ℕ). Breaks fault b) (one_payload pages cell.payload bytes has.bytes whole has.whole) breaks) has.record_is
+
+  no_other_width : HasOtherWidth pages width cell → ⊥
+  no_other_width (others, other, differ) =
+      let same = one_payload pages cell.payload other.bytes has.bytes other.whole has.whole in
+      differ (ap length (one_record has.bytes others values (subst (λ (b : List ℕ). IsRecord b others) same other.record_is) has.record_is) ∙ width_is)
+
+module _ (pages : Pages) (width root : ℕ) (counts : TreeCounts) (checked : IsCheckedIndex pages width root counts) (fault : Fault) (broken : HasBrokenEntry pages width root fault) where
+  -- an entry that is such and such is one of those that were checked
+  no_entry : (IsSuch : CellData → Type 0) → ((cell : CellData) (values : List Datum) → HasRecord pages cell values → length values ≡ width → IsSuch cell → ⊥)
+      → HasEntryThat pages broken.level broken.n IsSuch → ⊥
+  no_entry IsSuch never entry =
+      let at = complete pages Index counts.levels root checked.shape (place_at broken.n entry.i)
+      (record { level = broken.level; entries = tt; reaches = broken.reaches; page = broken.page; within = entry.within }) in
+      let held = subst (λ (p : Place). HoldsEntry pages width p) at.2 (checked.entries at.0 (place_at broken.n entry.i) at.1) in
+      let same = one_entry pages Index (place_at broken.n entry.i) held.has.cell entry.cell
+      (entry_at_place pages held.level broken.n entry.i held.has.cell held.page held.has.is)
+      (entry_at_place pages broken.level broken.n entry.i entry.cell broken.page entry.is) in
+      never entry.cell held.values (subst (λ (c : CellData). HasRecord pages c held.values) same held.has.has) held.width_is entry.such
+
+  no_break : (e : Fault) → BreaksEntry pages broken.level broken.n e → ⊥
+  no_break (BadPage m) (is, not) = not broken.page
+  no_break (BadChain m) (is, entry) = no_entry (HasBrokenChain pages) (λ cell values has width_is none. none has.bytes has.whole) entry
+  no_break (BadRecord m) (is, entry) = no_entry (HasBrokenRecord pages r.Bad)
+      (λ cell values has width_is breaks. bad_memory (no_record_fault pages width cell values has width_is r.Bad breaks)) entry
+  no_break FloatValue entry = no_entry (HasBrokenRecord pages r.Float)
+      (λ cell values has width_is breaks. float_memory (no_record_fault pages width cell values has width_is r.Float breaks)) entry
+  no_break BadText entry = no_entry (HasBrokenRecord pages r.Text)
+      (λ cell values has width_is breaks. text_memory (no_record_fault pages width cell values has width_is r.Text breaks)) entry
+  no_break other breaks = absurd breaks
+
+  no_broken_entry : ⊥
+  no_broken_entry = ⊎_elim (no_break fault)
+      (λ (other : (fault ≡ BadRecord broken.n) × HasEntryThat pages broken.level broken.n (HasOtherWidth pages width)).
+      no_entry (HasOtherWidth pages width) (λ cell values has width_is differs. no_other_width pages width cell values has width_is differs) other.1)
+      broken.broken
+
+pub unbroken_index : (pages : Pages) (width root : ℕ) (counts : TreeCounts) → IsCheckedIndex pages width root counts → (fault : Fault)
+    → IsBrokenIndex pages width root fault → ⊥
+unbroken_index pages width root counts checked fault (inl broken) = unbroken_tree pages Index root checked.sound fault broken
+unbroken_index pages width root counts checked fault (inr broken) = no_broken_entry pages width root counts checked fault broken

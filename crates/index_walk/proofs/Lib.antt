@@ -1,0 +1,4 @@
+pub mod SeenLemmas
+pub mod EntryLemmas
+pub mod BranchLemmas
+pub mod CheckedLemmas
