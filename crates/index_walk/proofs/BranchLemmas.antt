@@ -1,18 +1,19 @@
 -- The steps of a walk over the tree of an index.
-use Rattle.std.proofs.Common.{◌≡◌, ◌≢◌, ℕ, zero, suc, ◌+◌, ◌<◌, ◌≤◌, ◌∷◌, [], ◌++◌, All, Bool, List, length, length-append, map, min, nat_lt, false, inl, inr, refl, sym, ◌∙◌, ap, subst, ⊎_elim, arith, add-one, below_more}
+use Rattle.std.proofs.Common.{◌≡◌, ◌≢◌, ◌⊎◌, ℕ, zero, suc, ◌+◌, ◌<◌, ◌≤◌, ◌∷◌, [], ◌++◌, Bool, List, length, length-append, append_assoc, min, nat_lt, false, Option, inl, inr, refl, sym, ◌∙◌, ap, subst, ⊎_elim, arith, add-one}
 use Rattle.std.specs.List.{flat_map, range_with_len}
 use Rattle.std.proofs.lemmas.Bool.{cases_lt, cond-false, cond-true, lt-ltb}
-use Rattle.std.proofs.lemmas.List.Elements.{All-append, All-cons, All-map, All-nil}
-use Rattle.std.proofs.lemmas.List.FromFn.{get_or-range_with_len, length-map-range_with_len, length-range_with_len}
+use Rattle.std.proofs.lemmas.List.{append-nil}
+use Rattle.std.proofs.lemmas.List.FromFn.{length-map-range_with_len}
 use Rattle.values.specs.declared.fault.Fault.{Fault}
-use Rattle.values.specs.declared.fault.Fault.TheVariants.{BadDepth, BadPage}
+use Rattle.values.specs.declared.fault.Fault.TheVariants.{BadDepth, BadOrder, BadPage}
 use Rattle.image.specs.declared.kind.TreeKind.TheVariants.{Index}
 use Rattle.image.specs.declared.kind.Level.TheVariants.{Leaf, Interior}
 use Rattle.image.specs.Broken.{IsSound}
 use Rattle.image.specs.Pages.{IsNumber, Pages}
 use Rattle.image.specs.Shape.{HasShape, IsBranch, IsFilled, most_levels, own_places, place_at, places_under}
-use Rattle.image.specs.Tree.{IsChild, IsPageOf, Place, StandsAt, below, child_at, count_at, top}
+use Rattle.image.specs.Tree.{IsChild, IsPageOf, Place, Reaches, StandsAt, below, child_at, count_at, top}
 use Rattle.image.specs.Use.{Use, Users}
+use Rattle.image.proofs.OrderLemmas.{joined}
 use Rattle.image.proofs.ShapeLemmas.{not_both, one_level}
 use Rattle.page_use.specs.Marks.{AreTreeMarks, IsNewPlace, is_marked}
 use Rattle.tree_walk.specs.declared.counts.TreeCounts.{TreeCounts}
@@ -24,21 +25,17 @@ use Rattle.tree_walk.proofs.LinkLemmas.{link_within}
 use Rattle.tree_walk.proofs.ShapeLemmas as shapes
 use Rattle.tree_walk.proofs.UsedLemmas as walks
 use Rattle.index_walk.specs.Broken.{BreaksIndexEntry, IsBrokenIndex, IsBrokenTree}
-use Rattle.index_walk.specs.Checked.{HoldsEntry, index_tree}
-use Rattle.index_walk.specs.Walked.{AreHeld, AreOwnWalked, IsEntryCause, IsEntryTwice, IsPageCause, IsWalkCause, IsWalked}
-use Rattle.index_walk.proofs.EntryLemmas.{entry_at_place, held_of}
+use Rattle.index_walk.specs.Checked.{index_tree}
+use Rattle.index_walk.specs.Last.{IsFrom, IsIndexOrder, IsLastAt, IsLastUnder, LastData, blamed_at}
+use Rattle.index_walk.specs.Walked.{AreOwnWalked, IsDisordered, IsEntryCause, IsEntryStop, IsEntryTwice, IsLeafCause, IsLeafWalked, IsRunFrom, IsWalkCause, IsWalked}
+use Rattle.index_walk.proofs.EntryLemmas.{disordered, entry_at_place, last_here, no_run, one_run, run_after}
 
--- what holds of the elements of each list that is made over a run of numbers
-all_fan : {X : Type 0} (P : X → Type 0) (f : ℕ → List X) (m i : ℕ) → ((k : ℕ) → i ≤ k → k < i + m → All P (f k))
-    → All P (flat_map f (range_with_len i m))
-all_fan P f zero i each = All-nil P
-all_fan P f (suc m) i each = All-append P (f i) (flat_map f (range_with_len (i + 1) m)) (each i (omega arith) (omega arith))
-    (all_fan P f m (i + 1) (λ k least most. each k (omega arith) (omega arith)))
-
-all_run : {X : Type 0} (P : X → Type 0) (f : ℕ → X) (m : ℕ) → ((k : ℕ) → k < m → P (f k)) → All P (map f (range_with_len 0 m))
-all_run P f m each = All-map P f (range_with_len 0 m) (λ k d within.
-    let less : k < m = omega (arith, within, length-range_with_len 0 m) in
-    subst (λ (j : ℕ). P (f j)) (omega (arith, get_or-range_with_len 0 m k d less)) (each k less))
+-- one list more of those that are made over a run of numbers
+fan_more : {X : Type 0} (f : ℕ → List X) (m i : ℕ) → flat_map f (range_with_len i (suc m)) ≡ flat_map f (range_with_len i m) ++ f (i + m)
+fan_more {X = X} f zero i = append-nil (f i) ∙ ap f (omega arith)
+fan_more {X = X} f (suc m) i =
+    ap (λ (k : List X). f i ++ k) (fan_more f m (i + 1)) ∙ sym (append_assoc (f i) (flat_map f (range_with_len (i + 1) m)) (f ((i + 1) + m)))
+    ∙ ap (λ (k : ℕ). (f i ++ flat_map f (range_with_len (i + 1) m)) ++ f k) (omega arith)
 
 pub own_is : (pages : Pages) (n i : ℕ) → i < count_at pages n → own_places pages n i ≡ place_at n i ∷ []
 own_is pages n i within = cond-true _ _ _ (lt-ltb i (count_at pages n) within)
@@ -67,6 +64,12 @@ root_interior : (pages : Pages) (root : ℕ) {depth n : ℕ} → StandsAt pages 
 root_interior pages root top interior = interior
 root_interior pages root (below i stands c) interior = root_interior pages root stands c.interior
 
+-- a page of the tree isn't in order
+bad_order : (pages : Pages) (width : ℕ) (descends : List Bool) (root n : ℕ) (fault : Fault) → Reaches pages Index root n → fault ≡ BadOrder n
+    → (¬ IsIndexOrder pages descends root n) → IsBrokenIndex pages width descends root fault
+bad_order pages width descends root n fault reaches is not =
+    subst (λ (f : Fault). IsBrokenIndex pages width descends root f) (sym is) (inr (inr (reaches, not)))
+
 -- what a walk found under a page is a branch below an interior page: a leaf there isn't the root, and is filled
 branch_of : (pages : Pages) (root levels m : ℕ) → IsPageOf pages Index Interior root → IsNumber pages m → HasShape pages Index levels m
     → (m ≢ root → IsFilled pages levels m) → IsBranch pages Index levels m
@@ -75,9 +78,12 @@ branch_of pages root zero m interior number shape filled =
 branch_of pages root (suc levels) m interior number shape filled = (number, shape, tt)
 
 -- Of an interior page n the children before child i were walked, each with the entry behind it, and this was counted.
-pub record AreBranches (pages : Pages) (width root n i : ℕ) (counts : TreeCounts) (old now : List Bool) : Type 0 where
+pub record AreBranches (pages : Pages) (width : ℕ) (descends : List Bool) (root n i : ℕ) (counts : TreeCounts) (old now : List Bool) (from last : LastData) : Type 0 where
   pub branches : (k : ℕ) → k < i → IsBranch pages Index counts.levels (child_at pages n k)
-  pub entries : (k : ℕ) → k < i → All (HoldsEntry pages width) (places_at_child pages Index counts.levels n k)
+  pub run : IsRunFrom pages width descends (flat_map (places_at_child pages Index counts.levels n) (range_with_len 0 i)) from last
+  pub none : i ≡ 0 → last ≡ from
+  pub own : (k : ℕ) → i ≡ suc k → i ≤ count_at pages n → IsLastAt pages width last Interior n k
+  pub ends : count_at pages n < i → IsLastUnder pages width last n
   pub cells_is : counts.cells ≡ counted (cells_before pages Index counts.levels n i)
   pub size_is : counts.pages ≡ counted (size_before pages counts.levels n i)
   pub marks : walks.IsPartWalked pages (index_tree root) Interior n i (min i (count_at pages n)) counts.levels old now
@@ -87,11 +93,14 @@ abbrev MarksPage : Pages → ℕ → List Bool → List Bool → Type 0
 MarksPage pages n old marked = (users : Users) (done : List Use) (place : Use) → AreTreeMarks pages users done old → IsNewPlace pages users done place n
     → AreTreeMarks pages users (done ++ place ∷ []) marked
 
-module _ (pages : Pages) (width root n : ℕ) (old marked : List Bool) (blank : is_marked old n ≡ false) (marks : MarksPage pages n old marked) where
-  pub none_branched : (counts : TreeCounts) → counts.cells ≡ 0 → counts.pages ≡ 1 → AreBranches pages width root n 0 counts old marked
-  none_branched counts no_cells one_page = record {
+module _ (pages : Pages) (width : ℕ) (descends : List Bool) (root n : ℕ) (old marked : List Bool) (blank : is_marked old n ≡ false) (marks : MarksPage pages n old marked) where
+  pub none_branched : (counts : TreeCounts) (from : LastData) → counts.cells ≡ 0 → counts.pages ≡ 1 → AreBranches pages width descends root n 0 counts old marked from from
+  none_branched counts from no_cells one_page = record {
     branches = λ k less. absurd (omega (arith, less));
-    entries = λ k less. absurd (omega (arith, less));
+    run = no_run pages width descends from;
+    none = λ e. refl;
+    own = λ k e. absurd (omega (arith, e));
+    ends = λ less. absurd (omega (arith, less));
     cells_is = no_cells;
     size_is = one_page;
     marks = subst (λ (c : ℕ). walks.IsPartWalked pages (index_tree root) Interior n 0 c counts.levels old marked) (omega arith)
@@ -103,42 +112,47 @@ module _ (pages : Pages) (width root n : ℕ) (old marked : List Bool) (blank : 
     abbrev opened : walks.IsPartWalked pages (index_tree root) Leaf n 0 0 0 old marked
     opened = record { marked = marked; blank = blank; marks = marks; part = walks.part_none pages (index_tree root) Leaf n 0 marked }
 
-    pub leaf_walked : (count : ℕ) → count ≡ count_at pages n → count ≤ 65535 → (n ≢ root → 0 < count_at pages n) → AreHeld pages width n
-        → (new : List Bool) → MarksCells pages (index_tree root) Leaf n marked new
-        → IsWalked pages width root n (record { levels = 0; cells = count; pages = 1 }) old new
-    leaf_walked count is few filled held new cells = record {
+    pub leaf_walked : (count : ℕ) → count ≡ count_at pages n → count ≤ 65535 → (n ≢ root → 0 < count_at pages n) → (from last : LastData)
+        → IsLeafWalked pages width descends n from last → (new : List Bool) → MarksCells pages (index_tree root) Leaf n marked new
+        → IsWalked pages width descends root n (record { levels = 0; cells = count; pages = 1 }) old new from last
+    leaf_walked count is few filled from last leaf new cells = record {
       shape = page;
       filled = filled;
-      entries = all_run (HoldsEntry pages width) (place_at n) (count_at pages n) held;
+      run = leaf.run;
+      ends = leaf.ends;
       counts_are =
           let all : length (places_under pages Index 0 n) ≡ count_at pages n = length-map-range_with_len (place_at n) 0 (count_at pages n) in
           record { cells_is = omega (arith, is, all, few); size_is = omega arith };
       marks = walks.cells_walked pages (index_tree root) Leaf n 0 0 0 old marked opened page (depth, stands) refl new cells;
     }
 
-    pub leaf_cause : (fault : Fault) → IsPageCause pages width root Leaf n marked fault → IsWalkCause pages width root n old fault
+    pub leaf_cause : (fault : Fault) → IsLeafCause pages width descends root n marked fault → IsWalkCause pages width descends root n old fault
     leaf_cause fault cause = ⊎_elim inl
         (λ why. inr (⊎_elim
-        (λ (broken : BreaksIndexEntry pages width Leaf n fault). inl (inr (record { level = Leaf; n = n; reaches = (depth, stands); page = page; broken = broken })))
+        (λ (broken : BreaksIndexEntry pages width Leaf n fault). inl (inr (inl (record { level = Leaf; n = n; reaches = (depth, stands); page = page; broken = broken }))))
+        (λ other. ⊎_elim
         (λ (twice : IsTwiceOn pages (index_tree root) Leaf n marked fault).
         inr (walks.twice_under pages (index_tree root) Leaf n 0 0 0 old marked opened page (depth, stands) fault twice))
+        (λ (order : (fault ≡ BadOrder n) × (¬ IsIndexOrder pages descends root n)). inl (bad_order pages width descends root n fault (depth, stands) order.0 order.1))
+        other)
         why))
         cause
 
 -- a step at child i of an interior page
-module _ (pages : Pages) (width root depth n : ℕ) (stands : StandsAt pages Index root depth n) (page : IsPageOf pages Index Interior n)
-    (i : ℕ) (counts : TreeCounts) (old now : List Bool) (befores : AreBranches pages width root n i counts old now) where
+module _ (pages : Pages) (width : ℕ) (descends : List Bool) (root depth n : ℕ) (stands : StandsAt pages Index root depth n) (page : IsPageOf pages Index Interior n)
+    (i : ℕ) (counts : TreeCounts) (old now : List Bool) (from last : LastData) (befores : AreBranches pages width descends root n i counts old now from last) where
   -- all children were walked
   pub all_walked : i ≡ count_at pages n + 1
-      → IsWalked pages width root n (record { levels = counts.levels + 1; cells = counts.cells; pages = counts.pages }) old now
+      → IsWalked pages width descends root n (record { levels = counts.levels + 1; cells = counts.cells; pages = counts.pages }) old now from last
   all_walked end =
       let e : counts.levels + 1 ≡ suc counts.levels = add-one counts.levels in
-      subst (λ (l : ℕ). IsWalked pages width root n (record { levels = l; cells = counts.cells; pages = counts.pages }) old now) (sym e)
+      subst (λ (l : ℕ). IsWalked pages width descends root n (record { levels = l; cells = counts.cells; pages = counts.pages }) old now from last) (sym e)
       (record {
         shape = shapes.inner_shape pages Index n i counts.levels page end befores.branches;
         filled = λ other. tt;
-        entries = all_fan (HoldsEntry pages width) (places_at_child pages Index counts.levels n) (suc (count_at pages n)) 0
-            (λ k least most. befores.entries k (omega (arith, most, end)));
+        run = subst (λ (k : ℕ). IsRunFrom pages width descends (flat_map (places_at_child pages Index counts.levels n) (range_with_len 0 k)) from last)
+            (end ∙ add-one (count_at pages n)) befores.run;
+        ends = λ filled. befores.ends (omega (arith, end));
         counts_are = record {
           cells_is = befores.cells_is ∙ ap counted (cells_all pages Index n counts.levels i end);
           size_is = befores.size_is ∙ ap counted (size_all pages Index n counts.levels i end);
@@ -148,22 +162,50 @@ module _ (pages : Pages) (width root depth n : ℕ) (stands : StandsAt pages Ind
       })
 
   module _ (within : i ≤ count_at pages n) (m : ℕ) (m_is : m ≡ child_at pages n i) (number : IsNumber pages m) where
-    pub child_cause : (fault : Fault) → IsWalkCause pages width root m now fault → IsWalkCause pages width root n old fault
+    child_here : (k : ℕ) → i ≡ k → IsChild pages Index n k m
+    child_here k e = subst (λ (x : ℕ). IsChild pages Index n x m) e (record { interior = page; within = within; is = sym m_is; number = number })
+
+    -- where the walk of child i comes from
+    pub child_from : IsFrom pages width root from n → IsFrom pages width root last m
+    child_from from_is = ⊎_elim
+        (λ (first : i ≡ 0). subst (λ (l : LastData). IsFrom pages width root l m) (sym (befores.none first)) (first_from from_is))
+        (λ (later : (k : ℕ) × (i ≡ suc k)).
+        let k = later.0 in
+        inr (n, k, befores.own k later.1 within, (depth, stands), record { head = m; is = child_here (k + 1) (later.1 ∙ sym (add-one k)); reaches = (1, top) }))
+        (zero_or i)
+      where
+        zero_or : (i : ℕ) → (i ≡ 0) ⊎ ((k : ℕ) × (i ≡ suc k))
+        zero_or zero = inl refl
+        zero_or (suc k) = inr (k, refl)
+
+        first_from : IsFrom pages width root from n → IsFrom pages width root from m
+        first_from (inl none) = inl none
+        first_from (inr (a, k, at, reaches, under)) =
+            inr (a, k, at, reaches, record { head = under.head; is = under.is; reaches = (suc under.reaches.0, below i under.reaches.1 (child_here i refl)) })
+
+    pub child_cause : (fault : Fault) → IsWalkCause pages width descends root m now fault → IsWalkCause pages width descends root n old fault
     child_cause fault cause = ⊎_elim inl
         (λ why. inr (⊎_elim
-        (λ (broken : IsBrokenIndex pages width root fault). inl broken)
+        (λ (broken : IsBrokenIndex pages width descends root fault). inl broken)
         (λ (twice : IsUnderTwice pages (index_tree root) m now fault).
         inr (walks.child_twice pages (index_tree root) Interior n i (min i (count_at pages n)) counts.levels old now befores.marks page (depth, stands) refl m m_is within number fault twice))
         why))
         cause
 
-    module _ (under : TreeCounts) (mid : List Bool) (walked : IsWalked pages width root m under now mid) where
+    module _ (under : TreeCounts) (mid : List Bool) (then : LastData) (walked : IsWalked pages width descends root m under now mid last then) where
       branch_here : IsBranch pages Index under.levels (child_at pages n i)
       branch_here = subst (λ (x : ℕ). IsBranch pages Index under.levels x) m_is
           (branch_of pages root under.levels m (root_interior pages root stands page) number walked.shape walked.filled)
 
       pub uneven_here : 0 < i → under.levels ≢ counts.levels → IsBrokenTree pages Index root (BadDepth root)
       uneven_here some differ = (refl, inl (shapes.uneven pages Index root depth n i counts.levels under.levels stands page within (befores.branches 0 some) branch_here differ))
+
+      -- the last entry is under child i
+      last_there : IsLastUnder pages width then m
+      last_there = walked.ends (subst (λ (x : ℕ). IsFilled pages under.levels x) (sym m_is) branch_here.2)
+
+      reaches_here : Reaches pages Index n last_there.m
+      reaches_here = joined pages Index n (below i top (child_here i refl)) last_there.reaches.1
 
       -- the child alone, as it was walked
       module _ (same : 0 < i → counts.levels ≡ under.levels) where
@@ -174,40 +216,89 @@ module _ (pages : Pages) (width root depth n : ℕ) (stands : StandsAt pages Ind
             (subst (λ (x : ℕ). walks.IsPartWalked pages (index_tree root) Interior n i x counts.levels old now) c befores.marks)
             page (depth, stands) refl m m_is within number mid under.levels same walked.marks
 
-        pub own_cause : i < count_at pages n → (fault : Fault) → IsEntryCause pages width Interior n i mid fault → IsWalkCause pages width root n old fault
-        own_cause less fault cause = ⊎_elim inl
+        -- an entry that doesn't come behind the last one under its child: that one isn't in order
+        order_cause : i < count_at pages n → (fault : Fault) → fault ≡ BadOrder (blamed_at Interior n then.page) → IsDisordered pages width descends Interior n i then
+            → IsBrokenIndex pages width descends root fault
+        order_cause less fault is stop =
+            let end = last_there in
+            let blamed : blamed_at Interior n then.page ≡ end.m = ap (λ (p : Option ℕ). blamed_at Interior n p) end.at.page_is in
+            bad_order pages width descends root end.m fault (joined pages Index root stands reaches_here.1) (is ∙ ap BadOrder blamed)
+            (λ (order : IsIndexOrder pages descends root end.m).
+            disordered pages width descends Interior n i then stop end.level end.m end.j end.at
+            (order.most end.level n i end.j stop.values end.at.values (depth, stands) (record { head = m; is = child_here i refl; reaches = end.reaches }) less end.at.page end.at.within stop.has end.at.has))
+
+        pub own_cause : i < count_at pages n → (fault : Fault) → IsEntryStop pages width descends Interior n i then mid fault → IsWalkCause pages width descends root n old fault
+        own_cause less fault stop = ⊎_elim
+            (λ (cause : IsEntryCause pages width Interior n i mid fault). ⊎_elim inl
             (λ why. inr (⊎_elim
             (λ (broken : BreaksIndexEntry pages width Interior n fault).
-            inl (inr (record { level = Interior; n = n; reaches = (depth, stands); page = page; broken = broken })))
+            inl (inr (inl (record { level = Interior; n = n; reaches = (depth, stands); page = page; broken = broken }))))
             (λ (twice : IsEntryTwice pages Interior n i mid fault).
             inr (walks.cell_twice pages (index_tree root) Interior n (i + 1) i under.levels old mid child_marks page (depth, stands) twice.cell
             (entry_at_place pages Interior n i twice.cell page twice.is) tt less fault twice.twice))
             why))
-            cause
+            cause)
+            (λ (order : (fault ≡ BadOrder (blamed_at Interior n then.page)) × IsDisordered pages width descends Interior n i then).
+            inr (inl (order_cause less fault order.0 order.1)))
+            stop
 
-        module _ (own : ℕ) (new : List Bool) (owns : AreOwnWalked pages width Interior n i own mid new) where
+        module _ (own : ℕ) (new : List Bool) (next : LastData) (owns : AreOwnWalked pages width descends Interior n i own mid new then next) where
           own_marks : walks.IsPartWalked pages (index_tree root) Interior n (i + 1) (min (i + 1) (count_at pages n)) under.levels old new
           own_marks = ⊎_elim
               (λ (less : i < count_at pages n).
-              let entry = owns.some less in
+              let read = (owns.some less).read in
               subst (λ (x : ℕ). walks.IsPartWalked pages (index_tree root) Interior n (i + 1) x under.levels old new) (omega (arith, less))
-              (walks.cell_walked pages (index_tree root) Interior n (i + 1) i under.levels old mid child_marks page (depth, stands) entry.cell
-              (entry_at_place pages Interior n i entry.cell page entry.is) tt less new entry.marks))
+              (walks.cell_walked pages (index_tree root) Interior n (i + 1) i under.levels old mid child_marks page (depth, stands) read.cell
+              (entry_at_place pages Interior n i read.cell page read.is) tt less new read.marks))
               (λ (past : count_at pages n ≤ i).
-              subst (λ (l : List Bool). walks.IsPartWalked pages (index_tree root) Interior n (i + 1) (min (i + 1) (count_at pages n)) under.levels old l) (sym (owns.none past))
+              subst (λ (l : List Bool). walks.IsPartWalked pages (index_tree root) Interior n (i + 1) (min (i + 1) (count_at pages n)) under.levels old l) (sym (owns.none past).0)
               (subst (λ (x : ℕ). walks.IsPartWalked pages (index_tree root) Interior n (i + 1) x under.levels old mid) (omega (arith, past, within)) child_marks))
               (cases_lt i (count_at pages n))
 
-          own_held : All (HoldsEntry pages width) (own_places pages n i)
-          own_held = ⊎_elim
-              (λ (less : i < count_at pages n). subst (λ (l : List Place). All (HoldsEntry pages width) l) (sym (own_is pages n i less))
-              (All-cons (HoldsEntry pages width) (place_at n i) [] (held_of pages width Interior n i mid new page (owns.some less)) (All-nil (HoldsEntry pages width))))
-              (λ (past : count_at pages n ≤ i). subst (λ (l : List Place). All (HoldsEntry pages width) l) (sym (own_none pages n i past)) (All-nil (HoldsEntry pages width)))
+          own_run : IsRunFrom pages width descends (own_places pages n i) then next
+          own_run = ⊎_elim
+              (λ (less : i < count_at pages n). subst (λ (l : List Place). IsRunFrom pages width descends l then next) (sym (own_is pages n i less))
+              (one_run pages width descends Interior n i mid new then next (owns.some less) page))
+              (λ (past : count_at pages n ≤ i). subst (λ (l : List Place). IsRunFrom pages width descends l then next) (sym (own_none pages n i past))
+              (subst (λ (l : LastData). IsRunFrom pages width descends [] then l) (sym (owns.none past).1) (no_run pages width descends then)))
               (cases_lt i (count_at pages n))
 
-          at_child : All (HoldsEntry pages width) (places_at_child pages Index under.levels n i)
-          at_child = All-append (HoldsEntry pages width) (places_under pages Index under.levels (child_at pages n i)) (own_places pages n i)
-              (subst (λ (x : ℕ). All (HoldsEntry pages width) (places_under pages Index under.levels x)) m_is walked.entries) own_held
+          at_child : IsRunFrom pages width descends (places_at_child pages Index under.levels n i) last next
+          at_child = run_after pages width descends (places_under pages Index under.levels (child_at pages n i)) (own_places pages n i) last then next
+              (subst (λ (x : ℕ). IsRunFrom pages width descends (places_under pages Index under.levels x) last then) m_is walked.run) own_run
+
+          -- before the first child no levels matter
+          run_before : IsRunFrom pages width descends (flat_map (places_at_child pages Index under.levels n) (range_with_len 0 i)) from last
+          run_before = go i same befores.run
+            where
+              go : (j : ℕ) → (0 < j → counts.levels ≡ under.levels)
+                  → IsRunFrom pages width descends (flat_map (places_at_child pages Index counts.levels n) (range_with_len 0 j)) from last
+                  → IsRunFrom pages width descends (flat_map (places_at_child pages Index under.levels n) (range_with_len 0 j)) from last
+              go zero even run = run
+              go (suc j) even run = subst (λ (l : ℕ). IsRunFrom pages width descends (flat_map (places_at_child pages Index l n) (range_with_len 0 (suc j))) from last)
+                  (even (omega arith)) run
+
+          run_more : IsRunFrom pages width descends (flat_map (places_at_child pages Index under.levels n) (range_with_len 0 (i + 1))) from next
+          run_more =
+              let f = places_at_child pages Index under.levels n in
+              let all : flat_map f (range_with_len 0 (i + 1)) ≡ flat_map f (range_with_len 0 i) ++ f i =
+              ap (λ (k : ℕ). flat_map f (range_with_len 0 k)) (add-one i) ∙ fan_more f i 0 ∙ ap (λ (k : ℕ). flat_map f (range_with_len 0 i) ++ f k) (omega arith) in
+              subst (λ (l : List Place). IsRunFrom pages width descends l from next) (sym all)
+              (run_after pages width descends (flat_map f (range_with_len 0 i)) (f i) from last next run_before at_child)
+
+          ends_more : count_at pages n < i + 1 → IsLastUnder pages width next n
+          ends_more past =
+              let end = last_there in
+              let done : count_at pages n ≤ i = omega (arith, past) in
+              subst (λ (l : LastData). IsLastUnder pages width l n) (sym (owns.none done).1)
+              (record { level = end.level; m = end.m; j = end.j; at = end.at; reaches = reaches_here })
+
+          own_more : (k : ℕ) → i + 1 ≡ suc k → i + 1 ≤ count_at pages n → IsLastAt pages width next Interior n k
+          own_more k e less =
+              let here : i < count_at pages n = omega (arith, less) in
+              let is : i ≡ k = omega (arith, e) in
+              subst (λ (x : ℕ). IsLastAt pages width next Interior n x) is
+              (last_here pages width descends Interior n i mid new then next (owns.some here) page here)
 
           counts_here : AreCounts pages Index under.levels (child_at pages n i) under.cells under.pages
           counts_here = subst (λ (x : ℕ). AreCounts pages Index under.levels x under.cells under.pages) m_is walked.counts_are
@@ -220,11 +311,13 @@ module _ (pages : Pages) (width root depth n : ℕ) (stands : StandsAt pages Ind
               omega (arith, a, b, l)
 
           pub branches_more : (cells size : ℕ) → cells ≡ counted (counts.cells + counted (under.cells + own)) → size ≡ counted (counts.pages + under.pages)
-              → AreBranches pages width root n (i + 1) (record { levels = under.levels; cells = cells; pages = size }) old new
+              → AreBranches pages width descends root n (i + 1) (record { levels = under.levels; cells = cells; pages = size }) old new from next
           branches_more cells size cells_sum size_sum = record {
             branches = shapes.more_branches pages Index n i counts.levels under.levels same befores.branches branch_here;
-            entries = below_more (λ k. All (HoldsEntry pages width) (places_at_child pages Index under.levels n k)) i
-                (λ k less. subst (λ (l : ℕ). All (HoldsEntry pages width) (places_at_child pages Index l n k)) (same (omega (arith, less))) (befores.entries k less)) at_child;
+            run = run_more;
+            none = λ e. absurd (omega (arith, e));
+            own = own_more;
+            ends = ends_more;
             cells_is = cells_step pages Index n i counts.levels under.levels same counts.cells (counted (under.cells + own)) cells befores.cells_is with_own cells_sum;
             size_is = size_step pages Index n i counts.levels under.levels same counts.pages under.pages size befores.size_is counts_here.size_is size_sum;
             marks = own_marks;

@@ -1,8 +1,8 @@
 -- Nothing is broken of the tree of an index that was checked.
-use Rattle.std.proofs.Common.{◌≡◌, ℕ, List, length, ◌∙◌, ap, subst, inl, inr, ⊎_elim}
+use Rattle.std.proofs.Common.{◌≡◌, ℕ, Bool, List, length, ◌∙◌, ap, subst, inl, inr, ⊎_elim}
 use Rattle.values.specs.Datum.{Datum}
 use Rattle.values.specs.declared.fault.Fault.{Fault}
-use Rattle.values.specs.declared.fault.Fault.TheVariants.{BadPage, BadChain, BadDepth, BadRecord, FloatValue, BadText}
+use Rattle.values.specs.declared.fault.Fault.TheVariants.{BadPage, BadChain, BadOrder, BadDepth, BadRecord, FloatValue, BadText}
 use Rattle.records.specs.declared.fault.RecordFault.{RecordFault}
 use Rattle.records.specs.declared.fault.RecordFault.TheVariants as r
 use Rattle.records.specs.Record.{Breaks, IsRecord}
@@ -13,14 +13,15 @@ use Rattle.image.specs.Cell.{CellData}
 use Rattle.image.specs.Pages.{Pages}
 use Rattle.image.specs.Shape.{place_at}
 use Rattle.image.specs.Sound.{IsSoundTree}
-use Rattle.image.specs.Tree.{Place}
+use Rattle.image.specs.Tree.{Place, Reaches}
 use Rattle.image.proofs.ChainLemmas.{one_payload}
 use Rattle.image.proofs.PlaceLemmas.{complete}
 use Rattle.index_entries.specs.Entries.{BreaksEntry, HasBrokenChain, HasBrokenRecord, HasEntryThat, HasRecord}
 use Rattle.tree_walk.specs.declared.counts.TreeCounts.{TreeCounts}
 use Rattle.tree_walk.proofs.KindLemmas.{one_entry}
-use Rattle.index_walk.specs.Broken.{HasBrokenEntry, HasOtherWidth, IsBrokenIndex, IsBrokenTree}
+use Rattle.index_walk.specs.Broken.{HasBrokenEntry, HasOtherWidth, IsBrokenIndex, IsBrokenOrder, IsBrokenTree}
 use Rattle.index_walk.specs.Checked.{HoldsEntry, IsCheckedIndex}
+use Rattle.index_walk.specs.Last.{IsIndexOrder}
 use Rattle.index_walk.proofs.EntryLemmas.{entry_at_place}
 
 bad_memory : r.Bad ≡ r.NoMemory → ⊥
@@ -49,18 +50,19 @@ module _ (pages : Pages) (width : ℕ) (cell : CellData) (values : List Datum) (
       let same = one_payload pages cell.payload other.bytes has.bytes other.whole has.whole in
       differ (ap length (one_record has.bytes others values (subst (λ (b : List ℕ). IsRecord b others) same other.record_is) has.record_is) ∙ width_is)
 
-module _ (pages : Pages) (width root : ℕ) (counts : TreeCounts) (checked : IsCheckedIndex pages width root counts) (fault : Fault) (broken : HasBrokenEntry pages width root fault) where
+module _ (pages : Pages) (width : ℕ) (descends : List Bool) (root : ℕ) (counts : TreeCounts) (checked : IsCheckedIndex pages width descends root counts) (fault : Fault) (broken : HasBrokenEntry pages width root fault) where
   -- an entry that is such and such is one of those that were checked
   no_entry : (IsSuch : CellData → Type 0) → ((cell : CellData) (values : List Datum) → HasRecord pages cell values → length values ≡ width → IsSuch cell → ⊥)
       → HasEntryThat pages broken.level broken.n IsSuch → ⊥
   no_entry IsSuch never entry =
       let at = complete pages Index counts.levels root checked.shape (place_at broken.n entry.i)
       (record { level = broken.level; entries = tt; reaches = broken.reaches; page = broken.page; within = entry.within }) in
-      let held = subst (λ (p : Place). HoldsEntry pages width p) at.2 (checked.entries at.0 (place_at broken.n entry.i) at.1) in
+      let found = subst (λ (p : Place). HoldsEntry pages width p) at.2 (checked.entries at.0 (place_at broken.n entry.i) at.1) in
+      let held = found.1 in
       let same = one_entry pages Index (place_at broken.n entry.i) held.has.cell entry.cell
       (entry_at_place pages held.level broken.n entry.i held.has.cell held.page held.has.is)
       (entry_at_place pages broken.level broken.n entry.i entry.cell broken.page entry.is) in
-      never entry.cell held.values (subst (λ (c : CellData). HasRecord pages c held.values) same held.has.has) held.width_is entry.such
+      never entry.cell found.0 (subst (λ (c : CellData). HasRecord pages c found.0) same held.has.has) held.width_is entry.such
 
   no_break : (e : Fault) → BreaksEntry pages broken.level broken.n e → ⊥
   no_break (BadPage m) (is, not) = not broken.page
@@ -79,7 +81,13 @@ module _ (pages : Pages) (width root : ℕ) (counts : TreeCounts) (checked : IsC
       no_entry (HasOtherWidth pages width) (λ cell values has width_is differs. no_other_width pages width cell values has width_is differs) other.1)
       broken.broken
 
-pub unbroken_index : (pages : Pages) (width root : ℕ) (counts : TreeCounts) → IsCheckedIndex pages width root counts → (fault : Fault)
-    → IsBrokenIndex pages width root fault → ⊥
-unbroken_index pages width root counts checked fault (inl broken) = unbroken_tree pages Index root checked.sound fault broken
-unbroken_index pages width root counts checked fault (inr broken) = no_broken_entry pages width root counts checked fault broken
+unbroken_order : (pages : Pages) (descends : List Bool) (root : ℕ) → ((n : ℕ) → Reaches pages Index root n → IsIndexOrder pages descends root n) → (fault : Fault)
+    → IsBrokenOrder pages descends root fault → ⊥
+unbroken_order pages descends root order (BadOrder n) (reaches, not) = not (order n reaches)
+unbroken_order pages descends root order fault broken = absurd broken
+
+pub unbroken_index : (pages : Pages) (width : ℕ) (descends : List Bool) (root : ℕ) (counts : TreeCounts) → IsCheckedIndex pages width descends root counts → (fault : Fault)
+    → IsBrokenIndex pages width descends root fault → ⊥
+unbroken_index pages width descends root counts checked fault (inl broken) = unbroken_tree pages Index root checked.sound fault broken
+unbroken_index pages width descends root counts checked fault (inr (inl broken)) = no_broken_entry pages width descends root counts checked fault broken
+unbroken_index pages width descends root counts checked fault (inr (inr broken)) = unbroken_order pages descends root checked.order fault broken

@@ -1,4 +1,6 @@
 pub mod SeenLemmas
 pub mod EntryLemmas
 pub mod BranchLemmas
+pub mod ColumnLemmas
+pub mod OrderLemmas
 pub mod CheckedLemmas

@@ -1,9 +1,9 @@
 -- What may be wrong with the tree of an index, and with its entries. (Database File Format, section 1.6 "B-tree Pages", and
 -- section 2.3 "Representation Of SQL Indices"; the faults of docs/FAULTS.md)
-use Rattle.std.specs.Prelude.{◌≡◌, ◌≢◌, ◌⊎◌, ℕ, List, length}
+use Rattle.std.specs.Prelude.{◌≡◌, ◌≢◌, ◌⊎◌, ℕ, Bool, List, length}
 use Rattle.values.specs.Datum.{Datum}
 use Rattle.values.specs.declared.fault.Fault.{Fault}
-use Rattle.values.specs.declared.fault.Fault.TheVariants.{BadPage, BadDepth, BadRecord}
+use Rattle.values.specs.declared.fault.Fault.TheVariants.{BadPage, BadOrder, BadDepth, BadRecord}
 use Rattle.image.specs.declared.kind.TreeKind.{TreeKind}
 use Rattle.image.specs.declared.kind.TreeKind.TheVariants.{Index}
 use Rattle.image.specs.declared.kind.Level.{Level}
@@ -12,6 +12,7 @@ use Rattle.image.specs.Cell.{CellData}
 use Rattle.image.specs.Pages.{Pages}
 use Rattle.image.specs.Tree.{IsPageOf, Reaches}
 use Rattle.index_entries.specs.Entries.{BreaksEntry, HasEntryThat, HasRecord}
+use Rattle.index_walk.specs.Last.{IsIndexOrder}
 
 -- The condition on the pages of a tree of either kind that a fault says is broken. Other faults say nothing of them.
 abbrev pub IsBrokenTree : Pages → TreeKind → ℕ → Fault → Type 0
@@ -36,6 +37,12 @@ pub record HasBrokenEntry (pages : Pages) (width root : ℕ) (fault : Fault) : T
   pub page : IsPageOf pages Index level n
   pub broken : BreaksIndexEntry pages width level n fault
 
+-- a page of the tree isn't in the order of entries
+abbrev pub IsBrokenOrder : Pages → List Bool → ℕ → Fault → Type 0
+IsBrokenOrder pages descends root (BadOrder n) = Reaches pages Index root n × (¬ IsIndexOrder pages descends root n)
+IsBrokenOrder pages descends root _ = ⊥
+
 -- the condition on the tree of an index, each entry of which has so many values, that a fault says is broken
-abbrev pub IsBrokenIndex : Pages → ℕ → ℕ → Fault → Type 0
-IsBrokenIndex pages width root fault = IsBrokenTree pages Index root fault ⊎ HasBrokenEntry pages width root fault
+abbrev pub IsBrokenIndex : Pages → ℕ → List Bool → ℕ → Fault → Type 0
+IsBrokenIndex pages width descends root fault =
+    IsBrokenTree pages Index root fault ⊎ HasBrokenEntry pages width root fault ⊎ IsBrokenOrder pages descends root fault

@@ -3,7 +3,7 @@
 use Rattle.std.specs.Prelude.{◌≡◌, ◌⊎◌, ◌<◌, ℕ, All, Bool, List, length}
 use Rattle.values.specs.Datum.{Datum}
 use Rattle.values.specs.declared.fault.Fault.{Fault}
-use Rattle.values.specs.declared.fault.Fault.TheVariants.{ReadFailed, NoMemory, BadPage, BadChain, PageUse, BadDepth, BadRecord, FloatValue, BadText}
+use Rattle.values.specs.declared.fault.Fault.TheVariants.{ReadFailed, NoMemory, BadPage, BadChain, PageUse, BadOrder, BadDepth, BadRecord, FloatValue, BadText}
 use Rattle.pager.specs.Calls.{IsReadFault}
 use Rattle.pager.specs.PagerState.{PagerState}
 use Rattle.image.specs.declared.kind.TreeKind.TheVariants.{Index}
@@ -11,32 +11,37 @@ use Rattle.image.specs.declared.kind.Level.{Level}
 use Rattle.image.specs.Pages.{Pages, WhereSteady}
 use Rattle.image.specs.Shape.{HasShape, most_levels, places_under}
 use Rattle.image.specs.Sound.{IsSoundTree}
-use Rattle.image.specs.Tree.{IsPageOf, Place}
+use Rattle.image.specs.Tree.{IsPageOf, Place, Reaches}
 use Rattle.image.specs.Use.{TreeData}
 use Rattle.index_entries.specs.Entries.{HasValues}
 use Rattle.tree_walk.specs.declared.counts.TreeCounts.{TreeCounts}
 use Rattle.tree_walk.specs.Counts.{AreCounts}
 use Rattle.tree_walk.specs.Used.{IsTreeTwice}
+use Rattle.index_walk.specs.Last.{IsIndexOrder}
 use Rattle.index_walk.specs.Broken.{IsBrokenIndex}
 
 -- the tree of an index that has this root
 abbrev pub index_tree : ℕ → TreeData
 index_tree root = record { kind = Index; root = root }
 
--- the entry at a place of an index has so many values
-pub record HoldsEntry (pages : Pages) (width : ℕ) (place : Place) : Type 0 where
+-- the entry at a place of an index has these values, so many
+pub record HoldsValues (pages : Pages) (width : ℕ) (place : Place) (values : List Datum) : Type 0 where
   pub level : Level
   pub page : IsPageOf pages Index level place.page
-  pub values : List Datum
   pub has : HasValues pages level place.page place.index values
   pub width_is : length values ≡ width
 
--- The tree of an index is sound, and each of its entries has so many values; and these are its levels, entries and pages.
-pub record IsCheckedIndex (pages : Pages) (width root : ℕ) (counts : TreeCounts) : Type 0 where
+abbrev pub HoldsEntry : Pages → ℕ → Place → Type 0
+HoldsEntry pages width place = (values : List Datum) × HoldsValues pages width place values
+
+-- The tree of an index is sound and in order, and each of its entries has so many values; and these are its levels, entries and
+-- pages.
+pub record IsCheckedIndex (pages : Pages) (width : ℕ) (descends : List Bool) (root : ℕ) (counts : TreeCounts) : Type 0 where
   pub few : counts.levels < most_levels
   pub sound : IsSoundTree pages Index root
   pub shape : HasShape pages Index counts.levels root
   pub entries : All (HoldsEntry pages width) (places_under pages Index counts.levels root)
+  pub order : (n : ℕ) → Reaches pages Index root n → IsIndexOrder pages descends root n
   pub counts_are : AreCounts pages Index counts.levels root counts.cells counts.pages
 
 -- the faults of the check
@@ -46,6 +51,7 @@ IsIndexFault NoMemory = Unit {0}
 IsIndexFault (BadPage _) = Unit {0}
 IsIndexFault (BadChain _) = Unit {0}
 IsIndexFault (PageUse _) = Unit {0}
+IsIndexFault (BadOrder _) = Unit {0}
 IsIndexFault (BadDepth _) = Unit {0}
 IsIndexFault (BadRecord _) = Unit {0}
 IsIndexFault FloatValue = Unit {0}
@@ -53,11 +59,11 @@ IsIndexFault BadText = Unit {0}
 IsIndexFault _ = ⊥
 
 -- the tree of an index was checked
-pub record HasCheckedIndex (pager : PagerState) (width root : ℕ) (counts : TreeCounts) : Type 0 where
+pub record HasCheckedIndex (pager : PagerState) (width : ℕ) (descends : List Bool) (root : ℕ) (counts : TreeCounts) : Type 0 where
   pub few : counts.levels < most_levels
-  pub tree : WhereSteady pager (λ pages. IsCheckedIndex pages width root counts)
+  pub tree : WhereSteady pager (λ pages. IsCheckedIndex pages width descends root counts)
 
 -- why it was not, where these were the marks of pages that are used
-pub record IsIndexFailure (pager : PagerState) (width root : ℕ) (marks : List Bool) (fault : Fault) : Type 0 where
+pub record IsIndexFailure (pager : PagerState) (width : ℕ) (descends : List Bool) (root : ℕ) (marks : List Bool) (fault : Fault) : Type 0 where
   pub only : IsIndexFault fault
-  pub cause : WhereSteady pager (λ pages. IsReadFault fault ⊎ IsBrokenIndex pages width root fault ⊎ IsTreeTwice pages (index_tree root) marks fault)
+  pub cause : WhereSteady pager (λ pages. IsReadFault fault ⊎ IsBrokenIndex pages width descends root fault ⊎ IsTreeTwice pages (index_tree root) marks fault)

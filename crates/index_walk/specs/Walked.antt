@@ -1,19 +1,21 @@
 -- What a walk over the tree of an index knows of an entry, of a page, and from a page down.
-use Rattle.std.specs.Prelude.{◌≡◌, ◌≢◌, ◌⊎◌, ◌<◌, ◌≤◌, ℕ, All, Bool, List, length}
+use Rattle.std.specs.Prelude.{◌≡◌, ◌≢◌, ◌⊎◌, ◌<◌, ◌≤◌, ℕ, Bool, List, length, Option, None}
+use Rattle.std.specs.List.{AllZip}
 use Rattle.values.specs.Datum.{Datum}
 use Rattle.values.specs.declared.fault.Fault.{Fault}
-use Rattle.values.specs.declared.fault.Fault.TheVariants.{BadRecord}
+use Rattle.values.specs.declared.fault.Fault.TheVariants.{BadOrder, BadRecord}
 use Rattle.pager.specs.Calls.{IsReadFault}
 use Rattle.records.specs.Record.{IsRecord}
 use Rattle.image.specs.declared.kind.TreeKind.TheVariants.{Index}
 use Rattle.image.specs.declared.kind.Level.{Level}
 use Rattle.image.specs.declared.kind.Level.TheVariants.{Leaf}
 use Rattle.image.specs.Cell.{CellData}
+use Rattle.image.specs.Chain.{HasBytes}
 use Rattle.image.specs.Layout.{cell_count}
 use Rattle.image.specs.Pages.{Pages}
-use Rattle.image.specs.Shape.{HasShape, IsFilled, own_places, place_at, places_under}
-use Rattle.image.specs.Tree.{IsPageOf, count_at}
-use Rattle.index_entries.specs.Entries.{BreaksRecord, HasRecord, IsEntryOn, IsViewIn}
+use Rattle.image.specs.Shape.{HasShape, IsFilled, own_places, places_in, places_under}
+use Rattle.image.specs.Tree.{IsPageOf, Place, count_at}
+use Rattle.index_entries.specs.Entries.{BreaksRecord, HasValues, IsEntryOn, IsViewIn}
 use Rattle.btree.specs.Bytes.{IsEntryCell}
 use Rattle.btree.specs.ViewData.{ViewData}
 use Rattle.page_use.specs.Links.{IsPayloadTwice, MarksPayload}
@@ -22,7 +24,8 @@ use Rattle.tree_walk.specs.Cells.{IsTwiceOn}
 use Rattle.tree_walk.specs.Counts.{AreCounts}
 use Rattle.tree_walk.specs.Used.{IsUnderTwice, MarksUnder}
 use Rattle.index_walk.specs.Broken.{BreaksIndexEntry, IsBrokenIndex}
-use Rattle.index_walk.specs.Checked.{HoldsEntry, index_tree}
+use Rattle.index_walk.specs.Checked.{HoldsValues, index_tree}
+use Rattle.index_walk.specs.Last.{Ascend, Follows, HasLast, IsBefore, IsIndexOrder, IsLastUnder, LastData, blamed_at, last_of}
 
 -- the bytes are a record of so many values
 abbrev pub IsRecordOf : ℕ → List ℕ → Type 0
@@ -33,14 +36,28 @@ abbrev pub BreaksWidth : ℕ → List ℕ → ℕ → Fault → Type 0
 BreaksWidth width bytes n fault =
     BreaksRecord bytes n fault ⊎ ((fault ≡ BadRecord n) × ((values : List Datum) × IsRecord bytes values × (length values ≢ width)))
 
--- entry i of page n has so many values, and the links of its chain got their marks
-pub record IsEntryWalked (pages : Pages) (width : ℕ) (level : Level) (n i : ℕ) (old new : List Bool) : Type 0 where
+-- entry i of page n has so many values, these bytes are its record, and the links of its chain got their marks
+pub record IsEntryRead (pages : Pages) (width : ℕ) (level : Level) (n i : ℕ) (bytes : List ℕ) (old new : List Bool) : Type 0 where
   pub cell : CellData
   pub is : IsEntryOn pages level n i cell
+  pub whole : HasBytes pages cell.payload bytes
   pub values : List Datum
-  pub has : HasRecord pages cell values
+  pub record_is : IsRecord bytes values
   pub width_is : length values ≡ width
   pub marks : MarksPayload pages cell.payload old new
+
+-- and it comes behind the last entry, and is the last one now
+pub record IsEntryWalked (pages : Pages) (width : ℕ) (descends : List Bool) (level : Level) (n i : ℕ) (old new : List Bool) (last next : LastData) : Type 0 where
+  pub bytes : List ℕ
+  pub read : IsEntryRead pages width level n i bytes old new
+  pub follows : Follows descends width last bytes n next
+
+-- entry i of page n has so many values, and doesn't come behind the last entry
+pub record IsDisordered (pages : Pages) (width : ℕ) (descends : List Bool) (level : Level) (n i : ℕ) (last : LastData) : Type 0 where
+  pub values : List Datum
+  pub has : HasValues pages level n i values
+  pub some : last.page ≢ None
+  pub not : (x : List Datum) → IsRecord last.bytes x → length x ≡ width → ¬ IsBefore descends x values
 
 -- the page that a fault names is used twice, and a link of entry i of page n is one of its uses
 pub record IsEntryTwice (pages : Pages) (level : Level) (n i : ℕ) (marks : List Bool) (fault : Fault) : Type 0 where
@@ -53,39 +70,57 @@ abbrev pub IsEntryCause : Pages → ℕ → Level → ℕ → ℕ → List Bool 
 IsEntryCause pages width level n i marks fault =
     IsReadFault fault ⊎ BreaksIndexEntry pages width level n fault ⊎ IsEntryTwice pages level n i marks fault
 
+-- and why a walk stops there
+abbrev pub IsEntryStop : Pages → ℕ → List Bool → Level → ℕ → ℕ → LastData → List Bool → Fault → Type 0
+IsEntryStop pages width descends level n i last marks fault = IsEntryCause pages width level n i marks fault
+    ⊎ ((fault ≡ BadOrder (blamed_at level n last.page)) × IsDisordered pages width descends level n i last)
+
 -- page n of a tree with this root was read: it is a page of an index, with an entry where it is a leaf below the root
 pub record IsIndexPage (pages : Pages) (root n : ℕ) (view : ViewData) : Type 0 where
   pub seen : IsViewIn pages n view
   pub page : IsPageOf pages Index view.level n
   pub filled : view.level ≡ Leaf → n ≢ root → 0 < count_at pages n
 
+-- the entries at these places have values that ascend, behind the last ones, and that of the last place is the last one now
+pub record IsRun (pages : Pages) (width : ℕ) (descends : List Bool) (places : List Place) (last : Option (List Datum)) (next : LastData) : Type 0 where
+  pub rows : List (List Datum)
+  pub each : AllZip (HoldsValues pages width) places rows
+  pub ascend : Ascend descends last rows
+  pub ends : HasLast width next (last_of last rows)
+
+abbrev pub IsRunFrom : Pages → ℕ → List Bool → List Place → LastData → LastData → Type 0
+IsRunFrom pages width descends places last next = (values : Option (List Datum)) → HasLast width last values → IsRun pages width descends places values next
+
 -- Page n of a tree with this root was walked, with all under it.
-pub record IsWalked (pages : Pages) (width root n : ℕ) (counts : TreeCounts) (old new : List Bool) : Type 0 where
+pub record IsWalked (pages : Pages) (width : ℕ) (descends : List Bool) (root n : ℕ) (counts : TreeCounts) (old new : List Bool) (last next : LastData) : Type 0 where
   pub shape : HasShape pages Index counts.levels n
   pub filled : n ≢ root → IsFilled pages counts.levels n
-  pub entries : All (HoldsEntry pages width) (places_under pages Index counts.levels n)
+  pub run : IsRunFrom pages width descends (places_under pages Index counts.levels n) last next
+  pub ends : IsFilled pages counts.levels n → IsLastUnder pages width next n
   pub counts_are : AreCounts pages Index counts.levels n counts.cells counts.pages
   pub marks : MarksUnder pages (index_tree root) counts.levels n old new
 
 -- why it was not
-abbrev pub IsWalkCause : Pages → ℕ → ℕ → ℕ → List Bool → Fault → Type 0
-IsWalkCause pages width root n marks fault =
-    IsReadFault fault ⊎ IsBrokenIndex pages width root fault ⊎ IsUnderTwice pages (index_tree root) n marks fault
+abbrev pub IsWalkCause : Pages → ℕ → List Bool → ℕ → ℕ → List Bool → Fault → Type 0
+IsWalkCause pages width descends root n marks fault =
+    IsReadFault fault ⊎ IsBrokenIndex pages width descends root fault ⊎ IsUnderTwice pages (index_tree root) n marks fault
 
 -- The entry behind child i of page n, which the last child has none of, is such an entry, and its links got their marks.
-pub record AreOwnWalked (pages : Pages) (width : ℕ) (level : Level) (n i own : ℕ) (old new : List Bool) : Type 0 where
+pub record AreOwnWalked (pages : Pages) (width : ℕ) (descends : List Bool) (level : Level) (n i own : ℕ) (old new : List Bool) (last next : LastData) : Type 0 where
   pub own_is : own ≡ length (own_places pages n i)
-  pub some : i < count_at pages n → IsEntryWalked pages width level n i old new
-  pub none : count_at pages n ≤ i → new ≡ old
+  pub some : i < count_at pages n → IsEntryWalked pages width descends level n i old new last next
+  pub none : count_at pages n ≤ i → (new ≡ old) × (next ≡ last)
 
--- each entry of page n has so many values
-abbrev pub AreHeld : Pages → ℕ → ℕ → Type 0
-AreHeld pages width n = (i : ℕ) → i < count_at pages n → HoldsEntry pages width (place_at n i)
+-- the entries of a leaf, which is page n, were walked
+pub record IsLeafWalked (pages : Pages) (width : ℕ) (descends : List Bool) (n : ℕ) (last next : LastData) : Type 0 where
+  pub run : IsRunFrom pages width descends (places_in pages n) last next
+  pub ends : 0 < count_at pages n → IsLastUnder pages width next n
 
--- why page n, whose entries are walked, isn't such a page
-abbrev pub IsPageCause : Pages → ℕ → ℕ → Level → ℕ → List Bool → Fault → Type 0
-IsPageCause pages width root level n marks fault =
-    IsReadFault fault ⊎ BreaksIndexEntry pages width level n fault ⊎ IsTwiceOn pages (index_tree root) level n marks fault
+-- why they weren't
+abbrev pub IsLeafCause : Pages → ℕ → List Bool → ℕ → ℕ → List Bool → Fault → Type 0
+IsLeafCause pages width descends root n marks fault =
+    IsReadFault fault ⊎ BreaksIndexEntry pages width Leaf n fault ⊎ IsTwiceOn pages (index_tree root) Leaf n marks fault
+    ⊎ ((fault ≡ BadOrder n) × (¬ IsIndexOrder pages descends root n))
 
 -- each entry of a page is there, with a payload of at most so many bytes
 abbrev pub HasEntries : ViewData → ℕ → Type 0

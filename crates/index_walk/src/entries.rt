@@ -1,20 +1,27 @@
-//! An entry of an index, which is read whole, with its overflow pages.
+//! An entry of an index, which is read whole, with its overflow pages, and comes behind the last one.
 ghost use Rattle.std.specs.Prelude.{◌≡◌, ◌⊎◌, ◌<◌, ◌≤◌, ℕ, IfErr, IfOk, OnOk, length};
+ghost use Rattle.std.specs.Cow.{cow_slice_items};
 ghost use Rattle.pager.specs.Calls.{ReadsChainPages};
 ghost use Rattle.image.specs.declared.kind.TreeKind.TheVariants.{Index};
+ghost use Rattle.image.specs.declared.kind.Level.TheVariants.{Leaf};
 ghost use Rattle.image.specs.Layout.{cell_count};
 ghost use Rattle.image.specs.Pages.{WhereSteady};
 ghost use Rattle.btree.specs.ViewData.{TellsOfCell};
 ghost use Rattle.index_entries.specs.Entries.{IsViewIn};
 ghost use Rattle.tree_walk.specs.Cells.{MarksCells};
 ghost use Rattle.index_walk.specs.Checked.{IsIndexFault, index_tree};
-ghost use Rattle.index_walk.specs.Walked.{AreHeld, AreOwnWalked, BreaksWidth, IsEntryCause, IsEntryWalked, IsIndexPage, IsPageCause, IsRecordOf};
+ghost use Rattle.index_walk.specs.Last.{IsFrom, blamed_at};
+ghost use Rattle.index_walk.specs.Walked.{AreOwnWalked, BreaksWidth, IsEntryCause, IsEntryRead, IsEntryStop, IsEntryWalked, IsIndexPage, IsLeafCause, IsLeafWalked, IsRecordOf};
 
+use crate::last::LastEntry;
+use crate::page::is_leaf;
+use crate::tree::IndexTree;
 use btree::PageView;
 use page_use::payload;
 use pager::{Pager, Source};
 use records::{RecordFault, RecordView};
 use std::alloc::Global;
+use std::borrow::CowSlice;
 use values::Fault;
 
 /// Tests that these bytes of page `n` are a record of so many values.
@@ -37,20 +44,20 @@ fn check_record(alloc: Global, bytes: &[u8], width: usize, n: u32) -> Result<(),
     }
 }
 
-/// Tests entry i of page `n` of an index, which was read as this view. Its overflow pages get their marks.
-fn check_entry<S: Source>(
+/// The record of entry i of page `n` of an index, which was read as this view. Its overflow pages get their marks.
+fn entry_record<'p, S: Source>(
     alloc: Global,
     pager: &mut Pager<S>,
-    view: &PageView<'_>,
+    view: &PageView<'p>,
     n: u32,
     i: u32,
     width: usize,
     used: &mut [bool],
-) -> Result<(), Fault>
+) -> Result<CowSlice<'p, u8>, Fault>
     requires cell { TellsOfCell view.now Index view.now.level i }
     requires long { pager.old.state.header.pages < length used.old }
     ensures entry { WhereSteady pager.old.state (λ pages. IsViewIn pages n view.now
-        → OnOk result (IsEntryWalked pages width view.now.level n i used.old used.new)) }
+        → IfOk result (λ bytes. IsEntryRead pages width view.now.level n i (cow_slice_items bytes) used.old used.new)) }
     ensures fault { WhereSteady pager.old.state (λ pages. IsViewIn pages n view.now
         → IfErr result (IsEntryCause pages width view.now.level n i used.old)) }
     ensures only { IfErr result IsIndexFault }
@@ -63,30 +70,70 @@ fn check_entry<S: Source>(
     let Some(bytes) = payload(alloc, pager, &cell, used)? else {
         return Err(Fault::BadChain(n));
     };
-    check_record(alloc, bytes.as_slice(), width, n)
+    check_record(alloc, bytes.as_slice(), width, n)?;
+    Ok(bytes)
 }
 
-/// Tests the entries of page `n` of an index, which was read as this view. Their overflow pages get their marks.
-pub(crate) fn check_entries<S: Source>(
+/// Which page is blamed where an entry of page `n` doesn't come behind the last one.
+fn blamed_page(view: &PageView<'_>, n: u32, last: &LastEntry) -> u32
+    ensures { result ≡ blamed_at view.now.level n last.now.page }
+{
+    if is_leaf(view) {
+        return n;
+    }
+    last.page().unwrap_or(n)
+}
+
+/// Tests entry i of page `n` of an index, which was read as this view, and that it comes behind the last one.
+fn check_entry<S: Source>(
     alloc: Global,
     pager: &mut Pager<S>,
+    tree: &IndexTree<'_>,
     view: &PageView<'_>,
     n: u32,
-    width: usize,
+    i: u32,
+    last: &mut LastEntry,
+    used: &mut [bool],
+) -> Result<(), Fault>
+    requires cell { TellsOfCell view.now Index view.now.level i }
+    requires long { pager.old.state.header.pages < length used.old }
+    ensures entry { WhereSteady pager.old.state (λ pages. IsViewIn pages n view.now
+        → OnOk result (IsEntryWalked pages tree.now.width tree.now.descends.now view.now.level n i used.old used.new last.old last.new)) }
+    ensures fault { WhereSteady pager.old.state (λ pages. IsViewIn pages n view.now
+        → IfErr result (IsEntryStop pages tree.now.width tree.now.descends.now view.now.level n i last.old used.old)) }
+    ensures only { IfErr result IsIndexFault }
+    ensures reads { ReadsChainPages result pager.old.state pager.new.state }
+{
+    let bytes = entry_record(alloc, pager, view, n, i, tree.width, used)?;
+    let blamed = blamed_page(view, n, last);
+    last.follow(tree, bytes.as_slice(), n, blamed)?;
+    Ok(())
+}
+
+/// Tests the entries of page `n` of an index, a leaf, which was read as this view. Their overflow pages get their marks.
+pub(crate) fn check_leaf<S: Source>(
+    alloc: Global,
+    pager: &mut Pager<S>,
+    tree: &IndexTree<'_>,
+    view: &PageView<'_>,
+    n: u32,
+    last: &mut LastEntry,
     used: &mut [bool],
 ) -> Result<(), Fault>
     requires kind { view.now.kind ≡ Index }
+    requires leaf { view.now.level ≡ Leaf }
     requires long { pager.old.state.header.pages < length used.old }
-    ensures entries { WhereSteady pager.old.state (λ pages. (root : ℕ) → IsIndexPage pages root n view.now → OnOk result (AreHeld pages width n)) }
-    ensures marks { WhereSteady pager.old.state (λ pages. (root : ℕ) → IsIndexPage pages root n view.now
-        → OnOk result (MarksCells pages (index_tree root) view.now.level n used.old used.new)) }
-    ensures fault { WhereSteady pager.old.state (λ pages. (root : ℕ) → IsIndexPage pages root n view.now
-        → IfErr result (IsPageCause pages width root view.now.level n used.old)) }
+    ensures entries { WhereSteady pager.old.state (λ pages. IsIndexPage pages tree.now.root n view.now
+        → OnOk result (IsLeafWalked pages tree.now.width tree.now.descends.now n last.old last.new)) }
+    ensures marks { WhereSteady pager.old.state (λ pages. IsIndexPage pages tree.now.root n view.now
+        → OnOk result (MarksCells pages (index_tree tree.now.root) Leaf n used.old used.new)) }
+    ensures fault { WhereSteady pager.old.state (λ pages. IsIndexPage pages tree.now.root n view.now → IsFrom pages tree.now.width tree.now.root last.old n
+        → IfErr result (IsLeafCause pages tree.now.width tree.now.descends.now tree.now.root n used.old)) }
     ensures only { IfErr result IsIndexFault }
     ensures reads { ReadsChainPages result pager.old.state pager.new.state }
 {
     for i in 0..u32::from(view.count()) {
-        check_entry(alloc, pager, view, n, i, width, used)?;
+        check_entry(alloc, pager, tree, view, n, i, last, used)?;
     }
     Ok(())
 }
@@ -96,26 +143,26 @@ pub(crate) fn check_entries<S: Source>(
 pub(crate) fn check_own<S: Source>(
     alloc: Global,
     pager: &mut Pager<S>,
+    tree: &IndexTree<'_>,
     view: &PageView<'_>,
     n: u32,
     i: u32,
-    width: usize,
+    last: &mut LastEntry,
     used: &mut [bool],
 ) -> Result<u64, Fault>
     requires kind { view.now.kind ≡ Index }
     requires long { pager.old.state.header.pages < length used.old }
-    ensures few { IfOk result (λ own. own ≤ 1) }
     ensures some { IfErr result (λ e. i < cell_count view.now.at view.now.page) }
-    ensures own { WhereSteady pager.old.state (λ pages. IsViewIn pages n view.now
-        → IfOk result (λ own. AreOwnWalked pages width view.now.level n i own used.old used.new)) }
+    ensures own { WhereSteady pager.old.state (λ pages. IsViewIn pages n view.now → IfOk result (λ own.
+        AreOwnWalked pages tree.now.width tree.now.descends.now view.now.level n i own used.old used.new last.old last.new)) }
     ensures fault { WhereSteady pager.old.state (λ pages. IsViewIn pages n view.now
-        → IfErr result (IsEntryCause pages width view.now.level n i used.old)) }
+        → IfErr result (IsEntryStop pages tree.now.width tree.now.descends.now view.now.level n i last.old used.old)) }
     ensures only { IfErr result IsIndexFault }
     ensures reads { ReadsChainPages result pager.old.state pager.new.state }
 {
     if i >= u32::from(view.count()) {
         return Ok(0);
     }
-    check_entry(alloc, pager, view, n, i, width, used)?;
+    check_entry(alloc, pager, tree, view, n, i, last, used)?;
     Ok(1)
 }

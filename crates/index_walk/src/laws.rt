@@ -1,5 +1,5 @@
 //! What follows from the definitions alone.
-ghost use Rattle.std.specs.Prelude.{ℕ};
+ghost use Rattle.std.specs.Prelude.{ℕ, Bool, List};
 ghost use Rattle.values.specs.declared.fault.Fault.{Fault};
 ghost use Rattle.image.specs.Pages.{Pages};
 ghost use Rattle.tree_walk.specs.declared.counts.TreeCounts.{TreeCounts};
@@ -8,6 +8,7 @@ ghost use Rattle.index_walk.specs.Checked.{IsCheckedIndex};
 
 /// No fault has its condition in the tree of an index that was checked.
 pub fn no_checked_index_is_broken()
-    ensures unbroken { (pages : Pages) (width root : ℕ) (counts : TreeCounts) → IsCheckedIndex pages width root counts → (fault : Fault)
-        → IsBrokenIndex pages width root fault → ⊥ }
+    ensures unbroken { (pages : Pages) (width : ℕ) (descends : List Bool) (root : ℕ) (counts : TreeCounts)
+        → IsCheckedIndex pages width descends root counts → (fault : Fault)
+        → IsBrokenIndex pages width descends root fault → ⊥ }
 {}

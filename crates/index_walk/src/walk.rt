@@ -9,10 +9,13 @@ ghost use Rattle.image.specs.Tree.{StandsAt};
 ghost use Rattle.tree_walk.specs.Counts.{counted};
 ghost use Rattle.tree_walk.specs.Used.{MarksTree};
 ghost use Rattle.index_walk.specs.Checked.{HasCheckedIndex, IsIndexFailure, IsIndexFault, index_tree};
+ghost use Rattle.index_walk.specs.Last.{IsFrom};
 ghost use Rattle.index_walk.specs.Walked.{IsWalkCause, IsWalked};
 
-use crate::entries::{check_entries, check_own};
+use crate::entries::{check_leaf, check_own};
+use crate::last::LastEntry;
 use crate::page::{index_page, is_leaf};
+use crate::tree::IndexTree;
 use image::MOST_LEVELS;
 use page_use::use_page;
 use pager::{Pager, Source};
@@ -36,30 +39,33 @@ fn with_own(below: TreeCounts, own: u64) -> TreeCounts
 fn walk<S: Source>(
     alloc: Global,
     pager: &mut Pager<S>,
-    root: u32,
-    width: usize,
+    tree: &IndexTree<'_>,
     n: u32,
     depth: u32,
+    last: &mut LastEntry,
     used: &mut [bool],
 ) -> Result<TreeCounts, Fault>
     requires number { IsPageNumber pager.old.state n }
     requires long { pager.old.state.header.pages < length used.old }
-    requires stands { WhereSteady pager.old.state (λ pages. StandsAt pages Index root depth n) }
+    requires stands { WhereSteady pager.old.state (λ pages. StandsAt pages Index tree.now.root depth n) }
+    requires from { WhereSteady pager.old.state (λ pages. IsFrom pages tree.now.width tree.now.root last.old n) }
     ensures deep { IfOk result (λ counts. counts.levels + depth ≤ most_levels) }
-    ensures walked { WhereSteady pager.old.state (λ pages. IfOk result (λ counts. IsWalked pages width root n counts used.old used.new)) }
-    ensures fault { WhereSteady pager.old.state (λ pages. IfErr result (IsWalkCause pages width root n used.old)) }
+    ensures walked { WhereSteady pager.old.state (λ pages. IfOk result (λ counts.
+        IsWalked pages tree.now.width tree.now.descends.now tree.now.root n counts used.old used.new last.old last.new)) }
+    ensures fault { WhereSteady pager.old.state (λ pages. IfErr result
+        (IsWalkCause pages tree.now.width tree.now.descends.now tree.now.root n used.old)) }
     ensures only { IfErr result IsIndexFault }
     ensures reads { ReadsPages result pager.old.state pager.new.state }
 {
     use_page(used, n)?;
     if depth > MOST_LEVELS {
-        return Err(Fault::BadDepth(root));
+        return Err(Fault::BadDepth(tree.root));
     }
     let header = pager.header();
     let page = pager.page(n)?;
-    let view = index_page(&page, &header, root, n)?;
+    let view = index_page(&page, &header, tree.root, n)?;
     if is_leaf(&view) {
-        check_entries(alloc, pager, &view, n, width, used)?;
+        check_leaf(alloc, pager, tree, &view, n, last, used)?;
         return Ok(counts_of_page(u64::from(view.count())));
     }
     let mut counts = counts_of_page(0);
@@ -67,11 +73,11 @@ fn walk<S: Source>(
         let Some(child) = child_within(&view, i, header.pages) else {
             return Err(Fault::BadPage(n));
         };
-        let below = walk(alloc, pager, root, width, child, depth + 1, used)?;
+        let below = walk(alloc, pager, tree, child, depth + 1, last, used)?;
         if is_uneven(i, counts.levels, below.levels) {
-            return Err(Fault::BadDepth(root));
+            return Err(Fault::BadDepth(tree.root));
         }
-        let own = check_own(alloc, pager, &view, n, i, width, used)?;
+        let own = check_own(alloc, pager, tree, &view, n, i, last, used)?;
         counts = join(counts, with_own(below, own));
     }
     Ok(TreeCounts {
@@ -80,26 +86,29 @@ fn walk<S: Source>(
     })
 }
 
-/// Checks the tree of an index that has this root, whose entries have so many values each, counts what it has, and gives its
-/// pages and their chains their marks. (Database File Format, section 1.6 "B-tree Pages")
+/// Checks the tree of an index, whose entries have so many values each and ascend, counts what it has, and gives its pages
+/// and their chains their marks. (Database File Format, section 1.6 "B-tree Pages", and section 2.3 "Representation Of SQL
+/// Indices")
 ///
 /// # Errors
 ///
-/// `ReadFailed` and `NoMemory`; `BadPage`, `BadDepth`, `BadChain`, `BadRecord`, `FloatValue` and `BadText` where the tree or
-/// one of its entries has that condition; `PageUse` of a page that has its mark.
+/// `ReadFailed` and `NoMemory`; `BadPage`, `BadOrder`, `BadDepth`, `BadChain`, `BadRecord`, `FloatValue` and `BadText` where
+/// the tree or one of its entries has that condition; `PageUse` of a page that has its mark.
 pub fn check_index<S: Source>(
     alloc: Global,
     pager: &mut Pager<S>,
-    root: u32,
-    width: usize,
+    tree: &IndexTree<'_>,
     used: &mut [bool],
 ) -> Result<TreeCounts, Fault>
-    requires number { IsPageNumber pager.old.state root }
+    requires number { IsPageNumber pager.old.state tree.now.root }
     requires long { pager.old.state.header.pages < length used.old }
-    ensures outcome { MatchResult result (HasCheckedIndex pager.old.state width root) (IsIndexFailure pager.old.state width root used.old) }
-    ensures marks { WhereSteady pager.old.state (λ pages. OnOk result (MarksTree pages (index_tree root) used.old used.new)) }
+    ensures outcome { MatchResult result
+        (HasCheckedIndex pager.old.state tree.now.width tree.now.descends.now tree.now.root)
+        (IsIndexFailure pager.old.state tree.now.width tree.now.descends.now tree.now.root used.old) }
+    ensures marks { WhereSteady pager.old.state (λ pages. OnOk result (MarksTree pages (index_tree tree.now.root) used.old used.new)) }
     ensures reads { ReadsPages result pager.old.state pager.new.state }
 {
-    let counts = walk(alloc, pager, root, width, root, 1, used)?;
+    let mut last = LastEntry::new(alloc);
+    let counts = walk(alloc, pager, tree, tree.root, 1, &mut last, used)?;
     Ok(counts)
 }

@@ -1,68 +1,34 @@
-use Rattle.std.proofs.Common.{◌<◌, inl, inr, refl, sym, ◌∙◌, ap, arith, rules, ⊎_elim}
-use Rattle.std.proofs.lemmas.Result.{err_from_is_err_and, on_ok_weaker}
+use Rattle.std.proofs.Common.{◌≡◌, ℕ, List, rules, inl, subst}
+use Rattle.std.proofs.lemmas.Result.{err_from_is_err_and}
 use Rattle.std.specs.Cow.{cow_slice_items}
-use Rattle.pager.specs.PagerState.{image_size}
-use Rattle.pager.proofs.CallLemmas.{IfErr-weaker}
 use Rattle.image.specs.Pages.{pages_seen}
-use Rattle.image.specs.Tree.{count_at}
-use Rattle.btree.specs.Views.{cell_data}
-use Rattle.index_entries.proofs.EntryLemmas.{count_is, entry_on, no_page}
-use Rattle.index_walk.proofs.EntryLemmas.{entry_broken, entry_walked}
+use Rattle.index_walk.specs.Last.{Follows, FollowsNot}
+use Rattle.index_walk.proofs.EntryLemmas.{stop_of}
 use Rattle.index_walk.proofs.entries.check_entry.Goals as goal
-
-pub returns-in_default-clause-fault : goal.returns-in_default-clause-fault
-returns-in_default-clause-fault g c = λ steady of.
-    let seen = pages_seen c.args.pager.now.state in
-    let size = ap image_size (sym c.header.ensures.is) ∙ sym c.image_size-most.ensures in
-    let within : c.args.i < count_at seen c.args.n = omega (arith, c.requires.cell.within, count_is seen c.args.n c.args.view.now of) in
-    inr (inl (inl (refl, no_page seen c.args.n c.args.view.now of c.image_size-most.result c.args.i size within c.in_default.ensures.none)))
 
 pub returns-in_err-bytes-clause-fault : goal.returns-in_err-bytes-clause-fault
 returns-in_err-bytes-clause-fault g c = λ steady of.
-    let seen = pages_seen c.args.pager.now.state in
-    let size = ap image_size (sym c.header.ensures.is) ∙ sym c.image_size-most.ensures in
     let p = err_from_is_err_and c.from_residual.result c.from_residual.ensures.1 in
-    rw (p.1, p.2)
-    (⊎_elim inl
-    (λ twice. inr (inr (record {
-      cell = cell_data c.in-Some.cell;
-      is = entry_on seen c.args.n c.args.view.now of c.image_size-most.result c.args.i size (cell_data c.in-Some.cell) c.in-Some.ensures.found;
-      twice = twice;
-    })))
-    (c.in_err-bytes.ensures.fault steady))
+    rw (p.1, p.2) (inl (c.in_err-bytes.ensures.fault steady of))
 
-pub returns-in_default-2-clause-fault : goal.returns-in_default-2-clause-fault
-returns-in_default-2-clause-fault g c = λ steady of.
-    let seen = pages_seen c.args.pager.now.state in
-    let size = ap image_size (sym c.header.ensures.is) ∙ sym c.image_size-most.ensures in
-    let within : c.args.i < count_at seen c.args.n = omega (arith, c.requires.cell.within, count_is seen c.args.n c.args.view.now of) in
-    inr (inl (inl (
-      refl,
-      record {
-        i = c.args.i;
-        cell = cell_data c.in-Some.cell;
-        within = within;
-        is = entry_on seen c.args.n c.args.view.now of c.image_size-most.result c.args.i size (cell_data c.in-Some.cell) c.in-Some.ensures.found;
-        such = rw c.in_default-2.is at (c.in_ok-bytes.ensures.bytes steady);
-      },
-    )))
+pub returns-in_err-follow-clause-fault : goal.returns-in_err-follow-clause-fault
+returns-in_err-follow-clause-fault g c = λ steady of.
+    let same : c.as_slice.result.now ≡ cow_slice_items c.in_ok-bytes.bytes = search rules in
+    let read = c.in_ok-bytes.ensures.entry steady of in
+    let p = err_from_is_err_and c.from_residual-in_err-follow.result c.from_residual-in_err-follow.ensures.1 in
+    let told = subst (λ (m : ℕ). FollowsNot c.args.tree.now.descends.now c.args.tree.now.width c.args.last.now (cow_slice_items c.in_ok-bytes.bytes) m c.in_err-follow.field-0.0)
+    c.blamed_page-blamed.ensures
+    (subst (λ (b : List ℕ). FollowsNot c.args.tree.now.descends.now c.args.tree.now.width c.args.last.now b c.blamed_page-blamed.result c.in_err-follow.field-0.0) same
+    c.in_err-follow.ensures.fault) in
+    rw (p.1, p.2)
+    (stop_of (pages_seen c.args.pager.now.state) c.args.tree.now.width c.args.view.now.level c.args.n c.args.i (cow_slice_items c.in_ok-bytes.bytes) c.args.used.now c.entry_record.new.used
+    read c.args.tree.now.descends.now c.args.last.now c.in_err-follow.field-0.0 c.args.used.now told)
 
 pub returns-clause-entry : goal.returns-clause-entry
 returns-clause-entry g c = λ steady of.
-    let seen = pages_seen c.args.pager.now.state in
-    let size = ap image_size (sym c.header.ensures.is) ∙ sym c.image_size-most.ensures in
-    on_ok_weaker c.check_record.result
-    (λ is. entry_walked seen c.args.n c.args.view.now of c.image_size-most.result c.args.i size (cell_data c.in-Some.cell) c.in-Some.ensures.found c.args.width
-    (cow_slice_items c.in-Some-2.bytes) c.as_slice.result.now (rw c.in-Some-2.is at (c.in_ok-bytes.ensures.bytes steady)) (search rules) is
-    c.args.used.now c.payload.new.used (rw c.in-Some-2.is at (c.in_ok-bytes.ensures.marks steady)))
-    c.check_record.ensures.found
-
-pub returns-clause-fault : goal.returns-clause-fault
-returns-clause-fault g c = λ steady of.
-    let seen = pages_seen c.args.pager.now.state in
-    let size = ap image_size (sym c.header.ensures.is) ∙ sym c.image_size-most.ensures in
-    let within : c.args.i < count_at seen c.args.n = omega (arith, c.requires.cell.within, count_is seen c.args.n c.args.view.now of) in
-    IfErr-weaker c.check_record.result
-    (λ e broken. entry_broken seen c.args.n c.args.view.now of c.image_size-most.result c.args.i size (cell_data c.in-Some.cell) c.in-Some.ensures.found c.args.width
-    within (cow_slice_items c.in-Some-2.bytes) c.as_slice.result.now (rw c.in-Some-2.is at (c.in_ok-bytes.ensures.bytes steady)) (search rules) e broken c.args.used.now)
-    c.check_record.ensures.fault
+    let same : c.as_slice.result.now ≡ cow_slice_items c.in_ok-bytes.bytes = search rules in
+    record {
+      bytes = cow_slice_items c.in_ok-bytes.bytes;
+      read = c.in_ok-bytes.ensures.entry steady of;
+      follows = subst (λ (b : List ℕ). Follows c.args.tree.now.descends.now c.args.tree.now.width c.args.last.now b c.args.n c.follow.new.self) same c.in_ok-follow.ensures.behind;
+    }
