@@ -64,6 +64,8 @@ pub record HasCheckedIndex (pager : PagerState) (width : ℕ) (descends : List B
   pub tree : WhereSteady pager (λ pages. IsCheckedIndex pages width descends root counts)
 
 -- why it was not, where these were the marks of pages that are used
-pub record IsIndexFailure (pager : PagerState) (width : ℕ) (descends : List Bool) (root : ℕ) (marks : List Bool) (fault : Fault) : Type 0 where
+pub record IsIndexFailure (pager : PagerState) (width : ℕ) (descends : List Bool) (root : ℕ) (marks : List Bool)
+    (fault : Fault) : Type 0 where
   pub only : IsIndexFault fault
-  pub cause : WhereSteady pager (λ pages. IsReadFault fault ⊎ IsBrokenIndex pages width descends root fault ⊎ IsTreeTwice pages (index_tree root) marks fault)
+  pub cause : WhereSteady pager (λ pages. IsReadFault fault ⊎ IsBrokenIndex pages width descends root fault
+      ⊎ IsTreeTwice pages (index_tree root) marks fault)

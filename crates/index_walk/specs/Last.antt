@@ -79,9 +79,11 @@ blamed_at Interior n (Some m) = m
 -- a record of so many values comes behind the last one, and is the last one now
 pub record Follows (descends : List Bool) (width : ℕ) (old : LastData) (bytes : List ℕ) (n : ℕ) (new : LastData) : Type 0 where
   pub is : new ≡ record { page = Some n; bytes = bytes }
-  pub after : (x y : List Datum) → old.page ≢ None → IsRecord old.bytes x → length x ≡ width → IsRecord bytes y → length y ≡ width → IsBefore descends x y
+  pub after : (x y : List Datum) → old.page ≢ None → IsRecord old.bytes x → length x ≡ width
+      → IsRecord bytes y → length y ≡ width → IsBefore descends x y
 
 -- why not: memory ran out, or it doesn't come behind it
 abbrev pub FollowsNot : List Bool → ℕ → LastData → List ℕ → ℕ → Fault → Type 0
 FollowsNot descends width old bytes blamed fault = (fault ≡ NoMemory) ⊎ ((fault ≡ BadOrder blamed) × (old.page ≢ None)
-    × ((x y : List Datum) → IsRecord old.bytes x → length x ≡ width → IsRecord bytes y → length y ≡ width → ¬ IsBefore descends x y))
+    × ((x y : List Datum) → IsRecord old.bytes x → length x ≡ width → IsRecord bytes y → length y ≡ width
+    → ¬ IsBefore descends x y))

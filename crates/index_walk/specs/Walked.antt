@@ -47,13 +47,15 @@ pub record IsEntryRead (pages : Pages) (width : ℕ) (level : Level) (n i : ℕ)
   pub marks : MarksPayload pages cell.payload old new
 
 -- and it comes behind the last entry, and is the last one now
-pub record IsEntryWalked (pages : Pages) (width : ℕ) (descends : List Bool) (level : Level) (n i : ℕ) (old new : List Bool) (last next : LastData) : Type 0 where
+pub record IsEntryWalked (pages : Pages) (width : ℕ) (descends : List Bool) (level : Level) (n i : ℕ)
+    (old new : List Bool) (last next : LastData) : Type 0 where
   pub bytes : List ℕ
   pub read : IsEntryRead pages width level n i bytes old new
   pub follows : Follows descends width last bytes n next
 
 -- entry i of page n has so many values, and doesn't come behind the last entry
-pub record IsDisordered (pages : Pages) (width : ℕ) (descends : List Bool) (level : Level) (n i : ℕ) (last : LastData) : Type 0 where
+pub record IsDisordered (pages : Pages) (width : ℕ) (descends : List Bool) (level : Level) (n i : ℕ)
+    (last : LastData) : Type 0 where
   pub values : List Datum
   pub has : HasValues pages level n i values
   pub some : last.page ≢ None
@@ -82,17 +84,20 @@ pub record IsIndexPage (pages : Pages) (root n : ℕ) (view : ViewData) : Type 0
   pub filled : view.level ≡ Leaf → n ≢ root → 0 < count_at pages n
 
 -- the entries at these places have values that ascend, behind the last ones, and that of the last place is the last one now
-pub record IsRun (pages : Pages) (width : ℕ) (descends : List Bool) (places : List Place) (last : Option (List Datum)) (next : LastData) : Type 0 where
+pub record IsRun (pages : Pages) (width : ℕ) (descends : List Bool) (places : List Place)
+    (last : Option (List Datum)) (next : LastData) : Type 0 where
   pub rows : List (List Datum)
   pub each : AllZip (HoldsValues pages width) places rows
   pub ascend : Ascend descends last rows
   pub ends : HasLast width next (last_of last rows)
 
 abbrev pub IsRunFrom : Pages → ℕ → List Bool → List Place → LastData → LastData → Type 0
-IsRunFrom pages width descends places last next = (values : Option (List Datum)) → HasLast width last values → IsRun pages width descends places values next
+IsRunFrom pages width descends places last next =
+    (values : Option (List Datum)) → HasLast width last values → IsRun pages width descends places values next
 
 -- Page n of a tree with this root was walked, with all under it.
-pub record IsWalked (pages : Pages) (width : ℕ) (descends : List Bool) (root n : ℕ) (counts : TreeCounts) (old new : List Bool) (last next : LastData) : Type 0 where
+pub record IsWalked (pages : Pages) (width : ℕ) (descends : List Bool) (root n : ℕ) (counts : TreeCounts)
+    (old new : List Bool) (last next : LastData) : Type 0 where
   pub shape : HasShape pages Index counts.levels n
   pub filled : n ≢ root → IsFilled pages counts.levels n
   pub run : IsRunFrom pages width descends (places_under pages Index counts.levels n) last next
@@ -106,7 +111,8 @@ IsWalkCause pages width descends root n marks fault =
     IsReadFault fault ⊎ IsBrokenIndex pages width descends root fault ⊎ IsUnderTwice pages (index_tree root) n marks fault
 
 -- The entry behind child i of page n, which the last child has none of, is such an entry, and its links got their marks.
-pub record AreOwnWalked (pages : Pages) (width : ℕ) (descends : List Bool) (level : Level) (n i own : ℕ) (old new : List Bool) (last next : LastData) : Type 0 where
+pub record AreOwnWalked (pages : Pages) (width : ℕ) (descends : List Bool) (level : Level) (n i own : ℕ)
+    (old new : List Bool) (last next : LastData) : Type 0 where
   pub own_is : own ≡ length (own_places pages n i)
   pub some : i < count_at pages n → IsEntryWalked pages width descends level n i old new last next
   pub none : count_at pages n ≤ i → (new ≡ old) × (next ≡ last)

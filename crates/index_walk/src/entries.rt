@@ -98,7 +98,8 @@ fn check_entry<S: Source>(
     requires cell { TellsOfCell view.now Index view.now.level i }
     requires long { pager.old.state.header.pages < length used.old }
     ensures entry { WhereSteady pager.old.state (λ pages. IsViewIn pages n view.now
-        → OnOk result (IsEntryWalked pages tree.now.width tree.now.descends.now view.now.level n i used.old used.new last.old last.new)) }
+        → OnOk result
+        (IsEntryWalked pages tree.now.width tree.now.descends.now view.now.level n i used.old used.new last.old last.new)) }
     ensures fault { WhereSteady pager.old.state (λ pages. IsViewIn pages n view.now
         → IfErr result (IsEntryStop pages tree.now.width tree.now.descends.now view.now.level n i last.old used.old)) }
     ensures only { IfErr result IsIndexFault }
@@ -127,7 +128,8 @@ pub(crate) fn check_leaf<S: Source>(
         → OnOk result (IsLeafWalked pages tree.now.width tree.now.descends.now n last.old last.new)) }
     ensures marks { WhereSteady pager.old.state (λ pages. IsIndexPage pages tree.now.root n view.now
         → OnOk result (MarksCells pages (index_tree tree.now.root) Leaf n used.old used.new)) }
-    ensures fault { WhereSteady pager.old.state (λ pages. IsIndexPage pages tree.now.root n view.now → IsFrom pages tree.now.width tree.now.root last.old n
+    ensures fault { WhereSteady pager.old.state (λ pages. IsIndexPage pages tree.now.root n view.now
+        → IsFrom pages tree.now.width tree.now.root last.old n
         → IfErr result (IsLeafCause pages tree.now.width tree.now.descends.now tree.now.root n used.old)) }
     ensures only { IfErr result IsIndexFault }
     ensures reads { ReadsChainPages result pager.old.state pager.new.state }

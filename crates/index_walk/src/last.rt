@@ -23,9 +23,11 @@ fn column_order(
     one: &mut FieldReader<'_>,
     other: &mut FieldReader<'_>,
 ) -> Option<Ordering>
-    ensures found { IfSome result (λ order. (x y : Datum) (xs ys : List Datum) → AreUnread one.old (x ∷ xs) → AreUnread other.old (y ∷ ys)
+    ensures found { IfSome result (λ order. (x y : Datum) (xs ys : List Datum) → AreUnread one.old (x ∷ xs)
+        → AreUnread other.old (y ∷ ys)
         → (order ≡ directed descends (datum_cmp x y)) × AreUnread one.new xs × AreUnread other.new ys) }
-    ensures none { IfNone result ((x y : Datum) (xs ys : List Datum) → AreUnread one.old (x ∷ xs) → ¬ AreUnread other.old (y ∷ ys)) }
+    ensures none { IfNone result ((x y : Datum) (xs ys : List Datum) → AreUnread one.old (x ∷ xs)
+        → ¬ AreUnread other.old (y ∷ ys)) }
 {
     let first = one.read()?;
     let second = other.read()?;
@@ -93,8 +95,8 @@ impl LastEntry {
 
     /// Whether a record of so many values comes behind it, or there is none.
     fn is_before(&self, tree: &IndexTree<'_>, bytes: &[u8]) -> bool
-        ensures before { IsTrue result → (x y : List Datum) → self.now.page ≢ None → IsRecord self.now.bytes x → length x ≡ tree.now.width
-            → IsRecord bytes.now y → length y ≡ tree.now.width → IsBefore tree.now.descends.now x y }
+        ensures before { IsTrue result → (x y : List Datum) → self.now.page ≢ None → IsRecord self.now.bytes x
+            → length x ≡ tree.now.width → IsRecord bytes.now y → length y ≡ tree.now.width → IsBefore tree.now.descends.now x y }
         ensures some { IsFalse result → self.now.page ≢ None }
         ensures not { IsFalse result → (x y : List Datum) → IsRecord self.now.bytes x → length x ≡ tree.now.width
             → IsRecord bytes.now y → length y ≡ tree.now.width → ¬ IsBefore tree.now.descends.now x y }

@@ -57,8 +57,8 @@ pub(crate) fn index_page<'p>(
     ensures kind { IfOk result (λ view. view.kind ≡ Index) }
     ensures found { IfOk result (λ view. (pager : PagerState) → IsHeaderOf pager header.now → IsPage pager n page.now
         → WhereSteady pager (λ pages. IsIndexPage pages root n view)) }
-    ensures fault { IfErr result (λ e. (e ≡ Fault.BadPage n) × ((pager : PagerState) → IsHeaderOf pager header.now → IsPage pager n page.now
-        → WhereSteady pager (λ pages. Reaches pages Index root n → IsBrokenTree pages Index root e))) }
+    ensures fault { IfErr result (λ e. (e ≡ Fault.BadPage n) × ((pager : PagerState) → IsHeaderOf pager header.now
+        → IsPage pager n page.now → WhereSteady pager (λ pages. Reaches pages Index root n → IsBrokenTree pages Index root e))) }
 {
     let Some(view) = view_in(TreeKind::Index, page, n, header.usable as usize) else {
         return Err(Fault::BadPage(n));

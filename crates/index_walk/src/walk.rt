@@ -105,7 +105,8 @@ pub fn check_index<S: Source>(
     ensures outcome { MatchResult result
         (HasCheckedIndex pager.old.state tree.now.width tree.now.descends.now tree.now.root)
         (IsIndexFailure pager.old.state tree.now.width tree.now.descends.now tree.now.root used.old) }
-    ensures marks { WhereSteady pager.old.state (λ pages. OnOk result (MarksTree pages (index_tree tree.now.root) used.old used.new)) }
+    ensures marks { WhereSteady pager.old.state (λ pages. OnOk result
+        (MarksTree pages (index_tree tree.now.root) used.old used.new)) }
     ensures reads { ReadsPages result pager.old.state pager.new.state }
 {
     let mut last = LastEntry::new(alloc);
