@@ -3,4 +3,5 @@ pub mod EntryLemmas
 pub mod BranchLemmas
 pub mod ColumnLemmas
 pub mod OrderLemmas
+pub mod ValueLemmas
 pub mod CheckedLemmas

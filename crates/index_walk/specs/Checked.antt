@@ -1,6 +1,7 @@
 -- What the check of the tree of an index finds. (Database File Format, section 1.6 "B-tree Pages", and section 2.3
 -- "Representation Of SQL Indices")
 use Rattle.std.specs.Prelude.{◌≡◌, ◌⊎◌, ◌<◌, ℕ, All, Bool, List, length}
+use Rattle.std.specs.Ordering.{is_lt}
 use Rattle.values.specs.Datum.{Datum}
 use Rattle.values.specs.declared.fault.Fault.{Fault}
 use Rattle.values.specs.declared.fault.Fault.TheVariants.{ReadFailed, NoMemory, BadPage, BadChain, PageUse, BadOrder, BadDepth, BadRecord, FloatValue, BadText}
@@ -8,12 +9,14 @@ use Rattle.pager.specs.Calls.{IsReadFault}
 use Rattle.pager.specs.PagerState.{PagerState}
 use Rattle.image.specs.declared.kind.TreeKind.TheVariants.{Index}
 use Rattle.image.specs.declared.kind.Level.{Level}
+use Rattle.image.specs.Entries.{IsEntryOrder}
 use Rattle.image.specs.Pages.{Pages, WhereSteady}
 use Rattle.image.specs.Shape.{HasShape, most_levels, places_under}
 use Rattle.image.specs.Sound.{IsSoundTree}
-use Rattle.image.specs.Tree.{IsPageOf, Place, Reaches}
+use Rattle.image.specs.Tree.{IsPageOf, IsPlaceOf, Place, Reaches}
 use Rattle.image.specs.Use.{TreeData}
-use Rattle.index_entries.specs.Entries.{HasValues}
+use Rattle.index_entries.specs.Entries.{AreValuesOf, HasValues}
+use Rattle.key_ranges.specs.Ranges.{key_cmp}
 use Rattle.tree_walk.specs.declared.counts.TreeCounts.{TreeCounts}
 use Rattle.tree_walk.specs.Counts.{AreCounts}
 use Rattle.tree_walk.specs.Used.{IsTreeTwice}
@@ -43,6 +46,15 @@ pub record IsCheckedIndex (pages : Pages) (width : ℕ) (descends : List Bool) (
   pub entries : All (HoldsEntry pages width) (places_under pages Index counts.levels root)
   pub order : (n : ℕ) → Reaches pages Index root n → IsIndexOrder pages descends root n
   pub counts_are : AreCounts pages Index counts.levels root counts.cells counts.pages
+
+-- The entries of an index have these values at their places, and each page is in the order of entries that these give, by which
+-- a search goes.
+pub record HasEntryValues (pages : Pages) (width : ℕ) (descends : List Bool) (root : ℕ) : Type 0 where
+  pub values : Place → List Datum
+  pub entries : (level : Level) (n : ℕ) → Reaches pages Index root n → IsPageOf pages Index level n → AreValuesOf pages values level n
+  pub long : (place : Place) → IsPlaceOf pages Index root place → length (values place) ≡ width
+  pub order : (n : ℕ) → Reaches pages Index root n
+      → IsEntryOrder pages (λ x y. is_lt (key_cmp descends (values x) (values y))) root n
 
 -- the faults of the check
 abbrev pub IsIndexFault : Fault → Type 0
