@@ -1,5 +1,8 @@
-//! Tables that the schema's rows say. (The Schema Table)
-use schema::{Catalog, Column, Missing, Table};
+//! Tables and indexes that the schema's rows say. (The Schema Table)
+use catalog::Catalog;
+use create_trees::KeyOrder;
+use indexes::Index;
+use schema::{Column, Missing, Table};
 use std::alloc::{AllocError, Global};
 use std::test::Fail;
 use values::{Fault, Row, Ty, Value, ValueRef};
@@ -11,8 +14,10 @@ const SQL: &str = "CREATE TABLE item(id INTEGER PRIMARY KEY, name TEXT NOT NULL,
 
 const ITEM: Object = ("table", "item", "item", 2, SQL);
 
-/// Rows of the schema, and the tables that they say, in a form of the tests' own.
-const CATALOGS: [(&[Object], &str); 9] = [
+const INDEX: Object = ("index", "i", "ITEM", 3, "CREATE INDEX i ON item(qty)");
+
+/// Rows of the schema, and the tables and indexes that they say, in a form of the tests' own.
+const CATALOGS: [(&[Object], &str); 10] = [
     (&[], ""),
     (
         &[ITEM],
@@ -89,91 +94,134 @@ const CATALOGS: [(&[Object], &str); 9] = [
         ],
         "b at 4 | x: int\na at 2 | x: int\n",
     ),
+    (
+        &[
+            INDEX,
+            ITEM,
+            (
+                "trigger",
+                "item",
+                "item",
+                0,
+                "CREATE TRIGGER item AFTER DELETE ON item BEGIN SELECT 1; END",
+            ),
+            (
+                "index",
+                "J",
+                "item",
+                9,
+                "CREATE UNIQUE INDEX j ON Item(NAME DESC, id) WHERE qty > 1",
+            ),
+        ],
+        "item at 2 by the first | id: int | name: text filled | qty: int\n\
+         i of item at 3: the third up\n\
+         j of Item at 9, unique, of some rows: the second down, the first up\n",
+    ),
 ];
 
-/// Rows of the schema that say no tables that are served.
-const REFUSED: [&[Object]; 10] = [
-    // Another kind of object; another name of the table or in the row; roots that are no pages, of 9; a name twice.
-    &[
-        ITEM,
-        ("index", "i", "item", 3, "CREATE INDEX i ON item(qty)"),
-    ],
-    &[("view", "v", "v", 0, "CREATE VIEW v AS SELECT 1")],
-    &[("table", "item", "items", 2, SQL)],
-    &[("table", "items", "item", 2, SQL)],
-    &[("table", "item", "item", -2, SQL)],
-    &[("table", "item", "item", 0, SQL)],
-    &[("table", "item", "item", 1, SQL)],
-    &[("table", "item", "item", 10, SQL)],
-    &[("table", "item", "item", 4_294_967_298, SQL)],
-    &[
-        ITEM,
-        (
-            "table",
-            "ITEM",
-            "ITEM",
-            3,
-            "CREATE TABLE ITEM(a INT) STRICT",
-        ),
-    ],
+/// Rows of the schema that say no catalog, by the number of their fault.
+const REFUSED: [(&[Object], u8); 13] = [
+    // Roots that are no pages, of 9; another name of the table or in the row; a name twice.
+    (&[("table", "item", "item", -2, SQL)], 20),
+    (&[("table", "item", "item", 0, SQL)], 20),
+    (&[("table", "item", "item", 1, SQL)], 20),
+    (&[("table", "item", "item", 10, SQL)], 20),
+    (&[("table", "item", "item", 4_294_967_298, SQL)], 20),
+    (&[("table", "item", "items", 2, SQL)], 20),
+    (&[("table", "items", "item", 2, SQL)], 20),
+    (
+        &[
+            ITEM,
+            (
+                "table",
+                "ITEM",
+                "ITEM",
+                3,
+                "CREATE TABLE ITEM(a INT) STRICT",
+            ),
+        ],
+        20,
+    ),
+    // Another kind of object, an index of no table, a text that is none, a view, and a column that the table hasn't.
+    (&[("thing", "item", "item", 2, SQL)], 20),
+    (&[INDEX], 20),
+    (&[("table", "item", "item", 2, "CREATE TABLE item")], 21),
+    (&[("view", "v", "v", 0, "CREATE VIEW v AS SELECT 1")], 22),
+    (
+        &[
+            ITEM,
+            ("index", "i", "item", 3, "CREATE INDEX i ON item(price)"),
+        ],
+        22,
+    ),
 ];
 
-/// Tables that are not served, with their names.
-const NO_TABLES: [(&str, &str); 24] = [
-    ("t", "CREATE TABLE t(a INT PRIMARY KEY) STRICT"),
-    ("t", "CREATE TABLE t(a TEXT PRIMARY KEY) STRICT"),
+/// Tables that aren't served, with their names, by the number of their fault.
+const NO_TABLES: [(&str, &str, u8); 24] = [
+    ("t", "CREATE TABLE t(a INT PRIMARY KEY) STRICT", 29),
+    ("t", "CREATE TABLE t(a TEXT PRIMARY KEY) STRICT", 29),
     (
         "t",
         "CREATE TABLE t(a INTEGER PRIMARY KEY, b INTEGER PRIMARY KEY) STRICT",
+        22,
     ),
     (
         "t",
         "CREATE TABLE t(a INTEGER PRIMARY KEY PRIMARY KEY) STRICT",
+        22,
     ),
-    ("t", "CREATE TABLE t(a INT, b INT, A TEXT) STRICT"),
-    ("sqlite_x", "CREATE TABLE sqlite_x(a INT) STRICT"),
-    ("SQLite_", "CREATE TABLE \"SQLite_\"(a INT) STRICT"),
-    ("t", "CREATE TABLE t(a INT UNIQUE) STRICT"),
-    ("t", "CREATE TABLE t(a INTEGER PRIMARY KEY DESC) STRICT"),
+    ("t", "CREATE TABLE t(a INT, b INT, A TEXT) STRICT", 22),
+    ("sqlite_x", "CREATE TABLE sqlite_x(a INT) STRICT", 22),
+    ("SQLite_", "CREATE TABLE \"SQLite_\"(a INT) STRICT", 22),
+    ("t", "CREATE TABLE t(a INT UNIQUE) STRICT", 29),
+    ("t", "CREATE TABLE t(a INTEGER PRIMARY KEY DESC) STRICT", 22),
     (
         "t",
         "CREATE TABLE t(a INTEGER PRIMARY KEY AUTOINCREMENT) STRICT",
+        22,
     ),
-    ("t", "CREATE TABLE t(a TEXT COLLATE NOCASE) STRICT"),
-    ("t", "CREATE TABLE t(a INT)"),
-    ("t", "CREATE TABLE t(a INT) STRICT, STRICT"),
+    ("t", "CREATE TABLE t(a TEXT COLLATE NOCASE) STRICT", 22),
+    ("t", "CREATE TABLE t(a INT)", 22),
+    ("t", "CREATE TABLE t(a INT) STRICT, STRICT", 22),
     (
         "t",
         "CREATE TABLE t(a INTEGER PRIMARY KEY) STRICT, WITHOUT ROWID",
+        29,
     ),
-    ("t", "CREATE TABLE t(a INT, UNIQUE (a)) STRICT"),
-    ("t", "CREATE TABLE t(a INT, PRIMARY KEY (a)) STRICT"),
+    ("t", "CREATE TABLE t(a INT, UNIQUE (a)) STRICT", 29),
+    ("t", "CREATE TABLE t(a INT, PRIMARY KEY (a)) STRICT", 29),
     (
         "t",
         "CREATE TABLE t(a INTEGER, PRIMARY KEY (a DESC)) STRICT",
+        22,
     ),
     (
         "t",
         "CREATE TABLE t(a INTEGER, b INT, PRIMARY KEY (a, b)) STRICT",
+        29,
     ),
     (
         "t",
         "CREATE TABLE t(a INTEGER PRIMARY KEY, PRIMARY KEY (a)) STRICT",
+        22,
     ),
-    ("t", "CREATE TABLE t(a INTEGER, PRIMARY KEY (b)) STRICT"),
+    ("t", "CREATE TABLE t(a INTEGER, PRIMARY KEY (b)) STRICT", 22),
     (
         "t",
         "CREATE TABLE t(a INTEGER, PRIMARY KEY (a COLLATE nocase)) STRICT",
+        22,
     ),
     (
         "t",
         "CREATE TABLE t(a INT, FOREIGN KEY (b) REFERENCES u) STRICT",
+        22,
     ),
     (
         "t",
         "CREATE TABLE t(a INT, FOREIGN KEY (a, A) REFERENCES u) STRICT",
+        22,
     ),
-    ("t", "CREATE TABLE t(a REAL) STRICT"),
+    ("t", "CREATE TABLE t(a REAL) STRICT", 22),
 ];
 
 /// Rows of too few values, and of no text.
@@ -260,7 +308,37 @@ fn write_table(alloc: Global, text: &mut String, table: &Table) -> Result<(), Al
     text.push('\n')
 }
 
-/// The tables of a catalog, each on a line.
+/// Writes an index's name, its table's, its root, what it is, and the places and orders of its columns.
+fn write_index(alloc: Global, text: &mut String, index: &Index) -> Result<(), AllocError> {
+    text.push_str(format!(in alloc;
+        "{} of {} at {}",
+        index.name(),
+        index.table(),
+        index.root()
+    )?.as_str())?;
+    text.push_str(if index.is_unique() { ", unique" } else { "" })?;
+    text.push_str(if index.is_partial() {
+        ", of some rows"
+    } else {
+        ""
+    })?;
+    for (number, column) in index.columns().iter().enumerate() {
+        text.push_str(if number == 0 { ": the " } else { ", the " })?;
+        text.push_str(match column.place() {
+            0 => "first",
+            1 => "second",
+            2 => "third",
+            _ => "other",
+        })?;
+        text.push_str(match column.order() {
+            KeyOrder::Ascending => " up",
+            KeyOrder::Descending => " down",
+        })?;
+    }
+    text.push('\n')
+}
+
+/// Some tables, each on a line.
 fn written(alloc: Global, tables: &[Table]) -> Result<String, AllocError> {
     let mut text = String::new(alloc);
     for table in tables {
@@ -269,11 +347,20 @@ fn written(alloc: Global, tables: &[Table]) -> Result<String, AllocError> {
     Ok(text)
 }
 
+/// The tables and indexes of a catalog, each on a line.
+fn written_catalog(alloc: Global, catalog: &Catalog) -> Result<String, AllocError> {
+    let mut text = written(alloc, catalog.tables())?;
+    for index in catalog.indexes() {
+        write_index(alloc, &mut text, index)?;
+    }
+    Ok(text)
+}
+
 /// The first row of `CATALOGS` that isn't so.
 fn wrong_catalog(alloc: Global) -> Result<Option<usize>, Fault> {
     for (place, (objects, wanted)) in CATALOGS.iter().enumerate() {
         let catalog = read(alloc, objects)?;
-        if written(alloc, catalog.tables())?.as_str() != *wanted {
+        if written_catalog(alloc, &catalog)?.as_str() != *wanted {
             return Ok(Some(place));
         }
     }
@@ -292,15 +379,19 @@ fn catalogs(rt: HostRuntime) -> Result<(), Fail> {
     Ok(())
 }
 
-fn is_refused(alloc: Global, objects: &[Object]) -> bool {
-    matches!(read(alloc, objects), Err(Fault::NotYet))
+/// The number of the fault of a schema; 0 where it has none.
+fn fault_of(catalog: Result<Catalog, Fault>) -> u8 {
+    match catalog {
+        Ok(_) => 0,
+        Err(fault) => fault.number(),
+    }
 }
 
 /// The first row of `NO_ROWS` that isn't refused.
 fn taken_row(alloc: Global) -> Result<Option<usize>, AllocError> {
     for (place, values) in NO_ROWS.iter().enumerate() {
         let rows = [row(alloc, values)?];
-        if !matches!(Catalog::read(alloc, &rows, 9), Err(Fault::NotYet)) {
+        if fault_of(Catalog::read(alloc, &rows, 9)) != 20 {
             return Ok(Some(place));
         }
     }
@@ -309,14 +400,12 @@ fn taken_row(alloc: Global) -> Result<Option<usize>, AllocError> {
 
 #[test]
 fn refusals(rt: HostRuntime) -> Result<(), Fail> {
-    for objects in REFUSED {
-        assert!(rt; is_refused(rt.alloc(), objects), "{objects:?}");
+    for (objects, number) in REFUSED {
+        assert_eq!(rt; fault_of(read(rt.alloc(), objects)), number, "{objects:?}");
     }
-    for (name, sql) in NO_TABLES {
-        assert!(rt;
-            is_refused(rt.alloc(), &[("table", name, name, 2, sql)]),
-            "{sql}"
-        );
+    for (name, sql, number) in NO_TABLES {
+        let objects = [("table", name, name, 2, sql)];
+        assert_eq!(rt; fault_of(read(rt.alloc(), &objects)), number, "{sql}");
     }
     assert_eq!(rt; taken_row(rt.alloc())?, None);
     Ok(())

@@ -8,5 +8,4 @@ pub mod CreatedLemmas
 pub mod MissingLemmas
 pub mod ServedLemmas
 pub mod KeyedLemmas
-pub mod CatalogLemmas
 pub mod OneLemmas

@@ -1,15 +1,17 @@
--- A row says one table, and rows say one list of tables.
-use Rattle.std.proofs.Common.{◌≡◌, ℕ, zero, suc, ◌<◌, ◌≤◌, ◌⊎◌, List, [], ◌∷◌, codes, slice_get, Option, None, Some, inl, inr, refl, sym, ap, ◌∙◌, subst, arith}
+-- A row says one table.
+use Rattle.std.proofs.Common.{◌≡◌, ℕ, zero, suc, pos, ◌<◌, ◌≤◌, ◌⊎◌, List, [], ◌∷◌, codes, slice_get, Option, None, Some, inl, inr, refl, sym, ap, ◌∙◌, subst, arith}
 use Rattle.std.proofs.lemmas.Bool.{cases_order}
 use Rattle.std.proofs.lemmas.List.Sums.{get_or-le-sum_by, sum_by-cons}
 use Rattle.std.proofs.lemmas.Option.{get_or_from_slice_get, slice_get_within}
 use Rattle.std.specs.List.{AllZip}
+use Rattle.values.specs.Datum.{int, text}
 use Rattle.values.specs.Row.{Row}
+use Rattle.create_reader.proofs.CreateTexts.{one_create}
+use Rattle.create_reader.specs.CreateGrammar.{SpellsCreate}
 use Rattle.create_trees.specs.CreateTrees.{ColumnTree, TableTree}
 use Rattle.schema.specs.Created.{IsColumn, IsKey, IsKeyPlace, IsTable, columns_with_keys, key_count}
-use Rattle.schema.specs.Rows.{AreTables, SaysTable}
+use Rattle.schema.specs.Rows.{SaysTable}
 use Rattle.schema.specs.TableData.{ColumnData, TableData}
-use Rattle.schema.proofs.CatalogLemmas.{one_tree, parts}
 use Rattle.schema.proofs.KeyLemmas.{key_written, written}
 use Rattle.schema.proofs.MissingLemmas.{one_missing}
 use Rattle.schema.proofs.NameLemmas.{same_test}
@@ -83,9 +85,9 @@ one_created tree a b p q root =
 
 pub one_table : (pages : ℕ) (row : Row) (a b : TableData) → SaysTable pages row a → SaysTable pages row b → a ≡ b
 one_table pages row a b x y =
-    let tree = one_tree (codes "table") x.name x.owner _ x.sql pages row x.tree x.row_is x.spelt b y in
-    let root = (parts (codes "table") x.name x.owner _ x.sql pages row b x.row_is y).root_is in
-    one_created x.tree a b x.created (subst (λ t. IsTable t b) tree y.created) cc
-
-pub one_catalog : (pages : ℕ) (rows : List Row) (a b : List TableData) → AreTables pages rows a → AreTables pages rows b → a ≡ b
-one_catalog pages rows a b p q = zip_same (SaysTable pages) (one_table pages) rows a b p.said q.said
+    let same : text (codes "table") ∷ text x.name ∷ text x.owner ∷ int (pos a.root) ∷ text x.sql ∷ []
+    ≡ text (codes "table") ∷ text y.name ∷ text y.owner ∷ int (pos b.root) ∷ text y.sql ∷ [] = sym x.row_is ∙ y.row_is in
+    let root : a.root ≡ b.root = cc in
+    let sql : y.sql ≡ x.sql = cc in
+    let tree : y.tree ≡ x.tree = one_create x.sql y.tree x.tree (subst (λ s. SpellsCreate s y.tree) sql y.spelt) x.spelt in
+    one_created x.tree a b x.created (subst (λ t. IsTable t b) tree y.created) root

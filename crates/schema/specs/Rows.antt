@@ -1,5 +1,5 @@
 -- What the rows of the schema say. (The Schema Table)
-use Rattle.std.specs.Prelude.{◌≡◌, ℕ, ℤ, pos, ◌≤◌, List, [], ◌∷◌, codes, map}
+use Rattle.std.specs.Prelude.{◌≡◌, ℕ, pos, ◌≤◌, List, [], ◌∷◌, codes, map}
 use Rattle.std.specs.List.{AllZip}
 use Rattle.values.specs.Datum.{int, text}
 use Rattle.values.specs.Row.{Row}
@@ -10,10 +10,6 @@ use Rattle.create_trees.specs.CreateTrees.{TableTree, columns_of_table}
 use Rattle.schema.specs.TableData.{TableData}
 use Rattle.schema.specs.Names.{AreDistinct, IsSameName}
 use Rattle.schema.specs.Created.{IsTable}
-
--- the row of an object that has a root and a text
-abbrev pub object_row : List ℕ → List ℕ → List ℕ → ℤ → List ℕ → Row
-object_row kind name owner root sql = text kind ∷ text name ∷ text owner ∷ int root ∷ text sql ∷ []
 
 -- A row of the schema is that of a table, of an image of so many pages: it has the table's name twice, the root of its
 -- tree, and the text that creates it.
