@@ -1,0 +1,4 @@
+pub mod Keys
+pub mod Automatic
+pub mod KeyView
+pub mod Worked

@@ -1,0 +1,82 @@
+//! The indexes that SQLite makes for keys.
+ghost use Rattle.std.specs.Prelude.{◌↔◌, IfOk, IsTrue, map};
+ghost use Rattle.create_trees.specs.CreateView.{column_of, table_of};
+ghost use Rattle.table_keys.specs.Automatic.{IsIntegerIn, IsIntegerKey, IsOneInteger, IsRowless, IsTableKey, WantIndexes};
+ghost use Rattle.table_keys.specs.KeyView.{automatic_data, key_data};
+
+use crate::Key;
+use create_trees::{Column, CreateTable, TableOption};
+use schema::{is_integer, is_same_name};
+use std::alloc::{AllocError, Global};
+
+/// An index that SQLite makes for a key of a table. (CREATE TABLE, "UNIQUE constraints")
+#[derive(Drop)]
+pub struct AutomaticIndex<'k, 't> {
+    /// The number in its name, from 1.
+    pub number: usize,
+    pub key: &'k Key<'t>,
+}
+
+/// Whether a table has no rowids. (WITHOUT ROWID Tables)
+fn is_rowless(created: &CreateTable) -> bool
+    ensures { IsTrue result ↔ IsRowless (table_of created.now) }
+{
+    created
+        .options
+        .iter()
+        .any(|option| matches!(option, TableOption::WithoutRowid))
+}
+
+/// Whether one of the columns is called so, and is INTEGER.
+fn is_integer_in(columns: &[Column], name: &str) -> bool
+    ensures { IsTrue result ↔ IsIntegerIn (map column_of columns.now) name.now }
+{
+    columns.iter().any(|column| is_same_name(column.name.as_str(), name) && is_integer(column))
+}
+
+/// Whether these are one name alone, that of a column that is INTEGER.
+fn is_one_integer(columns: &[Column], names: &[&str]) -> bool
+    ensures { IsTrue result ↔ IsOneInteger (map column_of columns.now) (map (λ n. n.now) names.now) }
+{
+    match names {
+        [only] => is_integer_in(columns, only),
+        _ => false,
+    }
+}
+
+/// Whether a key of this table is the PRIMARY KEY of one column that is INTEGER. (ROWIDs and the INTEGER PRIMARY KEY)
+fn is_integer_key(created: &CreateTable, key: &Key<'_>) -> bool
+    ensures { IsTrue result ↔ IsIntegerKey (table_of created.now) (key_data key.now) }
+{
+    key.is_primary && is_one_integer(created.columns.as_slice(), key.columns.as_slice())
+}
+
+/// Whether the tree of this table is by the key, which is another PRIMARY KEY. (WITHOUT ROWID Tables)
+fn is_table_key(created: &CreateTable, key: &Key<'_>) -> bool
+    ensures { IsTrue result ↔ IsTableKey (table_of created.now) (key_data key.now) }
+{
+    key.is_primary && is_rowless(created) && !is_integer_key(created, key)
+}
+
+/// The indexes that SQLite makes for these keys of a table, in their order. (CREATE TABLE, "UNIQUE constraints")
+pub fn automatic_indexes<'k, 't>(
+    alloc: Global,
+    created: &CreateTable,
+    keys: &'k [Key<'t>],
+) -> Result<Vec<AutomaticIndex<'k, 't>>, AllocError>
+    ensures { IfOk result (λ indexes. WantIndexes (table_of created.now) 1 (map key_data keys.now)
+        (map automatic_data indexes.items)) }
+{
+    let mut indexes = Vec::new(alloc);
+    let mut number = 1;
+    for key in keys {
+        if is_integer_key(created, key) {
+            continue;
+        }
+        if !is_table_key(created, key) {
+            indexes.push(AutomaticIndex { number, key })?;
+        }
+        number += 1;
+    }
+    Ok(indexes)
+}
