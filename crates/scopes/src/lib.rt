@@ -1,6 +1,6 @@
 //! The columns that a FROM shows. It promises that a column's name stands for the one column that is called so, by its bare
-//! name or behind its source's, and is refused where none is or two are; and that `*` and `t.*` are the columns that the
-//! definition of names says.
+//! name or behind its source's, and is refused where none is or two are; that it has the name that its source declares; and
+//! that `*` and `t.*` are the columns that the definition of names says.
 //!
 //! The modules, in the order in which data passes them: `shown` (one column), `lookup` (the column of a name), `stars` (`*`
 //! and `t.*`), `scope` (all columns of a FROM).

@@ -1,13 +1,14 @@
 //! The column of a name.
-ghost use Rattle.std.specs.Prelude.{◌≡◌, ◌≤◌, [], drop, length, option_map, MatchOption};
+ghost use Rattle.std.specs.Prelude.{◌≡◌, ◌≤◌, [], drop, length, option_map, IfOk, MatchOption, string_bytes};
 ghost use Rattle.naming.specs.Scope as spec;
+ghost use Rattle.naming.specs.Statement as statement;
 ghost use Rattle.query_trees.specs.Outcome.{Gives};
 ghost use Rattle.query_trees.specs.TermView.{term};
 ghost use Rattle.scopes.specs.Next.{IsNext};
 
 use crate::Shown;
 use query_trees::Term;
-use std::alloc::Global;
+use std::alloc::{AllocError, Global};
 use values::Fault;
 
 /// The place of the first column that is called so, from this place on.
@@ -41,4 +42,21 @@ pub(crate) fn column(
         return Err(Fault::Ambiguous);
     }
     Ok(scope[at].term(alloc, table, at)?)
+}
+
+/// The name of the first column that is called so, as its source declares it; where none is, the name that is written.
+pub(crate) fn declared_name(
+    alloc: Global,
+    scope: &[Shown],
+    table: Option<&str>,
+    name: &str,
+) -> Result<String, AllocError>
+    ensures { IfOk result (λ s. string_bytes s ≡ statement.declared_name scope.now (option_map (λ t. t.now) table.entry) name.now) }
+{
+    for shown in scope {
+        if shown.is_called(table, name) {
+            return shown.name(alloc);
+        }
+    }
+    String::from_str(alloc, name)
 }

@@ -1,12 +1,12 @@
 //! The columns that a FROM shows.
-ghost use Rattle.std.specs.Prelude.{◌≡◌, IfOk, length, map, option_map};
+ghost use Rattle.std.specs.Prelude.{◌≡◌, IfOk, length, map, option_map, string_bytes};
 ghost use Rattle.naming.specs.Scope.{column_of};
 ghost use Rattle.naming.specs.Statement as spec;
 ghost use Rattle.query_trees.specs.Outcome.{Gives};
 ghost use Rattle.query_trees.specs.TermView.{term};
 ghost use Rattle.scopes.specs.ResultView.{result_of};
 
-use crate::lookup::column;
+use crate::lookup::{column, declared_name};
 use crate::stars::{starred, starred_of};
 use crate::{ResultColumn, Shown};
 use query_trees::Term;
@@ -50,6 +50,19 @@ impl Scope {
         ensures { Gives term result (column_of self.now (option_map (λ t. t.now) table.entry) name.now) }
     {
         column(alloc, self.columns.as_slice(), table, name)
+    }
+
+    /// The name of the first column that is called so, as its source declares it; where none is, the name that is written.
+    /// (SELECT, "Generation of the set of result rows")
+    pub fn declared_name(
+        &self,
+        alloc: Global,
+        table: Option<&str>,
+        name: &str,
+    ) -> Result<String, AllocError>
+        ensures { IfOk result (λ s. string_bytes s ≡ spec.declared_name self.now (option_map (λ t. t.now) table.entry) name.now) }
+    {
+        declared_name(alloc, self.columns.as_slice(), table, name)
     }
 
     /// The columns of `*`. (SELECT, "Generation of the set of result rows")
