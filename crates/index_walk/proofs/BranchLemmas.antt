@@ -27,7 +27,7 @@ use Rattle.tree_walk.proofs.UsedLemmas as walks
 use Rattle.index_walk.specs.Broken.{BreaksIndexEntry, IsBrokenIndex, IsBrokenTree}
 use Rattle.index_walk.specs.Checked.{index_tree}
 use Rattle.index_walk.specs.Last.{IsFrom, IsIndexOrder, IsLastAt, IsLastUnder, LastData, blamed_at}
-use Rattle.index_walk.specs.Walked.{AreOwnWalked, IsDisordered, IsEntryCause, IsEntryStop, IsEntryTwice, IsLeafCause, IsLeafWalked, IsRunFrom, IsWalkCause, IsWalked}
+use Rattle.index_walk.specs.Walked.{AreOwnWalked, IsDisordered, IsEntryCause, IsEntryStop, IsEntryTwice, IsLeafCause, IsLeafWalked, IsEntryRunFrom, IsWalkCause, IsWalked}
 use Rattle.index_walk.proofs.EntryLemmas.{disordered, entry_at_place, last_here, no_run, one_run, run_after}
 
 -- one list more of those that are made over a run of numbers
@@ -80,7 +80,7 @@ branch_of pages root (suc levels) m interior number shape filled = (number, shap
 -- Of an interior page n the children before child i were walked, each with the entry behind it, and this was counted.
 pub record AreBranches (pages : Pages) (width : ℕ) (descends : List Bool) (root n i : ℕ) (counts : TreeCounts) (old now : List Bool) (from last : LastData) : Type 0 where
   pub branches : (k : ℕ) → k < i → IsBranch pages Index counts.levels (child_at pages n k)
-  pub run : IsRunFrom pages width descends (flat_map (places_at_child pages Index counts.levels n) (range_with_len 0 i)) from last
+  pub run : IsEntryRunFrom pages width descends (flat_map (places_at_child pages Index counts.levels n) (range_with_len 0 i)) from last
   pub none : i ≡ 0 → last ≡ from
   pub own : (k : ℕ) → i ≡ suc k → i ≤ count_at pages n → IsLastAt pages width last Interior n k
   pub ends : count_at pages n < i → IsLastUnder pages width last n
@@ -150,7 +150,7 @@ module _ (pages : Pages) (width : ℕ) (descends : List Bool) (root depth n : �
       (record {
         shape = shapes.inner_shape pages Index n i counts.levels page end befores.branches;
         filled = λ other. tt;
-        run = subst (λ (k : ℕ). IsRunFrom pages width descends (flat_map (places_at_child pages Index counts.levels n) (range_with_len 0 k)) from last)
+        run = subst (λ (k : ℕ). IsEntryRunFrom pages width descends (flat_map (places_at_child pages Index counts.levels n) (range_with_len 0 k)) from last)
             (end ∙ add-one (count_at pages n)) befores.run;
         ends = λ filled. befores.ends (omega (arith, end));
         counts_are = record {
@@ -255,35 +255,35 @@ module _ (pages : Pages) (width : ℕ) (descends : List Bool) (root depth n : �
               (subst (λ (x : ℕ). walks.IsPartWalked pages (index_tree root) Interior n (i + 1) x under.levels old mid) (omega (arith, past, within)) child_marks))
               (cases_lt i (count_at pages n))
 
-          own_run : IsRunFrom pages width descends (own_places pages n i) then next
+          own_run : IsEntryRunFrom pages width descends (own_places pages n i) then next
           own_run = ⊎_elim
-              (λ (less : i < count_at pages n). subst (λ (l : List Place). IsRunFrom pages width descends l then next) (sym (own_is pages n i less))
+              (λ (less : i < count_at pages n). subst (λ (l : List Place). IsEntryRunFrom pages width descends l then next) (sym (own_is pages n i less))
               (one_run pages width descends Interior n i mid new then next (owns.some less) page))
-              (λ (past : count_at pages n ≤ i). subst (λ (l : List Place). IsRunFrom pages width descends l then next) (sym (own_none pages n i past))
-              (subst (λ (l : LastData). IsRunFrom pages width descends [] then l) (sym (owns.none past).1) (no_run pages width descends then)))
+              (λ (past : count_at pages n ≤ i). subst (λ (l : List Place). IsEntryRunFrom pages width descends l then next) (sym (own_none pages n i past))
+              (subst (λ (l : LastData). IsEntryRunFrom pages width descends [] then l) (sym (owns.none past).1) (no_run pages width descends then)))
               (cases_lt i (count_at pages n))
 
-          at_child : IsRunFrom pages width descends (places_at_child pages Index under.levels n i) last next
+          at_child : IsEntryRunFrom pages width descends (places_at_child pages Index under.levels n i) last next
           at_child = run_after pages width descends (places_under pages Index under.levels (child_at pages n i)) (own_places pages n i) last then next
-              (subst (λ (x : ℕ). IsRunFrom pages width descends (places_under pages Index under.levels x) last then) m_is walked.run) own_run
+              (subst (λ (x : ℕ). IsEntryRunFrom pages width descends (places_under pages Index under.levels x) last then) m_is walked.run) own_run
 
           -- before the first child no levels matter
-          run_before : IsRunFrom pages width descends (flat_map (places_at_child pages Index under.levels n) (range_with_len 0 i)) from last
+          run_before : IsEntryRunFrom pages width descends (flat_map (places_at_child pages Index under.levels n) (range_with_len 0 i)) from last
           run_before = go i same befores.run
             where
               go : (j : ℕ) → (0 < j → counts.levels ≡ under.levels)
-                  → IsRunFrom pages width descends (flat_map (places_at_child pages Index counts.levels n) (range_with_len 0 j)) from last
-                  → IsRunFrom pages width descends (flat_map (places_at_child pages Index under.levels n) (range_with_len 0 j)) from last
+                  → IsEntryRunFrom pages width descends (flat_map (places_at_child pages Index counts.levels n) (range_with_len 0 j)) from last
+                  → IsEntryRunFrom pages width descends (flat_map (places_at_child pages Index under.levels n) (range_with_len 0 j)) from last
               go zero even run = run
-              go (suc j) even run = subst (λ (l : ℕ). IsRunFrom pages width descends (flat_map (places_at_child pages Index l n) (range_with_len 0 (suc j))) from last)
+              go (suc j) even run = subst (λ (l : ℕ). IsEntryRunFrom pages width descends (flat_map (places_at_child pages Index l n) (range_with_len 0 (suc j))) from last)
                   (even (omega arith)) run
 
-          run_more : IsRunFrom pages width descends (flat_map (places_at_child pages Index under.levels n) (range_with_len 0 (i + 1))) from next
+          run_more : IsEntryRunFrom pages width descends (flat_map (places_at_child pages Index under.levels n) (range_with_len 0 (i + 1))) from next
           run_more =
               let f = places_at_child pages Index under.levels n in
               let all : flat_map f (range_with_len 0 (i + 1)) ≡ flat_map f (range_with_len 0 i) ++ f i =
               ap (λ (k : ℕ). flat_map f (range_with_len 0 k)) (add-one i) ∙ fan_more f i 0 ∙ ap (λ (k : ℕ). flat_map f (range_with_len 0 i) ++ f k) (omega arith) in
-              subst (λ (l : List Place). IsRunFrom pages width descends l from next) (sym all)
+              subst (λ (l : List Place). IsEntryRunFrom pages width descends l from next) (sym all)
               (run_after pages width descends (flat_map f (range_with_len 0 i)) (f i) from last next run_before at_child)
 
           ends_more : count_at pages n < i + 1 → IsLastUnder pages width next n

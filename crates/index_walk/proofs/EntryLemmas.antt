@@ -23,8 +23,8 @@ use Rattle.page_use.specs.Links.{MarksPayload}
 use Rattle.tree_walk.specs.Cells.{IsTwiceOn}
 use Rattle.tree_walk.proofs.UsedLemmas.{MarksPart, part_cell, payload_twice}
 use Rattle.index_walk.specs.Checked.{HoldsValues, index_tree}
-use Rattle.index_walk.specs.Last.{Ascend, ComesAfter, FollowsNot, HasLast, IsBefore, IsFrom, IsIndexOrder, IsLastAt, IsLastUnder, LastData, blamed_at, last_of}
-use Rattle.index_walk.specs.Walked.{BreaksWidth, IsDisordered, IsEntryCause, IsEntryRead, IsEntryStop, IsEntryTwice, IsEntryWalked, IsLeafCause, IsLeafWalked, IsRecordOf, IsRunFrom}
+use Rattle.index_walk.specs.Last.{AscendFrom, ComesAfter, FollowsNot, HasLast, IsBefore, IsFrom, IsIndexOrder, IsLastAt, IsLastUnder, LastData, blamed_at, last_of}
+use Rattle.index_walk.specs.Walked.{BreaksWidth, IsDisordered, IsEntryCause, IsEntryRead, IsEntryStop, IsEntryTwice, IsEntryWalked, IsLeafCause, IsLeafWalked, IsRecordOf, IsEntryRunFrom}
 
 -- an entry of a page of an index stands at its place
 pub entry_at_place : (pages : Pages) (level : Level) (n i : ℕ) (cell : CellData) → IsPageOf pages Index level n → IsEntryOn pages level n i cell
@@ -111,7 +111,7 @@ module _ (pages : Pages) (width : ℕ) (descends : List Bool) (level : Level) (n
   comes_after (Some x) has = walked.follows.after x walked.read.values has.0 has.1 has.2 walked.read.record_is walked.read.width_is
 
   -- so that its place alone is a run
-  pub one_run : IsPageOf pages Index level n → IsRunFrom pages width descends (place_at n i ∷ []) last next
+  pub one_run : IsPageOf pages Index level n → IsEntryRunFrom pages width descends (place_at n i ∷ []) last next
   one_run page values has = record {
     rows = walked.read.values ∷ [];
     each = (held_of pages width level n i walked.bytes old new walked.read page, tt);
@@ -131,15 +131,15 @@ module _ (pages : Pages) (width : ℕ) (descends : List Bool) where
   last_append v [] ys = refl
   last_append v (x ∷ xs) ys = last_append (Some x) xs ys
 
-  ascend_append : (v : Option (List Datum)) (xs ys : List (List Datum)) → Ascend descends v xs → Ascend descends (last_of v xs) ys → Ascend descends v (xs ++ ys)
+  ascend_append : (v : Option (List Datum)) (xs ys : List (List Datum)) → AscendFrom descends v xs → AscendFrom descends (last_of v xs) ys → AscendFrom descends v (xs ++ ys)
   ascend_append v [] ys a b = b
   ascend_append v (x ∷ xs) ys a b = (a.0, ascend_append (Some x) xs ys a.1 b)
 
-  pub no_run : (last : LastData) → IsRunFrom pages width descends [] last last
+  pub no_run : (last : LastData) → IsEntryRunFrom pages width descends [] last last
   no_run last values has = record { rows = []; each = tt; ascend = tt; ends = has }
 
-  pub run_after : (ps qs : List Place) (last mid next : LastData) → IsRunFrom pages width descends ps last mid → IsRunFrom pages width descends qs mid next
-      → IsRunFrom pages width descends (ps ++ qs) last next
+  pub run_after : (ps qs : List Place) (last mid next : LastData) → IsEntryRunFrom pages width descends ps last mid → IsEntryRunFrom pages width descends qs mid next
+      → IsEntryRunFrom pages width descends (ps ++ qs) last next
   run_after ps qs last mid next one other values has =
       let first = one values has in
       let second = other (last_of values first.rows) first.ends in
@@ -152,10 +152,10 @@ module _ (pages : Pages) (width : ℕ) (descends : List Bool) where
 
 -- one entry more of a leaf
 pub leaf_more : (pages : Pages) (width : ℕ) (descends : List Bool) (n i : ℕ) (last mid next : LastData)
-    → IsRunFrom pages width descends (map (place_at n) (range_with_len 0 i)) last mid → IsRunFrom pages width descends (place_at n i ∷ []) mid next
-    → IsRunFrom pages width descends (map (place_at n) (range_with_len 0 (i + 1))) last next
+    → IsEntryRunFrom pages width descends (map (place_at n) (range_with_len 0 i)) last mid → IsEntryRunFrom pages width descends (place_at n i ∷ []) mid next
+    → IsEntryRunFrom pages width descends (map (place_at n) (range_with_len 0 (i + 1))) last next
 leaf_more pages width descends n i last mid next before here =
-    subst (λ (ps : List Place). IsRunFrom pages width descends ps last next) (sym (map-range_with_len_more (place_at n) 0 i i (omega arith)))
+    subst (λ (ps : List Place). IsEntryRunFrom pages width descends ps last next) (sym (map-range_with_len_more (place_at n) 0 i i (omega arith)))
     (run_after pages width descends (map (place_at n) (range_with_len 0 i)) (place_at n i ∷ []) last mid next before here)
 
 -- the page that a fault of an entry names is used twice by its page, where the entries before it were gone through
@@ -211,10 +211,10 @@ leaf_stop pages width descends root n i from last marked now page within from_is
 
 -- all entries of a leaf were walked
 pub leaf_ends : (pages : Pages) (width : ℕ) (descends : List Bool) (n i : ℕ) (from last : LastData) → i ≡ count_at pages n
-    → IsRunFrom pages width descends (map (place_at n) (range_with_len 0 i)) from last → IsLastBefore pages width n i from last
+    → IsEntryRunFrom pages width descends (map (place_at n) (range_with_len 0 i)) from last → IsLastBefore pages width n i from last
     → IsLeafWalked pages width descends n from last
 leaf_ends pages width descends n i from last end run before = record {
-  run = subst (λ (k : ℕ). IsRunFrom pages width descends (map (place_at n) (range_with_len 0 k)) from last) end run;
+  run = subst (λ (k : ℕ). IsEntryRunFrom pages width descends (map (place_at n) (range_with_len 0 k)) from last) end run;
   ends = λ some. last_under i (omega (arith, some, end)) before;
 }
   where

@@ -22,7 +22,7 @@ use Rattle.index_entries.specs.Entries.{HasRecord, HasValues}
 use Rattle.tree_walk.specs.Counts.{places_at_child}
 use Rattle.tree_walk.proofs.KindLemmas.{one_entry}
 use Rattle.index_walk.specs.Checked.{HoldsEntry, HoldsValues}
-use Rattle.index_walk.specs.Last.{Ascend, IsBefore, IsIndexOrder}
+use Rattle.index_walk.specs.Last.{AscendFrom, IsBefore, IsIndexOrder}
 use Rattle.index_walk.proofs.BranchLemmas.{own_is}
 use Rattle.index_walk.proofs.EntryLemmas.{entry_at_place}
 
@@ -95,7 +95,7 @@ module _ (pages : Pages) (width : ℕ) where
     PlaceBefore x y = (level other : Level) (a b : List Datum) → IsPageOf pages Index level x.page → IsPageOf pages Index other y.page
         → HasValues pages level x.page x.index a → HasValues pages other y.page y.index b → IsBefore descends a b
 
-    each_after : (x : List Datum) (places : List Place) (rows : List (List Datum)) → AllZip (HoldsValues pages width) places rows → Ascend descends (Some x) rows
+    each_after : (x : List Datum) (places : List Place) (rows : List (List Datum)) → AllZip (HoldsValues pages width) places rows → AscendFrom descends (Some x) rows
         → (y : Place) → Contains places y → (b : List Datum) × HoldsValues pages width y b × IsBefore descends x b
     each_after x [] [] each ascend y h = absurd (omega (arith, h.1))
     each_after x [] (r ∷ rows) each ascend y h = absurd each
@@ -105,7 +105,7 @@ module _ (pages : Pages) (width : ℕ) where
         (λ (later : Contains places y). let t = each_after r places rows each.1 ascend.1 y later in (t.0, t.1, key_after descends x r t.0 ascend.0 t.2))
         (cons_cases p y places h)
 
-    pub pairs_of_run : (last : Option (List Datum)) (places : List Place) (rows : List (List Datum)) → AllZip (HoldsValues pages width) places rows → Ascend descends last rows
+    pub pairs_of_run : (last : Option (List Datum)) (places : List Place) (rows : List (List Datum)) → AllZip (HoldsValues pages width) places rows → AscendFrom descends last rows
         → Pairs PlaceBefore places
     pairs_of_run last [] [] each ascend = tt
     pairs_of_run last [] (r ∷ rows) each ascend = absurd each

@@ -21,7 +21,7 @@ use Rattle.btree.proofs.SeenLemmas.{readable}
 use Rattle.index_entries.specs.Entries.{IsViewIn}
 use Rattle.index_entries.proofs.EntryLemmas.{count_is, entry_bytes, entry_cell, entry_on}
 use Rattle.index_walk.specs.Broken.{IsBrokenTree}
-use Rattle.index_walk.specs.Walked.{HasEntries, IsIndexPage}
+use Rattle.index_walk.specs.Walked.{HasAllEntries, IsIndexPage}
 
 cell_entry : (pages : Pages) (level : Level) (n i : ℕ) → HasFitting pages.size (IsIndexCell pages.usable (entry_at pages level n i))
     → HasCell pages Index level (cell_at pages level n i)
@@ -34,7 +34,7 @@ one_flag pages n level other header page = flag_of-same Index other level (sym p
 
 module _ (pages : Pages) (n : ℕ) (view : ViewData) (of : IsViewIn pages n view) (most : ℕ) (size : pages.size ≡ most) where
   -- what is on a page of an index stands there
-  pub entries_there : IsPageOf pages Index view.level n → HasEntries view most
+  pub entries_there : IsPageOf pages Index view.level n → HasAllEntries view most
   entries_there page i less =
       let within : i < count_at pages n = omega (arith, less, count_is pages n view of) in
       let there = entry_cell pages view.level n i (page.cells i within) in (
@@ -50,7 +50,7 @@ module _ (pages : Pages) (n : ℕ) (view : ViewData) (of : IsViewIn pages n view
       )
 
   -- and a page on which all stands is one
-  pub page_there : HasHeaderAt (header_at n) Index view.level (pages.page n) → HasEntries view most → IsPageOf pages Index view.level n
+  pub page_there : HasHeaderAt (header_at n) Index view.level (pages.page n) → HasAllEntries view most → IsPageOf pages Index view.level n
   page_there header entries = record {
     header = record { flag_is = header.flag_is; places = header.places };
     begins = λ i within.
@@ -134,7 +134,7 @@ module _ (pager : PagerState) (header : Header) (header_is : IsHeaderOf pager he
     header_here : HasHeaderAt (header_at n) Index view.level ((pages_seen pager).page n)
     header_here = subst (λ (b : List ℕ). HasHeaderAt (header_at n) Index view.level b) used_is of.header
 
-    pub index_page_is : (root : ℕ) → HasEntries view (image_size header) → (view.level ≡ Leaf → n ≢ root → 0 < cell_count view.at view.page)
+    pub index_page_is : (root : ℕ) → HasAllEntries view (image_size header) → (view.level ≡ Leaf → n ≢ root → 0 < cell_count view.at view.page)
         → IsIndexPage (pages_seen pager) root n view
     index_page_is root entries filled = record {
       seen = seen_in;
@@ -146,7 +146,7 @@ module _ (pager : PagerState) (header : Header) (header_is : IsHeaderOf pager he
       sound_page : (sound : IsSound (pages_seen pager) Index root n) → sound.level ≡ view.level
       sound_page sound = one_flag (pages_seen pager) n view.level sound.level header_here sound.page
 
-      pub no_entries : ¬ HasEntries view (image_size header) → IsBrokenTree (pages_seen pager) Index root (BadPage n)
+      pub no_entries : ¬ HasAllEntries view (image_size header) → IsBrokenTree (pages_seen pager) Index root (BadPage n)
       no_entries none = (
         reaches,
         λ (sound : IsSound (pages_seen pager) Index root n).

@@ -1,20 +1,26 @@
 -- The values of the entries of an index that was checked, by their places.
-use Rattle.std.proofs.Common.{◌≡◌, ◌⊎◌, ◌<◌, ℕ, All, Bool, Contains, IsTrue, List, [], ◌∷◌, sym, ap, subst, inl, inr, ⊎_elim, arith}
+use Rattle.std.proofs.Common.{◌≡◌, ◌⊎◌, ◌<◌, ◌&&◌, ℕ, suc, All, Bool, true, false, Contains, IsTrue, List, [], ◌∷◌, map, slice_get, Some, refl, sym, ◌∙◌, ap, subst, inl, inr, ⊎_elim, arith}
+use Rattle.std.specs.List.{list_all}
 use Rattle.std.proofs.lemmas.Bool.{cases_eq}
 use Rattle.std.specs.Ordering.{is_lt}
+use Rattle.std.specs.declared.cmp.Ordering.{Ordering}
+use Rattle.std.specs.declared.cmp.Ordering.TheVariants.{Less, Equal, Greater}
 use Rattle.values.specs.Datum.{Datum}
 use Rattle.image.specs.declared.kind.TreeKind.TheVariants.{Index}
 use Rattle.image.specs.declared.kind.Level.{Level}
 use Rattle.image.specs.declared.kind.Level.TheVariants.{Interior}
-use Rattle.image.specs.Entries.{IsEntryOrder}
+use Rattle.image.specs.Entries.{IsEntryOrder, IsStrictOrder}
 use Rattle.image.specs.Pages.{Pages}
-use Rattle.image.specs.Shape.{place_at, places_under}
+use Rattle.image.specs.Shape.{HasShape, place_at, places_under}
 use Rattle.image.specs.Tree.{IsPageOf, IsPlaceOf, IsUnder, Place, Reaches, below, count_at}
+use Rattle.image.proofs.EntryLemmas.{entries_of}
 use Rattle.image.proofs.ListLemmas.{cons_cases, in_head, in_none, in_tail}
 use Rattle.image.proofs.OrderLemmas.{joined}
 use Rattle.image.proofs.PlaceLemmas.{complete}
 use Rattle.image.proofs.ShapeLemmas.{one_level}
 use Rattle.key_ranges.specs.Ranges.{key_cmp}
+use Rattle.key_ranges.specs.Runs.{Ascend}
+use Rattle.key_ranges.proofs.RunLemmas.{key_after, key_never}
 use Rattle.index_entries.specs.Entries.{HasValues}
 use Rattle.tree_walk.specs.declared.counts.TreeCounts.{TreeCounts}
 use Rattle.index_walk.specs.Checked.{HasEntryValues, HoldsEntry, HoldsValues, IsCheckedIndex}
@@ -38,6 +44,27 @@ contains_or (q ∷ places) p = ⊎_elim
     (λ (none : Contains places p → ⊥). inr (λ h. ⊎_elim ne none (cons_cases q p places h)))
     (contains_or places p))
     (same_place q p)
+
+less_of : (o : Ordering) → is_lt o ≡ true → o ≡ Less
+less_of Less e = refl
+less_of Equal e = let f : false ≡ true = e in cc
+less_of Greater e = let f : false ≡ true = e in cc
+
+-- where each of two places comes before a later one, so do their values
+module _ (descends : List Bool) (values : Place → List Datum) where
+  all_later : (x : List Datum) (places : List Place) → ((j : ℕ) (y : Place) → slice_get places j ≡ Some y → IsTrue (is_lt (key_cmp descends x (values y))))
+      → list_all (λ y. is_lt (key_cmp descends x y)) (map values places) ≡ true
+  all_later x [] each = refl
+  all_later x (p ∷ places) each =
+      ap (λ (t : Bool). t && list_all (λ y. is_lt (key_cmp descends x y)) (map values places)) (each 0 p refl) ∙ all_later x places (λ j y e. each (suc j) y e)
+
+  ascend_of : (places : List Place) → ((i j : ℕ) (x y : Place) → i < j → slice_get places i ≡ Some x → slice_get places j ≡ Some y
+      → IsTrue (is_lt (key_cmp descends (values x) (values y)))) → Ascend descends (map values places)
+  ascend_of [] each = tt
+  ascend_of (p ∷ places) each = (
+    all_later (values p) places (λ j y e. each 0 (suc j) p y (omega arith) refl e),
+    ascend_of places (λ i j x y less e f. each (suc i) (suc j) x y (omega (arith, less)) e f),
+  )
 
 module _ (pages : Pages) (width : ℕ) (places : List Place) (held : All (HoldsEntry pages width) places) (p : Place) where
   entry_at : Contains places p → HoldsEntry pages width p
@@ -92,10 +119,23 @@ module _ (pages : Pages) (width : ℕ) (descends : List Bool) (root : ℕ) (coun
             (has_at Interior a i up under.is.interior (let last = under.is.within in omega (arith, last))) (has_at level n j reaches page within)));
       }
 
+  strict : IsStrictOrder (λ x y. is_lt (key_cmp descends (values x) (values y)))
+  strict = record {
+    never = λ x less. key_never descends (values x) (less_of (key_cmp descends (values x) (values x)) less);
+    after = λ x y z first next. ap is_lt (key_after descends (values x) (values y) (values z)
+        (less_of (key_cmp descends (values x) (values y)) first) (less_of (key_cmp descends (values y) (values z)) next));
+  }
+
+  values_ascend : (levels : ℕ) → HasShape pages Index levels root → Ascend descends (map values (places_under pages Index levels root))
+  values_ascend levels shape =
+      let entries = entries_of pages (λ x y. is_lt (key_cmp descends (values x) (values y))) strict root levels shape values_order in
+      ascend_of descends values (places_under pages Index levels root) entries.ascend
+
   pub has_values : HasEntryValues pages width descends root
   has_values = record {
     values = values;
     entries = λ level n reaches page. record { page = page; each = λ i within. has_at level n i reaches page within };
     long = λ p place. (held_at p place).width_is;
     order = values_order;
+    ascend = values_ascend;
   }

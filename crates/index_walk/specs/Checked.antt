@@ -1,6 +1,6 @@
 -- What the check of the tree of an index finds. (Database File Format, section 1.6 "B-tree Pages", and section 2.3
 -- "Representation Of SQL Indices")
-use Rattle.std.specs.Prelude.{◌≡◌, ◌⊎◌, ◌<◌, ℕ, All, Bool, List, length}
+use Rattle.std.specs.Prelude.{◌≡◌, ◌⊎◌, ◌<◌, ℕ, All, Bool, List, length, map}
 use Rattle.std.specs.Ordering.{is_lt}
 use Rattle.values.specs.Datum.{Datum}
 use Rattle.values.specs.declared.fault.Fault.{Fault}
@@ -17,6 +17,7 @@ use Rattle.image.specs.Tree.{IsPageOf, IsPlaceOf, Place, Reaches}
 use Rattle.image.specs.Use.{TreeData}
 use Rattle.index_entries.specs.Entries.{AreValuesOf, HasValues}
 use Rattle.key_ranges.specs.Ranges.{key_cmp}
+use Rattle.key_ranges.specs.Runs.{Ascend}
 use Rattle.tree_walk.specs.declared.counts.TreeCounts.{TreeCounts}
 use Rattle.tree_walk.specs.Counts.{AreCounts}
 use Rattle.tree_walk.specs.Used.{IsTreeTwice}
@@ -47,28 +48,29 @@ pub record IsCheckedIndex (pages : Pages) (width : ℕ) (descends : List Bool) (
   pub order : (n : ℕ) → Reaches pages Index root n → IsIndexOrder pages descends root n
   pub counts_are : AreCounts pages Index counts.levels root counts.cells counts.pages
 
--- The entries of an index have these values at their places, and each page is in the order of entries that these give, by which
--- a search goes.
+-- The entries of an index have these values at their places. Each page is in the order of entries that these give, by which a
+-- search goes; and from left to right each comes before all later ones, so that what lies between two cuts is one run.
 pub record HasEntryValues (pages : Pages) (width : ℕ) (descends : List Bool) (root : ℕ) : Type 0 where
   pub values : Place → List Datum
   pub entries : (level : Level) (n : ℕ) → Reaches pages Index root n → IsPageOf pages Index level n → AreValuesOf pages values level n
   pub long : (place : Place) → IsPlaceOf pages Index root place → length (values place) ≡ width
   pub order : (n : ℕ) → Reaches pages Index root n
       → IsEntryOrder pages (λ x y. is_lt (key_cmp descends (values x) (values y))) root n
+  pub ascend : (levels : ℕ) → HasShape pages Index levels root → Ascend descends (map values (places_under pages Index levels root))
 
 -- the faults of the check
-abbrev pub IsIndexFault : Fault → Type 0
-IsIndexFault ReadFailed = Unit {0}
-IsIndexFault NoMemory = Unit {0}
-IsIndexFault (BadPage _) = Unit {0}
-IsIndexFault (BadChain _) = Unit {0}
-IsIndexFault (PageUse _) = Unit {0}
-IsIndexFault (BadOrder _) = Unit {0}
-IsIndexFault (BadDepth _) = Unit {0}
-IsIndexFault (BadRecord _) = Unit {0}
-IsIndexFault FloatValue = Unit {0}
-IsIndexFault BadText = Unit {0}
-IsIndexFault _ = ⊥
+abbrev pub IsIndexWalkFault : Fault → Type 0
+IsIndexWalkFault ReadFailed = Unit {0}
+IsIndexWalkFault NoMemory = Unit {0}
+IsIndexWalkFault (BadPage _) = Unit {0}
+IsIndexWalkFault (BadChain _) = Unit {0}
+IsIndexWalkFault (PageUse _) = Unit {0}
+IsIndexWalkFault (BadOrder _) = Unit {0}
+IsIndexWalkFault (BadDepth _) = Unit {0}
+IsIndexWalkFault (BadRecord _) = Unit {0}
+IsIndexWalkFault FloatValue = Unit {0}
+IsIndexWalkFault BadText = Unit {0}
+IsIndexWalkFault _ = ⊥
 
 -- the tree of an index was checked
 pub record HasCheckedIndex (pager : PagerState) (width : ℕ) (descends : List Bool) (root : ℕ) (counts : TreeCounts) : Type 0 where
@@ -78,6 +80,6 @@ pub record HasCheckedIndex (pager : PagerState) (width : ℕ) (descends : List B
 -- why it was not, where these were the marks of pages that are used
 pub record IsIndexFailure (pager : PagerState) (width : ℕ) (descends : List Bool) (root : ℕ) (marks : List Bool)
     (fault : Fault) : Type 0 where
-  pub only : IsIndexFault fault
+  pub only : IsIndexWalkFault fault
   pub cause : WhereSteady pager (λ pages. IsReadFault fault ⊎ IsBrokenIndex pages width descends root fault
       ⊎ IsTreeTwice pages (index_tree root) marks fault)

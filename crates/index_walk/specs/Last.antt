@@ -38,9 +38,9 @@ ComesAfter descends None y = Unit {0}
 ComesAfter descends (Some x) y = IsBefore descends x y
 
 -- and so on, each behind the one before it
-abbrev pub Ascend : List Bool → Option (List Datum) → List (List Datum) → Type 0
-Ascend descends last [] = Unit {0}
-Ascend descends last (y ∷ rows) = ComesAfter descends last y × Ascend descends (Some y) rows
+abbrev pub AscendFrom : List Bool → Option (List Datum) → List (List Datum) → Type 0
+AscendFrom descends last [] = Unit {0}
+AscendFrom descends last (y ∷ rows) = ComesAfter descends last y × AscendFrom descends (Some y) rows
 
 abbrev pub last_of : Option (List Datum) → List (List Datum) → Option (List Datum)
 last_of last [] = last

@@ -25,7 +25,7 @@ use Rattle.tree_walk.specs.Counts.{AreCounts}
 use Rattle.tree_walk.specs.Used.{IsUnderTwice, MarksUnder}
 use Rattle.index_walk.specs.Broken.{BreaksIndexEntry, IsBrokenIndex}
 use Rattle.index_walk.specs.Checked.{HoldsValues, index_tree}
-use Rattle.index_walk.specs.Last.{Ascend, Follows, HasLast, IsBefore, IsIndexOrder, IsLastUnder, LastData, blamed_at, last_of}
+use Rattle.index_walk.specs.Last.{AscendFrom, Follows, HasLast, IsBefore, IsIndexOrder, IsLastUnder, LastData, blamed_at, last_of}
 
 -- the bytes are a record of so many values
 abbrev pub IsRecordOf : ℕ → List ℕ → Type 0
@@ -84,23 +84,23 @@ pub record IsIndexPage (pages : Pages) (root n : ℕ) (view : ViewData) : Type 0
   pub filled : view.level ≡ Leaf → n ≢ root → 0 < count_at pages n
 
 -- the entries at these places have values that ascend, behind the last ones, and that of the last place is the last one now
-pub record IsRun (pages : Pages) (width : ℕ) (descends : List Bool) (places : List Place)
+pub record IsEntryRun (pages : Pages) (width : ℕ) (descends : List Bool) (places : List Place)
     (last : Option (List Datum)) (next : LastData) : Type 0 where
   pub rows : List (List Datum)
   pub each : AllZip (HoldsValues pages width) places rows
-  pub ascend : Ascend descends last rows
+  pub ascend : AscendFrom descends last rows
   pub ends : HasLast width next (last_of last rows)
 
-abbrev pub IsRunFrom : Pages → ℕ → List Bool → List Place → LastData → LastData → Type 0
-IsRunFrom pages width descends places last next =
-    (values : Option (List Datum)) → HasLast width last values → IsRun pages width descends places values next
+abbrev pub IsEntryRunFrom : Pages → ℕ → List Bool → List Place → LastData → LastData → Type 0
+IsEntryRunFrom pages width descends places last next =
+    (values : Option (List Datum)) → HasLast width last values → IsEntryRun pages width descends places values next
 
 -- Page n of a tree with this root was walked, with all under it.
 pub record IsWalked (pages : Pages) (width : ℕ) (descends : List Bool) (root n : ℕ) (counts : TreeCounts)
     (old new : List Bool) (last next : LastData) : Type 0 where
   pub shape : HasShape pages Index counts.levels n
   pub filled : n ≢ root → IsFilled pages counts.levels n
-  pub run : IsRunFrom pages width descends (places_under pages Index counts.levels n) last next
+  pub run : IsEntryRunFrom pages width descends (places_under pages Index counts.levels n) last next
   pub ends : IsFilled pages counts.levels n → IsLastUnder pages width next n
   pub counts_are : AreCounts pages Index counts.levels n counts.cells counts.pages
   pub marks : MarksUnder pages (index_tree root) counts.levels n old new
@@ -119,7 +119,7 @@ pub record AreOwnWalked (pages : Pages) (width : ℕ) (descends : List Bool) (le
 
 -- the entries of a leaf, which is page n, were walked
 pub record IsLeafWalked (pages : Pages) (width : ℕ) (descends : List Bool) (n : ℕ) (last next : LastData) : Type 0 where
-  pub run : IsRunFrom pages width descends (places_in pages n) last next
+  pub run : IsEntryRunFrom pages width descends (places_in pages n) last next
   pub ends : 0 < count_at pages n → IsLastUnder pages width next n
 
 -- why they weren't
@@ -129,6 +129,6 @@ IsLeafCause pages width descends root n marks fault =
     ⊎ ((fault ≡ BadOrder n) × (¬ IsIndexOrder pages descends root n))
 
 -- each entry of a page is there, with a payload of at most so many bytes
-abbrev pub HasEntries : ViewData → ℕ → Type 0
-HasEntries view most = (i : ℕ) → i < cell_count view.at view.page
+abbrev pub HasAllEntries : ViewData → ℕ → Type 0
+HasAllEntries view most = (i : ℕ) → i < cell_count view.at view.page
     → (cell : CellData) × IsEntryCell view.at most view.level view.page i cell

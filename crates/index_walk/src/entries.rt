@@ -9,7 +9,7 @@ ghost use Rattle.image.specs.Pages.{WhereSteady};
 ghost use Rattle.btree.specs.ViewData.{TellsOfCell};
 ghost use Rattle.index_entries.specs.Entries.{IsViewIn};
 ghost use Rattle.tree_walk.specs.Cells.{MarksCells};
-ghost use Rattle.index_walk.specs.Checked.{IsIndexFault, index_tree};
+ghost use Rattle.index_walk.specs.Checked.{IsIndexWalkFault, index_tree};
 ghost use Rattle.index_walk.specs.Last.{IsFrom, blamed_at};
 ghost use Rattle.index_walk.specs.Walked.{AreOwnWalked, BreaksWidth, IsEntryCause, IsEntryRead, IsEntryStop, IsEntryWalked, IsIndexPage, IsLeafCause, IsLeafWalked, IsRecordOf};
 
@@ -28,7 +28,7 @@ use values::Fault;
 fn check_record(alloc: Global, bytes: &[u8], width: usize, n: u32) -> Result<(), Fault>
     ensures found { OnOk result (IsRecordOf width bytes.now) }
     ensures fault { IfErr result (BreaksWidth width bytes.now n) }
-    ensures only { IfErr result IsIndexFault }
+    ensures only { IfErr result IsIndexWalkFault }
 {
     match RecordView::read(alloc, bytes) {
         Ok(fields) => {
@@ -60,7 +60,7 @@ fn entry_record<'p, S: Source>(
         → IfOk result (λ bytes. IsEntryRead pages width view.now.level n i (cow_slice_items bytes) used.old used.new)) }
     ensures fault { WhereSteady pager.old.state (λ pages. IsViewIn pages n view.now
         → IfErr result (IsEntryCause pages width view.now.level n i used.old)) }
-    ensures only { IfErr result IsIndexFault }
+    ensures only { IfErr result IsIndexWalkFault }
     ensures reads { ReadsChainPages result pager.old.state pager.new.state }
 {
     let most = pager.header().image_size();
@@ -102,7 +102,7 @@ fn check_entry<S: Source>(
         (IsEntryWalked pages tree.now.width tree.now.descends.now view.now.level n i used.old used.new last.old last.new)) }
     ensures fault { WhereSteady pager.old.state (λ pages. IsViewIn pages n view.now
         → IfErr result (IsEntryStop pages tree.now.width tree.now.descends.now view.now.level n i last.old used.old)) }
-    ensures only { IfErr result IsIndexFault }
+    ensures only { IfErr result IsIndexWalkFault }
     ensures reads { ReadsChainPages result pager.old.state pager.new.state }
 {
     let bytes = entry_record(alloc, pager, view, n, i, tree.width, used)?;
@@ -131,7 +131,7 @@ pub(crate) fn check_leaf<S: Source>(
     ensures fault { WhereSteady pager.old.state (λ pages. IsIndexPage pages tree.now.root n view.now
         → IsFrom pages tree.now.width tree.now.root last.old n
         → IfErr result (IsLeafCause pages tree.now.width tree.now.descends.now tree.now.root n used.old)) }
-    ensures only { IfErr result IsIndexFault }
+    ensures only { IfErr result IsIndexWalkFault }
     ensures reads { ReadsChainPages result pager.old.state pager.new.state }
 {
     for i in 0..u32::from(view.count()) {
@@ -159,7 +159,7 @@ pub(crate) fn check_own<S: Source>(
         AreOwnWalked pages tree.now.width tree.now.descends.now view.now.level n i own used.old used.new last.old last.new)) }
     ensures fault { WhereSteady pager.old.state (λ pages. IsViewIn pages n view.now
         → IfErr result (IsEntryStop pages tree.now.width tree.now.descends.now view.now.level n i last.old used.old)) }
-    ensures only { IfErr result IsIndexFault }
+    ensures only { IfErr result IsIndexWalkFault }
     ensures reads { ReadsChainPages result pager.old.state pager.new.state }
 {
     if i >= u32::from(view.count()) {

@@ -6,7 +6,7 @@ ghost use Rattle.values.specs.Order.{datum_cmp};
 ghost use Rattle.records.specs.Fields.{AreUnread};
 ghost use Rattle.records.specs.Record.{IsRecord};
 ghost use Rattle.key_ranges.specs.Ranges.{directed, key_cmp};
-ghost use Rattle.index_walk.specs.Checked.{IsIndexFault};
+ghost use Rattle.index_walk.specs.Checked.{IsIndexWalkFault};
 ghost use Rattle.index_walk.specs.Last.{Follows, FollowsNot, IsBefore};
 
 use crate::tree::IndexTree;
@@ -128,7 +128,7 @@ impl LastEntry {
     ) -> Result<(), Fault>
         ensures behind { OnOk result (Follows tree.now.descends.now tree.now.width self.old bytes.now n self.new) }
         ensures fault { IfErr result (FollowsNot tree.now.descends.now tree.now.width self.old bytes.now blamed) }
-        ensures only { IfErr result IsIndexFault }
+        ensures only { IfErr result IsIndexWalkFault }
     {
         if !self.is_before(tree, bytes) {
             return Err(Fault::BadOrder(blamed));

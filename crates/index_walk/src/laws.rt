@@ -13,8 +13,8 @@ pub fn no_checked_index_is_broken()
         → IsBrokenIndex pages width descends root fault → ⊥ }
 {}
 
-/// The entries of an index that was checked have values, and its pages are in the order of entries that these give: what a
-/// search of the index stands on. (Database File Format, section 2.3 "Representation Of SQL Indices")
+/// The entries of an index that was checked have values, its pages are in the order of entries that these give, and from left
+/// to right each comes before all later ones: what a search of the index stands on. (Database File Format, section 2.3 "Representation Of SQL Indices")
 pub fn checked_index_has_values()
     ensures values { (pages : Pages) (width : ℕ) (descends : List Bool) (root : ℕ) (counts : TreeCounts)
         → IsCheckedIndex pages width descends root counts → HasEntryValues pages width descends root }

@@ -8,7 +8,7 @@ ghost use Rattle.image.specs.Layout.{cell_count};
 ghost use Rattle.image.specs.Pages.{WhereSteady};
 ghost use Rattle.image.specs.Tree.{Reaches};
 ghost use Rattle.index_walk.specs.Broken.{IsBrokenTree};
-ghost use Rattle.index_walk.specs.Walked.{HasEntries, IsIndexPage};
+ghost use Rattle.index_walk.specs.Walked.{HasAllEntries, IsIndexPage};
 
 use btree::{PageView, view_in};
 use image::{Level, TreeKind};
@@ -18,7 +18,7 @@ use values::Fault;
 /// Whether each entry of a page of an index is there, with a payload of at most `most` bytes.
 fn has_entries(view: &PageView<'_>, most: u64) -> bool
     requires { view.now.kind ≡ Index }
-    ensures { IsTrue result ↔ HasEntries view.now most }
+    ensures { IsTrue result ↔ HasAllEntries view.now most }
 {
     for i in 0..u32::from(view.count()) {
         let Some(_) = view.entry(most, i) else {

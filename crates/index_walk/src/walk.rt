@@ -8,7 +8,7 @@ ghost use Rattle.image.specs.Shape.{most_levels};
 ghost use Rattle.image.specs.Tree.{StandsAt};
 ghost use Rattle.tree_walk.specs.Counts.{counted};
 ghost use Rattle.tree_walk.specs.Used.{MarksTree};
-ghost use Rattle.index_walk.specs.Checked.{HasCheckedIndex, IsIndexFailure, IsIndexFault, index_tree};
+ghost use Rattle.index_walk.specs.Checked.{HasCheckedIndex, IsIndexFailure, IsIndexWalkFault, index_tree};
 ghost use Rattle.index_walk.specs.Last.{IsFrom};
 ghost use Rattle.index_walk.specs.Walked.{IsWalkCause, IsWalked};
 
@@ -54,7 +54,7 @@ fn walk<S: Source>(
         IsWalked pages tree.now.width tree.now.descends.now tree.now.root n counts used.old used.new last.old last.new)) }
     ensures fault { WhereSteady pager.old.state (λ pages. IfErr result
         (IsWalkCause pages tree.now.width tree.now.descends.now tree.now.root n used.old)) }
-    ensures only { IfErr result IsIndexFault }
+    ensures only { IfErr result IsIndexWalkFault }
     ensures reads { ReadsPages result pager.old.state pager.new.state }
 {
     use_page(used, n)?;

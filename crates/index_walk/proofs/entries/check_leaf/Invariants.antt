@@ -6,7 +6,7 @@ use Rattle.image.specs.Pages.{pages_seen}
 use Rattle.image.specs.Shape.{place_at}
 use Rattle.tree_walk.proofs.UsedLemmas.{MarksPart}
 use Rattle.index_walk.specs.Checked.{index_tree}
-use Rattle.index_walk.specs.Walked.{IsIndexPage, IsRunFrom}
+use Rattle.index_walk.specs.Walked.{IsIndexPage, IsEntryRunFrom}
 use Rattle.index_walk.proofs.EntryLemmas.{IsLastBefore}
 use Rattle.index_walk.proofs.entries.check_leaf.Given as goal
 
@@ -15,7 +15,7 @@ invariant-loop-i g l = record {
   chains : AsksChainsOnly l.fn.pager.state l.pager.state;
   failures : l.pager.state.source.failures ≡ l.fn.pager.state.source.failures;
   run : IsTrue l.fn.pager.state.source.steady → IsIndexPage (pages_seen l.fn.pager.state) l.tree.root l.n l.view
-      → IsRunFrom (pages_seen l.fn.pager.state) l.tree.width l.tree.descends.now (map (place_at l.n) (range_with_len 0 l.i)) l.fn.last l.last;
+      → IsEntryRunFrom (pages_seen l.fn.pager.state) l.tree.width l.tree.descends.now (map (place_at l.n) (range_with_len 0 l.i)) l.fn.last l.last;
   before : IsTrue l.fn.pager.state.source.steady → IsIndexPage (pages_seen l.fn.pager.state) l.tree.root l.n l.view
       → IsLastBefore (pages_seen l.fn.pager.state) l.tree.width l.n l.i l.fn.last l.last;
   marks : IsTrue l.fn.pager.state.source.steady → IsIndexPage (pages_seen l.fn.pager.state) l.tree.root l.n l.view

@@ -1,5 +1,5 @@
 use Rattle.std.proofs.Common.{◌≡◌, ℕ, false, true, refl, subst, sym, ◌∙◌}
-use Rattle.index_walk.specs.Walked.{HasEntries}
+use Rattle.index_walk.specs.Walked.{HasAllEntries}
 use Rattle.index_walk.proofs.SeenLemmas.{index_page_is, no_entries, no_view, not_filled}
 use Rattle.index_walk.proofs.page.index_page.Goals.{then-not-has_entries-via-then-not-has_entries, then-not-has_entries-via-else-not-has_entries+then-not-is_filled}
 use Rattle.index_walk.proofs.page.index_page.Goals as goal
@@ -15,7 +15,7 @@ returns-then-not-has_entries-clause-fault c = (
     | then-not-has_entries-via-then-not-has_entries w ↦
         no_entries pager c.args.header.now header c.args.n c.args.page.now page steady c.in-Some.view c.in-Some.ensures.found.0 c.args.root reaches
         (λ entries.
-        let all : HasEntries c.in-Some.view c.image_size.result = subst (λ (m : ℕ). HasEntries c.in-Some.view m) (sym c.image_size.ensures) entries in
+        let all : HasAllEntries c.in-Some.view c.image_size.result = subst (λ (m : ℕ). HasAllEntries c.in-Some.view m) (sym c.image_size.ensures) entries in
         let yes : c.has_entries.result ≡ true = c.has_entries.ensures.1 all in
         let no : c.has_entries.result ≡ false = w.if-not-has_entries.true in
         let e : false ≡ true = sym no ∙ yes in cc)
@@ -31,5 +31,5 @@ returns-then-not-has_entries-clause-fault c = (
 pub returns-clause-found : goal.returns-clause-found
 returns-clause-found c = λ pager header page steady.
     index_page_is pager c.args.header.now header c.args.n c.args.page.now page steady c.in-Some.view c.in-Some.ensures.found.0 c.args.root
-    (subst (λ (m : ℕ). HasEntries c.in-Some.view m) c.image_size.ensures (c.has_entries.ensures.0 c.if-not-has_entries.false))
+    (subst (λ (m : ℕ). HasAllEntries c.in-Some.view m) c.image_size.ensures (c.has_entries.ensures.0 c.if-not-has_entries.false))
     (c.is_filled.ensures.0 c.if-not-is_filled.false)
