@@ -136,11 +136,19 @@ SCHEMA_ROWS: dict[bytes, list[tuple[Value, ...]]] = {
         ("index", "i", "item", 2, "CREATE INDEX i ON item(price)"),
         ("index", "i", "item", 2, "CREATE INDEX i ON item(qty, QTY)"),
         ("index", "i", "item", 2, "CREATE INDEX i ON item(name COLLATE NOCASE)"),
+        *(
+            ("index", "i", "item", 2, f"CREATE INDEX i ON item(qty) WHERE {condition}")
+            for condition in (
+                *("price > 1", "other.qty > 1", "name", "qty = name", "qty + 1 > 2", "name LIKE 'a%'", "-qty < 0"),
+                *("abs(qty) > 1", "CASE WHEN qty THEN 1 END", "qty IS x'00'"),
+            )
+        ),
     ],
     # An index, whose tree isn't checked yet; and tables that want an index, or have no rowids.
     fault_line(29): [
         ("index", "i", "item", 2, INDEX),
         ("index", "I", "ITEM", 2, "CREATE UNIQUE INDEX i ON item(qty DESC, name) WHERE qty IS NOT NULL"),
+        ("index", "i", "item", 2, "CREATE INDEX i ON item(qty) WHERE item.qty > -1 AND NOT name IN ('a', NULL) OR qty BETWEEN 1 AND +2"),
         *(
             ("table", "t", "t", 2, f"CREATE TABLE t({columns}) STRICT")
             for columns in (

@@ -2,6 +2,7 @@ pub mod Objects
 pub mod ObjectView
 pub mod Later
 pub mod CatalogData
+pub mod CatalogView
 pub mod Picks
 pub mod Says
 pub mod Refused

@@ -6,6 +6,7 @@ ghost use Rattle.phrases.specs.Texts.{IsWithin};
 ghost use Rattle.create_trees.specs.CreateTrees.{columns_of_index};
 ghost use Rattle.create_trees.specs.CreateView.{index_of};
 ghost use Rattle.indexes.specs.Indexed.{IsIndex};
+ghost use Rattle.indexes.specs.IndexView.{index_data};
 ghost use Rattle.indexes.specs.Refused.{IsRefused as IsUnmade};
 ghost use Rattle.schema.specs.Names.{IsSameName};
 ghost use Rattle.catalog.specs.Objects.{object_row};
@@ -47,7 +48,7 @@ fn made_by(
     root: u32,
 ) -> Result<Index, Fault>
     requires { IsSameName (index_of created).table table.now.name }
-    ensures made { IfOk result (λ index. IsIndex (index_of created) table.now index × (index.root ≡ root)) }
+    ensures made { IfOk result (λ index. IsIndex (index_of created) table.now (index_data index) × (index.root ≡ root)) }
     ensures refused { IfErr result (IsUnmade (IsIndex (index_of created) table.now) name.now) }
 {
     match index_from(alloc, created, table, root) {
@@ -82,7 +83,7 @@ fn index_by(
     pages: u32,
 ) -> Result<Index, Fault>
     requires { object.now.kind ≡ Kind.Index }
-    ensures said { IfOk result (SaysIndex pages tables.now (object_row (object_data object.now))) }
+    ensures said { IfOk result (λ index. SaysIndex pages tables.now (object_row (object_data object.now)) (index_data index)) }
     ensures refused { IfErr result (λ fault. (rows : List Row) → Contains rows (object_row (object_data object.now))
         → AreTablesOf pages rows tables.now → IsRefused pages rows fault) }
 {
@@ -112,7 +113,7 @@ pub(crate) fn index_said(
     tables: &[Table],
     pages: u32,
 ) -> Result<Option<Index>, Fault>
-    ensures said { IfOk result (λ found. IfSome found (SaysIndex pages tables.now row.now)) }
+    ensures said { IfOk result (λ found. IfSome found (λ index. SaysIndex pages tables.now row.now (index_data index))) }
     ensures other { IfOk result (λ found. IfNone found (IsNoIndex row.now)) }
     ensures refused { IfErr result (λ fault. (rows : List Row) → Contains rows row.now
         → AreTablesOf pages rows tables.now → IsRefused pages rows fault) }

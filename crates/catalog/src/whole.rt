@@ -1,5 +1,7 @@
 //! The rows of the schema.
-ghost use Rattle.std.specs.Prelude.{◌≡◌, ◌≤◌, All, IfErr, IfOk};
+ghost use Rattle.std.specs.Prelude.{◌≡◌, ◌≤◌, All, IfErr, IfOk, map};
+ghost use Rattle.indexes.specs.IndexView.{index_data};
+ghost use Rattle.catalog.specs.CatalogView.{catalog_data};
 ghost use Rattle.catalog.specs.Refused.{IsRefused};
 ghost use Rattle.catalog.specs.Says.{AreIndexesOf, AreTablesOf, IsCatalog};
 
@@ -9,7 +11,6 @@ use crate::table_said::table_said;
 use indexes::Index;
 use schema::Table;
 use std::alloc::Global;
-use std::marker::Model;
 use values::{Fault, Row};
 
 /// The tables that the rows say, in their order.
@@ -34,7 +35,7 @@ fn indexes_of(
     pages: u32,
 ) -> Result<Vec<Index>, Fault>
     requires { AreTablesOf pages rows.now tables.now }
-    ensures said { IfOk result (λ indexes. AreIndexesOf pages tables.now rows.now indexes.items) }
+    ensures said { IfOk result (λ indexes. AreIndexesOf pages tables.now rows.now (map index_data indexes.items)) }
     ensures refused { IfErr result (IsRefused pages rows.now) }
 {
     let mut indexes = Vec::with_capacity(alloc, rows.len())?;
@@ -47,18 +48,10 @@ fn indexes_of(
 }
 
 /// The tables and indexes of an image.
-#[derive(Debug, Drop)]
+#[derive(Drop)]
 pub struct Catalog {
     tables: Vec<Table>,
     indexes: Vec<Index>,
-}
-
-impl Model for Catalog {
-    ghost use Rattle.catalog.specs.CatalogData.{CatalogData};
-
-    ghost Value = { CatalogData };
-
-    ghost view = { λ c. record { tables = c.tables.items; indexes = c.indexes.items } };
 }
 
 impl Catalog {
@@ -70,8 +63,8 @@ impl Catalog {
     /// be read; `UnsupportedObject` with the name of a view, or of a table or an index that can be read and has what is left
     /// out; `NotYet` where a table isn't served yet; `NoMemory`.
     pub fn read(alloc: Global, rows: &[Row], pages: u32) -> Result<Catalog, Fault>
-        ensures said { IfOk result (IsCatalog pages rows.now) }
-        ensures roots { IfOk result (λ catalog. All (λ t. (2 ≤ t.root) × (t.root ≤ pages)) catalog.tables) }
+        ensures said { IfOk result (λ catalog. IsCatalog pages rows.now (catalog_data catalog)) }
+        ensures roots { IfOk result (λ catalog. All (λ t. (2 ≤ t.root) × (t.root ≤ pages)) (catalog_data catalog).tables) }
         ensures refused { IfErr result (IsRefused pages rows.now) }
     {
         let tables = tables_of(alloc, rows, pages)?;
@@ -84,14 +77,14 @@ impl Catalog {
 
     /// The tables, in the order of the schema's rows.
     pub fn tables(&self) -> &[Table]
-        ensures { result.now ≡ self.now.tables }
+        ensures { result.now ≡ (catalog_data self.now).tables }
     {
         self.tables.as_slice()
     }
 
     /// The indexes, in the order of the schema's rows.
     pub fn indexes(&self) -> &[Index]
-        ensures { result.now ≡ self.now.indexes }
+        ensures { map index_data result.now ≡ (catalog_data self.now).indexes }
     {
         self.indexes.as_slice()
     }

@@ -110,7 +110,7 @@ const CATALOGS: [(&[Object], &str); 10] = [
                 "J",
                 "item",
                 9,
-                "CREATE UNIQUE INDEX j ON Item(NAME DESC, id) WHERE qty > 1",
+                "CREATE UNIQUE INDEX j ON Item(NAME DESC, id) WHERE item.qty > -1 AND name IS NOT NULL",
             ),
         ],
         "item at 2 by the first | id: int | name: text filled | qty: int\n\
@@ -120,7 +120,7 @@ const CATALOGS: [(&[Object], &str); 10] = [
 ];
 
 /// Rows of the schema that say no catalog, by the number of their fault.
-const REFUSED: [(&[Object], u8); 13] = [
+const REFUSED: [(&[Object], u8); 16] = [
     // Roots that are no pages, of 9; another name of the table or in the row; a name twice.
     (&[("table", "item", "item", -2, SQL)], 20),
     (&[("table", "item", "item", 0, SQL)], 20),
@@ -151,6 +151,46 @@ const REFUSED: [(&[Object], u8); 13] = [
         &[
             ITEM,
             ("index", "i", "item", 3, "CREATE INDEX i ON item(price)"),
+        ],
+        22,
+    ),
+    // Conditions over a column that the table hasn't, of another operator, and of texts.
+    (
+        &[
+            ITEM,
+            (
+                "index",
+                "i",
+                "item",
+                3,
+                "CREATE INDEX i ON item(qty) WHERE price > 1",
+            ),
+        ],
+        22,
+    ),
+    (
+        &[
+            ITEM,
+            (
+                "index",
+                "i",
+                "item",
+                3,
+                "CREATE INDEX i ON item(qty) WHERE qty + 1 > 2",
+            ),
+        ],
+        22,
+    ),
+    (
+        &[
+            ITEM,
+            (
+                "index",
+                "i",
+                "item",
+                3,
+                "CREATE INDEX i ON item(qty) WHERE name",
+            ),
         ],
         22,
     ),
@@ -317,7 +357,7 @@ fn write_index(alloc: Global, text: &mut String, index: &Index) -> Result<(), Al
         index.root()
     )?.as_str())?;
     text.push_str(if index.is_unique() { ", unique" } else { "" })?;
-    text.push_str(if index.is_partial() {
+    text.push_str(if index.condition().is_some() {
         ", of some rows"
     } else {
         ""

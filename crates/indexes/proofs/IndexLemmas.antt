@@ -1,5 +1,5 @@
 -- The index that a CREATE INDEX makes.
-use Rattle.std.proofs.Common.{◌≡◌, ℕ, suc, zero, ◌+◌, ◌<◌, ◌≤◌, ◌⊎◌, inl, inr, Bool, true, false, IsTrue, ◌↔◌, List, [], ◌∷◌, ◌++◌, length, get_or, map, take, slice_get, Some, refl, sym, ap, ◌∙◌, subst, arith}
+use Rattle.std.proofs.Common.{◌≡◌, ℕ, suc, zero, ◌+◌, ◌<◌, ◌≤◌, ◌⊎◌, inl, inr, Bool, true, false, IsTrue, ◌↔◌, List, [], ◌∷◌, ◌++◌, length, get_or, map, take, slice_get, Option, Some, None, refl, sym, ap, ◌∙◌, subst, arith}
 use Rattle.std.proofs.lemmas.Bool.{cases_order}
 use Rattle.std.proofs.lemmas.Option.{slice_get-get_or, slice_get-map, slice_get_within}
 use Rattle.std.proofs.lemmas.List.{take_all}
@@ -8,12 +8,15 @@ use Rattle.std.specs.Option.{option_map}
 use Rattle.create_trees.specs.CreateTrees.{IndexedColumnTree, IndexTree}
 use Rattle.create_trees.specs.CreateView.{indexed_of}
 use Rattle.create_trees.specs.declared.create.IndexedColumn.{IndexedColumn}
+use Rattle.expr.specs.Term.{Term}
+use Rattle.indexes.specs.Condition.{IsCondition}
 use Rattle.indexes.specs.IndexData.{IndexData, IndexedData}
 use Rattle.indexes.specs.Indexed.{AreIndexed, IsIndex, IsIndexed, IsPlaceOf}
 use Rattle.schema.proofs.ListLemmas.{all_zip_push, map_next}
 use Rattle.schema.proofs.OneLemmas.{zip_same}
 use Rattle.schema.specs.Names.{AreDistinct, IsSameName}
 use Rattle.schema.specs.TableData.{ColumnData, TableData}
+use Rattle.syntax.specs.ExprTree.{ExprTree}
 use Rattle.syntax.specs.Tree.{Name}
 
 -- The place of a column, where it was tested whether this one has the name
@@ -64,6 +67,16 @@ one_indexed columns distinct tree a b p q =
     let order : a.order ≡ b.order = p.order_is ∙ sym q.order_is in
     λ i. record { place = place i; order = order i }
 
+one_condition : (table : TableData) (tree : Option ExprTree) (a b : Option Term) → IsCondition table tree a → IsCondition table tree b
+    → a ≡ b
+one_condition table None None None p q = refl
+one_condition table None None (Some b) p q = absurd q
+one_condition table None (Some a) b p q = absurd p
+one_condition table (Some e) None b p q = absurd p
+one_condition table (Some e) (Some a) None p q = absurd q
+one_condition table (Some e) (Some a) (Some b) p q =
+    let same : a ≡ b = let x = p.term_is in let y = q.term_is in cc in ap Some same
+
 pub one_index : (tree : IndexTree) (table : TableData) (a b : IndexData) → AreDistinct (map (λ c. c.name) table.columns)
     → IsIndex tree table a → IsIndex tree table b → a.root ≡ b.root → a ≡ b
 one_index tree table a b distinct p q root =
@@ -72,8 +85,8 @@ one_index tree table a b distinct p q root =
     let columns : a.columns ≡ b.columns =
     zip_same (IsIndexed table.columns) (one_indexed table.columns distinct) tree.columns a.columns b.columns p.columns_are.each q.columns_are.each in
     let is_unique : a.is_unique ≡ b.is_unique = p.unique_is ∙ sym q.unique_is in
-    let is_partial : a.is_partial ≡ b.is_partial = p.partial_is ∙ sym q.partial_is in
-    λ i. record { name = name i; table = owner i; root = root i; columns = columns i; is_unique = is_unique i; is_partial = is_partial i }
+    let condition : a.condition ≡ b.condition = one_condition table tree.condition a.condition b.condition p.condition_is q.condition_is in
+    λ i. record { name = name i; table = owner i; root = root i; columns = columns i; is_unique = is_unique i; condition = condition i }
 
 -- The columns, one after the other
 

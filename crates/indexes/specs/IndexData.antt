@@ -1,6 +1,7 @@
 -- What is known of an index. (CREATE INDEX)
-use Rattle.std.specs.Prelude.{Bool, ℕ, List}
+use Rattle.std.specs.Prelude.{Bool, ℕ, List, Option}
 use Rattle.create_trees.specs.declared.create.KeyOrder.{KeyOrder}
+use Rattle.expr.specs.Term.{Term}
 use Rattle.syntax.specs.Tree.{Name}
 
 -- a column of an index: its place in the table, and its order
@@ -9,11 +10,11 @@ pub record IndexedData : Type 0 where
   pub order : KeyOrder
 
 -- An index: its name as it was declared, the name of its table, the page at the root of its tree, its columns, whether no
--- two rows may agree in them, and whether it leaves rows out.
+-- two rows may agree in them, and the condition of its rows, if it leaves any out.
 pub record IndexData : Type 0 where
   pub name : Name
   pub table : Name
   pub root : ℕ
   pub columns : List IndexedData
   pub is_unique : Bool
-  pub is_partial : Bool
+  pub condition : Option Term

@@ -1,7 +1,8 @@
 -- The index that a CREATE INDEX makes. (CREATE INDEX)
-use Rattle.std.specs.Prelude.{◌≡◌, ℕ, List, is_some, map, slice_get, Some}
+use Rattle.std.specs.Prelude.{◌≡◌, ℕ, List, map, slice_get, Some}
 use Rattle.std.specs.List.{AllZip}
 use Rattle.create_trees.specs.CreateTrees.{IndexedColumnTree, IndexTree}
+use Rattle.indexes.specs.Condition.{IsCondition}
 use Rattle.indexes.specs.IndexData.{IndexData, IndexedData}
 use Rattle.schema.specs.Created.{IsBinary}
 use Rattle.schema.specs.Names.{AreDistinct, IsSameName}
@@ -32,4 +33,4 @@ pub record IsIndex (tree : IndexTree) (table : TableData) (index : IndexData) : 
   pub owner_is : IsSameName tree.table table.name
   pub columns_are : AreIndexed table.columns tree.columns index.columns
   pub unique_is : index.is_unique ≡ tree.is_unique
-  pub partial_is : index.is_partial ≡ is_some tree.condition
+  pub condition_is : IsCondition table tree.condition index.condition

@@ -1,3 +1,5 @@
 pub mod IndexData
+pub mod IndexView
+pub mod Condition
 pub mod Indexed
 pub mod Refused

@@ -1,7 +1,10 @@
 //! Indexes and their columns.
-ghost use Rattle.std.specs.Prelude.{◌≡◌};
+ghost use Rattle.std.specs.Prelude.{◌≡◌, option_map};
+ghost use Rattle.expr.specs.View.{term};
+ghost use Rattle.indexes.specs.IndexView.{index_data};
 
 use create_trees::KeyOrder;
+use expr::Expr;
 use std::marker::Model;
 
 /// A column of an index. (CREATE INDEX, "Indexed column")
@@ -36,65 +39,56 @@ impl IndexedColumn {
 }
 
 /// An index of a table. (CREATE INDEX)
-#[derive(Debug, Drop)]
+#[derive(Drop)]
 pub struct Index {
     pub(crate) name: String,
     pub(crate) table: String,
     pub(crate) root: u32,
     pub(crate) columns: Vec<IndexedColumn>,
     pub(crate) is_unique: bool,
-    pub(crate) is_partial: bool,
-}
-
-impl Model for Index {
-    ghost use Rattle.std.specs.Prelude.{string_bytes};
-    ghost use Rattle.indexes.specs.IndexData.{IndexData};
-
-    ghost Value = { IndexData };
-
-    ghost view = { λ i. record { name = string_bytes i.name; table = string_bytes i.table; root = i.root; columns = i.columns.items; is_unique = i.is_unique; is_partial = i.is_partial } };
+    pub(crate) condition: Option<Expr>,
 }
 
 impl Index {
     /// The name, as it was declared.
     pub fn name(&self) -> &str
-        ensures { result.now ≡ self.now.name }
+        ensures { result.now ≡ (index_data self.now).name }
     {
         self.name.as_str()
     }
 
     /// The name of the table, as it was declared for the index.
     pub fn table(&self) -> &str
-        ensures { result.now ≡ self.now.table }
+        ensures { result.now ≡ (index_data self.now).table }
     {
         self.table.as_str()
     }
 
     /// The page at the root of the index's tree.
     pub fn root(&self) -> u32
-        ensures { result ≡ self.now.root }
+        ensures { result ≡ (index_data self.now).root }
     {
         self.root
     }
 
     /// The columns, in the order in which the index sorts by them.
     pub fn columns(&self) -> &[IndexedColumn]
-        ensures { result.now ≡ self.now.columns }
+        ensures { result.now ≡ (index_data self.now).columns }
     {
         self.columns.as_slice()
     }
 
     /// Whether no two rows may agree in all of the columns, unless one of these is NULL. (CREATE INDEX, "Unique Indexes")
     pub fn is_unique(&self) -> bool
-        ensures { result ≡ self.now.is_unique }
+        ensures { result ≡ (index_data self.now).is_unique }
     {
         self.is_unique
     }
 
-    /// Whether the index has only rows of which a condition is true. (Partial Indexes)
-    pub fn is_partial(&self) -> bool
-        ensures { result ≡ self.now.is_partial }
+    /// The condition on a row's columns, where the index has only rows of which it is true. (Partial Indexes)
+    pub fn condition(&self) -> Option<&Expr>
+        ensures { option_map (λ e. term e.now) result ≡ (index_data self.now).condition }
     {
-        self.is_partial
+        self.condition.as_ref()
     }
 }

@@ -1,15 +1,23 @@
 //! The index that a CREATE INDEX makes.
-ghost use Rattle.std.specs.Prelude.{◌≡◌, IfErr, IfNone, IfOk, IfSome, List, map};
+ghost use Rattle.std.specs.Prelude.{◌≡◌, ◌⊎◌, IfErr, IfNone, IfOk, IfSome, List, Option, map, option_map};
+ghost use Rattle.values.specs.declared.fault.Fault.TheVariants.{NoMemory};
 ghost use Rattle.create_trees.specs.CreateView.{index_of, indexed_of};
+ghost use Rattle.expr.specs.Term.{Term};
+ghost use Rattle.expr.specs.View.{term};
+ghost use Rattle.indexes.specs.Condition.{IsCondition};
 ghost use Rattle.indexes.specs.IndexData.{IndexedData};
 ghost use Rattle.indexes.specs.Indexed.{AreIndexed, IsIndex};
+ghost use Rattle.indexes.specs.IndexView.{index_data};
 ghost use Rattle.indexes.specs.Refused.{IsRefused};
 ghost use Rattle.schema.specs.Names.{IsSameName};
+ghost use Rattle.statement_trees.specs.TreeView.{expr_of};
 
 use crate::places::{are_distinct, indexed};
-use crate::{Index, IndexedColumn};
+use crate::{Index, IndexedColumn, conditions};
 use create_trees::{CreateIndex, IndexedColumn as NamedColumn};
+use expr::Expr;
 use schema::{Column, Table};
+use statement_trees::Expr as Tree;
 use std::alloc::{AllocError, Global};
 use values::Fault;
 
@@ -38,9 +46,22 @@ fn all_indexed(
     Ok(Some(all))
 }
 
+/// The condition behind WHERE, if one stands there. Any fault but `NoMemory` says that what stands there is none.
+fn condition(alloc: Global, table: &Table, tree: Option<Tree>) -> Result<Option<Expr>, Fault>
+    ensures made { IfOk result (λ e. IsCondition table.now (option_map expr_of tree) (option_map term e)) }
+    ensures refused { IfErr result (λ fault. (fault ≡ NoMemory)
+        ⊎ ((condition : Option Term) → ¬ IsCondition table.now (option_map expr_of tree) condition)) }
+{
+    match tree {
+        Some(tree) => Ok(Some(conditions::condition(alloc, table, &tree)?)),
+        None => Ok(None),
+    }
+}
+
 /// The index that a CREATE INDEX makes on this table, whose tree has this root. (CREATE INDEX) The fault is
 /// `UnsupportedObject`, with the index's name, where it makes none: the table has no column of a name, a column is named
-/// twice, or has a collation other than BINARY; or `NoMemory`.
+/// twice, or has a collation other than BINARY, or what stands behind WHERE is no condition of whole numbers over the table's
+/// columns, or has another operator than AND, OR, NOT and those that compare; or `NoMemory`.
 pub fn index_from(
     alloc: Global,
     created: CreateIndex,
@@ -48,7 +69,7 @@ pub fn index_from(
     root: u32,
 ) -> Result<Index, Fault>
     requires { IsSameName (index_of created).table table.now.name }
-    ensures made { IfOk result (IsIndex (index_of created) table.now) }
+    ensures made { IfOk result (λ index. IsIndex (index_of created) table.now (index_data index)) }
     ensures root { IfOk result (λ index. index.root ≡ root) }
     ensures refused { IfErr result (IsRefused (IsIndex (index_of created) table.now) (index_of created).name) }
 {
@@ -57,10 +78,15 @@ pub fn index_from(
         table: owner,
         is_unique,
         columns: named,
-        condition,
+        condition: tree,
     } = created;
     let Some(columns) = all_indexed(alloc, table.columns(), named.as_slice())? else {
         return Err(Fault::UnsupportedObject(name));
+    };
+    let condition = match condition(alloc, table, tree) {
+        Ok(condition) => condition,
+        Err(Fault::NoMemory) => return Err(Fault::NoMemory),
+        Err(_) => return Err(Fault::UnsupportedObject(name)),
     };
     Ok(Index {
         name,
@@ -68,6 +94,6 @@ pub fn index_from(
         root,
         columns,
         is_unique,
-        is_partial: condition.is_some(),
+        condition,
     })
 }

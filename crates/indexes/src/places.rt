@@ -2,6 +2,7 @@
 ghost use Rattle.std.specs.Prelude.{◌≡◌, ◌↔◌, ℕ, All, IfErr, IfNone, IfOk, IfSome, IsTrue, List, map};
 ghost use Rattle.std.specs.List.{AllZip, Any};
 ghost use Rattle.create_trees.specs.CreateView.{indexed_of};
+ghost use Rattle.indexes.specs.Condition.{place_from};
 ghost use Rattle.indexes.specs.IndexData.{IndexedData};
 ghost use Rattle.indexes.specs.Indexed.{IsIndexed, IsPlaceOf};
 ghost use Rattle.schema.specs.Names.{AreDistinct, IsSameName};
@@ -31,10 +32,11 @@ pub(crate) fn are_distinct(columns: &[NamedColumn]) -> bool
     true
 }
 
-/// The place of the column of this name.
-fn place_of(columns: &[Column], name: &str) -> Option<usize>
+/// The place of the first column of this name.
+pub(crate) fn place_of(columns: &[Column], name: &str) -> Option<usize>
     ensures found { IfSome result (IsPlaceOf columns.now name.now) }
     ensures none { IfNone result ((place : ℕ) → ¬ IsPlaceOf columns.now name.now place) }
+    ensures first { result ≡ place_from 0 columns.now name.now }
 {
     for (place, column) in columns.iter().enumerate() {
         if is_same_name(column.name(), name) {

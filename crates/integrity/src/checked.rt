@@ -1,6 +1,7 @@
 //! The check of a whole image.
 ghost use Rattle.std.specs.Prelude.{◌≡◌, ◌↔◌, IsTrue, MatchResult};
 ghost use Rattle.pager.specs.Calls.{ReadsPages};
+ghost use Rattle.catalog.specs.CatalogView.{catalog_data};
 ghost use Rattle.integrity.specs.Checked.{HasCheckedImage, IsCheckFailure, IsOfTables};
 
 use crate::trees::{check_tables, read_schema};
@@ -14,18 +15,19 @@ use tree_walk::TreeCounts;
 use values::Fault;
 
 /// What the check of an image finds: its tables, and what the tree of each has.
-#[derive(Debug, Drop)]
+#[derive(Drop)]
 pub struct Checked {
     catalog: Catalog,
     trees: Vec<TreeCounts>,
 }
 
 impl Model for Checked {
+    ghost use Rattle.catalog.specs.CatalogView.{catalog_data};
     ghost use Rattle.integrity.specs.Checked.{CheckedData};
 
     ghost Value = { CheckedData };
 
-    ghost view = { λ c. record { tables = c.catalog.tables; trees = c.trees.items } };
+    ghost view = { λ c. record { tables = (catalog_data c.catalog).tables; trees = c.trees.items } };
 }
 
 impl Checked {
@@ -46,7 +48,7 @@ impl Checked {
 
 /// Whether a catalog is of tables alone: the tree of an index isn't checked yet.
 fn is_of_tables(catalog: &Catalog) -> bool
-    ensures { IsTrue result ↔ IsOfTables catalog.now }
+    ensures { IsTrue result ↔ IsOfTables (catalog_data catalog.now) }
 {
     catalog.indexes().is_empty()
 }

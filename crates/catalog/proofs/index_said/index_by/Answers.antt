@@ -1,6 +1,7 @@
 use Rattle.std.proofs.Common.{sym, ◌∙◌, subst}
 use Rattle.std.proofs.lemmas.Result.{MatchResult-weaker, err_from_is_err_and}
 use Rattle.create_trees.specs.CreateView.{index_of}
+use Rattle.indexes.specs.IndexView.{index_data}
 use Rattle.schema.proofs.NameLemmas.{differs}
 use Rattle.schema.specs.Names.{IsSameName}
 use Rattle.catalog.specs.ObjectView.{object_data}
@@ -62,7 +63,7 @@ returns-clause-said c =
     let o = object_data c.args.object.now in
     MatchResult-weaker c.made_by.result c.made_by.ensures.made
     (λ index made. says_index c.args.pages o c.args.tables.now c.in-Some-table_named.table.now c.in-Some-sql.sql.now
-    (index_of c.in_ok-created.created) c.in-Some.root index
+    (index_of c.in_ok-created.created) c.in-Some.root (index_data index)
     (record { kind_is = c.requires; sql_is = text_some c.args.object.now.sql c.in-Some-sql.sql c.in-Some-sql.is })
     c.in-Some.ensures.found c.in_ok-created.ensures.spelt c.in_ok-created.ensures.within
     (subst (λ n. IsSameName o.name n) c.as_str-name.ensures.value (c.is_same_name.ensures.0 c.if-not-is_same_name.false))

@@ -1,6 +1,8 @@
-use Rattle.std.proofs.Common.{[], IfNone, IfSome, Option, sym, subst}
+use Rattle.std.proofs.Common.{[], IfNone, IfSome, Option, ap, map, sym, subst, ◌∙◌}
+use Rattle.std.proofs.lemmas.List.{map_push}
 use Rattle.std.proofs.lemmas.Result.{err_from_is_err_and}
-use Rattle.indexes.specs.IndexData.{IndexData}
+use Rattle.indexes.specs.IndexView.{index_data}
+use Rattle.indexes.specs.declared.index_parts.Index.{Index}
 use Rattle.catalog.specs.Picks.{Picks}
 use Rattle.catalog.specs.Says.{AreIndexesOf, IsNoIndex, SaysIndex}
 use Rattle.catalog.proofs.PickLemmas.{other_more, said_more}
@@ -8,7 +10,8 @@ use Rattle.catalog.proofs.whole.indexes_of.Goals as goal
 use Rattle.catalog.proofs.whole.indexes_of.Goals.{in-Some+in_ok-push, in_default}
 
 pub loop-row-init : goal.loop-row-init
-loop-row-init c = subst (AreIndexesOf c.args.pages c.args.tables.now []) (sym c.in_ok-indexes.ensures.items) Picks.end
+loop-row-init c =
+    subst (λ xs. AreIndexesOf c.args.pages c.args.tables.now [] (map index_data xs)) (sym c.in_ok-indexes.ensures.items) Picks.end
 
 pub returns-in_err-index-clause-refused : goal.returns-in_err-index-clause-refused
 returns-in_err-index-clause-refused c =
@@ -25,13 +28,14 @@ loop-row-preserved c =
     elim c.match-branch-3.branch [
       | in-Some+in_ok-push w ↦
           said_more (SaysIndex pages tables) IsNoIndex rows c.loop-row.row-index row c.loop-row-test.true c.row-item.is
-          c.loop-row.indexes.items c.match-branch-3.indexes.items w.in-Some.index
-          (let pushed = w.in_ok-push.ensures.items in let is = w.indexes-is in rw is pushed)
-          (subst (λ (found : Option IndexData). IfSome found (SaysIndex pages tables row)) w.in-Some.is c.in_ok-index.ensures.said)
+          (map index_data c.loop-row.indexes.items) (map index_data c.match-branch-3.indexes.items) (index_data w.in-Some.index)
+          (let pushed = w.in_ok-push.ensures.items in let is = w.indexes-is in
+          rw is (ap (map index_data) pushed ∙ map_push index_data c.loop-row.indexes.items w.in-Some.index))
+          (subst (λ (found : Option Index). IfSome found (λ x. SaysIndex pages tables row (index_data x))) w.in-Some.is c.in_ok-index.ensures.said)
           c.loop-row.invariant
       | in_default w ↦
           other_more (SaysIndex pages tables) IsNoIndex rows c.loop-row.row-index row c.loop-row-test.true c.row-item.is
-          c.loop-row.indexes.items c.match-branch-3.indexes.items (let is = w.indexes-is in cc)
-          (subst (λ (found : Option IndexData). IfNone found (IsNoIndex row)) w.in_default.is c.in_ok-index.ensures.other)
+          (map index_data c.loop-row.indexes.items) (map index_data c.match-branch-3.indexes.items) (let is = w.indexes-is in cc)
+          (subst (λ (found : Option Index). IfNone found (IsNoIndex row)) w.in_default.is c.in_ok-index.ensures.other)
           c.loop-row.invariant
     ]

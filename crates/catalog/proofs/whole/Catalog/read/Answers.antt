@@ -1,4 +1,5 @@
-use Rattle.std.proofs.Common.{◌≡◌, ◌≤◌, true, subst}
+use Rattle.std.proofs.Common.{◌≡◌, ◌≤◌, map, true, subst}
+use Rattle.indexes.specs.IndexView.{index_data}
 use Rattle.schema.specs.Rows.{SaysTable}
 use Rattle.schema.specs.TableData.{TableData}
 use Rattle.catalog.specs.Refused.{IsBadSchema}
@@ -12,7 +13,7 @@ returns-then-are_doubled-clause-refused c = IsBadSchema.doubled (c.are_doubled.e
 pub returns-clause-said : goal.returns-clause-said
 returns-clause-said c = record {
   tables_are = c.in_ok-tables.ensures.said;
-  indexes_are = subst (λ ts. AreIndexesOf c.args.pages ts c.args.rows.now c.in_ok-indexes.indexes.items) c.as_slice.ensures.value
+  indexes_are = subst (λ ts. AreIndexesOf c.args.pages ts c.args.rows.now (map index_data c.in_ok-indexes.indexes.items)) c.as_slice.ensures.value
       c.in_ok-indexes.ensures.said;
   distinct = λ d. let h : c.are_doubled.result ≡ true = c.are_doubled.ensures.1 d in let e = c.if-are_doubled.false in cc;
 }
