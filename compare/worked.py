@@ -148,7 +148,7 @@ SCHEMA_ROWS: dict[bytes, list[tuple[Value, ...]]] = {
     fault_line(29): [
         ("index", "i", "item", 2, INDEX),
         ("index", "I", "ITEM", 2, "CREATE UNIQUE INDEX i ON item(qty DESC, name) WHERE qty IS NOT NULL"),
-        ("index", "i", "item", 2, "CREATE INDEX i ON item(qty) WHERE item.qty > -1 AND NOT name IN ('a', NULL) OR qty BETWEEN 1 AND +2"),
+        ("index", "i", "item", 2, "CREATE INDEX i ON item(qty) WHERE item.qty > -1 AND NOT name IN ('a') OR qty BETWEEN 1 AND 2"),
         *(
             ("table", "t", "t", 2, f"CREATE TABLE t({columns}) STRICT")
             for columns in (
