@@ -1,0 +1,2 @@
+mod RankingLemmas
+mod CallLemmas
