@@ -27,7 +27,8 @@ fn call_over<I: InnerQueries, P: Place>(
 ) -> Result<Option<WindowCall>, Fault>
     ensures { Gives (option_map call_of) result
         (transposed (spec.over_call
-        (spec.over (I.answers inner.now) (P.meaning place.now) (map defined_of defined.now) (over_of over.now)) (Ok (function_of function)))) }
+        (spec.over (I.answers inner.now) (P.meaning place.now) (map defined_of defined.now) (over_of over.now))
+        (Ok (function_of function)))) }
 {
     match over {
         Over::Absent => Ok(None),
