@@ -1,14 +1,11 @@
 -- From what was checked to the tables that the pages have.
-use Rattle.std.proofs.Common.{◌≡◌, ℕ, zero, suc, refl, ◌<◌, All, Contains, List, [], ◌∷◌, length, slice_index_or, arith, subst, sym, inl, inr}
+use Rattle.std.proofs.Common.{◌≡◌, ℕ, zero, suc, refl, All, Contains, List, [], ◌∷◌, arith, subst, sym, inl, inr}
 use Rattle.std.specs.List.{AllZip}
-use Rattle.std.proofs.lemmas.List.Elements.{All-cons, All-head, All-nil, All-tail}
+use Rattle.std.proofs.lemmas.List.Elements.{All-cons, All-nil}
 use Rattle.values.specs.declared.fault.Fault.{Fault}
 use Rattle.values.specs.declared.fault.Fault.TheVariants.{ReadFailed, NoMemory, PageUse, BadFreelist, SchemaRow, SchemaText, UnsupportedObject, NotYet}
-use Rattle.image.specs.declared.kind.TreeKind.TheVariants.{Table}
 use Rattle.image.specs.Pages.{Pages}
-use Rattle.image.specs.Shape.{places_under}
 use Rattle.image.specs.Tree.{Place}
-use Rattle.image.proofs.TableLemmas.{rows_of}
 use Rattle.page_use.specs.Marks.{IsUseFault}
 use Rattle.values.specs.Row.{Row}
 use Rattle.schema.specs.TableData.{TableData, schema_table}
@@ -16,52 +13,21 @@ use Rattle.tree_walk.specs.declared.counts.TreeCounts.{TreeCounts}
 use Rattle.catalog.proofs.LawLemmas.{row_of_table}
 use Rattle.catalog.specs.CatalogData.{CatalogData}
 use Rattle.catalog.specs.Refused.{IsRefused}
-use Rattle.integrity.specs.Checked.{HasCause, IsCheckedTree, IsOfTables, IsTableOf, indexed, later, said}
-use Rattle.integrity.specs.Denotes.{HasCatalog, HasTables, IsStoredTable}
+use Rattle.integrity.specs.Checked.{HasCause, IsOfTables, IsTableOf, indexed, later, said, IsCheckFault}
+use Rattle.table_walk.specs.Checked.{IsCheckedTree, IsStoredTable}
+use Rattle.integrity.specs.Denotes.{HasCatalog, HasTables}
 use Rattle.stored_rows.specs.RowFaults.{IsBrokenTable}
-use Rattle.stored_rows.specs.Stored.{Fits, HoldsRow, HoldsRows, StoresRow}
-use Rattle.integrity.specs.Walked.{IsCheckFault, IsWalkFault}
-
--- inside a list no default matters
-same_index : {A : Type 0} (xs : List A) (k : ℕ) (d : A) → k < length xs → slice_index_or xs k (slice_index_or xs k d) ≡ slice_index_or xs k d
-same_index [] k d within = absurd (omega arith)
-same_index (x ∷ xs) zero d within = refl
-same_index (x ∷ xs) (suc k) d within = same_index xs k d (omega arith)
+use Rattle.stored_rows.specs.Stored.{HoldsRows, StoresRow}
+use Rattle.table_walk.specs.Walked.{IsWalkFault}
+use Rattle.table_walk.proofs.CheckedLemmas.{stored_table}
 
 module _ (pages : Pages) where
-  -- the rows at places
-  pub record AreRows (table : TableData) (places : List Place) : Type 0 where
-    pub rows : List Row
-    pub stored : AllZip (StoresRow pages table) places rows
-    pub fit : All (Fits table) rows
-
-  chosen : (table : TableData) (places : List Place) → All (HoldsRow pages table) places → AreRows table places
-  chosen table [] held = record { rows = []; stored = tt; fit = All-nil (Fits table) }
-  chosen table (place ∷ places) held =
-      let first = All-head (HoldsRow pages table) place places held in
-      let others = chosen table places (All-tail (HoldsRow pages table) place places held) in
-      record {
-        rows = first.row ∷ others.rows;
-        stored = (first.stores, others.stored);
-        fit = All-cons (Fits table) first.row others.rows first.fits others.fit;
-      }
-
-  pub stored_table : (table : TableData) (counts : TreeCounts) → IsCheckedTree pages table counts → IsStoredTable pages table
-  stored_table table counts tree =
-      let rows = chosen table (places_under pages Table counts.levels table.root) tree.rows in
-      record {
-        levels = counts.levels;
-        rows = rows.rows;
-        few = tree.few;
-        stored = record { shape = tree.shape; order = tree.sound.order; cells = rows_of pages table.root counts.levels tree.shape tree.sound.order; rows_are = rows.stored; fit = rows.fit };
-      }
-
   pub stored_tables : (tables : List TableData) (trees : List TreeCounts) → AllZip (IsCheckedTree pages) tables trees → All (IsStoredTable pages) tables
   stored_tables [] [] all = All-nil (IsStoredTable pages)
   stored_tables [] (counts ∷ trees) all = absurd all
   stored_tables (table ∷ tables) [] all = absurd all
   stored_tables (table ∷ tables) (counts ∷ trees) all =
-      All-cons (IsStoredTable pages) table tables (stored_table table counts all.0) (stored_tables tables trees all.1)
+      All-cons (IsStoredTable pages) table tables (stored_table pages table counts all.0) (stored_tables tables trees all.1)
 
   pub has_tables : (rows : List Row) (catalog : CatalogData) (trees : List TreeCounts) → HasCatalog pages rows catalog
       → AllZip (IsCheckedTree pages) catalog.tables trees → HasTables pages catalog.tables

@@ -9,7 +9,8 @@ use Rattle.values.specs.Row.{Row}
 use Rattle.values.specs.Database.{Database}
 use Rattle.schema.specs.TableData.{TableData}
 use Rattle.stored_rows.specs.Stored.{Fits, HoldsRows, IsStored}
-use Rattle.integrity.specs.Denotes.{Denotes, HasTables, IsStoredTable}
+use Rattle.integrity.specs.Denotes.{Denotes, HasTables}
+use Rattle.table_walk.specs.Checked.{IsStoredTable}
 
 -- a table is stored with these rows
 pub record IsStoredAs (pages : Pages) (table : TableData) (rows : List Row) : Type 0 where

@@ -1,12 +1,5 @@
-pub mod BoundLemmas
-pub mod HeadLemmas
-pub mod TreeLemmas
-pub mod WalkLemmas
-pub mod HeldLemmas
 pub mod CheckedLemmas
+pub mod OneLemmas
 pub mod UnbrokenLemmas
 pub mod DenotesLemmas
-pub mod GatherLemmas
-pub mod UsedLemmas
-pub mod OneLemmas
 pub mod TreesLemmas

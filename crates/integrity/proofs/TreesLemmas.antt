@@ -24,7 +24,8 @@ use Rattle.tree_walk.specs.Used.{IsDoneOn, IsTreeComing, IsTreeGone, IsTreeTwice
 use Rattle.tree_walk.proofs.UsedLemmas.{done_on_later}
 use Rattle.integrity.specs.Checked.{IsMisused, IsOfTables, empty_catalog}
 use Rattle.integrity.specs.Denotes.{HasCatalog}
-use Rattle.integrity.specs.Used.{AreTreesComing, AreTreesGone, AreTreesTwice, MarksTrees, index_tree_of, tree_of, users_of}
+use Rattle.integrity.specs.Used.{AreTreesComing, AreTreesGone, AreTreesTwice, MarksTrees, index_tree_of, users_of}
+use Rattle.table_walk.specs.Checked.{tree_of}
 use Rattle.integrity.proofs.OneLemmas.{same_catalog}
 
 -- the trees of the tables before table j were walked

@@ -1,6 +1,6 @@
 -- What the check of an image finds, and what is broken of an image. (Database File Format, section 1.6; The Schema
 -- Table; the faults of docs/FAULTS.md)
-use Rattle.std.specs.Prelude.{◌≡◌, ◌⊎◌, ◌<◌, All, Bool, List, []}
+use Rattle.std.specs.Prelude.{◌≡◌, ◌⊎◌, All, List, []}
 use Rattle.std.specs.List.{AllZip}
 use Rattle.values.specs.declared.fault.Fault.{Fault}
 use Rattle.values.specs.declared.fault.Fault.TheVariants.{BadPage, BadChain, PageUse, BadFreelist, BadOrder, BadDepth, BadRecord, FloatValue, BadText, SchemaRow, SchemaText, UnsupportedObject, ValueBreaksColumn, NotYet}
@@ -8,8 +8,6 @@ use Rattle.pager.specs.Calls.{IsReadFault}
 use Rattle.pager.specs.PagerState.{IsPageNumber, PagerState}
 use Rattle.image.specs.declared.kind.TreeKind.TheVariants.{Table}
 use Rattle.image.specs.Pages.{IsNumber, Pages, WhereSteady}
-use Rattle.image.specs.Shape.{HasShape, most_levels, places_under}
-use Rattle.image.specs.Sound.{IsSoundTable}
 use Rattle.image.specs.Tree.{Place, IsPlaceOf}
 use Rattle.image.specs.Freelist.{IsFreelist}
 use Rattle.image.specs.Use.{IsUsedOnce}
@@ -21,22 +19,12 @@ use Rattle.schema.specs.TableData.{TableData, schema_table}
 use Rattle.catalog.specs.CatalogData.{CatalogData}
 use Rattle.catalog.specs.Refused.{HasLaterTable, IsBrokenSchema}
 use Rattle.tree_walk.specs.declared.counts.TreeCounts.{TreeCounts}
-use Rattle.tree_walk.specs.Counts.{AreCounts}
-use Rattle.tree_walk.specs.Used.{IsTreeTwice}
+use Rattle.table_walk.specs.Checked.{IsCheckedTree}
+use Rattle.table_walk.specs.Walked.{IsWalkFault}
 use Rattle.integrity.specs.Denotes.{HasCatalog, HasTables}
-use Rattle.integrity.specs.Used.{tree_of, users_of}
+use Rattle.integrity.specs.Used.{users_of}
 use Rattle.stored_rows.specs.RowFaults.{IsBrokenTable}
-use Rattle.stored_rows.specs.Stored.{HoldsRow, HoldsRows, StoresRow}
-use Rattle.integrity.specs.Walked.{IsCheckFault, IsWalkFault}
-
--- A table's tree is sound and its cells are rows of the table, whose values are of its columns; and these are its
--- levels, rows and pages.
-pub record IsCheckedTree (pages : Pages) (table : TableData) (counts : TreeCounts) : Type 0 where
-  pub few : counts.levels < most_levels
-  pub sound : IsSoundTable pages table.root
-  pub shape : HasShape pages Table counts.levels table.root
-  pub rows : All (HoldsRow pages table) (places_under pages Table counts.levels table.root)
-  pub counts_are : AreCounts pages Table counts.levels table.root counts.cells counts.pages
+use Rattle.stored_rows.specs.Stored.{HoldsRows, StoresRow}
 
 -- the tables that an image has, and what the tree of each has
 pub record CheckedData : Type 0 where
@@ -101,15 +89,15 @@ IsExamined (UnsupportedObject _) = Unit {0}
 IsExamined (ValueBreaksColumn _) = Unit {0}
 IsExamined _ = ⊥
 
--- the tree of a table was checked
-pub record HasCheckedTable (pager : PagerState) (table : TableData) (counts : TreeCounts) : Type 0 where
-  pub few : counts.levels < most_levels
-  pub tree : WhereSteady pager (λ pages. IsCheckedTree pages table counts)
-
--- why it was not, where these were the marks of pages that are used
-pub record IsTableFault (pager : PagerState) (table : TableData) (marks : List Bool) (fault : Fault) : Type 0 where
-  pub only : IsWalkFault fault
-  pub cause : WhereSteady pager (λ pages. IsReadFault fault ⊎ IsBrokenTable pages table fault ⊎ IsTreeTwice pages (tree_of table) marks fault)
+-- the faults of the check of an image
+abbrev pub IsCheckFault : Fault → Type 0
+IsCheckFault NotYet = Unit {0}
+IsCheckFault (PageUse _) = Unit {0}
+IsCheckFault BadFreelist = Unit {0}
+IsCheckFault SchemaRow = Unit {0}
+IsCheckFault (SchemaText _) = Unit {0}
+IsCheckFault (UnsupportedObject _) = Unit {0}
+IsCheckFault fault = IsWalkFault fault
 
 -- An image was checked: these are its tables, with what the tree of each has, none of the conditions that are examined is
 -- broken, and it has nothing that isn't served yet.

@@ -1,15 +1,15 @@
 -- The tables that an image denotes. (Database File Format, section 2; The Schema Table)
-use Rattle.std.specs.Prelude.{ℕ, ◌<◌, All, List}
+use Rattle.std.specs.Prelude.{ℕ, All, List}
 use Rattle.std.specs.List.{AllZip}
 use Rattle.image.specs.Pages.{pages_of, Pages}
-use Rattle.image.specs.Shape.{most_levels}
 use Rattle.values.specs.Row.{Row}
 use Rattle.values.specs.Database.{Database}
 use Rattle.schema.specs.TableData.{TableData, schema_table}
 use Rattle.indexes.specs.IndexData.{IndexData}
 use Rattle.catalog.specs.CatalogData.{CatalogData}
 use Rattle.catalog.specs.Says.{IsCatalog}
-use Rattle.stored_rows.specs.Stored.{Fits, HoldsRows, IsStored}
+use Rattle.stored_rows.specs.Stored.{Fits, HoldsRows}
+use Rattle.table_walk.specs.Checked.{IsStoredTable}
 
 -- the schema's own table has these rows, whose values are of its columns, and they say this catalog
 pub record HasCatalog (pages : Pages) (rows : List Row) (catalog : CatalogData) : Type 0 where
@@ -23,13 +23,6 @@ pub record Denotes (image : List ℕ) (tables : List TableData) (db : Database) 
   pub catalog : HasCatalog (pages_of image) db.schema (record { tables = tables; indexes = indexes })
   pub rows : AllZip (HoldsRows (pages_of image)) tables db.tables
   pub fit : AllZip (λ table. All (Fits table)) tables db.tables
-
--- the table is stored in a tree of fewer than 20 levels below its root
-pub record IsStoredTable (pages : Pages) (table : TableData) : Type 0 where
-  pub levels : ℕ
-  pub rows : List Row
-  pub few : levels < most_levels
-  pub stored : IsStored pages table levels rows
 
 -- the tables of the pages, each with its rows
 pub record HasTables (pages : Pages) (tables : List TableData) : Type 0 where

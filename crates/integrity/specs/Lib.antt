@@ -1,4 +1,3 @@
 pub mod Denotes
-pub mod Walked
 pub mod Used
 pub mod Checked

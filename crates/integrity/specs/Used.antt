@@ -12,10 +12,7 @@ use Rattle.tree_walk.specs.Used.{IsDoneOn}
 use Rattle.schema.specs.TableData.{TableData, schema_table}
 use Rattle.indexes.specs.IndexData.{IndexData}
 use Rattle.catalog.specs.CatalogData.{CatalogData}
-use Rattle.stored_rows.specs.Links.{table_tree}
-
-abbrev pub tree_of : TableData → TreeData
-tree_of table = table_tree table.root
+use Rattle.table_walk.specs.Checked.{tree_of}
 
 abbrev pub index_tree_of : IndexData → TreeData
 index_tree_of index = record { kind = Index; root = index.root }

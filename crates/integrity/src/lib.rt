@@ -4,13 +4,12 @@
 //! that a fault's condition is broken. `NotYet` comes exactly where the schema says what isn't served yet: a table that
 //! `catalog` doesn't serve, or an index.
 //!
-//! The modules, in the order in which data passes them: `walk` (a table's tree, from its root down), `trees` (those of all
-//! tables, and the schema's rows) and `checked` (the whole image).
+//! The modules, in the order in which data passes them: `trees` (those of all tables, and the schema's rows) and `checked`
+//! (the whole image).
 #![tactic(auto)]
 
 mod checked;
 mod trees;
-mod walk;
 
 pub use checked::{Checked, check};
 pub use stored_rows::RowReader;

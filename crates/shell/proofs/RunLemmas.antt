@@ -23,12 +23,13 @@ use Rattle.meaning.proofs.OneTableLemmas.{scan_begins, scan_is_permitted, scan_n
 use Rattle.meaning.proofs.TypedLemmas.{Permits-typed}
 use Rattle.schema.specs.ColumnTypes.{column_types, types_of}
 use Rattle.schema.specs.TableData.{ColumnData, TableData, schema_table}
-use Rattle.integrity.specs.Denotes.{Denotes, IsStoredTable}
+use Rattle.integrity.specs.Denotes.{Denotes}
+use Rattle.table_walk.specs.Checked.{IsStoredTable}
 use Rattle.stored_rows.specs.Stored.{Fits, FitsColumn, IsStored}
 use Rattle.integrity.proofs.DenotesLemmas.{HasDatabase, IsStoredAs, database_of}
 use Rattle.resolver.specs.Resolved.{ResolvedData, query_of}
 use Rattle.shell.specs.Answer.{IsOutsideFault, IsRunFault, PrintsAnswer, PrintsBeginning}
-use Rattle.integrity.specs.Walked.{IsCheckFault}
+use Rattle.integrity.specs.Checked.{IsCheckFault}
 use Rattle.pager.specs.Calls.{IsOpenFault, IsReadFault}
 use Rattle.shell.specs.State.{EngineState, IsOpeningFault, IsReady}
 use Rattle.shell.specs.Run.{HasRun, HasStopped, TookFew}

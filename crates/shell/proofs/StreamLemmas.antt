@@ -21,7 +21,7 @@ use Rattle.cursor.specs.Listing.{IsAt, IsEntry}
 use Rattle.cursor.proofs.RestLemmas.{standing_asked}
 use Rattle.values.specs.Row.{Row}
 use Rattle.schema.specs.TableData.{TableData}
-use Rattle.integrity.specs.Denotes.{IsStoredTable}
+use Rattle.table_walk.specs.Checked.{IsStoredTable}
 use Rattle.stored_rows.specs.Stored.{IsRowOf, StoresRow}
 use Rattle.explain.specs.Text.{row_text, rows_text}
 use Rattle.shell.specs.Stream.{AsksFew, IsUnchained, Streams, StreamsUntil, cells_of, shown, size_of}

@@ -4,7 +4,7 @@ use Rattle.values.specs.Sink.{SinkFacts}
 use Rattle.values.specs.declared.fault.Fault.{Fault}
 use Rattle.image.specs.Pages.{Pages, pages_of}
 use Rattle.schema.specs.TableData.{TableData}
-use Rattle.integrity.specs.Denotes.{IsStoredTable}
+use Rattle.table_walk.specs.Checked.{IsStoredTable}
 use Rattle.resolver.specs.Resolved.{ResolvedData, query_of}
 use Rattle.shell.specs.declared.engine.Report.{Report}
 use Rattle.shell.specs.Answer.{IsRunFault, PrintsAnswer, PrintsBeginning}

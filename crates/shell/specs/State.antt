@@ -9,9 +9,8 @@ use Rattle.image.specs.Pages.{pages_of}
 use Rattle.meaning.specs.Typed.{IsTyped}
 use Rattle.schema.specs.ColumnTypes.{column_types}
 use Rattle.schema.specs.TableData.{TableData}
-use Rattle.integrity.specs.Checked.{IsBrokenImage, IsCheckCause, IsExamined}
+use Rattle.integrity.specs.Checked.{IsBrokenImage, IsCheckCause, IsExamined, IsCheckFault}
 use Rattle.integrity.specs.Denotes.{HasTables}
-use Rattle.integrity.specs.Walked.{IsCheckFault}
 use Rattle.resolver.specs.Resolved.{ResolvedData, query_of}
 
 pub record EngineState : Type 0 where

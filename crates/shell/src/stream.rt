@@ -11,7 +11,7 @@ ghost use Rattle.image.specs.Pages.{WhereSteady};
 ghost use Rattle.btree.specs.Views.{cell_data, payload_data};
 ghost use Rattle.values.specs.Row.{Row};
 ghost use Rattle.explain.specs.Text.{row_text};
-ghost use Rattle.integrity.specs.Denotes.{IsStoredTable};
+ghost use Rattle.table_walk.specs.Checked.{IsStoredTable};
 ghost use Rattle.stored_rows.specs.Stored.{IsRowOf, IsRowRecord};
 ghost use Rattle.shell.specs.Stream.{AsksFew, Streams, StreamsUntil, shown};
 

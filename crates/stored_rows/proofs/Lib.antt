@@ -5,3 +5,4 @@ pub mod KeyLemmas
 pub mod ReadingLemmas
 pub mod KindLemmas
 pub mod LinkLemmas
+pub mod OneLemmas

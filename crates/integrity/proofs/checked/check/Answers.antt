@@ -11,7 +11,7 @@ use Rattle.page_use.proofs.FrontLemmas.{front_is}
 use Rattle.btree.proofs.SeenLemmas.{still_steady, same_pages}
 use Rattle.catalog.specs.CatalogView.{catalog_data}
 use Rattle.schema.specs.TableData.{TableData}
-use Rattle.integrity.specs.Checked.{IsCheckedTree}
+use Rattle.table_walk.specs.Checked.{IsCheckedTree}
 use Rattle.integrity.specs.Used.{AreTreesTwice, MarksTrees}
 use Rattle.stored_rows.specs.RowFaults.{IsBrokenTable}
 use Rattle.integrity.proofs.CheckedLemmas.{broken_table, has_index, has_tables, refused_here, refused_only, refused_rows, use_only, walk_only}

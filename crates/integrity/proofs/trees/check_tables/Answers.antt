@@ -3,9 +3,8 @@ use Rattle.std.proofs.lemmas.Result.{err_from_is_err_and}
 use Rattle.pager.proofs.CallLemmas.{SameImage-trans}
 use Rattle.image.specs.Pages.{pages_seen, Pages}
 use Rattle.btree.proofs.SeenLemmas.{still_steady, same_pages}
-use Rattle.integrity.specs.Checked.{IsCheckedTree}
+use Rattle.table_walk.specs.Checked.{IsCheckedTree, tree_of}
 use Rattle.tree_walk.specs.Used.{IsTreeTwice, MarksTree}
-use Rattle.integrity.specs.Used.{tree_of}
 use Rattle.integrity.proofs.TreesLemmas.{next_twice, trees_all, trees_more, trees_none}
 use Rattle.stored_rows.specs.RowFaults.{IsBrokenTable}
 use Rattle.stored_rows.proofs.RowLemmas.{all_next, get_at}

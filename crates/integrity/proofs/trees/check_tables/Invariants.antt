@@ -2,7 +2,7 @@ use Rattle.image.specs.Pages.{pages_seen}
 use Rattle.std.proofs.Common.{◌≡◌, IsTrue, take}
 use Rattle.std.specs.List.{AllZip}
 use Rattle.pager.specs.Calls.{SameImage}
-use Rattle.integrity.specs.Checked.{IsCheckedTree}
+use Rattle.table_walk.specs.Checked.{IsCheckedTree}
 use Rattle.integrity.proofs.TreesLemmas.{MarksTreesBefore}
 use Rattle.integrity.proofs.trees.check_tables.Given as goal
 

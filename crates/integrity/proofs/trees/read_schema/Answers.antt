@@ -3,12 +3,12 @@ use Rattle.std.proofs.lemmas.Result.{err_from_is_err_and}
 use Rattle.image.specs.Pages.{pages_seen}
 use Rattle.btree.proofs.SeenLemmas.{still_steady}
 use Rattle.schema.specs.TableData.{TableData, schema_table}
-use Rattle.integrity.specs.Checked.{IsCheckedTree, schema}
+use Rattle.table_walk.specs.Checked.{IsCheckedTree, tree_of}
+use Rattle.integrity.specs.Checked.{schema}
 use Rattle.tree_walk.specs.Used.{IsTreeTwice, MarksTree}
-use Rattle.integrity.specs.Used.{tree_of}
 use Rattle.stored_rows.specs.RowFaults.{IsBrokenTable}
 use Rattle.stored_rows.specs.Stored.{HoldsRows}
-use Rattle.integrity.proofs.GatherLemmas.{rows_held, still_stored}
+use Rattle.table_walk.proofs.GatherLemmas.{rows_held, still_stored}
 use Rattle.integrity.proofs.trees.read_schema.Goals as goal
 
 pub returns-in_err-check_table-clause-fault : goal.returns-in_err-check_table-clause-fault

@@ -1,31 +1,28 @@
 -- The steps of a walk.
-use Rattle.std.proofs.Common.{◌≡◌, ◌≢◌, ℕ, ℤ, zero, suc, ◌+◌, ◌<◌, ◌≤◌, List, length, Option, Some, None, inl, inr, refl, sym, ◌∙◌, ap, subst, ⊎_elim, arith, add-one, below_more}
+use Rattle.std.proofs.Common.{◌≡◌, ◌≢◌, ℕ, ℤ, zero, suc, ◌+◌, ◌<◌, ◌≤◌, List, length, Option, Some, None, inl, inr, refl, sym, ◌∙◌, ap, subst, ⊎_elim, arith, add-one, below_more, take, length-take, ◌*◌}
 use Rattle.std.proofs.lemmas.Bool.{cases_lt}
 use Rattle.values.specs.declared.fault.Fault.{Fault}
 use Rattle.values.specs.declared.fault.Fault.TheVariants.{BadPage, BadDepth}
 use Rattle.image.specs.declared.kind.TreeKind.TheVariants.{Table}
 use Rattle.image.specs.declared.kind.Level.{Level}
 use Rattle.image.specs.declared.kind.Level.TheVariants.{Leaf, Interior}
-use Rattle.image.specs.Layout.{header_at, cell_count, child}
+use Rattle.image.specs.Layout.{header_at, cell_count, child, HasHeaderAt}
 use Rattle.image.specs.Pages.{pages_seen, Pages, IsNumber}
 use Rattle.image.specs.Tree.{IsPageOf, IsChild, IsUnder, StandsAt, top, below, Reaches, child_at, count_at}
-use Rattle.image.specs.Shape.{places_under}
+use Rattle.image.specs.Shape.{places_under, place_at}
 use Rattle.image.specs.Broken.{HasRowid, IsSound, IsBroken}
 use Rattle.image.proofs.ShapeLemmas.{one_level}
-use Rattle.image.specs.Layout.{HasHeaderAt}
 use Rattle.btree.specs.Bytes.{IsDividerCell}
 use Rattle.stored_rows.specs.Keys.{IsHead, IsHeadFault, IsSeen, KeysFit, HasCells}
-use Rattle.integrity.specs.Walked.{IsLowAt, IsHighAt, IsTree, IsBranch, StandsWithin}
-use Rattle.std.proofs.Common.{take, length-take, ◌*◌}
+use Rattle.table_walk.specs.Walked.{IsLowAt, IsHighAt, IsTree, IsBranch, StandsWithin}
 use Rattle.std.proofs.lemmas.List.FromFn.{length-map-range_with_len}
 use Rattle.pager.specs.declared.header.Header.{Header}
 use Rattle.pager.specs.Page.{page_of}
 use Rattle.pager.specs.PagerState.{PagerState, IsSoundHeader}
-use Rattle.image.specs.Shape.{place_at}
 use Rattle.btree.specs.ViewData.{ViewData}
 use Rattle.btree.proofs.SeenLemmas.{readable}
 use Rattle.tree_walk.specs.Counts.{AreCounts}
-use Rattle.integrity.proofs.HeadLemmas.{is_page, fit_here, no_header, head_fault}
+use Rattle.table_walk.proofs.HeadLemmas.{is_page, fit_here, no_header, head_fault}
 
 module _ (pages : Pages) (root : ℕ) where
   pub start_met : IsNumber pages root → StandsWithin pages root 1 None None root

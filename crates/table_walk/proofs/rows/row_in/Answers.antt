@@ -6,7 +6,7 @@ use Rattle.values.specs.Datum.{Datum}
 use Rattle.btree.specs.Views.{cell_data}
 use Rattle.stored_rows.specs.Stored.{IsRowOf}
 use Rattle.stored_rows.proofs.CellLemmas.{record_breaks, row_is}
-use Rattle.integrity.proofs.trees.row_in.Goals as goal
+use Rattle.table_walk.proofs.rows.row_in.Goals as goal
 
 pub returns-in_err-view-clause-fault : goal.returns-in_err-view-clause-fault
 returns-in_err-view-clause-fault g c = λ steady.

@@ -8,15 +8,14 @@ ghost use Rattle.pager.specs.Calls.{IsReadFault, ReadsPages};
 ghost use Rattle.pager.specs.PagerState.{IsPageNumber};
 ghost use Rattle.btree.specs.Bytes.{IsDividerCell};
 ghost use Rattle.image.specs.Pages.{WhereSteady};
-ghost use Rattle.integrity.specs.Checked.{HasCheckedTable, IsTableFault};
+ghost use Rattle.table_walk.specs.Checked.{HasCheckedTable, IsTableFault, tree_of};
 ghost use Rattle.stored_rows.specs.Keys.{HasCells, HasKeyAt};
 ghost use Rattle.stored_rows.specs.RowFaults.{IsBrokenTable};
 ghost use Rattle.stored_rows.specs.Stored.{HoldsRow};
 ghost use Rattle.stored_rows.specs.Links.{table_tree};
 ghost use Rattle.tree_walk.specs.Counts.{AreCounts};
 ghost use Rattle.tree_walk.specs.Used.{IsUnderTwice, MarksTree, MarksUnder};
-ghost use Rattle.integrity.specs.Used.{tree_of};
-ghost use Rattle.integrity.specs.Walked.{StandsWithin, IsTree, IsWalkFault};
+ghost use Rattle.table_walk.specs.Walked.{StandsWithin, IsTree, IsWalkFault};
 
 use btree::{PageView, view_of};
 use image::{Level, MOST_LEVELS};
@@ -121,7 +120,7 @@ fn walk<S: Source>(
 /// Checks the tree of a table that has this root, with its rows, counts what it has, and gives its pages and their chains
 /// their marks. Its faults are `ReadFailed`, `NoMemory`, the conditions of a tree and of its cells that are broken, and
 /// `PageUse` of a page that has its mark. (Database File Format, section 1.6 "B-tree Pages")
-pub(crate) fn check_table<S: Source>(
+pub fn check_table<S: Source>(
     alloc: Global,
     pager: &mut Pager<S>,
     table: &Table,

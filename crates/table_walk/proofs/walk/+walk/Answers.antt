@@ -17,18 +17,17 @@ use Rattle.stored_rows.specs.Links.{IsRowTwice, MarksRows, table_tree}
 use Rattle.stored_rows.specs.RowFaults.{AreRowsIn, IsBrokenTable, IsLeafFault}
 use Rattle.stored_rows.specs.Stored.{HoldsRow}
 use Rattle.stored_rows.proofs.LinkLemmas.{no_links_in}
-use Rattle.integrity.proofs.HeldLemmas.{held_leaf, held_more, held_under, leaf_fault}
-use Rattle.integrity.proofs.WalkLemmas.{see, seen_child}
+use Rattle.table_walk.proofs.HeldLemmas.{held_leaf, held_more, held_under, leaf_fault}
+use Rattle.table_walk.proofs.WalkLemmas.{see, seen_child, broken_header, broken_head, leaf_tree, leaf_counts, inner, broken_child, step_met, step_branch, step_under, here_within, uneven, more_branches, end_is, inner_tree}
 use Rattle.btree.proofs.SeenLemmas.{still_steady, same_pages}
 use Rattle.tree_walk.specs.Counts.{AreCounts, counted}
 use Rattle.tree_walk.specs.Used.{IsUnderTwice, MarksUnder}
-use Rattle.integrity.specs.Walked.{StandsWithin, IsTree}
-use Rattle.integrity.proofs.WalkLemmas.{broken_header, broken_head, leaf_tree, leaf_counts, inner, broken_child, step_met, step_branch, step_under, here_within, uneven, more_branches, end_is, inner_tree}
-use Rattle.integrity.proofs.UsedLemmas.{child_twice, children_all, children_more, children_none, leaf_linked, leaf_plain, row_twice}
+use Rattle.table_walk.specs.Walked.{StandsWithin, IsTree}
+use Rattle.table_walk.proofs.UsedLemmas.{child_twice, children_all, children_more, children_none, leaf_linked, leaf_plain, row_twice}
 use Rattle.tree_walk.proofs.UsedLemmas.{marked_twice}
-use Rattle.integrity.proofs.BoundLemmas.{has_child}
+use Rattle.table_walk.proofs.BoundLemmas.{has_child}
 use Rattle.tree_walk.proofs.CountLemmas.{cells_all, cells_step, size_all, size_step}
-use Rattle.integrity.proofs.walk.+walk.Goals as goal
+use Rattle.table_walk.proofs.walk.+walk.Goals as goal
 
 pub returns-in_default-clause-fault : goal.returns-in_default-clause-fault
 returns-in_default-clause-fault g t c = λ steady.

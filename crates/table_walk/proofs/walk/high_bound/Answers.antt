@@ -1,5 +1,5 @@
-use Rattle.integrity.proofs.BoundLemmas.{divider_is}
-use Rattle.integrity.proofs.walk.high_bound.Goals as goal
+use Rattle.table_walk.proofs.BoundLemmas.{divider_is}
+use Rattle.table_walk.proofs.walk.high_bound.Goals as goal
 
 pub returns-then-i-from-clause-inner : goal.returns-then-i-from-clause-inner
 returns-then-i-from-clause-inner c = λ most cells within.

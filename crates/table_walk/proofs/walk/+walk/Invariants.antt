@@ -6,9 +6,9 @@ use Rattle.image.specs.Shape.{places_under}
 use Rattle.image.specs.Tree.{child_at}
 use Rattle.stored_rows.specs.Stored.{HoldsRow}
 use Rattle.tree_walk.specs.Counts.{cells_before, counted, size_before}
-use Rattle.integrity.specs.Walked.{IsBranch}
-use Rattle.integrity.proofs.UsedLemmas.{AreChildrenWalked}
-use Rattle.integrity.proofs.walk.+walk.Given as goal
+use Rattle.table_walk.specs.Walked.{IsBranch}
+use Rattle.table_walk.proofs.UsedLemmas.{AreChildrenWalked}
+use Rattle.table_walk.proofs.walk.+walk.Given as goal
 
 abbrev pub decreases-walk : goal.decreases-walk
 decreases-walk g l = 21 - l.depth

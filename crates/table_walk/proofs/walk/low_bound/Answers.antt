@@ -1,8 +1,8 @@
 use Rattle.std.proofs.Common.{◌≡◌, ◌-◌, ◌<◌, ℕ, ℤ, Some, arith, subst}
 use Rattle.btree.specs.Bytes.{IsDividerCell}
 use Rattle.image.specs.Layout.{cell_count}
-use Rattle.integrity.proofs.BoundLemmas.{divider_is}
-use Rattle.integrity.proofs.walk.low_bound.Goals as goal
+use Rattle.table_walk.proofs.BoundLemmas.{divider_is}
+use Rattle.table_walk.proofs.walk.low_bound.Goals as goal
 
 pub returns-else-i-eq0-clause-inner : goal.returns-else-i-eq0-clause-inner
 returns-else-i-eq0-clause-inner c = λ most n cells is.

@@ -1,7 +1,7 @@
 -- What a walk from a page down knows of it, and what it is told.
 use Rattle.std.specs.Prelude.{◌≡◌, ◌≢◌, ℕ, ℤ, zero, suc, ◌+◌, ◌<◌, ◌≤◌, Option, Some}
 use Rattle.values.specs.declared.fault.Fault.{Fault}
-use Rattle.values.specs.declared.fault.Fault.TheVariants.{BadPage, PageUse, BadFreelist, BadOrder, BadDepth, SchemaRow, SchemaText, UnsupportedObject, NotYet}
+use Rattle.values.specs.declared.fault.Fault.TheVariants.{BadPage, BadOrder, BadDepth}
 use Rattle.image.specs.declared.kind.TreeKind.TheVariants.{Table}
 use Rattle.image.specs.declared.kind.Level.TheVariants.{Leaf, Interior}
 use Rattle.image.specs.Pages.{Pages, IsNumber}
@@ -52,13 +52,3 @@ IsWalkFault (BadPage _) = Unit {0}
 IsWalkFault (BadOrder _) = Unit {0}
 IsWalkFault (BadDepth _) = Unit {0}
 IsWalkFault fault = IsRowFault fault
-
--- and those of the check of an image
-abbrev pub IsCheckFault : Fault → Type 0
-IsCheckFault NotYet = Unit {0}
-IsCheckFault (PageUse _) = Unit {0}
-IsCheckFault BadFreelist = Unit {0}
-IsCheckFault SchemaRow = Unit {0}
-IsCheckFault (SchemaText _) = Unit {0}
-IsCheckFault (UnsupportedObject _) = Unit {0}
-IsCheckFault fault = IsWalkFault fault

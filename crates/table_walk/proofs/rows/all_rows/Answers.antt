@@ -1,7 +1,7 @@
 use Rattle.std.proofs.lemmas.Result.{err_from_is_err_and}
 use Rattle.image.specs.declared.kind.TreeKind.TheVariants.{Table}
-use Rattle.integrity.proofs.GatherLemmas.{Gathering-cut, Gathering-done, Gathering-never, Gathering-next, Gathering-stopped}
-use Rattle.integrity.proofs.trees.all_rows.Goals as goal
+use Rattle.table_walk.proofs.GatherLemmas.{Gathering-cut, Gathering-done, Gathering-never, Gathering-next, Gathering-stopped}
+use Rattle.table_walk.proofs.rows.all_rows.Goals as goal
 
 pub returns-in_default-clause-rows : goal.returns-in_default-clause-rows
 returns-in_default-clause-rows g c = λ steady stored.

@@ -6,15 +6,14 @@ use Rattle.image.specs.declared.kind.TreeKind.TheVariants.{Table}
 use Rattle.image.specs.declared.kind.Level.{Level}
 use Rattle.image.specs.declared.kind.Level.TheVariants.{Leaf, Interior}
 use Rattle.image.specs.Cell.{IsTableCell}
-use Rattle.image.specs.Layout.{header_at, cell_count, cell_place, places_end}
+use Rattle.image.specs.Layout.{header_at, cell_count, cell_place, places_end, HasHeaderAt}
 use Rattle.image.specs.Pages.{Pages}
 use Rattle.image.specs.Tree.{HasCell, IsPageOf, IsUnder, Reaches, cell_at, count_at}
 use Rattle.image.specs.Broken.{HasRowid, IsSound, IsRowOrder, IsBroken}
 use Rattle.image.proofs.RowidLemmas.{one_rowid}
 use Rattle.btree.proofs.PageLemmas.{flag_of-same}
-use Rattle.image.specs.Layout.{HasHeaderAt}
 use Rattle.stored_rows.specs.Keys.{IsAbove, IsAtMost, HasKeyAt, HasCells, KeysFit, IsHeadFault}
-use Rattle.integrity.specs.Walked.{StandsWithin}
+use Rattle.table_walk.specs.Walked.{StandsWithin}
 
 module _ (pages : Pages) (n : ℕ) (long : length (pages.page n) ≡ pages.usable) where
   cell_here : (level : Level) (i : ℕ) (key : ℤ) → HasKeyAt (header_at n) pages.size (pages.page n) level i key

@@ -7,12 +7,12 @@ use Rattle.stored_rows.specs.Stored.{HoldsRow}
 use Rattle.stored_rows.specs.Links.{table_tree}
 use Rattle.tree_walk.specs.Counts.{AreCounts}
 use Rattle.tree_walk.specs.Used.{IsUnderTwice, MarksUnder}
-use Rattle.integrity.specs.Used.{tree_of}
-use Rattle.integrity.specs.Walked.{StandsWithin, IsTree}
-use Rattle.integrity.proofs.TreeLemmas.{root_shape, sound_table}
+use Rattle.table_walk.specs.Checked.{tree_of}
+use Rattle.table_walk.specs.Walked.{StandsWithin, IsTree}
+use Rattle.table_walk.proofs.TreeLemmas.{root_shape, sound_table}
 use Rattle.tree_walk.proofs.UsedLemmas.{tree_gone, tree_twice}
-use Rattle.integrity.proofs.WalkLemmas.{start_met}
-use Rattle.integrity.proofs.walk.check_table.Goals as goal
+use Rattle.table_walk.proofs.WalkLemmas.{start_met}
+use Rattle.table_walk.proofs.walk.check_table.Goals as goal
 
 pub walk-requires-clause-met : goal.walk-requires-clause-met
 walk-requires-clause-met g c = λ steady.

@@ -20,13 +20,12 @@ use Rattle.cursor.specs.Left.{all_left, steps_left}
 use Rattle.cursor.specs.Listing.{IsAt, IsEntry}
 use Rattle.schema.specs.TableData.{TableData}
 use Rattle.tree_walk.specs.declared.counts.TreeCounts.{TreeCounts}
-use Rattle.integrity.specs.Checked.{IsCheckedTree}
-use Rattle.integrity.specs.Denotes.{IsStoredTable}
+use Rattle.table_walk.specs.Checked.{IsCheckedTree, IsStoredTable}
 use Rattle.stored_rows.specs.RowFaults.{IsCellFault, IsRowFault}
 use Rattle.stored_rows.specs.Stored.{Fits, HoldsRows, IsRowOf, StoresRow}
-use Rattle.integrity.specs.Walked.{IsWalkFault}
-use Rattle.integrity.proofs.CheckedLemmas.{stored_table}
-use Rattle.integrity.proofs.UnbrokenLemmas.{one_row, unbroken_cell}
+use Rattle.table_walk.specs.Walked.{IsWalkFault}
+use Rattle.table_walk.proofs.CheckedLemmas.{stored_table}
+use Rattle.stored_rows.proofs.OneLemmas.{one_row, unbroken_cell}
 
 -- the cells of a stored table hold its rows
 pub holds_rows : (pages : Pages) (table : TableData) (stored : IsStoredTable pages table) → HoldsRows pages table stored.rows
