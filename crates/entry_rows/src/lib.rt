@@ -9,4 +9,4 @@ mod lookup;
 mod rows;
 
 pub use lookup::has_entry;
-pub use rows::all_entries;
+pub use rows::{all_entries, entry_row};

@@ -1,12 +1,12 @@
 //! Whether an index has an entry.
-ghost use Rattle.std.specs.Prelude.{◌↔◌, ℕ, Contains, IsTrue, List, MatchResult, map};
+ghost use Rattle.std.specs.Prelude.{◌↔◌, ℕ, Contains, IfErr, IsTrue, List, MatchResult, map};
 ghost use Rattle.values.specs.Datum.{Datum};
 ghost use Rattle.pager.specs.Calls.{IsReadFault, ReadsPages};
 ghost use Rattle.image.specs.declared.kind.TreeKind.TheVariants.{Index};
 ghost use Rattle.image.specs.Pages.{WhereSteady};
 ghost use Rattle.image.specs.Shape.{places_under};
 ghost use Rattle.image.specs.Tree.{Place};
-ghost use Rattle.cursor.specs.Search.{IsSearchableIndex};
+ghost use Rattle.cursor.specs.Search.{IsIndexFault, IsSearchableIndex};
 
 use crate::rows::entry_row;
 use cursor::Cursor;
@@ -17,8 +17,7 @@ use std::alloc::Global;
 use values::{Fault, Row};
 
 /// Whether the index that has this root, and whose columns descend where that is told, has an entry with these values. Its
-/// faults are those of `Cursor::seek_entry`, and `BadChain`, `BadRecord`, `FloatValue` and `BadText` where the entry that the
-/// search leads to can't be read.
+/// faults are those of `Cursor::seek_entry`, also where the entry that the search leads to can't be read.
 pub fn has_entry<'k, S: Source>(
     alloc: Global,
     pager: &mut Pager<S>,
@@ -29,6 +28,7 @@ pub fn has_entry<'k, S: Source>(
     ensures found { WhereSteady pager.old.state (λ pages. (values : Place → List Datum) (levels : ℕ)
         → IsSearchableIndex pages descends.now values levels root
         → MatchResult result (λ found. IsTrue found ↔ Contains (map values (places_under pages Index levels root)) wanted.now) IsReadFault) }
+    ensures only { IfErr result (IsIndexFault root) }
     ensures reads { ReadsPages result pager.old.state pager.new.state }
 {
     let key = IndexKey {
@@ -40,10 +40,14 @@ pub fn has_entry<'k, S: Source>(
         },
     };
     let cursor = Cursor::seek_entry(alloc, pager, root, &key)?;
-    let Some(cell) = cursor.entry()? else {
+    // The search has read the page that it leads to, and each of its cells is there unless the source has changed.
+    let Ok(found) = cursor.entry() else {
+        return Err(Fault::BadPage(root));
+    };
+    let Some(cell) = found else {
         return Ok(false);
     };
-    let page = cursor.page().ok_or(Fault::Finished)?;
+    let page = cursor.page().unwrap_or(root);
     let row = entry_row(alloc, pager, &cell, page)?;
     Ok(row == *wanted)
 }

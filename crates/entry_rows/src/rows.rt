@@ -7,7 +7,7 @@ ghost use Rattle.image.specs.Pages.{WhereSteady};
 ghost use Rattle.image.specs.Shape.{size_under};
 ghost use Rattle.image.specs.Tree.{Place};
 ghost use Rattle.btree.specs.Views.{cell_data};
-ghost use Rattle.index_entries.specs.Entries.{BreaksRecord, HasRecord};
+ghost use Rattle.index_entries.specs.Entries.{BreaksRecord, HasRecord, IsCompareFault};
 ghost use Rattle.cursor.specs.Search.{IsSearchableIndex};
 ghost use Rattle.entry_rows.specs.Rows.{AreEntryRows};
 
@@ -37,7 +37,9 @@ fn row_of(alloc: Global, stored: &RecordView<'_>) -> Result<Row, AllocError>
 fn record_row(alloc: Global, bytes: &[u8], n: u32) -> Result<Row, Fault>
     ensures row { (values : List Datum) → IsRecord bytes.now values
         → MatchResult result (λ row. row ≡ values) (λ e. e ≡ Fault.NoMemory) }
+    ensures is { IfOk result (IsRecord bytes.now) }
     ensures broken { IfErr result (BreaksRecord bytes.now n) }
+    ensures only { IfErr result (IsCompareFault n) }
 {
     match RecordView::read(alloc, bytes) {
         Ok(stored) => Ok(row_of(alloc, &stored)?),
@@ -47,7 +49,7 @@ fn record_row(alloc: Global, bytes: &[u8], n: u32) -> Result<Row, Fault>
 
 /// The row of the values of an entry of page `n`. Its faults are those of reading, and `BadChain`, `BadRecord`, `FloatValue`
 /// and `BadText` where the entry can't be read.
-pub(crate) fn entry_row<S: Source>(
+pub fn entry_row<S: Source>(
     alloc: Global,
     pager: &mut Pager<S>,
     cell: &Cell<'_>,
@@ -55,6 +57,8 @@ pub(crate) fn entry_row<S: Source>(
 ) -> Result<Row, Fault>
     ensures row { WhereSteady pager.old.state (λ pages. (values : List Datum) → HasRecord pages (cell_data cell.now) values
         → MatchResult result (λ row. row ≡ values) IsReadFault) }
+    ensures is { WhereSteady pager.old.state (λ pages. IfOk result (HasRecord pages (cell_data cell.now))) }
+    ensures only { IfErr result (IsCompareFault n) }
     ensures reads { ReadsChainPages result pager.old.state pager.new.state }
 {
     let Some(bytes) = payload(alloc, pager, cell)? else {

@@ -20,15 +20,15 @@ returns-in_err-cursor-clause-found g c = λ steady values levels index.
     let p = err_from_is_err_and c.from_residual.result c.from_residual.ensures.1 in
     rw (p.1, p.2) (c.in_err-cursor.ensures.outcome.sound steady levels values index)
 
-pub returns-in_err-cell-clause-found : goal.returns-in_err-cell-clause-found
-returns-in_err-cell-clause-found g c = λ steady values levels index.
-    let s = (c.in_ok-cursor.ensures.outcome.seeks steady levels values index).0 in
-    absurd (c.in_err-cell.ensures.entry _ Index levels s.rest _ _ s.leads)
-
 pub returns-in_default-clause-found : goal.returns-in_default-clause-found
 returns-in_default-clause-found g c = λ steady values levels index.
     let s = (c.in_ok-cursor.ensures.outcome.seeks steady levels values index).0 in
-    let none = ended _ s.rest ((rw c.in_default.is at c.in_ok-cell.ensures.entry) _ Index levels s.rest _ _ s.leads) in
+    absurd (c.in_default.ensures.entry _ Index levels s.rest _ _ s.leads)
+
+pub returns-in_default-found-clause-found : goal.returns-in_default-found-clause-found
+returns-in_default-found-clause-found g c = λ steady values levels index.
+    let s = (c.in_ok-cursor.ensures.outcome.seeks steady levels values index).0 in
+    let none = ended _ s.rest ((rw c.in_default-found.is at c.in-Ok.ensures.entry) _ Index levels s.rest _ _ s.leads) in
     let key_is = λ (place : Place). ap (λ (k : Row). is_gt (key_cmp c.args.descends.now k (values place))) (append-nil _ ∙ c.as_slice.ensures) in (
       λ t. absurd (let f : false ≡ true = t in cc),
       λ h. absurd (none_left (pages_seen c.args.pager.now.state) c.args.descends.now values levels c.args.root index c.args.wanted.now _ key_is s.front s.rest s.split none h),
@@ -37,7 +37,7 @@ returns-in_default-clause-found g c = λ steady values levels index.
 pub returns-in_err-row-clause-found : goal.returns-in_err-row-clause-found
 returns-in_err-row-clause-found g c = λ steady values levels index.
     let s = (c.in_ok-cursor.ensures.outcome.seeks steady levels values index).0 in
-    let first = begins _ s.rest _ ((rw c.in-Some.is at c.in_ok-cell.ensures.entry) _ Index levels s.rest _ _ s.leads) in
+    let first = begins _ s.rest _ ((rw c.in-Some.is at c.in-Ok.ensures.entry) _ Index levels s.rest _ _ s.leads) in
     let stays = c.in_ok-cursor.ensures.reads.image in
     let key_is = λ (place : Place). ap (λ (k : Row). is_gt (key_cmp c.args.descends.now k (values place))) (append-nil _ ∙ c.as_slice.ensures) in
     let p = err_from_is_err_and c.from_residual-in_err-row.result c.from_residual-in_err-row.ensures.1 in
@@ -49,7 +49,7 @@ returns-in_err-row-clause-found g c = λ steady values levels index.
 pub returns-clause-found : goal.returns-clause-found
 returns-clause-found g c = λ steady values levels index.
     let s = (c.in_ok-cursor.ensures.outcome.seeks steady levels values index).0 in
-    let first = begins _ s.rest _ ((rw c.in-Some.is at c.in_ok-cell.ensures.entry) _ Index levels s.rest _ _ s.leads) in
+    let first = begins _ s.rest _ ((rw c.in-Some.is at c.in-Ok.ensures.entry) _ Index levels s.rest _ _ s.leads) in
     let stays = c.in_ok-cursor.ensures.reads.image in
     let key_is = λ (place : Place). ap (λ (k : Row). is_gt (key_cmp c.args.descends.now k (values place))) (append-nil _ ∙ c.as_slice.ensures) in
     let has = first_has (pages_seen c.args.pager.now.state) c.args.descends.now values levels c.args.root index c.args.wanted.now _ key_is s.front s.rest s.split

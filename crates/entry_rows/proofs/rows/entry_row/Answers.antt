@@ -1,9 +1,11 @@
 use Rattle.std.proofs.Common.{◌≡◌, inr, subst, List, ℕ}
-use Rattle.std.proofs.lemmas.Result.{MatchResult-weaker}
+use Rattle.std.proofs.lemmas.Result.{IfOk-weaker, MatchResult-weaker}
 use Rattle.std.specs.Cow.{cow_slice_items}
 use Rattle.records.specs.Record.{IsRecord}
 use Rattle.image.specs.Pages.{pages_seen}
 use Rattle.image.proofs.ChainLemmas.{one_payload}
+use Rattle.btree.specs.Views.{cell_data}
+use Rattle.index_entries.specs.Entries.{HasRecord}
 use Rattle.entry_rows.proofs.rows.entry_row.Goals as goal
 
 pub returns-in_default-clause-row : goal.returns-in_default-clause-row
@@ -17,3 +19,13 @@ returns-clause-row g c = λ steady values has.
     let found : has.bytes ≡ c.as_slice.result.now = cc in
     MatchResult-weaker c.record_row.result
     (c.record_row.ensures.row values (subst (λ (b : List ℕ). IsRecord b values) found has.record_is)) (λ row is. is) (λ e is. inr is)
+
+pub returns-clause-is : goal.returns-clause-is
+returns-clause-is g c = λ steady.
+    let found : c.as_slice.result.now ≡ cow_slice_items c.in-Some.bytes = cc in
+    IfOk-weaker c.record_row.result (IsRecord c.as_slice.result.now) (HasRecord (pages_seen c.args.pager.now.state) (cell_data c.args.cell.now))
+    (λ row is. record {
+      bytes = cow_slice_items c.in-Some.bytes;
+      whole = rw c.in-Some.is at (c.in_ok-bytes.ensures.outcome steady);
+      record_is = subst (λ (b : List ℕ). IsRecord b row) found is;
+    }) c.record_row.ensures.is
