@@ -1,0 +1,9 @@
+pub mod CountLemmas
+pub mod ListLemmas
+pub mod StandLemmas
+pub mod EntryLemmas
+pub mod RowLemmas
+pub mod LookLemmas
+pub mod CompareLemmas
+pub mod AgreeLemmas
+pub mod RepeatLemmas

@@ -1,0 +1,12 @@
+//! An index of a table.
+
+/// An index of a table with rowids. Each of its entries has the values of its columns, and behind them the rowid.
+#[derive(Clone, Copy, Debug)]
+pub struct TableIndex<'i> {
+    /// The number of the page at its root.
+    pub root: u32,
+    /// The places of its columns in the table.
+    pub places: &'i [usize],
+    /// Which of its columns descend; the rowid ascends.
+    pub descends: &'i [bool],
+}
