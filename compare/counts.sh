@@ -1,6 +1,6 @@
 #!/bin/sh
 # Has the sqlite3 program make files of STRICT tables at several page sizes, and compares what the check finds in them
-# with what sqlite3 says: the tables in their order, the rows of each, and the pages of all. Where sqlite3 has the table
+# with what sqlite3 says: the tables and then the indexes in their order, the rows of each, and the pages of all. Where sqlite3 has the table
 # dbstat, the pages and the levels of each tree are compared too. Page 1, the pages of the trees and the overflow pages
 # are all that aren't free. Only dbstat tells how many are overflow pages, so that without it the pages of all are
 # compared in those files alone that have none.
@@ -87,10 +87,21 @@ long_schema() {
     echo "INSERT INTO wide SELECT i, 'row ' || i FROM n;"
 }
 
+# Indexes of some levels, of columns that descend, and of texts that go on in overflow pages.
+long_indexes() {
+    echo "CREATE TABLE item(id INTEGER PRIMARY KEY, name TEXT NOT NULL, qty INT) STRICT;"
+    echo "CREATE INDEX by_qty ON item(qty DESC);"
+    echo "CREATE UNIQUE INDEX by_name ON item(name, id);"
+    numbers 3000
+    echo "INSERT INTO item SELECT i, replace(hex(zeroblob(i % 700)), '00', i % 10), nullif(i % 97, 0) FROM n;"
+    echo "DELETE FROM item WHERE id % 5 = 1;"
+}
+
 # said FILE KIND: what sqlite3 says: a line for each table, and how many pages are neither free nor overflow pages.
 said() {
-    sqlite3 "$1" "SELECT name FROM sqlite_schema ORDER BY rowid" | while read -r name; do
-        rows=$(sqlite3 "$1" "SELECT count(*) FROM \"$name\"")
+    objects="SELECT name, tbl_name FROM sqlite_schema ORDER BY type DESC, rowid"
+    sqlite3 "$1" "$objects" | while IFS='|' read -r name table; do
+        rows=$(sqlite3 "$1" "SELECT count(*) FROM \"$table\"")
         tree=
         # The path of a page in its tree, as /000/01c/, has a slash more than there are levels above it.
         if test "$words" -eq 4; then
@@ -120,7 +131,7 @@ found() {
     esac
 }
 
-for kind in many_rows several_tables far_rowids deleted_rows no_rows no_tables long_values long_schema; do
+for kind in many_rows several_tables far_rowids deleted_rows no_rows no_tables long_values long_schema long_indexes; do
     for size in $(sizes 512 1024 4096 8192 65536); do
         file="$folder/$kind.$size.db"
         { echo "PRAGMA page_size=$size;" && "$kind"; } | sqlite3 -bail "$file" >"$folder/made" 2>&1

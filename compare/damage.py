@@ -20,8 +20,9 @@ Damage = Callable[[bytearray, Random], str]
 
 # What opening and preparing may answer of a file whose header is sound.
 OPENING_FAULTS = {*range(11, 27), 29, 31, 32}
-# Faults of pages, trees and values that `PRAGMA integrity_check` finds too. It counts no values and reads no characters.
-SEEN_BY_SQLITE = {11, 12, 13, 15, 16, 18, 23}
+# Faults of pages, trees, values and entries that `PRAGMA integrity_check` finds too. It counts no values and reads no
+# characters.
+SEEN_BY_SQLITE = {11, 12, 13, 15, 16, 18, 23, 24, 25}
 # Where SQLite can't read a damaged file. A message with bytes of the damage may be none that Python can read.
 UNREADABLE = (sqlite3.Error, UnicodeDecodeError, MemoryError)
 
@@ -238,13 +239,27 @@ def with_chains(connection: sqlite3.Connection, rng: Random) -> None:
     connection.execute("DELETE FROM item WHERE c % 5 = 0")
 
 
+def with_indexes(connection: sqlite3.Connection, rng: Random) -> None:
+    """A table with indexes of some levels, one of which descends, has entries with overflow pages, or is unique."""
+    connection.execute("CREATE TABLE item(id INTEGER PRIMARY KEY, a INT, b TEXT NOT NULL) STRICT")
+    connection.execute("CREATE INDEX by_a ON item(a DESC)")
+    connection.execute("CREATE INDEX by_b ON item(b, a)")
+    connection.execute("CREATE UNIQUE INDEX by_id ON item(a, id)")
+    keys = rng.sample(range(2**60), 300)
+    fill(connection, "item", ((key, key >> rng.randint(0, 60), random_text(rng, rng.choice((20, 20, 300)))) for key in keys))
+    connection.execute("DELETE FROM item WHERE id % 5 = 0")
+
+
 def one_leaf(connection: sqlite3.Connection, rng: Random) -> None:
     """A few rows, so that most damages meet the schema or one leaf."""
     connection.execute("CREATE TABLE item(id INTEGER PRIMARY KEY, a TEXT, b BLOB, c INT NOT NULL) STRICT")
     fill(connection, "item", ((row, random_text(rng, 8), rng.randbytes(3), row * row) for row in range(6)))
 
 
-BASES = [(two_tables, 512), (with_chains, 512), (one_leaf, 512), (two_tables, 1024), (with_chains, 4096), (one_leaf, 65536)]
+BASES = [
+    *((two_tables, 512), (with_chains, 512), (one_leaf, 512), (with_indexes, 512), (two_tables, 1024), (with_chains, 4096)),
+    *((with_indexes, 2048), (one_leaf, 65536)),
+]
 
 
 def damaged(images: list[bytes], seed: str) -> tuple[bytes, str]:

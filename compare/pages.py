@@ -2,7 +2,9 @@
 
 from __future__ import annotations
 
+# The flags of the pages of a table and of an index.
 INTERIOR, LEAF = 5, 13
+INDEX_INTERIOR, INDEX_LEAF = 2, 10
 
 
 def number_at(image: bytes | bytearray, place: int, width: int) -> int:
@@ -37,19 +39,19 @@ def pages_of_kinds(image: bytes | bytearray, *kinds: int) -> list[int]:
 
 
 def tree_pages(image: bytes | bytearray) -> list[int]:
-    """The pages that look like those of a table's tree; page 1 where there is none."""
-    return pages_of_kinds(image, INTERIOR, LEAF) or [1]
+    """The pages that look like those of a tree; page 1 where there is none."""
+    return pages_of_kinds(image, INTERIOR, LEAF, INDEX_INTERIOR, INDEX_LEAF) or [1]
 
 
 def interior_pages(image: bytes | bytearray) -> list[int]:
-    """The pages that look like interior ones of a table's tree."""
-    return pages_of_kinds(image, INTERIOR)
+    """The pages that look like interior ones of a tree."""
+    return pages_of_kinds(image, INTERIOR, INDEX_INTERIOR)
 
 
 def cell_places(image: bytes | bytearray, page: int) -> list[int]:
     """Where a page says the places of its cells, as far as they lie in the page."""
     start = page_start(image, page)
-    first = start + (12 if image[start] == INTERIOR else 8)
+    first = start + (12 if image[start] in (INTERIOR, INDEX_INTERIOR) else 8)
     end = min(first + 2 * number_at(image, start + 3, 2), page * size_of_page(image) - 1)
     return list(range(first, end, 2))
 

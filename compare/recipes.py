@@ -144,6 +144,28 @@ def hundred_columns(connection: sqlite3.Connection, rng: Random) -> None:
     fill(connection, "wide", (tuple(random_value(rng, kind, 12) for kind in kinds) for _ in range(60)))
 
 
+def indexes(connection: sqlite3.Connection, rng: Random) -> None:
+    """Indexes of ascending and descending columns, of texts that go on in overflow pages, unique ones with NULLs, one on a
+    column that rows got later, one of a table without a column for its rowid, and an empty one; rows were deleted and
+    changed, and an index was dropped."""
+    connection.execute("CREATE TABLE i(id INTEGER PRIMARY KEY, a INT, b TEXT, c BLOB) STRICT")
+    for name, columns in (("by_a", "a"), ("by_b", "b DESC, a"), ("by_c", "c, b, a DESC"), ("by_key", "id"), ("dropped", "b")):
+        connection.execute(f"CREATE INDEX {name} ON i({columns})")
+    connection.execute("CREATE UNIQUE INDEX once ON i(a, id DESC)")
+    rows = ((random_int(rng), random_int(rng), random_text(rng, rng.choice((9, 9, 900))), rng.randbytes(3)) for _ in range(700))
+    fill(connection, "i", (tuple(None if rng.random() < 0.1 and place else one for place, one in enumerate(row)) for row in rows))
+    connection.execute("DELETE FROM i WHERE abs(id % 7) < 2")
+    connection.execute("UPDATE i SET b = b || 'x', a = a / 2 WHERE abs(id % 5) = 1")
+    connection.execute("DROP INDEX dropped")
+    connection.execute("ALTER TABLE i ADD COLUMN tag TEXT DEFAULT 'none'")
+    connection.execute("CREATE INDEX by_tag ON i(tag DESC, a)")
+    connection.execute("CREATE TABLE hidden(a INT, b TEXT) STRICT")
+    connection.execute("CREATE UNIQUE INDEX hidden_b ON hidden(b)")
+    fill(connection, "hidden", ((row % 9, None if row % 3 else f"row {row}") for row in range(200)))
+    connection.execute("CREATE TABLE empty(a INT) STRICT")
+    connection.execute("CREATE INDEX of_empty ON empty(a)")
+
+
 def many_tables(connection: sqlite3.Connection, rng: Random) -> None:
     """A hundred tables, whose schema has many leaves where a page is short."""
     for number in range(100):
@@ -210,6 +232,7 @@ RECIPES = [
     Recipe("vacuumed", vacuumed),
     Recipe("altered", altered),
     Recipe("triggered", triggered),
+    Recipe("indexes", indexes, (512, 1024, 4096, 65536)),
     Recipe("no_tables", no_tables, ALL_SIZES),
 ]
 

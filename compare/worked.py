@@ -14,6 +14,7 @@ from collections.abc import Iterator
 from pathlib import Path
 from random import Random
 
+from indexes import try_indexes
 from oracle import Reader
 from pages import INTERIOR, cell_places, number_at
 from program import TOP, Run, Tally, build, fault_line, refusal_problem, run
@@ -144,9 +145,8 @@ SCHEMA_ROWS: dict[bytes, list[tuple[Value, ...]]] = {
             )
         ),
     ],
-    # An index, whose tree isn't checked yet; and tables that want an index, or have no rowids.
+    # Partial indexes; and tables that want an index of their own, or have no rowids.
     fault_line(29): [
-        ("index", "i", "item", 2, INDEX),
         ("index", "I", "ITEM", 2, "CREATE UNIQUE INDEX i ON item(qty DESC, name) WHERE qty IS NOT NULL"),
         ("index", "i", "item", 2, "CREATE INDEX i ON item(qty) WHERE item.qty > -1 AND NOT name IN ('a') OR qty BETWEEN 1 AND 2"),
         *(
@@ -670,7 +670,7 @@ def main() -> int:
         trial = Trial(tally, Path(folder))
         for attempt in (
             *(try_answers, try_records, try_added_columns, try_schemas, try_many_leaves),
-            *(try_trees, try_chains, try_freelists, try_layouts, try_kept),
+            *(try_trees, try_chains, try_freelists, try_indexes, try_layouts, try_kept),
         ):
             attempt(trial)
     return tally.finish()

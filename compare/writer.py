@@ -7,7 +7,7 @@ import struct
 from collections.abc import Iterable
 from dataclasses import dataclass, field
 
-from pages import INTERIOR, LEAF, set_number
+from pages import INDEX_INTERIOR, INDEX_LEAF, INTERIOR, LEAF, set_number
 
 # The serial type of a value, and its bytes.
 Field = tuple[int, bytes]
@@ -54,7 +54,8 @@ def record(fields: Iterable[Field | Value]) -> bytes:
 
 @dataclass
 class Tree:
-    """Where the pages of a table stand: the levels from the root down, and the overflow pages of each row that has some."""
+    """Where the pages of a table or an index stand: the levels from the root down, and the overflow pages of each row or
+    entry that has some."""
 
     levels: list[list[int]]
     chains: list[list[int]] = field(default_factory=list)
@@ -108,10 +109,17 @@ class Writer:
 
     def cell(self, rowid: int, payload: bytes, chains: list[list[int]], least: int = 1) -> bytes:
         """The cell of a row. What the page doesn't keep of the payload goes on in overflow pages."""
-        most, fewest, room = self.usable - 35, (self.usable - 12) * 32 // 255 - 23, self.usable - 4
-        front = varint(len(payload), least) + varint(rowid, least)
+        return varint(len(payload), least) + varint(rowid, least) + self.kept(payload, self.usable - 35, chains)
+
+    def entry(self, payload: bytes, chains: list[list[int]]) -> bytes:
+        """The cell of an entry of an index."""
+        return varint(len(payload)) + self.kept(payload, (self.usable - 12) * 64 // 255 - 23, chains)
+
+    def kept(self, payload: bytes, most: int, chains: list[list[int]]) -> bytes:
+        """What a page keeps of a payload, at most so many bytes, and the first of the overflow pages, which are added."""
+        fewest, room = (self.usable - 12) * 32 // 255 - 23, self.usable - 4
         if len(payload) <= most:
-            return front + payload
+            return payload
         local = fewest + (len(payload) - fewest) % room
         local = local if local <= most else fewest
         rest = [payload[place : place + room] for place in range(local, len(payload), room)]
@@ -119,7 +127,7 @@ class Writer:
         for piece, after in zip(rest, [*numbers[1:], 0]):
             self.add(struct.pack(">I", after) + piece + bytes(room - len(piece) + self.reserved))
         chains.append(numbers)
-        return front + payload[:local] + struct.pack(">I", numbers[0])
+        return payload[:local] + struct.pack(">I", numbers[0])
 
     def table(
         self, name: str, sql: str, rows: list[tuple[int, bytes]], *, leaf: int = 1000, fan: int = 1000, least: int = 1
@@ -144,6 +152,29 @@ class Writer:
         cells = [struct.pack(">I", number) + varint(key, least) for number, key in children[:-1]]
         right, last = children[-1]
         return self.add(self.page(bytes([INTERIOR]) + struct.pack(">I", right), cells)), last
+
+    def index(self, name: str, table: str, sql: str, entries: list[bytes], *, leaf: int = 1000, fan: int = 1000) -> Tree:
+        """Adds an index of these entries, which are records in their order, so many on a leaf, and so many children under a
+        page. Between two pages one entry stands on the page above them."""
+        chains: list[list[int]] = []
+        cells = [self.entry(payload, chains) for payload in entries]
+        between = cells[leaf :: leaf + 1]
+        groups = [cells[place : place + leaf] for place in range(0, len(cells), leaf + 1)] or [[]]
+        assert len(between) == len(groups) - 1, "the last leaf has no entry"
+        level = [self.add(self.page(bytes([INDEX_LEAF]), group)) for group in groups]
+        levels = [level]
+        while len(level) > 1:
+            starts = range(0, len(level), fan)
+            groups = [self.entries_above(level[start : start + fan], between[start : start + fan - 1]) for start in starts]
+            level, between = groups, between[fan - 1 :: fan]
+            levels.insert(0, level)
+        self.object("index", name, table, levels[0][0], sql)
+        return Tree(levels, chains)
+
+    def entries_above(self, children: list[int], between: list[bytes]) -> int:
+        """Adds the page above some pages of an index, with the entries between them."""
+        cells = [struct.pack(">I", number) + cell for number, cell in zip(children, between)]
+        return self.add(self.page(bytes([INDEX_INTERIOR]) + struct.pack(">I", children[-1]), cells))
 
     def freelist(self, *counts: int) -> list[int]:
         """Adds a freelist of trunk pages that name so many pages each, which stand behind them, and tells the trunk pages."""

@@ -3,7 +3,7 @@ use Rattle.std.proofs.Common.{◌≡◌, ℕ, zero, suc, refl, All, Contains, Li
 use Rattle.std.specs.List.{AllZip}
 use Rattle.std.proofs.lemmas.List.Elements.{All-cons, All-nil}
 use Rattle.values.specs.declared.fault.Fault.{Fault}
-use Rattle.values.specs.declared.fault.Fault.TheVariants.{ReadFailed, NoMemory, PageUse, BadFreelist, SchemaRow, SchemaText, UnsupportedObject, NotYet}
+use Rattle.values.specs.declared.fault.Fault.TheVariants.{ReadFailed, NoMemory, PageUse, BadFreelist, SchemaRow, SchemaText, UnsupportedObject, IndexDiffers, NotUnique, NotYet}
 use Rattle.image.specs.Pages.{Pages}
 use Rattle.image.specs.Tree.{Place}
 use Rattle.page_use.specs.Marks.{IsUseFault}
@@ -13,7 +13,7 @@ use Rattle.tree_walk.specs.declared.counts.TreeCounts.{TreeCounts}
 use Rattle.catalog.proofs.LawLemmas.{row_of_table}
 use Rattle.catalog.specs.CatalogData.{CatalogData}
 use Rattle.catalog.specs.Refused.{IsRefused}
-use Rattle.integrity.specs.Checked.{HasCause, IsOfTables, IsTableOf, indexed, later, said, IsCheckFault}
+use Rattle.integrity.specs.Checked.{HasCause, HasWholeIndexes, IsCheckFault, IsTableOf, later, partial, said}
 use Rattle.table_walk.specs.Checked.{IsCheckedTree, IsStoredTable}
 use Rattle.integrity.specs.Denotes.{HasCatalog, HasTables}
 use Rattle.stored_rows.specs.RowFaults.{IsBrokenTable}
@@ -64,16 +64,16 @@ module _ (pages : Pages) where
         → HasCause pages fault
     broken_table table fault among broken = inr (inl (inl (table, table_of table among, broken)))
 
-    -- a catalog that has indexes isn't served
-    pub has_index : ¬ IsOfTables catalog → HasCause pages NotYet
-    has_index some = inr (inr (refl, indexed rows catalog has some))
+    -- a catalog that has a partial index isn't served
+    pub has_partial : ¬ HasWholeIndexes catalog → HasCause pages NotYet
+    has_partial some = inr (inr (refl, partial rows catalog has some))
 
   -- rows that were refused have the condition that a fault says, or aren't served
   pub refused_rows : (rows : List Row) → HoldsRows pages schema_table rows → (fault : Fault) → IsRefused pages.count rows fault
       → HasCause pages fault
   refused_rows rows stored NoMemory is = inl (inr refl)
   refused_rows rows stored NotYet is = inr (inr (refl, later rows stored is))
-  refused_rows rows stored fault is = inr (inl (inr (inr (rows, stored, is))))
+  refused_rows rows stored fault is = inr (inl (inr (inr (inl (rows, stored, is)))))
 
 pub refused_here : (n m : ℕ) (rows others : List Row) (fault : Fault) → n ≡ m → rows ≡ others → IsRefused n rows fault
     → IsRefused m others fault
@@ -106,4 +106,6 @@ walk_only BadFreelist h = tt
 walk_only SchemaRow h = tt
 walk_only (SchemaText name) h = tt
 walk_only (UnsupportedObject name) h = tt
+walk_only (IndexDiffers name) h = absurd h
+walk_only (NotUnique name) h = absurd h
 walk_only fault h = h

@@ -1,5 +1,9 @@
 pub mod CheckedLemmas
+pub mod ListLemmas
+pub mod ZipLemmas
 pub mod OneLemmas
+pub mod IndexLemmas
+pub mod EntryLemmas
 pub mod UnbrokenLemmas
 pub mod DenotesLemmas
 pub mod TreesLemmas

@@ -10,7 +10,7 @@ use Rattle.catalog.specs.Refused.{HasLaterTable, IsBrokenSchema}
 use Rattle.catalog.specs.Says.{IsCatalog}
 use Rattle.stored_rows.specs.Stored.{HoldsRows}
 use Rattle.stored_rows.proofs.OneLemmas.{one_rows}
-use Rattle.integrity.specs.Checked.{IsBeyond, IsOfTables, indexed, later}
+use Rattle.integrity.specs.Checked.{HasWholeIndexes, IsBeyond, later, partial}
 use Rattle.integrity.specs.Denotes.{HasCatalog}
 
 module _ (pages : Pages) where
@@ -27,9 +27,9 @@ module _ (pages : Pages) where
         no_broken_schema pages.count rows catalog has.says fault
         (subst (λ (l : List Row). IsBrokenSchema pages.count l fault) same broken)
 
-    pub all_served : IsOfTables catalog → ¬ IsBeyond pages
-    all_served none (later others stored is) =
+    pub all_served : HasWholeIndexes catalog → ¬ IsBeyond pages
+    all_served whole (later others stored is) =
         let same = one_rows pages schema_table others rows stored has.stored in
         no_later_table pages.count rows catalog has.says (subst (λ (l : List Row). HasLaterTable l) same is)
-    all_served none (indexed others other too some) =
-        some (subst (λ (c : CatalogData). IsOfTables c) (same_catalog rows others catalog other has too) none)
+    all_served whole (partial others other too some) =
+        some (subst (λ (c : CatalogData). HasWholeIndexes c) (same_catalog rows others catalog other has too) whole)

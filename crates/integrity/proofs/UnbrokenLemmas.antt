@@ -16,7 +16,7 @@ use Rattle.stored_rows.proofs.OneLemmas.{one_stored}
 use Rattle.table_walk.specs.Checked.{IsCheckedTree}
 use Rattle.table_walk.proofs.CheckedLemmas.{rows_fit, unbroken_table}
 use Rattle.integrity.specs.Denotes.{HasCatalog}
-use Rattle.integrity.specs.Checked.{IsBrokenImage, IsMisused, said, schema}
+use Rattle.integrity.specs.Checked.{HasBrokenIndex, IsBrokenImage, IsMisused, said, schema}
 
 module _ (pages : Pages) where
   -- the catalog that rows say which were read from a tree that was checked
@@ -49,18 +49,20 @@ module _ (pages : Pages) where
       (c, subst (λ (x : TableData). IsCheckedTree pages x c) at checked.0)
   checked_in (t ∷ tables) (c ∷ trees) table checked (suc k, within, at) = checked_in tables trees table checked.1 (k, omega (arith, within), at)
 
-  -- nothing is broken where the trees were checked, no page is misused and the schema's rows are sound
+  -- nothing is broken where the trees were checked, no page is misused, the schema's rows are sound and so are the indexes
   pub unbroken_image : (rows : List Row) (catalog : CatalogData) (trees : List TreeCounts) (counts : TreeCounts)
       → IsCheckedTree pages schema_table counts → HasCatalog pages rows catalog → AllZip (IsCheckedTree pages) catalog.tables trees
       → ((fault : Fault) → ¬ IsMisused pages fault)
       → ((others : List Row) → HoldsRows pages schema_table others → (fault : Fault) → ¬ IsBrokenSchema pages.count others fault)
+      → ((fault : Fault) → ¬ HasBrokenIndex pages fault)
       → (fault : Fault) → IsBrokenImage pages fault → ⊥
-  unbroken_image rows catalog trees counts tree has checked free sound fault (inr (inl broken)) = free fault broken
-  unbroken_image rows catalog trees counts tree has checked free sound fault (inr (inr (others, stored, broken))) =
+  unbroken_image rows catalog trees counts tree has checked free sound indexed fault (inr (inl broken)) = free fault broken
+  unbroken_image rows catalog trees counts tree has checked free sound indexed fault (inr (inr (inl (others, stored, broken)))) =
       sound others stored fault broken
-  unbroken_image rows catalog trees counts tree has checked free sound fault (inl (table, schema, broken)) =
+  unbroken_image rows catalog trees counts tree has checked free sound indexed fault (inr (inr (inr broken))) = indexed fault broken
+  unbroken_image rows catalog trees counts tree has checked free sound indexed fault (inl (table, schema, broken)) =
       unbroken_table pages schema_table counts tree fault broken
-  unbroken_image rows catalog trees counts tree has checked free sound fault (inl (table, said place row is_place is says, broken)) =
+  unbroken_image rows catalog trees counts tree has checked free sound indexed fault (inl (table, said place row is_place is says, broken)) =
       let among = row_at has.stored.places rows place row has.stored.rows_are is (has.stored.cells.cells.complete place is_place) in
       let found = checked_in catalog.tables trees table checked (said_of_them pages.count rows catalog has.says row among table says) in
       unbroken_table pages table found.0 found.1 fault broken

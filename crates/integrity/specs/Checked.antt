@@ -3,7 +3,7 @@
 use Rattle.std.specs.Prelude.{◌≡◌, ◌⊎◌, All, List, []}
 use Rattle.std.specs.List.{AllZip}
 use Rattle.values.specs.declared.fault.Fault.{Fault}
-use Rattle.values.specs.declared.fault.Fault.TheVariants.{BadPage, BadChain, PageUse, BadFreelist, BadOrder, BadDepth, BadRecord, FloatValue, BadText, SchemaRow, SchemaText, UnsupportedObject, ValueBreaksColumn, NotYet}
+use Rattle.values.specs.declared.fault.Fault.TheVariants.{BadPage, BadChain, PageUse, BadFreelist, BadOrder, BadDepth, BadRecord, FloatValue, BadText, SchemaRow, SchemaText, UnsupportedObject, ValueBreaksColumn, IndexDiffers, NotUnique, NotYet}
 use Rattle.pager.specs.Calls.{IsReadFault}
 use Rattle.pager.specs.PagerState.{IsPageNumber, PagerState}
 use Rattle.image.specs.declared.kind.TreeKind.TheVariants.{Table}
@@ -16,20 +16,24 @@ use Rattle.page_use.specs.Marks.{IsUsedTwice}
 use Rattle.values.specs.Row.{Row}
 use Rattle.schema.specs.Rows.{SaysTable}
 use Rattle.schema.specs.TableData.{TableData, schema_table}
+use Rattle.indexes.specs.IndexData.{IndexData}
 use Rattle.catalog.specs.CatalogData.{CatalogData}
 use Rattle.catalog.specs.Refused.{HasLaterTable, IsBrokenSchema}
 use Rattle.tree_walk.specs.declared.counts.TreeCounts.{TreeCounts}
 use Rattle.table_walk.specs.Checked.{IsCheckedTree}
 use Rattle.table_walk.specs.Walked.{IsWalkFault}
 use Rattle.integrity.specs.Denotes.{HasCatalog, HasTables}
+use Rattle.integrity.specs.Indexes.{AreBrokenEntries, AreItsEntries, IsBrokenIndexTree, IsCheckedIndexOf, IsImageIndex, IsTableIndex, IsWhole}
 use Rattle.integrity.specs.Used.{users_of}
 use Rattle.stored_rows.specs.RowFaults.{IsBrokenTable}
 use Rattle.stored_rows.specs.Stored.{HoldsRows, StoresRow}
 
--- the tables that an image has, and what the tree of each has
+-- the tables and indexes that an image has, and what the tree of each has
 pub record CheckedData : Type 0 where
   pub tables : List TableData
   pub trees : List TreeCounts
+  pub indexes : List IndexData
+  pub index_trees : List TreeCounts
 
 -- a table of the image: that of the schema, or one that a row of the schema says
 pub data IsTableOf (pages : Pages) : TableData → Type 0 where
@@ -50,19 +54,25 @@ IsMisused pages (PageUse n) = IsUsedTwice pages (users_of pages empty_catalog) n
 IsMisused pages BadFreelist = ¬ IsFreelist pages (header_on pages).freelist (header_on pages).free_pages
 IsMisused pages _ = ⊥
 
--- one of the tables has the condition that a fault says is broken, or the use of pages has, or the schema's rows have
+-- an index of the image has it, in its tree or in its entries
+abbrev pub HasBrokenIndex : Pages → Fault → Type 0
+HasBrokenIndex pages fault = ((index : IndexData) × IsImageIndex pages index × IsBrokenIndexTree pages index fault)
+    ⊎ ((table : TableData) × (index : IndexData) × IsTableIndex pages table index × AreBrokenEntries pages table index fault)
+
+-- one of the tables has the condition that a fault says is broken, or the use of pages has, or the schema's rows have, or one
+-- of the indexes
 abbrev pub IsBrokenImage : Pages → Fault → Type 0
 IsBrokenImage pages fault = ((table : TableData) × IsTableOf pages table × IsBrokenTable pages table fault) ⊎ IsMisused pages fault
-    ⊎ ((rows : List Row) × HoldsRows pages schema_table rows × IsBrokenSchema pages.count rows fault)
+    ⊎ ((rows : List Row) × HoldsRows pages schema_table rows × IsBrokenSchema pages.count rows fault) ⊎ HasBrokenIndex pages fault
 
--- a catalog of tables alone: the tree of an index isn't checked yet
-abbrev pub IsOfTables : CatalogData → Type 0
-IsOfTables catalog = catalog.indexes ≡ []
+-- a catalog without partial indexes: which rows these leave out isn't told yet
+abbrev pub HasWholeIndexes : CatalogData → Type 0
+HasWholeIndexes catalog = All IsWhole catalog.indexes
 
--- What isn't served yet: a table that the catalog doesn't serve, and an index.
+-- What isn't served yet: a table that the catalog doesn't serve, and a partial index.
 pub data IsBeyond (pages : Pages) : Type 0 where
   later : (rows : List Row) → HoldsRows pages schema_table rows → HasLaterTable rows → IsBeyond pages
-  indexed : (rows : List Row) (catalog : CatalogData) → HasCatalog pages rows catalog → ¬ IsOfTables catalog → IsBeyond pages
+  partial : (rows : List Row) (catalog : CatalogData) → HasCatalog pages rows catalog → ¬ HasWholeIndexes catalog → IsBeyond pages
 
 -- The condition of an image that a fault of the check says is broken, or why the image isn't served yet.
 abbrev pub IsCheckCause : Pages → Fault → Type 0
@@ -72,7 +82,7 @@ IsCheckCause pages fault = IsBrokenImage pages fault ⊎ ((fault ≡ NotYet) × 
 abbrev pub HasCause : Pages → Fault → Type 0
 HasCause pages fault = IsReadFault fault ⊎ IsCheckCause pages fault
 
--- The faults whose conditions the check examines. Of those of indexes it says nothing.
+-- the faults whose conditions the check examines
 abbrev pub IsExamined : Fault → Type 0
 IsExamined (BadPage _) = Unit {0}
 IsExamined (BadChain _) = Unit {0}
@@ -87,6 +97,8 @@ IsExamined SchemaRow = Unit {0}
 IsExamined (SchemaText _) = Unit {0}
 IsExamined (UnsupportedObject _) = Unit {0}
 IsExamined (ValueBreaksColumn _) = Unit {0}
+IsExamined (IndexDiffers _) = Unit {0}
+IsExamined (NotUnique _) = Unit {0}
 IsExamined _ = ⊥
 
 -- the faults of the check of an image
@@ -97,14 +109,18 @@ IsCheckFault BadFreelist = Unit {0}
 IsCheckFault SchemaRow = Unit {0}
 IsCheckFault (SchemaText _) = Unit {0}
 IsCheckFault (UnsupportedObject _) = Unit {0}
+IsCheckFault (IndexDiffers _) = Unit {0}
+IsCheckFault (NotUnique _) = Unit {0}
 IsCheckFault fault = IsWalkFault fault
 
--- An image was checked: these are its tables, with what the tree of each has, none of the conditions that are examined is
--- broken, and it has nothing that isn't served yet.
+-- An image was checked: these are its tables and indexes, with what the tree of each has, and each index has just the entries
+-- of its table's rows; none of the conditions that are examined is broken, and it has nothing that isn't served yet.
 pub record HasCheckedImage (pager : PagerState) (checked : CheckedData) : Type 0 where
   pub roots : All (λ table. IsPageNumber pager table.root) checked.tables
   pub tables : WhereSteady pager (λ pages. HasTables pages checked.tables)
   pub trees : WhereSteady pager (λ pages. AllZip (IsCheckedTree pages) checked.tables checked.trees)
+  pub index_trees : WhereSteady pager (λ pages. AllZip (IsCheckedIndexOf pages) checked.indexes checked.index_trees)
+  pub entries : WhereSteady pager (λ pages. (table : TableData) (index : IndexData) → IsTableIndex pages table index → AreItsEntries pages table index)
   pub unbroken : WhereSteady pager (λ pages. (fault : Fault) → IsExamined fault → ¬ IsBrokenImage pages fault)
   pub served : WhereSteady pager (λ pages. ¬ IsBeyond pages)
 

@@ -1,3 +1,5 @@
 pub mod Denotes
+pub mod Indexes
 pub mod Used
 pub mod Checked
+pub mod CheckedView

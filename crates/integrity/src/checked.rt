@@ -1,69 +1,88 @@
 //! The check of a whole image.
-ghost use Rattle.std.specs.Prelude.{◌≡◌, ◌↔◌, IsTrue, MatchResult};
+ghost use Rattle.std.specs.Prelude.{◌≡◌, ◌↔◌, All, IsTrue, MatchResult, map};
 ghost use Rattle.pager.specs.Calls.{ReadsPages};
 ghost use Rattle.catalog.specs.CatalogView.{catalog_data};
-ghost use Rattle.integrity.specs.Checked.{HasCheckedImage, IsCheckFailure, IsOfTables};
+ghost use Rattle.indexes.specs.IndexView.{index_data};
+ghost use Rattle.integrity.specs.CheckedView.{checked_data};
+ghost use Rattle.integrity.specs.Indexes.{IsWhole};
+ghost use Rattle.integrity.specs.Checked.{HasCheckedImage, IsCheckFailure};
 
+use crate::entries::check_entries;
+use crate::index_trees::check_indexes;
 use crate::trees::{check_tables, read_schema};
 use catalog::Catalog;
+use indexes::Index;
 use page_use::check_rest;
 use pager::{Pager, Source};
 use schema::Table;
 use std::alloc::Global;
-use std::marker::Model;
 use tree_walk::TreeCounts;
 use values::Fault;
 
-/// What the check of an image finds: its tables, and what the tree of each has.
+/// What the check of an image finds: its tables and indexes, and what the tree of each has.
 #[derive(Drop)]
 pub struct Checked {
     catalog: Catalog,
     trees: Vec<TreeCounts>,
-}
-
-impl Model for Checked {
-    ghost use Rattle.catalog.specs.CatalogView.{catalog_data};
-    ghost use Rattle.integrity.specs.Checked.{CheckedData};
-
-    ghost Value = { CheckedData };
-
-    ghost view = { λ c. record { tables = (catalog_data c.catalog).tables; trees = c.trees.items } };
+    index_trees: Vec<TreeCounts>,
 }
 
 impl Checked {
     /// The tables of the image, in the order of the schema's rows.
     pub fn tables(&self) -> &[Table]
-        ensures { result.now ≡ self.now.tables }
+        ensures { result.now ≡ (checked_data self.now).tables }
     {
         self.catalog.tables()
     }
 
     /// What the tree of each table has, in the same order.
     pub fn trees(&self) -> &[TreeCounts]
-        ensures { result.now ≡ self.now.trees }
+        ensures { result.now ≡ (checked_data self.now).trees }
     {
         self.trees.as_slice()
     }
+
+    /// The indexes of the image, in the order of the schema's rows.
+    pub fn indexes(&self) -> &[Index]
+        ensures { map index_data result.now ≡ (checked_data self.now).indexes }
+    {
+        self.catalog.indexes()
+    }
+
+    /// What the tree of each index has, in the same order.
+    pub fn index_trees(&self) -> &[TreeCounts]
+        ensures { result.now ≡ (checked_data self.now).index_trees }
+    {
+        self.index_trees.as_slice()
+    }
 }
 
-/// Whether a catalog is of tables alone: the tree of an index isn't checked yet.
-fn is_of_tables(catalog: &Catalog) -> bool
-    ensures { IsTrue result ↔ IsOfTables (catalog_data catalog.now) }
+/// Whether an index has entries for all rows of its table.
+fn is_whole(index: &Index) -> bool
+    ensures { IsTrue result ↔ IsWhole (index_data index.now) }
 {
-    catalog.indexes().is_empty()
+    index.condition().is_none()
 }
 
-/// Checks an image: its schema, the tree and the rows of each of its tables, its freelist, and that each of its pages is used
-/// once. (Database File Format, sections 1.5 and 1.6; The Schema Table)
+/// Whether no index is partial: which rows such a one leaves out isn't told yet.
+fn are_whole(indexes: &[Index]) -> bool
+    ensures { IsTrue result ↔ All IsWhole (map index_data indexes.now) }
+{
+    indexes.iter().all(|index| is_whole(index))
+}
+
+/// Checks an image: its schema, the tree and the rows of each of its tables, the tree and the entries of each of its indexes,
+/// its freelist, and that each of its pages is used once. (Database File Format, sections 1.5, 1.6 and 2.3; The Schema Table)
 ///
 /// # Errors
 ///
 /// `BadPage`, `BadChain`, `BadOrder`, `BadDepth`, `BadRecord`, `FloatValue`, `BadText` and `ValueBreaksColumn` where a table
-/// has that condition; `PageUse` of a page that isn't used once, and `BadFreelist`; `SchemaRow`, `SchemaText` and
-/// `UnsupportedObject` where a row of the schema has that condition; `NotYet` where one is that of a table that isn't served
-/// yet, or of an index; `ReadFailed` and `NoMemory`.
+/// or an index has that condition; `PageUse` of a page that isn't used once, and `BadFreelist`; `SchemaRow`, `SchemaText` and
+/// `UnsupportedObject` where a row of the schema has that condition; `IndexDiffers` of an index that hasn't just the entries
+/// of its table's rows, and `NotUnique` of a unique one in whose columns two of them agree; `NotYet` where a row of the schema
+/// is that of a table that isn't served yet, or of a partial index; `ReadFailed` and `NoMemory`.
 pub fn check<S: Source>(alloc: Global, pager: &mut Pager<S>) -> Result<Checked, Fault>
-    ensures outcome { MatchResult result (HasCheckedImage pager.old.state) (IsCheckFailure pager.old.state) }
+    ensures outcome { MatchResult result (λ c. HasCheckedImage pager.old.state (checked_data c)) (IsCheckFailure pager.old.state) }
     ensures reads { ReadsPages result pager.old.state pager.new.state }
 {
     let pages = pager.header().pages;
@@ -72,10 +91,20 @@ pub fn check<S: Source>(alloc: Global, pager: &mut Pager<S>) -> Result<Checked, 
     let schema = Table::schema(alloc)?;
     let rows = read_schema(alloc, pager, &schema, used)?;
     let catalog = Catalog::read(alloc, rows.as_slice(), pages)?;
-    if !is_of_tables(&catalog) {
+    let tables = catalog.tables();
+    let indexes = catalog.indexes();
+    if !are_whole(indexes) {
         return Err(Fault::NotYet);
     }
-    let trees = check_tables(alloc, pager, catalog.tables(), used)?;
+    let trees = check_tables(alloc, pager, tables, used)?;
+    let index_trees = check_indexes(alloc, pager, indexes, used)?;
     check_rest(pager, used)?;
-    Ok(Checked { catalog, trees })
+    let table_counts = trees.as_slice();
+    let index_counts = index_trees.as_slice();
+    check_entries(alloc, pager, tables, table_counts, indexes, index_counts)?;
+    Ok(Checked {
+        catalog,
+        trees,
+        index_trees,
+    })
 }

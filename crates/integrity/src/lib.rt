@@ -1,14 +1,16 @@
-//! The check of an image. It promises that an image that passes has none of the conditions broken that are examined (of its
-//! trees' pages, order and depth, of each chain of overflow pages, of each record, of each value, of the freelist, and of the
-//! schema's rows), gives the tables that the image denotes with their rows, and counts exactly what their trees have; and
-//! that a fault's condition is broken. `NotYet` comes exactly where the schema says what isn't served yet: a table that
-//! `catalog` doesn't serve, or an index.
+//! The check of an image. It promises that an image that passes has no condition broken (of its trees' pages, order and
+//! depth, of each chain of overflow pages, of each record, of each value, of the freelist, of the schema's rows, and of the
+//! entries of each index), gives the tables that the image denotes with their rows, and its indexes, and counts exactly what
+//! their trees have; and that a fault's condition is broken. `NotYet` comes exactly where the schema says what isn't served
+//! yet: a table that `catalog` doesn't serve, or a partial index.
 //!
-//! The modules, in the order in which data passes them: `trees` (those of all tables, and the schema's rows) and `checked`
-//! (the whole image).
+//! The modules, in the order in which data passes them: `trees` (those of all tables, and the schema's rows), `index_trees`
+//! (those of all indexes), `entries` (of each index, beside the rows of its table) and `checked` (the whole image).
 #![tactic(auto)]
 
 mod checked;
+mod entries;
+mod index_trees;
 mod trees;
 
 pub use checked::{Checked, check};

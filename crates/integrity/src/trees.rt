@@ -1,5 +1,5 @@
 //! The trees of an image's tables, and the rows of its schema.
-ghost use Rattle.std.specs.Prelude.{◌≡◌, ◌⊎◌, All, Contains, IfErr, IfOk, OnOk, ◌<◌, length};
+ghost use Rattle.std.specs.Prelude.{◌≡◌, ◌⊎◌, All, Contains, IfErr, IfOk, OnOk, ◌<◌, length, map};
 ghost use Rattle.std.specs.List.{AllZip};
 ghost use Rattle.pager.specs.Calls.{IsReadFault, ReadsPages};
 ghost use Rattle.pager.specs.PagerState.{IsPageNumber};
@@ -30,10 +30,10 @@ pub(crate) fn check_tables<S: Source>(
     requires roots { All (λ table. IsPageNumber pager.old.state table.root) tables.now }
     requires long { pager.old.state.header.pages < length used.old }
     ensures checked { WhereSteady pager.old.state (λ pages. IfOk result (λ trees. AllZip (IsCheckedTree pages) tables.now trees.items)) }
-    ensures marks { WhereSteady pager.old.state (λ pages. OnOk result (MarksTrees pages tables.now used.old used.new)) }
+    ensures marks { WhereSteady pager.old.state (λ pages. OnOk result (MarksTrees pages (map tree_of tables.now) used.old used.new)) }
     ensures fault { WhereSteady pager.old.state (λ pages. IfErr result (λ e. IsReadFault e
         ⊎ ((table : TableData) × Contains tables.now table × IsBrokenTable pages table e)
-        ⊎ AreTreesTwice pages tables.now used.old e)) }
+        ⊎ AreTreesTwice pages (map tree_of tables.now) used.old e)) }
     ensures only { IfErr result IsWalkFault }
     ensures reads { ReadsPages result pager.old.state pager.new.state }
 {

@@ -29,13 +29,14 @@ pub struct Engine<S: Source> {
 }
 
 impl<S: Source> Model for Engine<S> {
+    ghost use Rattle.integrity.specs.CheckedView.{checked_data};
     ghost use Rattle.shell.specs.State.{EngineState, IsReady};
 
     ghost Value = { EngineState };
 
-    ghost view = { λ e. record { pager = e.pager.state; tables = e.checked.tables } };
+    ghost view = { λ e. record { pager = e.pager.state; tables = (checked_data e.checked).tables } };
 
-    ghost invariant = { λ e. IsReady e.pager.state e.checked.tables };
+    ghost invariant = { λ e. IsReady e.pager.state (checked_data e.checked).tables };
 }
 
 /// What a run took: the rows that it wrote, and the pages that it asked for, those of overflow chains apart. Each count

@@ -30,6 +30,11 @@ where
         let (name, rows, pages, levels) = (table.name(), counts.cells, counts.pages, counts.levels);
         println!(rt; "{name} {rows} {pages} {levels}")?;
     }
+    for (index, counts) in checked.indexes().iter().zip(checked.index_trees()) {
+        let (name, entries) = (index.name(), counts.cells);
+        let (pages, levels) = (counts.pages, counts.levels);
+        println!(rt; "{name} {entries} {pages} {levels}")?;
+    }
     Ok(())
 }
 

@@ -1,22 +1,28 @@
-use Rattle.std.proofs.Common.{rules, ◌≡◌, true, ◌+◌, Contains, List, sym, ◌∙◌, ap, subst, inl, inr, ⊎_elim}
+use Rattle.std.proofs.Common.{rules, ◌≡◌, true, ◌+◌, All, Contains, List, map, sym, ◌∙◌, ap, subst, inl, inr, ⊎_elim}
 use Rattle.std.specs.List.{AllZip}
 use Rattle.std.proofs.lemmas.Result.{err_from_is_err_and}
 use Rattle.pager.specs.declared.header.Header.{Header}
 use Rattle.image.specs.Pages.{pages_seen, Pages}
 use Rattle.pager.proofs.CallLemmas.{SameImage-trans}
-use Rattle.pager.specs.PagerState.{IsSoundHeader}
+use Rattle.pager.specs.PagerState.{IsPageNumber, IsSoundHeader}
 use Rattle.image.specs.Freelist.{IsFreelist}
 use Rattle.page_use.specs.Free.{header_on}
 use Rattle.page_use.proofs.FrontLemmas.{front_is}
 use Rattle.btree.proofs.SeenLemmas.{still_steady, same_pages}
 use Rattle.catalog.specs.CatalogView.{catalog_data}
+use Rattle.indexes.specs.IndexData.{IndexData}
+use Rattle.indexes.specs.IndexView.{index_data}
+use Rattle.schema.specs.Names.{IsSameName}
 use Rattle.schema.specs.TableData.{TableData}
-use Rattle.table_walk.specs.Checked.{IsCheckedTree}
-use Rattle.integrity.specs.Used.{AreTreesTwice, MarksTrees}
+use Rattle.tree_walk.specs.declared.counts.TreeCounts.{TreeCounts}
+use Rattle.table_walk.specs.Checked.{IsCheckedTree, tree_of}
+use Rattle.integrity.specs.Indexes.{AreBrokenEntries, AreItsEntries, IsBrokenIndexTree, IsCheckedIndexOf, IsWhole}
+use Rattle.integrity.specs.Used.{AreTreesTwice, MarksTrees, index_tree_of}
 use Rattle.stored_rows.specs.RowFaults.{IsBrokenTable}
-use Rattle.integrity.proofs.CheckedLemmas.{broken_table, has_index, has_tables, refused_here, refused_only, refused_rows, use_only, walk_only}
+use Rattle.integrity.proofs.CheckedLemmas.{broken_table, has_partial, has_tables, refused_here, refused_only, refused_rows, use_only, walk_only}
+use Rattle.integrity.proofs.IndexLemmas.{broken_entries, broken_index_tree, index_only, index_roots, its_entries, unbroken_indexes}
 use Rattle.integrity.proofs.OneLemmas.{all_served, sound_rows}
-use Rattle.integrity.proofs.TreesLemmas.{IsRestFault, IsRestOnce, no_misuse, rest_broken, rest_once, schema_twice, trees_twice}
+use Rattle.integrity.proofs.TreesLemmas.{IsRestFault, IsRestOnce, indexes_twice, no_misuse, rest_broken, rest_once, schema_twice, tables_twice}
 use Rattle.integrity.proofs.UnbrokenLemmas.{catalog_here, unbroken_image}
 use Rattle.integrity.proofs.checked.check.Goals as goal
 
@@ -49,25 +55,60 @@ returns-in_err-trees-clause-outcome g c =
     (record {
       only = walk_only _ c.in_err-trees.ensures.only;
       cause = λ steady.
+          let pages = pages_seen c.args.pager.now.state in
           let stays = c.read_schema.ensures.reads.image in
           let now = still_steady _ _ stays steady in
-          let count : c.header-pages.result.pages ≡ (pages_seen c.args.pager.now.state).count = ap (λ (h : Header). h.pages) c.header-pages.ensures.is in
+          let count : c.header-pages.result.pages ≡ pages.count = ap (λ (h : Header). h.pages) c.header-pages.ensures.is in
           let first = c.in_ok-rows.ensures.checked steady in
-          let catalog = catalog_here (pages_seen c.args.pager.now.state) _ c.in_ok-rows.rows.items _ first.0 (catalog_data c.in_ok-catalog.catalog) first.1
+          let catalog = catalog_here pages _ c.in_ok-rows.rows.items _ first.0 (catalog_data c.in_ok-catalog.catalog) first.1
           (c.in_ok-rows.ensures.rows steady) count c.as_slice.ensures.value c.in_ok-catalog.ensures.said in
           (⊎_elim inl
           (λ cause. ⊎_elim
-          (λ (broken : (table : TableData) × Contains c.tables.result.now table × IsBrokenTable (pages_seen c.read_schema.new.pager.state) table c.in_err-trees.field-0.0).
-          broken_table (pages_seen c.args.pager.now.state) c.in_ok-rows.rows.items (catalog_data c.in_ok-catalog.catalog) catalog broken.0 _
-          (subst (λ (ts : List TableData). Contains ts broken.0) c.tables.ensures broken.1)
+          (λ (broken : (table : TableData) × Contains c.tables-tables.result.now table × IsBrokenTable (pages_seen c.read_schema.new.pager.state) table c.in_err-trees.field-0.0).
+          broken_table pages c.in_ok-rows.rows.items (catalog_data c.in_ok-catalog.catalog) catalog broken.0 _
+          (subst (λ (ts : List TableData). Contains ts broken.0) c.tables-tables.ensures broken.1)
           (subst (λ (q : Pages). IsBrokenTable q broken.0 c.in_err-trees.field-0.0) (same_pages _ _ stays) broken.2))
-          (λ (twice : AreTreesTwice (pages_seen c.read_schema.new.pager.state) c.tables.result.now c.read_schema.new.used c.in_err-trees.field-0.0).
-          inr (inl (inr (inl (trees_twice (pages_seen c.args.pager.now.state) (catalog_data c.in_ok-catalog.catalog) c.in_ok-rows.rows.items catalog (c.header-pages.result.pages + 1)
+          (λ (twice : AreTreesTwice (pages_seen c.read_schema.new.pager.state) (map tree_of c.tables-tables.result.now) c.read_schema.new.used c.in_err-trees.field-0.0).
+          inr (inl (inr (inl (tables_twice pages (catalog_data c.in_ok-catalog.catalog) c.in_ok-rows.rows.items catalog (c.header-pages.result.pages + 1)
           c.as_mut_slice-used.result.now c.read_schema.new.used (search rules) (c.in_ok-rows.ensures.marks steady) c.in_err-trees.field-0.0
-          (subst (λ (q : Pages). AreTreesTwice q (catalog_data c.in_ok-catalog.catalog).tables c.read_schema.new.used c.in_err-trees.field-0.0) (same_pages _ _ stays)
-          (subst (λ (ts : List TableData). AreTreesTwice (pages_seen c.read_schema.new.pager.state) ts c.read_schema.new.used c.in_err-trees.field-0.0) c.tables.ensures twice)))))))
+          (subst (λ (q : Pages). AreTreesTwice q (map tree_of (catalog_data c.in_ok-catalog.catalog).tables) c.read_schema.new.used c.in_err-trees.field-0.0) (same_pages _ _ stays)
+          (subst (λ (ts : List TableData). AreTreesTwice (pages_seen c.read_schema.new.pager.state) (map tree_of ts) c.read_schema.new.used c.in_err-trees.field-0.0) c.tables-tables.ensures twice)))))))
           cause)
           (c.in_err-trees.ensures.fault now));
+    })
+
+pub returns-in_err-index_trees-clause-outcome : goal.returns-in_err-index_trees-clause-outcome
+returns-in_err-index_trees-clause-outcome g c =
+    let p = err_from_is_err_and c.from_residual-in_err-index_trees.result c.from_residual-in_err-index_trees.ensures.1 in
+    rw (p.1, p.2)
+    (record {
+      only = index_only _ c.in_err-index_trees.ensures.only;
+      cause = λ steady.
+          let pages = pages_seen c.args.pager.now.state in
+          let stays = c.read_schema.ensures.reads.image in
+          let both = SameImage-trans _ _ _ stays c.check_tables.ensures.reads.image in
+          let now = still_steady _ _ stays steady in
+          let count : c.header-pages.result.pages ≡ pages.count = ap (λ (h : Header). h.pages) c.header-pages.ensures.is in
+          let first = c.in_ok-rows.ensures.checked steady in
+          let found = catalog_data c.in_ok-catalog.catalog in
+          let fault = c.in_err-index_trees.field-0.0 in
+          let catalog = catalog_here pages _ c.in_ok-rows.rows.items _ first.0 found first.1
+          (c.in_ok-rows.ensures.rows steady) count c.as_slice.ensures.value c.in_ok-catalog.ensures.said in
+          let tables = subst (λ (ts : List TableData). MarksTrees pages (map tree_of ts) c.read_schema.new.used c.check_tables.new.used) c.tables-tables.ensures
+          (subst (λ (q : Pages). MarksTrees q (map tree_of c.tables-tables.result.now) c.read_schema.new.used c.check_tables.new.used) (same_pages _ _ stays) (c.in_ok-trees.ensures.marks now)) in
+          (⊎_elim inl
+          (λ cause. ⊎_elim
+          (λ (broken : (index : IndexData) × Contains (map index_data c.indexes-indexes.result.now) index × IsBrokenIndexTree (pages_seen c.check_tables.new.pager.state) index fault).
+          broken_index_tree pages c.in_ok-rows.rows.items found catalog broken.0 _
+          (subst (λ (is : List IndexData). Contains is broken.0) c.indexes-indexes.ensures broken.1)
+          (subst (λ (q : Pages). IsBrokenIndexTree q broken.0 fault) (same_pages _ _ both) broken.2))
+          (λ (twice : AreTreesTwice (pages_seen c.check_tables.new.pager.state) (map index_tree_of (map index_data c.indexes-indexes.result.now)) c.check_tables.new.used fault).
+          inr (inl (inr (inl (indexes_twice pages found c.in_ok-rows.rows.items catalog (c.header-pages.result.pages + 1)
+          c.as_mut_slice-used.result.now c.read_schema.new.used (search rules) (c.in_ok-rows.ensures.marks steady) c.check_tables.new.used tables fault
+          (subst (λ (q : Pages). AreTreesTwice q (map index_tree_of found.indexes) c.check_tables.new.used fault) (same_pages _ _ both)
+          (subst (λ (is : List IndexData). AreTreesTwice (pages_seen c.check_tables.new.pager.state) (map index_tree_of is) c.check_tables.new.used fault) c.indexes-indexes.ensures twice)))))))
+          cause)
+          (c.in_err-index_trees.ensures.fault (still_steady _ _ both steady)));
     })
 
 pub returns-in_err-check_rest-clause-outcome : goal.returns-in_err-check_rest-clause-outcome
@@ -81,28 +122,68 @@ returns-in_err-check_rest-clause-outcome g c =
           let pages = pages_seen state in
           let stays = c.read_schema.ensures.reads.image in
           let both = SameImage-trans _ _ _ stays c.check_tables.ensures.reads.image in
+          let three = SameImage-trans _ _ _ both c.check_indexes.ensures.reads.image in
           let now = still_steady _ _ stays steady in
           let count : c.header-pages.result.pages ≡ pages.count = ap (λ (h : Header). h.pages) c.header-pages.ensures.is in
           let first = c.in_ok-rows.ensures.checked steady in
-          let catalog = catalog_here pages _ c.in_ok-rows.rows.items _ first.0 (catalog_data c.in_ok-catalog.catalog) first.1
+          let found = catalog_data c.in_ok-catalog.catalog in
+          let catalog = catalog_here pages _ c.in_ok-rows.rows.items _ first.0 found first.1
           (c.in_ok-rows.ensures.rows steady) count c.as_slice.ensures.value c.in_ok-catalog.ensures.said in
-          let none = c.is_of_tables.ensures.0 c.if-not-is_of_tables.false in
           let is = c.header-pages.ensures.is in
           let front = front_is state (subst (λ (h : Header). IsSoundHeader h) is c.header-pages.ensures.sound) (sym is ∙ c.header-pages.ensures.steady steady) in
-          let header : c.check_tables.new.pager.state.header ≡ header_on pages = both.header ∙ sym front in
-          let others = subst (λ (ts : List TableData). MarksTrees pages ts c.read_schema.new.used c.check_tables.new.used) c.tables.ensures
-          (subst (λ (q : Pages). MarksTrees q c.tables.result.now c.read_schema.new.used c.check_tables.new.used) (same_pages _ _ stays) (c.in_ok-trees.ensures.marks now)) in
+          let header : c.check_indexes.new.pager.state.header ≡ header_on pages = three.header ∙ sym front in
+          let tables = subst (λ (ts : List TableData). MarksTrees pages (map tree_of ts) c.read_schema.new.used c.check_tables.new.used) c.tables-tables.ensures
+          (subst (λ (q : Pages). MarksTrees q (map tree_of c.tables-tables.result.now) c.read_schema.new.used c.check_tables.new.used) (same_pages _ _ stays) (c.in_ok-trees.ensures.marks now)) in
+          let indexes = subst (λ (is : List IndexData). MarksTrees pages (map index_tree_of is) c.check_tables.new.used c.check_indexes.new.used) c.indexes-indexes.ensures
+          (subst (λ (q : Pages). MarksTrees q (map index_tree_of (map index_data c.indexes-indexes.result.now)) c.check_tables.new.used c.check_indexes.new.used) (same_pages _ _ both)
+          (c.in_ok-index_trees.ensures.marks (still_steady _ _ both steady))) in
           (⊎_elim inl
-          (λ (broken : IsRestFault (pages_seen c.check_tables.new.pager.state) c.check_tables.new.pager.state.header c.check_tables.new.used c.in_err-check_rest.field-0.0).
-          inr (inl (inr (inl (rest_broken pages (catalog_data c.in_ok-catalog.catalog) c.in_ok-rows.rows.items catalog none (c.header-pages.result.pages + 1)
-          c.as_mut_slice-used.result.now c.read_schema.new.used c.check_tables.new.used (search rules) (c.in_ok-rows.ensures.marks steady) others c.in_err-check_rest.field-0.0
-          (subst (λ (h : Header). IsRestFault pages h c.check_tables.new.used c.in_err-check_rest.field-0.0) header
-          (subst (λ (q : Pages). IsRestFault q c.check_tables.new.pager.state.header c.check_tables.new.used c.in_err-check_rest.field-0.0) (same_pages _ _ both) broken)))))))
-          (c.in_err-check_rest.ensures.fault (still_steady _ _ both steady)));
+          (λ (broken : IsRestFault (pages_seen c.check_indexes.new.pager.state) c.check_indexes.new.pager.state.header c.check_indexes.new.used c.in_err-check_rest.field-0.0).
+          inr (inl (inr (inl (rest_broken pages found c.in_ok-rows.rows.items catalog (c.header-pages.result.pages + 1)
+          c.as_mut_slice-used.result.now c.read_schema.new.used (search rules) (c.in_ok-rows.ensures.marks steady) c.check_tables.new.used tables c.check_indexes.new.used indexes
+          c.in_err-check_rest.field-0.0
+          (subst (λ (h : Header). IsRestFault pages h c.check_indexes.new.used c.in_err-check_rest.field-0.0) header
+          (subst (λ (q : Pages). IsRestFault q c.check_indexes.new.pager.state.header c.check_indexes.new.used c.in_err-check_rest.field-0.0) (same_pages _ _ three) broken)))))))
+          (c.in_err-check_rest.ensures.fault (still_steady _ _ three steady)));
     })
 
-pub returns-then-not-is_of_tables-clause-outcome : goal.returns-then-not-is_of_tables-clause-outcome
-returns-then-not-is_of_tables-clause-outcome g c = record {
+pub returns-in_err-check_entries-clause-outcome : goal.returns-in_err-check_entries-clause-outcome
+returns-in_err-check_entries-clause-outcome g c =
+    let p = err_from_is_err_and c.from_residual-in_err-check_entries.result c.from_residual-in_err-check_entries.ensures.1 in
+    rw (p.1, p.2)
+    (record {
+      only = c.in_err-check_entries.ensures.only;
+      cause = λ steady.
+          let pages = pages_seen c.args.pager.now.state in
+          let stays = c.read_schema.ensures.reads.image in
+          let both = SameImage-trans _ _ _ stays c.check_tables.ensures.reads.image in
+          let three = SameImage-trans _ _ _ both c.check_indexes.ensures.reads.image in
+          let four = SameImage-trans _ _ _ three c.check_rest.ensures.reads.chains.image in
+          let now = still_steady _ _ stays steady in
+          let count : c.header-pages.result.pages ≡ pages.count = ap (λ (h : Header). h.pages) c.header-pages.ensures.is in
+          let first = c.in_ok-rows.ensures.checked steady in
+          let found = catalog_data c.in_ok-catalog.catalog in
+          let fault = c.in_err-check_entries.field-0.0 in
+          let catalog = catalog_here pages _ c.in_ok-rows.rows.items _ first.0 found first.1
+          (c.in_ok-rows.ensures.rows steady) count c.as_slice.ensures.value c.in_ok-catalog.ensures.said in
+          let trees = subst (λ (l : List TreeCounts). AllZip (IsCheckedTree (pages_seen c.check_rest.new.pager.state)) c.tables-tables.result.now l) (sym c.as_slice-table_counts.ensures.value)
+          (subst (λ (q : Pages). AllZip (IsCheckedTree q) c.tables-tables.result.now c.in_ok-trees.trees.items) (same_pages _ _ stays ∙ sym (same_pages _ _ four)) (c.in_ok-trees.ensures.checked now)) in
+          let index_trees = subst (λ (l : List TreeCounts). AllZip (IsCheckedIndexOf (pages_seen c.check_rest.new.pager.state)) (map index_data c.indexes-indexes.result.now) l) (sym c.as_slice-index_counts.ensures.value)
+          (subst (λ (q : Pages). AllZip (IsCheckedIndexOf q) (map index_data c.indexes-indexes.result.now) c.in_ok-index_trees.index_trees.items) (same_pages _ _ both ∙ sym (same_pages _ _ four))
+          (c.in_ok-index_trees.ensures.checked (still_steady _ _ both steady))) in
+          (⊎_elim inl
+          (λ (broken : (table : TableData) × (index : IndexData) × Contains c.tables-tables.result.now table × Contains (map index_data c.indexes-indexes.result.now) index
+          × IsSameName index.table table.name × AreBrokenEntries (pages_seen c.check_rest.new.pager.state) table index fault).
+          broken_entries pages c.in_ok-rows.rows.items found catalog broken.0 broken.1 fault
+          (subst (λ (ts : List TableData). Contains ts broken.0) c.tables-tables.ensures broken.2)
+          (subst (λ (is : List IndexData). Contains is broken.1) c.indexes-indexes.ensures broken.3)
+          broken.4
+          (subst (λ (q : Pages). AreBrokenEntries q broken.0 broken.1 fault) (same_pages _ _ four) broken.5))
+          (c.in_err-check_entries.ensures.fault (still_steady _ _ four steady) trees index_trees));
+    })
+
+pub returns-then-not-are_whole-clause-outcome : goal.returns-then-not-are_whole-clause-outcome
+returns-then-not-are_whole-clause-outcome g c = record {
   only = tt;
   cause = λ steady.
       let pages = pages_seen c.args.pager.now.state in
@@ -110,59 +191,113 @@ returns-then-not-is_of_tables-clause-outcome g c = record {
       let first = c.in_ok-rows.ensures.checked steady in
       let catalog = catalog_here pages _ c.in_ok-rows.rows.items _ first.0 (catalog_data c.in_ok-catalog.catalog) first.1
       (c.in_ok-rows.ensures.rows steady) count c.as_slice.ensures.value c.in_ok-catalog.ensures.said in
-      has_index pages c.in_ok-rows.rows.items (catalog_data c.in_ok-catalog.catalog) catalog
-      (λ none. let h : c.is_of_tables.result ≡ true = c.is_of_tables.ensures.1 none in let other = c.if-not-is_of_tables.true in cc);
+      has_partial pages c.in_ok-rows.rows.items (catalog_data c.in_ok-catalog.catalog) catalog
+      (λ whole. let h : c.are_whole.result ≡ true = c.are_whole.ensures.1 (subst (λ (all : List IndexData). All IsWhole all) (sym c.indexes-indexes.ensures) whole) in let other = c.if-not-are_whole.true in cc);
 }
 
+pub check_indexes-requires-clause-roots : goal.check_indexes-requires-clause-roots
+check_indexes-requires-clause-roots g c =
+    let both = SameImage-trans _ _ _ c.read_schema.ensures.reads.image c.check_tables.ensures.reads.image in
+    let is = c.header-pages.ensures.is in
+    subst (λ (all : List IndexData). All (λ index. IsPageNumber c.check_tables.new.pager.state index.root) all) (sym c.indexes-indexes.ensures)
+    (index_roots c.check_tables.new.pager.state c.header-pages.result.pages _ (catalog_data c.in_ok-catalog.catalog)
+    (ap (λ (h : Header). h.pages) (is ∙ sym both.header)) c.in_ok-catalog.ensures.said)
+
+pub check_entries-requires-clause-index_roots : goal.check_entries-requires-clause-index_roots
+check_entries-requires-clause-index_roots g c =
+    let both = SameImage-trans _ _ _ c.read_schema.ensures.reads.image c.check_tables.ensures.reads.image in
+    let four = SameImage-trans _ _ _ (SameImage-trans _ _ _ both c.check_indexes.ensures.reads.image) c.check_rest.ensures.reads.chains.image in
+    let is = c.header-pages.ensures.is in
+    subst (λ (all : List IndexData). All (λ index. IsPageNumber c.check_rest.new.pager.state index.root) all) (sym c.indexes-indexes.ensures)
+    (index_roots c.check_rest.new.pager.state c.header-pages.result.pages _ (catalog_data c.in_ok-catalog.catalog)
+    (ap (λ (h : Header). h.pages) (is ∙ sym four.header)) c.in_ok-catalog.ensures.said)
+
 pub returns-clause-outcome : goal.returns-clause-outcome
-returns-clause-outcome g c = record {
-  roots = search rules;
-  tables = λ steady.
-      let stays = c.read_schema.ensures.reads.image in
-      let now = still_steady _ _ stays steady in
-      let pages = pages_seen c.args.pager.now.state in
-      let count : c.header-pages.result.pages ≡ pages.count = ap (λ (h : Header). h.pages) c.header-pages.ensures.is in
-      let trees = subst (λ (q : Pages). AllZip (IsCheckedTree q) c.tables.result.now c.in_ok-trees.trees.items) (same_pages _ _ stays) (c.in_ok-trees.ensures.checked now) in
-      let first = c.in_ok-rows.ensures.checked steady in
-      let catalog = catalog_here pages _ c.in_ok-rows.rows.items _ first.0 (catalog_data c.in_ok-catalog.catalog) first.1
-      (c.in_ok-rows.ensures.rows steady) count c.as_slice.ensures.value c.in_ok-catalog.ensures.said in
-      has_tables pages c.in_ok-rows.rows.items (catalog_data c.in_ok-catalog.catalog) c.in_ok-trees.trees.items catalog
-      (subst (λ (ts : List TableData). AllZip (IsCheckedTree pages) ts c.in_ok-trees.trees.items) c.tables.ensures trees);
-  trees = search rules;
-  unbroken = λ steady fault examined.
-      let state = c.args.pager.now.state in
-      let pages = pages_seen state in
-      let stays = c.read_schema.ensures.reads.image in
-      let both = SameImage-trans _ _ _ stays c.check_tables.ensures.reads.image in
-      let now = still_steady _ _ stays steady in
-      let is = c.header-pages.ensures.is in
-      let front = front_is state (subst (λ (h : Header). IsSoundHeader h) is c.header-pages.ensures.sound) (sym is ∙ c.header-pages.ensures.steady steady) in
-      let header : c.check_tables.new.pager.state.header ≡ header_on pages = both.header ∙ sym front in
-      let count : c.header-pages.result.pages ≡ pages.count = ap (λ (h : Header). h.pages) is in
-      let trees = subst (λ (q : Pages). AllZip (IsCheckedTree q) c.tables.result.now c.in_ok-trees.trees.items) (same_pages _ _ stays) (c.in_ok-trees.ensures.checked now) in
-      let first = c.in_ok-rows.ensures.checked steady in
-      let catalog = catalog_here pages _ c.in_ok-rows.rows.items _ first.0 (catalog_data c.in_ok-catalog.catalog) first.1
-      (c.in_ok-rows.ensures.rows steady) count c.as_slice.ensures.value c.in_ok-catalog.ensures.said in
-      let none = c.is_of_tables.ensures.0 c.if-not-is_of_tables.false in
-      let others = subst (λ (ts : List TableData). MarksTrees pages ts c.read_schema.new.used c.check_tables.new.used) c.tables.ensures
-      (subst (λ (q : Pages). MarksTrees q c.tables.result.now c.read_schema.new.used c.check_tables.new.used) (same_pages _ _ stays) (c.in_ok-trees.ensures.marks now)) in
-      unbroken_image pages c.in_ok-rows.rows.items (catalog_data c.in_ok-catalog.catalog) c.in_ok-trees.trees.items first.0 first.1 catalog
-      (subst (λ (ts : List TableData). AllZip (IsCheckedTree pages) ts c.in_ok-trees.trees.items) c.tables.ensures trees)
-      (no_misuse pages (catalog_data c.in_ok-catalog.catalog) c.in_ok-rows.rows.items catalog
-      (subst (λ (h : Header). IsFreelist pages h.freelist h.free_pages) header
-      (subst (λ (q : Pages). IsFreelist q c.check_tables.new.pager.state.header.freelist c.check_tables.new.pager.state.header.free_pages) (same_pages _ _ both)
-      (c.in_ok-check_rest.ensures.freelist (still_steady _ _ both steady))))
-      (rest_once pages (catalog_data c.in_ok-catalog.catalog) c.in_ok-rows.rows.items catalog none (c.header-pages.result.pages + 1)
-      c.as_mut_slice-used.result.now c.read_schema.new.used c.check_tables.new.used (search rules) (c.in_ok-rows.ensures.marks steady) others
-      (subst (λ (h : Header). IsRestOnce pages h c.check_tables.new.used) header
-      (subst (λ (q : Pages). IsRestOnce q c.check_tables.new.pager.state.header c.check_tables.new.used) (same_pages _ _ both)
-      (c.in_ok-check_rest.ensures.once (still_steady _ _ both steady))))))
-      (sound_rows pages c.in_ok-rows.rows.items (catalog_data c.in_ok-catalog.catalog) catalog) fault;
-  served = λ steady.
-      let pages = pages_seen c.args.pager.now.state in
-      let count : c.header-pages.result.pages ≡ pages.count = ap (λ (h : Header). h.pages) c.header-pages.ensures.is in
-      let first = c.in_ok-rows.ensures.checked steady in
-      let catalog = catalog_here pages _ c.in_ok-rows.rows.items _ first.0 (catalog_data c.in_ok-catalog.catalog) first.1
-      (c.in_ok-rows.ensures.rows steady) count c.as_slice.ensures.value c.in_ok-catalog.ensures.said in
-      all_served pages c.in_ok-rows.rows.items (catalog_data c.in_ok-catalog.catalog) catalog (c.is_of_tables.ensures.0 c.if-not-is_of_tables.false);
-}
+returns-clause-outcome g c =
+    let state = c.args.pager.now.state in
+    let pages = pages_seen state in
+    let rows = c.in_ok-rows.rows.items in
+    let found = catalog_data c.in_ok-catalog.catalog in
+    let stays = c.read_schema.ensures.reads.image in
+    let both = SameImage-trans _ _ _ stays c.check_tables.ensures.reads.image in
+    let three = SameImage-trans _ _ _ both c.check_indexes.ensures.reads.image in
+    let four = SameImage-trans _ _ _ three c.check_rest.ensures.reads.chains.image in
+    let is = c.header-pages.ensures.is in
+    let count : c.header-pages.result.pages ≡ pages.count = ap (λ (h : Header). h.pages) is in
+    record {
+      roots = search rules;
+      tables = λ steady.
+          let now = still_steady _ _ stays steady in
+          let trees = subst (λ (q : Pages). AllZip (IsCheckedTree q) c.tables-tables.result.now c.in_ok-trees.trees.items) (same_pages _ _ stays) (c.in_ok-trees.ensures.checked now) in
+          let first = c.in_ok-rows.ensures.checked steady in
+          let catalog = catalog_here pages _ rows _ first.0 found first.1
+          (c.in_ok-rows.ensures.rows steady) count c.as_slice.ensures.value c.in_ok-catalog.ensures.said in
+          has_tables pages rows found c.in_ok-trees.trees.items catalog
+          (subst (λ (ts : List TableData). AllZip (IsCheckedTree pages) ts c.in_ok-trees.trees.items) c.tables-tables.ensures trees);
+      trees = search rules;
+      index_trees = λ steady.
+          let trees = subst (λ (q : Pages). AllZip (IsCheckedIndexOf q) (map index_data c.indexes-indexes.result.now) c.in_ok-index_trees.index_trees.items) (same_pages _ _ both)
+          (c.in_ok-index_trees.ensures.checked (still_steady _ _ both steady)) in
+          subst (λ (all : List IndexData). AllZip (IsCheckedIndexOf pages) all c.in_ok-index_trees.index_trees.items) c.indexes-indexes.ensures trees;
+      entries = λ steady.
+          let now = still_steady _ _ stays steady in
+          let first = c.in_ok-rows.ensures.checked steady in
+          let catalog = catalog_here pages _ rows _ first.0 found first.1
+          (c.in_ok-rows.ensures.rows steady) count c.as_slice.ensures.value c.in_ok-catalog.ensures.said in
+          let trees = subst (λ (l : List TreeCounts). AllZip (IsCheckedTree (pages_seen c.check_rest.new.pager.state)) c.tables-tables.result.now l) (sym c.as_slice-table_counts.ensures.value)
+          (subst (λ (q : Pages). AllZip (IsCheckedTree q) c.tables-tables.result.now c.in_ok-trees.trees.items) (same_pages _ _ stays ∙ sym (same_pages _ _ four)) (c.in_ok-trees.ensures.checked now)) in
+          let index_trees = subst (λ (l : List TreeCounts). AllZip (IsCheckedIndexOf (pages_seen c.check_rest.new.pager.state)) (map index_data c.indexes-indexes.result.now) l) (sym c.as_slice-index_counts.ensures.value)
+          (subst (λ (q : Pages). AllZip (IsCheckedIndexOf q) (map index_data c.indexes-indexes.result.now) c.in_ok-index_trees.index_trees.items) (same_pages _ _ both ∙ sym (same_pages _ _ four))
+          (c.in_ok-index_trees.ensures.checked (still_steady _ _ both steady))) in
+          its_entries pages rows found catalog
+          (λ table index among_tables among owner.
+          subst (λ (q : Pages). AreItsEntries q table index) (same_pages _ _ four)
+          (c.in_ok-check_entries.ensures.entries (still_steady _ _ four steady) trees index_trees table index
+          (subst (λ (ts : List TableData). Contains ts table) (sym c.tables-tables.ensures) among_tables)
+          (subst (λ (all : List IndexData). Contains all index) (sym c.indexes-indexes.ensures) among) owner));
+      unbroken = λ steady fault examined.
+          let now = still_steady _ _ stays steady in
+          let front = front_is state (subst (λ (h : Header). IsSoundHeader h) is c.header-pages.ensures.sound) (sym is ∙ c.header-pages.ensures.steady steady) in
+          let header : c.check_indexes.new.pager.state.header ≡ header_on pages = three.header ∙ sym front in
+          let trees = subst (λ (q : Pages). AllZip (IsCheckedTree q) c.tables-tables.result.now c.in_ok-trees.trees.items) (same_pages _ _ stays) (c.in_ok-trees.ensures.checked now) in
+          let index_trees = subst (λ (q : Pages). AllZip (IsCheckedIndexOf q) (map index_data c.indexes-indexes.result.now) c.in_ok-index_trees.index_trees.items) (same_pages _ _ both)
+          (c.in_ok-index_trees.ensures.checked (still_steady _ _ both steady)) in
+          let first = c.in_ok-rows.ensures.checked steady in
+          let catalog = catalog_here pages _ rows _ first.0 found first.1
+          (c.in_ok-rows.ensures.rows steady) count c.as_slice.ensures.value c.in_ok-catalog.ensures.said in
+          let tables = subst (λ (ts : List TableData). MarksTrees pages (map tree_of ts) c.read_schema.new.used c.check_tables.new.used) c.tables-tables.ensures
+          (subst (λ (q : Pages). MarksTrees q (map tree_of c.tables-tables.result.now) c.read_schema.new.used c.check_tables.new.used) (same_pages _ _ stays) (c.in_ok-trees.ensures.marks now)) in
+          let indexes = subst (λ (all : List IndexData). MarksTrees pages (map index_tree_of all) c.check_tables.new.used c.check_indexes.new.used) c.indexes-indexes.ensures
+          (subst (λ (q : Pages). MarksTrees q (map index_tree_of (map index_data c.indexes-indexes.result.now)) c.check_tables.new.used c.check_indexes.new.used) (same_pages _ _ both)
+          (c.in_ok-index_trees.ensures.marks (still_steady _ _ both steady))) in
+          let four_trees = subst (λ (l : List TreeCounts). AllZip (IsCheckedTree (pages_seen c.check_rest.new.pager.state)) c.tables-tables.result.now l) (sym c.as_slice-table_counts.ensures.value)
+          (subst (λ (q : Pages). AllZip (IsCheckedTree q) c.tables-tables.result.now c.in_ok-trees.trees.items) (sym (same_pages _ _ four)) trees) in
+          let four_index_trees = subst (λ (l : List TreeCounts). AllZip (IsCheckedIndexOf (pages_seen c.check_rest.new.pager.state)) (map index_data c.indexes-indexes.result.now) l) (sym c.as_slice-index_counts.ensures.value)
+          (subst (λ (q : Pages). AllZip (IsCheckedIndexOf q) (map index_data c.indexes-indexes.result.now) c.in_ok-index_trees.index_trees.items) (sym (same_pages _ _ four)) index_trees) in
+          unbroken_image pages rows found c.in_ok-trees.trees.items first.0 first.1 catalog
+          (subst (λ (ts : List TableData). AllZip (IsCheckedTree pages) ts c.in_ok-trees.trees.items) c.tables-tables.ensures trees)
+          (no_misuse pages found rows catalog
+          (subst (λ (h : Header). IsFreelist pages h.freelist h.free_pages) header
+          (subst (λ (q : Pages). IsFreelist q c.check_indexes.new.pager.state.header.freelist c.check_indexes.new.pager.state.header.free_pages) (same_pages _ _ three)
+          (c.in_ok-check_rest.ensures.freelist (still_steady _ _ three steady))))
+          (rest_once pages found rows catalog (c.header-pages.result.pages + 1)
+          c.as_mut_slice-used.result.now c.read_schema.new.used (search rules) (c.in_ok-rows.ensures.marks steady) c.check_tables.new.used tables c.check_indexes.new.used indexes
+          (subst (λ (h : Header). IsRestOnce pages h c.check_indexes.new.used) header
+          (subst (λ (q : Pages). IsRestOnce q c.check_indexes.new.pager.state.header c.check_indexes.new.used) (same_pages _ _ three)
+          (c.in_ok-check_rest.ensures.once (still_steady _ _ three steady))))))
+          (sound_rows pages rows found catalog)
+          (unbroken_indexes pages rows found catalog c.in_ok-index_trees.index_trees.items
+          (subst (λ (all : List IndexData). AllZip (IsCheckedIndexOf pages) all c.in_ok-index_trees.index_trees.items) c.indexes-indexes.ensures index_trees)
+          (its_entries pages rows found catalog
+          (λ table index among_tables among owner.
+          subst (λ (q : Pages). AreItsEntries q table index) (same_pages _ _ four)
+          (c.in_ok-check_entries.ensures.entries (still_steady _ _ four steady) four_trees four_index_trees table index
+          (subst (λ (ts : List TableData). Contains ts table) (sym c.tables-tables.ensures) among_tables)
+          (subst (λ (all : List IndexData). Contains all index) (sym c.indexes-indexes.ensures) among) owner))))
+          fault;
+      served = λ steady.
+          let first = c.in_ok-rows.ensures.checked steady in
+          let catalog = catalog_here pages _ rows _ first.0 found first.1
+          (c.in_ok-rows.ensures.rows steady) count c.as_slice.ensures.value c.in_ok-catalog.ensures.said in
+          all_served pages rows found catalog (subst (λ (all : List IndexData). All IsWhole all) c.indexes-indexes.ensures (c.are_whole.ensures.0 c.if-not-are_whole.false));
+    }

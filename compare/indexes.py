@@ -1,0 +1,125 @@
+"""Worked images with indexes: trees of each kind, and each condition of an index broken alone."""
+
+from __future__ import annotations
+
+from collections.abc import Iterator
+from typing import TYPE_CHECKING
+
+from program import fault_line
+from writer import Value, Writer, record
+
+if TYPE_CHECKING:
+    from worked import Trial
+
+ITEM = "CREATE TABLE item(id INTEGER PRIMARY KEY, name TEXT NOT NULL, qty INT) STRICT"
+ITEMS: list[tuple[Value, ...]] = [("bolt", 40), ("nut", None), ("cap", 7), ("nut", 7)]
+ANSWERS = {"SELECT * FROM item": "1,'bolt',40\n2,'nut',NULL\n3,'cap',7\n4,'nut',7\n"}
+BY_QTY = "CREATE INDEX i ON item(qty)"
+IN_ORDER: list[tuple[Value, ...]] = [(None, 2), (7, 3), (7, 4), (40, 1)]
+
+# Indexes on the columns of the four rows, and their entries: NULL comes first, a number before a text; a column that descends
+# turns this round; the rowid stands last, and ascends.
+SOUND: dict[str, list[tuple[Value, ...]]] = {
+    BY_QTY: IN_ORDER,
+    "CREATE INDEX i ON item(qty DESC)": [(40, 1), (7, 3), (7, 4), (None, 2)],
+    "CREATE INDEX i ON item(name, qty DESC)": [("bolt", 40, 1), ("cap", 7, 3), ("nut", 7, 4), ("nut", None, 2)],
+    "CREATE INDEX i ON item(name DESC, qty)": [("nut", None, 2), ("nut", 7, 4), ("cap", 7, 3), ("bolt", 40, 1)],
+    "CREATE INDEX i ON item(id)": [(1, 1), (2, 2), (3, 3), (4, 4)],
+    "CREATE UNIQUE INDEX i ON item(qty, id DESC)": [(None, 2, 2), (7, 4, 4), (7, 3, 3), (40, 1, 1)],
+    "CREATE UNIQUE INDEX i ON item(qty, name)": [(None, "nut", 2), (7, "cap", 3), (7, "nut", 4), (40, "bolt", 1)],
+}
+
+# Entries of the index by `qty` that are none, and the number of the fault: one lacks; one is too many; another rowid; another
+# value; the value of the row in the place of its rowid; out of order; twice; more values, and fewer; a value of none.
+BROKEN: list[tuple[list[tuple[Value, ...]], bytes]] = [
+    (IN_ORDER[:3], fault_line(24, "i")),
+    ([], fault_line(24, "i")),
+    ([*IN_ORDER, (41, 5)], fault_line(24, "i")),
+    ([(None, 2), (7, 3), (7, 5), (40, 1)], fault_line(24, "i")),
+    ([(None, 2), (7, 3), (8, 4), (40, 1)], fault_line(24, "i")),
+    ([(None, 2), (7, 3), (7, 4), (40, None)], fault_line(24, "i")),
+    ([(None, 2), (7, 3), (7, 4), ("40", 1)], fault_line(24, "i")),
+    ([(7, 3), (None, 2), (7, 4), (40, 1)], fault_line(15, 3)),
+    ([(None, 2), (7, 4), (7, 3), (40, 1)], fault_line(15, 3)),
+    ([(None, 2), (7, 3), (7, 3), (40, 1)], fault_line(15, 3)),
+    ([(None, 2), (7, 3), (7, 4, 1), (40, 1)], fault_line(17, 3)),
+    ([(None, 2), (7, 3), (7,), (40, 1)], fault_line(17, 3)),
+    ([(None, 2), (7, 3), (), (40, 1)], fault_line(17, 3)),
+]
+
+# Unique indexes over the rows: two agree in all columns, or have a NULL there.
+REPEATED = {
+    "CREATE UNIQUE INDEX i ON item(qty)": IN_ORDER,
+    "CREATE UNIQUE INDEX i ON item(name)": [("bolt", 1), ("cap", 3), ("nut", 2), ("nut", 4)],
+}
+
+
+def items(rows: list[tuple[Value, ...]] | None = None, leaf: int = 4) -> Writer:
+    """An image of the table alone, so many rows on a leaf; its root is page 2 where it has one page."""
+    writer = Writer()
+    records = [(rowid, record([None, *row])) for rowid, row in enumerate(ITEMS if rows is None else rows, 1)]
+    writer.table("item", ITEM, records, leaf=leaf)
+    return writer
+
+
+def indexed(sql: str, entries: list[tuple[Value, ...]], writer: Writer | None = None, **shape: int) -> bytes:
+    """The same with an index, whose root is page 3 where it has one page."""
+    writer = items() if writer is None else writer
+    writer.index("i", "item", sql, [record(entry) for entry in entries], **shape)
+    return bytes(writer.image())
+
+
+def with_nulls() -> tuple[Writer, list[tuple[Value, ...]]]:
+    """Rows whose `qty` is NULL, and their entries."""
+    return items([("a", None), ("b", None), ("c", 1)]), [(None, 1), (None, 2), (1, 3)]
+
+
+def long_texts(count: int, leaf: int, fan: int) -> bytes:
+    """An index of texts from two bytes to some thousand, whose entries go on in overflow pages, of some levels."""
+    texts = [chr(97 + number // 26) + chr(97 + number % 26) + "x" * (number * number) for number in range(count)]
+    writer = items([(text, None) for text in texts], 1)
+    entries: list[tuple[Value, ...]] = [(text, rowid) for rowid, text in enumerate(texts, 1)]
+    return indexed("CREATE INDEX i ON item(name)", entries, writer, leaf=leaf, fan=fan)
+
+
+def broken_images() -> Iterator[tuple[str, bytes, bytes]]:
+    """Images of which one condition of an index is broken: what it is, the image, and the fault's line."""
+    for entries, line in BROKEN:
+        yield f"the entries {entries}", indexed(BY_QTY, entries), line
+    for sql, entries in REPEATED.items():
+        yield sql, indexed(sql, entries), fault_line(25, "i")
+    descending = "CREATE INDEX i ON item(qty DESC)"
+    yield f"{descending}, in the order of one that ascends", indexed(descending, IN_ORDER), fault_line(15, 3)
+    yield "a partial index", indexed("CREATE INDEX i ON item(qty) WHERE qty > 7", [(40, 1)]), fault_line(29)
+    for root, line in ((2, fault_line(13, 2)), (4, fault_line(11, 4))):
+        writer = items()
+        writer.index("i", "item", BY_QTY, [record(entry) for entry in IN_ORDER])
+        if root == 4:
+            writer.table("t", "CREATE TABLE t(a INT) STRICT", [])
+            writer.objects.pop()
+        writer.objects[1] = record(["index", "i", "item", root, BY_QTY])
+        yield f"an index whose root is page {root}", bytes(writer.image()), line
+    writer = items()
+    writer.index("i", "item", BY_QTY, [record(entry) for entry in IN_ORDER])
+    writer.objects.append(record(["index", "j", "item", 3, "CREATE INDEX j ON item(qty)"]))
+    yield "two indexes of one root", bytes(writer.image()), fault_line(13, 3)
+
+
+def try_indexes(trial: Trial) -> None:
+    """Sound indexes of each order and shape, and broken ones."""
+    for sql, entries in SOUND.items():
+        trial.sound(sql, indexed(sql, entries), ANSWERS)
+    for count, leaf, fan in ((63, 1, 2), (53, 1, 3), (47, 2, 2)):
+        rows = [(f"row {rowid}", rowid % 9) for rowid in range(1, count + 1)]
+        entries = sorted((qty, rowid) for rowid, (_, qty) in enumerate(rows, 1))
+        image = indexed(BY_QTY, entries, items(rows), leaf=leaf, fan=fan)
+        lines = "".join(f"{rowid},'{name}',{qty}\n" for rowid, (name, qty) in enumerate(rows, 1))
+        trial.sound(f"an index of many levels, {leaf} on a leaf", image, {"SELECT * FROM item": lines})
+    for count, leaf, fan in ((31, 1, 2), (35, 3, 3)):
+        trial.sound(f"an index of {count} long texts", long_texts(count, leaf, fan), {"SELECT qty FROM item": "NULL\n" * count})
+    writer, entries = with_nulls()
+    image = indexed("CREATE UNIQUE INDEX i ON item(qty)", entries, writer)
+    trial.sound("a unique index with NULLs", image, {"SELECT name FROM item": "'a'\n'b'\n'c'\n"})
+    trial.sound("an index of no rows", indexed(BY_QTY, [], items([])), {"SELECT * FROM item": ""})
+    for what, image, line in broken_images():
+        trial.refused(what, image, line)

@@ -1,0 +1,125 @@
+-- The indexes of an image: which rows of the schema say them, and that nothing of those that were checked is broken.
+use Rattle.std.proofs.Common.{◌≡◌, ◌≤◌, ℕ, zero, suc, All, Contains, List, [], ◌∷◌, subst, arith, inl, inr, length}
+use Rattle.std.proofs.lemmas.List.Elements.{All-cons, All-head, All-nil, All-tail}
+use Rattle.std.specs.List.{AllZip}
+use Rattle.values.specs.Row.{Row}
+use Rattle.values.specs.declared.fault.Fault.{Fault}
+use Rattle.values.specs.declared.fault.Fault.TheVariants.{ReadFailed, NoMemory, BadPage, BadChain, PageUse, BadOrder, BadDepth, BadRecord, FloatValue, BadText, IndexDiffers, NotUnique}
+use Rattle.pager.specs.PagerState.{IsPageNumber, PagerState}
+use Rattle.image.specs.Pages.{Pages}
+use Rattle.indexes.specs.IndexData.{IndexData}
+use Rattle.schema.specs.Names.{IsSameName}
+use Rattle.schema.specs.TableData.{TableData}
+use Rattle.catalog.specs.CatalogData.{CatalogData}
+use Rattle.catalog.specs.Picks.{Picks}
+use Rattle.catalog.specs.Says.{AreIndexesOf, IsCatalog}
+use Rattle.tree_walk.specs.declared.counts.TreeCounts.{TreeCounts}
+use Rattle.index_walk.specs.Checked.{IsIndexWalkFault}
+use Rattle.index_walk.proofs.CheckedLemmas.{unbroken_index}
+use Rattle.index_rows.proofs.CompareLemmas.{not_different}
+use Rattle.index_rows.proofs.EntryLemmas.{still_repeated}
+use Rattle.index_rows.specs.Repeats.{IsUniqueIndex}
+use Rattle.integrity.specs.Checked.{HasBrokenIndex, HasCause, IsCheckFault}
+use Rattle.integrity.specs.Denotes.{HasCatalog}
+use Rattle.integrity.specs.Indexes.{AreBrokenEntries, AreItsEntries, IsBrokenIndexTree, IsCheckedIndexOf, IsTableIndex, places_of}
+use Rattle.integrity.proofs.OneLemmas.{same_catalog}
+
+-- the faults of the walk over an index are those of a check
+pub index_only : (fault : Fault) → IsIndexWalkFault fault → IsCheckFault fault
+index_only ReadFailed h = tt
+index_only NoMemory h = tt
+index_only (BadPage n) h = tt
+index_only (BadChain n) h = tt
+index_only (PageUse n) h = tt
+index_only (BadOrder n) h = tt
+index_only (BadDepth n) h = tt
+index_only (BadRecord n) h = tt
+index_only FloatValue h = tt
+index_only BadText h = tt
+index_only fault h = absurd h
+
+-- the trees of a catalog's indexes begin at pages of the image
+roots_within : (count : ℕ) (tables : List TableData) (rows : List Row) (indexes : List IndexData) → AreIndexesOf count tables rows indexes
+    → All (λ index. (2 ≤ index.root) × (index.root ≤ count)) indexes
+roots_within count tables rows indexes Picks.end = All-nil (λ index. (2 ≤ index.root) × (index.root ≤ count))
+roots_within count tables (row ∷ rows) (index ∷ indexes) (Picks.here says others) =
+    All-cons (λ index. (2 ≤ index.root) × (index.root ≤ count)) index indexes (says.least, says.most)
+    (roots_within count tables rows indexes others)
+roots_within count tables (row ∷ rows) indexes (Picks.other is others) = roots_within count tables rows indexes others
+
+pub index_roots : (state : PagerState) (count : ℕ) (rows : List Row) (catalog : CatalogData) → count ≡ state.header.pages
+    → IsCatalog count rows catalog → All (λ index. IsPageNumber state index.root) catalog.indexes
+index_roots state count rows catalog same says = numbers catalog.indexes (roots_within count catalog.tables rows catalog.indexes says.indexes_are)
+  where
+    numbers : (indexes : List IndexData) → All (λ index. (2 ≤ index.root) × (index.root ≤ count)) indexes
+        → All (λ index. IsPageNumber state index.root) indexes
+    numbers [] all = All-nil (λ index. IsPageNumber state index.root)
+    numbers (index ∷ indexes) all =
+        let here = All-head (λ index. (2 ≤ index.root) × (index.root ≤ count)) index indexes all in
+        let least = here.0 in
+        let most = here.1 in
+        All-cons (λ index. IsPageNumber state index.root) index indexes (omega (arith, least), omega (arith, most, same))
+        (numbers indexes (All-tail (λ index. (2 ≤ index.root) × (index.root ≤ count)) index indexes all))
+
+module _ (pages : Pages) (rows : List Row) (catalog : CatalogData) (has : HasCatalog pages rows catalog) where
+  -- an index's tree has a fault's condition
+  pub broken_index_tree : (index : IndexData) (fault : Fault) → Contains catalog.indexes index → IsBrokenIndexTree pages index fault
+      → HasCause pages fault
+  broken_index_tree index fault among broken =
+      inr (inl (inr (inr (inr (inl (index, record { rows = rows; catalog = catalog; has = has; is_index = among }, broken))))))
+
+  -- and so its entries
+  pub broken_entries : (table : TableData) (index : IndexData) (fault : Fault) → Contains catalog.tables table → Contains catalog.indexes index
+      → IsSameName index.table table.name → AreBrokenEntries pages table index fault → HasCause pages fault
+  broken_entries table index fault among_tables among owner broken =
+      inr (inl (inr (inr (inr (inr (
+        table,
+        index,
+        record { rows = rows; catalog = catalog; has = has; is_index = among; is_table = among_tables; owner = owner },
+        broken,
+      ))))))
+
+  -- the tree of one of the indexes was checked
+  checked_in : (indexes : List IndexData) (trees : List TreeCounts) (index : IndexData) → AllZip (IsCheckedIndexOf pages) indexes trees
+      → Contains indexes index → (counts : TreeCounts) × IsCheckedIndexOf pages index counts
+  checked_in [] trees index checked (k, within, at) = absurd (omega (arith, within))
+  checked_in (i ∷ indexes) [] index checked at = absurd checked
+  checked_in (i ∷ indexes) (c ∷ trees) index checked (zero, within, at) =
+      (c, subst (λ (x : IndexData). IsCheckedIndexOf pages x c) at checked.0)
+  checked_in (i ∷ indexes) (c ∷ trees) index checked (suc k, within, at) = checked_in indexes trees index checked.1 (k, omega (arith, within), at)
+
+  unbroken_entries : (table : TableData) (index : IndexData) → AreItsEntries pages table index → (fault : Fault)
+      → AreBrokenEntries pages table index fault → ⊥
+  unbroken_entries table index its (IndexDiffers name) (named, differs) =
+      not_different pages table (places_of index) index.root its.same differs
+  unbroken_entries table index its (NotUnique name) (named, is_unique, repeats) =
+      let columns = length (places_of index) in
+      let unique : IsUniqueIndex pages index.root columns = its.unique is_unique in
+      unique.unique (still_repeated pages index.root unique.entries repeats.entries unique.entries_are repeats.entries_are columns repeats.repeated)
+  unbroken_entries table index its fault broken = absurd broken
+
+  -- the catalog's indexes are the image's
+  table_index : (table : TableData) (index : IndexData) → IsTableIndex pages table index
+      → Contains catalog.tables table × Contains catalog.indexes index
+  table_index table index is =
+      let same = same_catalog pages is.rows rows is.catalog catalog is.has has in (
+        subst (λ (c : CatalogData). Contains c.tables table) same is.is_table,
+        subst (λ (c : CatalogData). Contains c.indexes index) same is.is_index,
+      )
+
+  -- entries that were held against the rows of each table
+  pub its_entries : ((table : TableData) (index : IndexData) → Contains catalog.tables table → Contains catalog.indexes index
+      → IsSameName index.table table.name → AreItsEntries pages table index) → (table : TableData) (index : IndexData)
+      → IsTableIndex pages table index → AreItsEntries pages table index
+  its_entries each table index is = let among = table_index table index is in each table index among.0 among.1 is.owner
+
+  -- nothing is broken of indexes whose trees and entries were checked
+  pub unbroken_indexes : (trees : List TreeCounts) → AllZip (IsCheckedIndexOf pages) catalog.indexes trees
+      → ((table : TableData) (index : IndexData) → IsTableIndex pages table index → AreItsEntries pages table index)
+      → (fault : Fault) → HasBrokenIndex pages fault → ⊥
+  unbroken_indexes trees checked its fault (inl (index, is, broken)) =
+      let same = same_catalog pages is.rows rows is.catalog catalog is.has has in
+      let found = checked_in catalog.indexes trees index checked (subst (λ (c : CatalogData). Contains c.indexes index) same is.is_index) in
+      unbroken_index pages _ _ index.root found.0 found.1 fault broken
+  unbroken_indexes trees checked its fault (inr (table, index, is, broken)) =
+      unbroken_entries table index (its table index is) fault broken

@@ -1,0 +1,12 @@
+-- What the program's findings are.
+use Rattle.catalog.specs.CatalogView.{catalog_data}
+use Rattle.integrity.specs.Checked.{CheckedData}
+use Rattle.integrity.specs.declared.checked.Checked.{Checked}
+
+abbrev pub checked_data : Checked → CheckedData
+checked_data c = record {
+  tables = (catalog_data c.catalog).tables;
+  trees = c.trees.items;
+  indexes = (catalog_data c.catalog).indexes;
+  index_trees = c.index_trees.items;
+}

@@ -1,0 +1,89 @@
+-- The indexes of an image: their trees, and their entries beside the rows of their tables. (Database File Format, section 2.3
+-- "Representation Of SQL Indices"; CREATE INDEX, "Unique Indexes"; the faults of docs/FAULTS.md)
+use Rattle.std.specs.Prelude.{◌≡◌, ℕ, ◌+◌, Bool, true, false, Contains, List, length, map, None, string_bytes}
+use Rattle.values.specs.declared.fault.Fault.{Fault}
+use Rattle.values.specs.declared.fault.Fault.TheVariants.{IndexDiffers, NotUnique}
+use Rattle.values.specs.Row.{Row}
+use Rattle.create_trees.specs.declared.create.KeyOrder.{KeyOrder}
+use Rattle.create_trees.specs.declared.create.KeyOrder.TheVariants.{Ascending, Descending}
+use Rattle.image.specs.Pages.{IsNumber, Pages}
+use Rattle.schema.specs.Names.{IsSameName}
+use Rattle.schema.specs.TableData.{TableData}
+use Rattle.indexes.specs.IndexData.{IndexData}
+use Rattle.catalog.specs.CatalogData.{CatalogData}
+use Rattle.tree_walk.specs.declared.counts.TreeCounts.{TreeCounts}
+use Rattle.index_walk.specs.Broken.{IsBrokenIndex}
+use Rattle.index_walk.specs.Checked.{IsCheckedIndex}
+use Rattle.index_rows.specs.Checked.{IsCheckedTable}
+use Rattle.index_rows.specs.Compared.{IsDifferentIndex, IsIndexOf}
+use Rattle.index_rows.specs.Repeats.{HasRepeats, IsUniqueIndex}
+use Rattle.integrity.specs.Denotes.{HasCatalog}
+
+abbrev pub is_descending : KeyOrder → Bool
+is_descending Ascending = false
+is_descending Descending = true
+
+-- which of an index's columns descend
+abbrev pub descends_of : IndexData → List Bool
+descends_of index = map (λ c. is_descending c.order) index.columns
+
+-- the places of its columns in the table
+abbrev pub places_of : IndexData → List ℕ
+places_of index = map (λ c. c.place) index.columns
+
+-- an entry has the values of the columns, and the rowid behind them
+abbrev pub width_of : IndexData → ℕ
+width_of index = length (places_of index) + 1
+
+-- the tree of an index was checked
+abbrev pub IsCheckedIndexOf : Pages → IndexData → TreeCounts → Type 0
+IsCheckedIndexOf pages index counts = IsCheckedIndex pages (width_of index) (descends_of index) index.root counts
+
+-- and has so many entries
+pub record IsCheckedIndexWith (pages : Pages) (index : IndexData) (entries : ℕ) : Type 0 where
+  pub counts : TreeCounts
+  pub number : IsNumber pages index.root
+  pub tree : IsCheckedIndexOf pages index counts
+  pub entries_are : entries ≡ counts.cells
+
+-- so was that of its table, which has so many rows
+pub record IsCheckedWith (pages : Pages) (table : TableData) (rows : ℕ) (index : IndexData) (entries : ℕ) : Type 0 where
+  pub table_is : IsCheckedTable pages table rows
+  pub index_is : IsCheckedIndexWith pages index entries
+
+-- an index of the image
+pub record IsImageIndex (pages : Pages) (index : IndexData) : Type 0 where
+  pub rows : List Row
+  pub catalog : CatalogData
+  pub has : HasCatalog pages rows catalog
+  pub is_index : Contains catalog.indexes index
+
+-- an index of the image, and its table
+pub record IsTableIndex (pages : Pages) (table : TableData) (index : IndexData) : Type 0 where
+  pub rows : List Row
+  pub catalog : CatalogData
+  pub has : HasCatalog pages rows catalog
+  pub is_index : Contains catalog.indexes index
+  pub is_table : Contains catalog.tables table
+  pub owner : IsSameName index.table table.name
+
+-- the condition on an index's tree that a fault says is broken
+abbrev pub IsBrokenIndexTree : Pages → IndexData → Fault → Type 0
+IsBrokenIndexTree pages index fault = IsBrokenIndex pages (width_of index) (descends_of index) index.root fault
+
+-- the condition on an index's entries that a fault says is broken
+abbrev pub AreBrokenEntries : Pages → TableData → IndexData → Fault → Type 0
+AreBrokenEntries pages table index (IndexDiffers name) =
+    (string_bytes name ≡ index.name) × IsDifferentIndex pages table (places_of index) index.root
+AreBrokenEntries pages table index (NotUnique name) =
+    (string_bytes name ≡ index.name) × (index.is_unique ≡ true) × HasRepeats pages index.root (length (places_of index))
+AreBrokenEntries pages table index _ = ⊥
+
+-- the index has exactly the entries that the rows of its table want, no two of which agree where it is unique
+pub record AreItsEntries (pages : Pages) (table : TableData) (index : IndexData) : Type 0 where
+  pub same : IsIndexOf pages table (places_of index) index.root
+  pub unique : index.is_unique ≡ true → IsUniqueIndex pages index.root (length (places_of index))
+
+-- the index has an entry for each row of its table: it isn't a partial one
+abbrev pub IsWhole : IndexData → Type 0
+IsWhole index = index.condition ≡ None
