@@ -10,7 +10,8 @@ use Rattle.create_trees.specs.CreateView.{column_of, constraint_of, table_of}
 use Rattle.create_trees.specs.declared.create.Column.{Column}
 use Rattle.create_trees.specs.declared.create.CreateTable.{CreateTable}
 use Rattle.schema.proofs.ListLemmas.{all_from_map}
-use Rattle.schema.specs.Created.{AreKeys, AreServed, IsColumn, IsKeyPlace, IsServed, IsTable, columns_with_keys}
+use Rattle.declared_keys.specs.Keys.{KeyData, keys_of}
+use Rattle.schema.specs.Created.{AreKeys, AreServed, IsColumn, IsRowidPlace, IsServed, IsTable}
 use Rattle.schema.specs.Names.{AreDistinct, IsReserved}
 use Rattle.schema.specs.Refused.{IsRefused}
 use Rattle.schema.specs.TableData.{ColumnData, IsPlaceIn, TableData}
@@ -26,18 +27,19 @@ pub names_of : (columns : List Column) → map (λ c. c.name) (map column_of col
 names_of [] = refl
 names_of (column ∷ columns) = ap (λ names. string_bytes column.name ∷ names) (names_of columns)
 
-zip_length : (trees : List ColumnTree) (columns : List ColumnData) → AllZip IsColumn trees columns → length trees ≡ length columns
-zip_length [] [] all = refl
-zip_length [] (column ∷ columns) all = absurd all
-zip_length (tree ∷ trees) [] all = absurd all
-zip_length (tree ∷ trees) (column ∷ columns) all = let rest = zip_length trees columns all.1 in omega (arith, rest)
+zip_length : (keys : List KeyData) (trees : List ColumnTree) (columns : List ColumnData) → AllZip (IsColumn keys) trees columns
+    → length trees ≡ length columns
+zip_length keys [] [] all = refl
+zip_length keys [] (column ∷ columns) all = absurd all
+zip_length keys (tree ∷ trees) [] all = absurd all
+zip_length keys (tree ∷ trees) (column ∷ columns) all = let rest = zip_length keys trees columns all.1 in omega (arith, rest)
 
-pub place_within : (trees : List ColumnTree) (columns : List ColumnData) (place : Option ℕ) → IsKeyPlace trees place
-    → AllZip IsColumn trees columns → IsPlaceIn place (length columns)
-place_within trees columns None is all = tt
-place_within trees columns (Some at) is all =
+pub place_within : (keys : List KeyData) (trees : List ColumnTree) (columns : List ColumnData) (place : Option ℕ)
+    → IsRowidPlace keys trees place → AllZip (IsColumn keys) trees columns → IsPlaceIn place (length columns)
+place_within keys trees columns None is all = tt
+place_within keys trees columns (Some at) is all =
     let within = slice_get_within trees at is.0 is.1 in
-    let same = zip_length trees columns all in
+    let same = zip_length keys trees columns all in
     omega (arith, within, same)
 
 -- the tests of a table's names
@@ -50,46 +52,61 @@ module _ (created : CreateTable) where
       → found ≡ false → ¬ IsReserved (string_bytes created.name)
   unreserved found name e tested none reserved = let h : found ≡ true = tested.1 (subst IsReserved (sym e) reserved) in absurd cc
 
-  module _ (distinct : Bool) (columns : List Column) (e : map column_of columns ≡ columns_with_keys (table_of created))
-      (tested : IsTrue distinct ↔ AreDistinct (map (λ (c : Column). string_bytes c.name) columns)) where
-    pub doubled_refused : distinct ≡ false → (table : TableData) → ¬ IsTable (table_of created) table
-    doubled_refused two table is =
-        let h : distinct ≡ true = tested.1 (subst AreDistinct (names_of columns)
-        (subst (λ cs. AreDistinct (map (λ c. c.name) cs)) (sym e) is.distinct)) in absurd cc
+  -- and of its columns
+  module _ (columns : List Column) (e : columns ≡ created.columns.items) where
+    same : map column_of columns ≡ (table_of created).columns
+    same = ap (map column_of) e
 
-    pub distinct_names : distinct ≡ true → AreDistinct (map (λ c. c.name) (columns_with_keys (table_of created)))
-    distinct_names one =
-        subst (λ cs. AreDistinct (map (λ c. c.name) cs)) e (subst AreDistinct (sym (names_of columns)) (tested.0 one))
+    module _ (distinct : Bool) (tested : IsTrue distinct ↔ AreDistinct (map (λ (c : Column). string_bytes c.name) columns)) where
+      pub doubled_refused : distinct ≡ false → (table : TableData) → ¬ IsTable (table_of created) table
+      doubled_refused two table is =
+          let h : distinct ≡ true = tested.1 (subst AreDistinct (names_of columns)
+          (subst (λ cs. AreDistinct (map (λ c. c.name) cs)) (sym same) is.distinct)) in absurd cc
 
-  module _ (found : Bool) (columns : List Column) (e : map column_of columns ≡ columns_with_keys (table_of created))
-      (tested : IsTrue found ↔ All (λ (c : Column). All (λ x. IsServed (constraint_of x)) c.constraints.items) columns) where
-    pub served_constraints : found ≡ true → All AreServed (columns_with_keys (table_of created))
-    served_constraints all =
-        subst (All AreServed) e
-        (All-map AreServed column_of columns (λ k c within. All-map IsServed constraint_of _ (tested.0 all k c within)))
+      pub distinct_names : distinct ≡ true → AreDistinct (map (λ c. c.name) (table_of created).columns)
+      distinct_names one =
+          subst (λ cs. AreDistinct (map (λ c. c.name) cs)) same (subst AreDistinct (sym (names_of columns)) (tested.0 one))
 
-    pub unserved_refused : found ≡ false → (table : TableData) → ¬ IsTable (table_of created) table
-    unserved_refused none table is =
-        let all = subst (All AreServed) (sym e) is.served in
-        let h : found ≡ true = tested.1 (λ k c within.
-        all_from_map IsServed constraint_of _ (all_from_map AreServed column_of columns all k c within)) in
-        absurd cc
+    module _ (found : Bool) (tested : IsTrue found ↔ All (λ (c : Column). All (λ x. IsServed (constraint_of x)) c.constraints.items) columns) where
+      pub served_constraints : found ≡ true → All AreServed (table_of created).columns
+      served_constraints all =
+          subst (All AreServed) same
+          (All-map AreServed column_of columns (λ k c within. All-map IsServed constraint_of _ (tested.0 all k c within)))
 
-  module _ (columns : List Column) (e : map column_of columns ≡ columns_with_keys (table_of created)) where
-    pub keys_refused : (fault : Fault) → IsRefused (AreKeys (map column_of columns)) fault → IsRefused (IsTable (table_of created)) fault
-    keys_refused fault refused =
-        refused_part (AreKeys (map column_of columns)) (IsTable (table_of created)) fault refused
-        (λ table is. (
-          table.rowid,
-          subst (λ cs. AreKeys cs table.rowid) (sym e)
-              (record { place_is = is.rowid_is; one_key = is.one_key; integer = is.integer }),
-        ))
+      pub unserved_refused : found ≡ false → (table : TableData) → ¬ IsTable (table_of created) table
+      unserved_refused none table is =
+          let all = subst (All AreServed) (sym same) is.served in
+          let h : found ≡ true = tested.1 (λ k c within.
+          all_from_map IsServed constraint_of _ (all_from_map AreServed column_of columns all k c within)) in
+          absurd cc
 
-    pub keys_found : (place : Option ℕ) → AreKeys (map column_of columns) place → AreKeys (columns_with_keys (table_of created)) place
-    keys_found place = subst (λ cs. AreKeys cs place) e
+    module _ (keys : List KeyData) (keyed : keys ≡ keys_of (table_of created)) where
+      module _ (found : Bool) (tested : IsTrue found ↔ AreKeys (map column_of columns) keys) where
+        pub keys_are : found ≡ true → AreKeys (table_of created).columns (keys_of (table_of created))
+        keys_are all = subst (AreKeys (table_of created).columns) keyed (subst (λ cs. AreKeys cs keys) same (tested.0 all))
 
-    pub columns_refused : (fault : Fault) → IsRefused (λ (cs : List ColumnData). AllZip IsColumn (map column_of columns) cs) fault
-        → IsRefused (IsTable (table_of created)) fault
-    columns_refused fault refused =
-        refused_part (λ (cs : List ColumnData). AllZip IsColumn (map column_of columns) cs) (IsTable (table_of created)) fault refused
-        (λ table is. (table.columns, subst (λ ds. AllZip IsColumn ds table.columns) (sym e) is.columns_are))
+        pub keys_refused : found ≡ false → (table : TableData) → ¬ IsTable (table_of created) table
+        keys_refused none table is =
+            let all = subst (λ cs. AreKeys cs keys) (sym same) (subst (AreKeys (table_of created).columns) (sym keyed) is.keys_are) in
+            let h : found ≡ true = tested.1 all in absurd cc
+
+      pub rowid_is : (place : Option ℕ) → IsRowidPlace keys (map column_of columns) place
+          → IsRowidPlace (keys_of (table_of created)) (table_of created).columns place
+      rowid_is place is =
+          subst (λ ks. IsRowidPlace ks (table_of created).columns place) keyed (subst (λ cs. IsRowidPlace keys cs place) same is)
+
+      pub columns_are : (made : List ColumnData) → AllZip (IsColumn keys) (map column_of columns) made
+          → AllZip (IsColumn (keys_of (table_of created))) (table_of created).columns made
+      columns_are made all =
+          subst (λ ks. AllZip (IsColumn ks) (table_of created).columns made) keyed
+          (subst (λ cs. AllZip (IsColumn keys) cs made) same all)
+
+      pub columns_refused : (fault : Fault) → IsRefused (λ (cs : List ColumnData). AllZip (IsColumn keys) (map column_of columns) cs) fault
+          → IsRefused (IsTable (table_of created)) fault
+      columns_refused fault refused =
+          refused_part (λ (cs : List ColumnData). AllZip (IsColumn keys) (map column_of columns) cs) (IsTable (table_of created)) fault refused
+          (λ table is. (
+            table.columns,
+            subst (λ cs. AllZip (IsColumn keys) cs table.columns) (sym same)
+                (subst (λ ks. AllZip (IsColumn ks) (table_of created).columns table.columns) (sym keyed) is.columns_are),
+          ))

@@ -1,11 +1,10 @@
 pub mod ListLemmas
+pub mod ApartLemmas
 pub mod NameLemmas
 pub mod TypeLemmas
-pub mod KeyLemmas
-pub mod KeyStepLemmas
 pub mod ColumnLemmas
+pub mod ServedLemmas
+pub mod KeyLemmas
 pub mod CreatedLemmas
 pub mod MissingLemmas
-pub mod ServedLemmas
-pub mod KeyedLemmas
 pub mod OneLemmas

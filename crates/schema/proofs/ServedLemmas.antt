@@ -12,7 +12,7 @@ use Rattle.create_trees.specs.declared.create.TableConstraint.{TableConstraint}
 use Rattle.create_trees.specs.declared.create.TableOption.{TableOption}
 use Rattle.create_trees.specs.declared.create.TableOption.TheVariants.{Strict}
 use Rattle.schema.proofs.ListLemmas.{all_from_map, any_at}
-use Rattle.schema.specs.Created.{AreColumns, IsNamedIn, IsServedIn, IsTable, columns_with_keys}
+use Rattle.schema.specs.Created.{AreColumns, IsNamedIn, IsServedIn, IsTable}
 use Rattle.schema.specs.Names.{AreDistinct, IsSameName}
 use Rattle.schema.specs.TableData.{TableData}
 
@@ -28,13 +28,15 @@ any_from_map P f ys (k, x, within, is, p) =
     any_at (λ y. P (f y)) ys k (let l = length-map ys f in omega (arith, l, within))
     (λ d. subst P (sym is ∙ get_or-map f ys k d x (let l = length-map ys f in omega (arith, l, within))) p)
 
+-- a test of some, told of what a function makes
+pub any_told : {X Y : Type 0} (P : X → Type 0) (f : Y → X) (ys : List Y) (found : Bool) → IsTrue found ↔ Any (λ y. P (f y)) ys
+    → IsTrue found ↔ Any P (map f ys)
+any_told P f ys found tested = ((λ e. any_of_map P f ys (tested.0 e)), (λ a. tested.1 (any_from_map P f ys a)))
+
 -- a test of columns, told of their trees
 pub named_in : (columns : List Column) (name : Name) (found : Bool)
     → IsTrue found ↔ Any (λ c. IsSameName (column_of c).name name) columns → IsTrue found ↔ IsNamedIn (map column_of columns) name
-named_in columns name found tested = (
-  (λ e. any_of_map (λ c. IsSameName c.name name) column_of columns (tested.0 e)),
-  (λ a. tested.1 (any_from_map (λ c. IsSameName c.name name) column_of columns a)),
-)
+named_in columns name found tested = any_told (λ c. IsSameName c.name name) column_of columns found tested
 
 -- a test of all that a function makes
 pub all_of_map : {X Y : Type 0} (P : X → Type 0) (f : Y → X) (ys : List Y) (found : Bool) → IsTrue found ↔ All (λ y. P (f y)) ys
@@ -68,15 +70,15 @@ module _ (created : CreateTable) where
   options_are options found e tested all = sym e ∙ tested.0 all
 
   module _ (columns : List Column) (constraints : List TableConstraint) (found : Bool)
-      (e : map column_of columns ≡ columns_with_keys (table_of created)) (f : constraints ≡ created.constraints.items)
+      (e : columns ≡ created.columns.items) (f : constraints ≡ created.constraints.items)
       (tested : IsTrue found ↔ All (λ x. IsServedIn (map column_of columns) (table_constraint_of x)) constraints) where
-    told : IsTrue found ↔ All (IsServedIn (columns_with_keys (table_of created))) (map table_constraint_of created.constraints.items)
+    told : IsTrue found ↔ All (IsServedIn (table_of created).columns) (table_of created).constraints
     told =
-        subst (λ cs. IsTrue found ↔ All (IsServedIn cs) (map table_constraint_of created.constraints.items)) e
+        subst (λ cs. IsTrue found ↔ All (IsServedIn (map column_of cs)) (table_of created).constraints) e
         (subst (λ xs. IsTrue found ↔ All (IsServedIn (map column_of columns)) (map table_constraint_of xs)) f
         (all_of_map (IsServedIn (map column_of columns)) table_constraint_of constraints found tested))
 
-    pub served_in : found ≡ true → All (IsServedIn (columns_with_keys (table_of created))) (map table_constraint_of created.constraints.items)
+    pub served_in : found ≡ true → All (IsServedIn (table_of created).columns) (table_of created).constraints
     served_in all = told.0 all
 
     pub unserved_in : found ≡ false → (table : TableData) → ¬ IsTable (table_of created) table

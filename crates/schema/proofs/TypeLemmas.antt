@@ -7,7 +7,7 @@ use Rattle.schema.specs.Names.{IsSameName}
 use Rattle.schema.specs.Types.{IsInteger, IsType, IsWord}
 use Rattle.syntax.specs.Tree.{Name}
 
-same_words : (words : List Name) (a b : Name) → AllZip IsSameName words (a ∷ []) → AllZip IsSameName words (b ∷ []) → IsSameName a b
+pub same_words : (words : List Name) (a b : Name) → AllZip IsSameName words (a ∷ []) → AllZip IsSameName words (b ∷ []) → IsSameName a b
 same_words [] a b p q = absurd p
 same_words (w ∷ words) a b p q = sym p.0 ∙ q.0
 

@@ -10,10 +10,13 @@ IsSameName a b = map to_ascii_lowercase a ≡ map to_ascii_lowercase b
 abbrev pub same_name : Name → Name → Bool
 same_name a b = bytes_eq (map to_ascii_lowercase a) (map to_ascii_lowercase b)
 
+-- of no two of these, one before the other, the relation holds
+abbrev pub AreApart : {A : Type 0} → (A → A → Type 0) → List A → Type 0
+AreApart {A = A} R xs = (i j : ℕ) (a b : A) → i < j → slice_get xs i ≡ Some a → slice_get xs j ≡ Some b → ¬ R a b
+
 -- no two of the names are the same
 abbrev pub AreDistinct : List Name → Type 0
-AreDistinct names =
-    (i j : ℕ) (a b : Name) → i < j → slice_get names i ≡ Some a → slice_get names j ≡ Some b → ¬ IsSameName a b
+AreDistinct = AreApart IsSameName
 
 -- a name that only SQLite gives: it begins with `sqlite_`
 abbrev pub IsReserved : Name → Type 0

@@ -1,20 +1,22 @@
 //! The table that a CREATE TABLE makes.
-ghost use Rattle.std.specs.Prelude.{◌≡◌, ◌↔◌, All, Contains, IfErr, IfNone, IfOk, IfSome, IsTrue, List, map, sum_by};
+ghost use Rattle.std.specs.Prelude.{◌≡◌, ◌↔◌, All, Contains, IfErr, IfNone, IfOk, IfSome, IsTrue, List, map};
 ghost use Rattle.std.specs.List.{AllZip, Any};
 ghost use Rattle.create_trees.specs.CreateTrees.{ConstraintTree};
 ghost use Rattle.create_trees.specs.CreateView.{column_of, constraint_of, table_of};
+ghost use Rattle.declared_keys.specs.KeyView.{key_data};
 ghost use Rattle.schema.specs.Created as spec;
-ghost use Rattle.schema.specs.Created.{AreKeys, AreServed, IsColumn, IsServed, IsTable, keys_of};
+ghost use Rattle.schema.specs.Created.{AreServed, IsColumn, IsNotNull, IsServed, IsTable};
 ghost use Rattle.schema.specs.Names.{AreDistinct, IsReserved, IsSameName};
 ghost use Rattle.schema.specs.Refused.{IsRefused};
 ghost use Rattle.schema.specs.TableData.{ColumnData};
 
-use crate::keys::columns_with_keys;
+use crate::keys::{are_keys, is_in_primary, is_rowid, rowid_place};
 use crate::missing::missing_by;
 use crate::served::{constraints_are_served, has_rowids};
-use crate::types::{is_integer, type_of};
+use crate::types::type_of;
 use crate::{Column, Table};
 use create_trees::{Column as ColumnDefinition, ColumnConstraint, CreateTable, KeyOrder};
+use declared_keys::{Key, keys_of};
 use std::alloc::Global;
 use values::Fault;
 
@@ -59,7 +61,7 @@ fn are_distinct(columns: &[ColumnDefinition]) -> bool
     true
 }
 
-/// Whether a constraint needs no index, and no order but that of values. (CREATE TABLE)
+/// Whether a constraint has no order but that of values. (CREATE TABLE)
 fn is_served(constraint: &ColumnConstraint) -> bool
     ensures { IsTrue result ↔ IsServed (constraint_of constraint.now) }
 {
@@ -67,9 +69,9 @@ fn is_served(constraint: &ColumnConstraint) -> bool
         ColumnConstraint::PrimaryKey(order, automatic) => {
             *order == KeyOrder::Ascending && !*automatic
         }
-        ColumnConstraint::Unique => false,
         ColumnConstraint::Collate(name) => is_same_name(name.as_str(), "BINARY"),
         ColumnConstraint::NotNull
+        | ColumnConstraint::Unique
         | ColumnConstraint::Check
         | ColumnConstraint::Default(_)
         | ColumnConstraint::References => true,
@@ -92,13 +94,6 @@ fn columns_are_served(columns: &[ColumnDefinition]) -> bool
         .all(|column| are_served(column.constraints.as_slice()))
 }
 
-/// Whether a constraint is PRIMARY KEY.
-fn is_key(constraint: &ColumnConstraint) -> bool
-    ensures { result ≡ spec.is_key (constraint_of constraint.now) }
-{
-    matches!(constraint, ColumnConstraint::PrimaryKey(_, _))
-}
-
 /// Whether a constraint is NOT NULL.
 fn demands_value(constraint: &ColumnConstraint) -> bool
     ensures { result ≡ spec.is_not_null (constraint_of constraint.now) }
@@ -106,38 +101,8 @@ fn demands_value(constraint: &ColumnConstraint) -> bool
     matches!(constraint, ColumnConstraint::NotNull)
 }
 
-/// How often PRIMARY KEY is written at a column.
-fn count_keys(column: &ColumnDefinition) -> usize
-    ensures { result ≡ sum_by keys_of (column_of column.now).constraints }
-{
-    column
-        .constraints
-        .iter()
-        .filter(|constraint| is_key(constraint))
-        .count()
-}
-
-/// The place of the column that is the rowid, where there is one. (ROWIDs and the INTEGER PRIMARY KEY) The fault is
-/// `NotYet` where PRIMARY KEY is written twice, or at a column that isn't INTEGER.
-fn key_place(columns: &[ColumnDefinition]) -> Result<Option<usize>, Fault>
-    ensures place { IfOk result (λ place. AreKeys (map column_of columns.now) place) }
-    ensures refused { IfErr result (IsRefused (AreKeys (map column_of columns.now))) }
-{
-    let mut key = None;
-    for (place, column) in columns.iter().enumerate() {
-        let count = count_keys(column);
-        if count > 0 {
-            if count > 1 || key.is_some() || !is_integer(column) {
-                return Err(Fault::NotYet);
-            }
-            key = Some(place);
-        }
-    }
-    Ok(key)
-}
-
-/// Whether no value of a column may be NULL.
-fn is_not_null(column: &ColumnDefinition) -> bool
+/// Whether NOT NULL is one of a column's constraints.
+fn is_declared_not_null(column: &ColumnDefinition) -> bool
     ensures { IsTrue result ↔ Contains (column_of column.now).constraints ConstraintTree.NotNull }
 {
     column
@@ -146,12 +111,20 @@ fn is_not_null(column: &ColumnDefinition) -> bool
         .any(|constraint| demands_value(constraint))
 }
 
-/// The column that a definition declares; `None` where its type isn't served. (STRICT Tables)
-fn column_from(definition: ColumnDefinition) -> Option<Column>
-    ensures found { IfSome result (IsColumn (column_of definition)) }
-    ensures none { IfNone result ((column : ColumnData) → ¬ IsColumn (column_of definition) column) }
+/// Whether no value of a column may be NULL, in a table of these keys. (STRICT Tables)
+fn is_not_null(keys: &[Key], column: &ColumnDefinition) -> bool
+    ensures { IsTrue result ↔ IsNotNull (map key_data keys.now) (column_of column.now) }
 {
-    let not_null = is_not_null(&definition);
+    is_declared_not_null(column)
+        || (is_in_primary(keys, column.name.as_str()) && !is_rowid(keys, column))
+}
+
+/// The column that a definition declares, in a table of these keys; `None` where its type isn't served. (STRICT Tables)
+fn column_from(keys: &[Key], definition: ColumnDefinition) -> Option<Column>
+    ensures found { IfSome result (IsColumn (map key_data keys.now) (column_of definition)) }
+    ensures none { IfNone result ((column : ColumnData) → ¬ IsColumn (map key_data keys.now) (column_of definition) column) }
+{
+    let not_null = is_not_null(keys, &definition);
     let ColumnDefinition {
         name,
         ty,
@@ -166,15 +139,20 @@ fn column_from(definition: ColumnDefinition) -> Option<Column>
     })
 }
 
-/// The columns that the definitions declare. The fault is `NotYet` where a type isn't served, or `NoMemory`.
-fn columns_from(alloc: Global, definitions: Vec<ColumnDefinition>) -> Result<Vec<Column>, Fault>
-    ensures made { IfOk result (λ columns. AllZip IsColumn (map column_of definitions.items) columns.items) }
-    ensures refused { IfErr result
-        (IsRefused (λ (columns : List ColumnData). AllZip IsColumn (map column_of definitions.items) columns)) }
+/// The columns that the definitions declare, in a table of these keys. The fault is `NotYet` where a type isn't served, or
+/// `NoMemory`.
+fn columns_from(
+    alloc: Global,
+    keys: &[Key],
+    definitions: Vec<ColumnDefinition>,
+) -> Result<Vec<Column>, Fault>
+    ensures made { IfOk result (λ columns. AllZip (IsColumn (map key_data keys.now)) (map column_of definitions.items) columns.items) }
+    ensures refused { IfErr result (IsRefused
+        (λ (columns : List ColumnData). AllZip (IsColumn (map key_data keys.now)) (map column_of definitions.items) columns)) }
 {
     let mut columns = Vec::with_capacity(alloc, definitions.len())?;
     for definition in definitions {
-        let Some(column) = column_from(definition) else {
+        let Some(column) = column_from(keys, definition) else {
             return Err(Fault::NotYet);
         };
         columns.push(column)?;
@@ -183,33 +161,33 @@ fn columns_from(alloc: Global, definitions: Vec<ColumnDefinition>) -> Result<Vec
 }
 
 /// The table that a CREATE TABLE makes, whose tree has this root. (CREATE TABLE) The fault is `NotYet` where it makes
-/// none: its name is reserved, two columns have one name, a type, a constraint or an option isn't served, or a PRIMARY KEY
-/// isn't the rowid; or `NoMemory`.
+/// none: its name is reserved, two columns have one name, a type, a constraint or an option isn't served, or its keys aren't
+/// of its columns, or are two where there may be one; or `NoMemory`.
 pub fn table_from(alloc: Global, created: CreateTable, root: u32) -> Result<Table, Fault>
     ensures made { IfOk result (λ table. IsTable (table_of created) table) }
     ensures root { IfOk result (λ table. table.root ≡ root) }
     ensures refused { IfErr result (IsRefused (IsTable (table_of created))) }
 {
+    let keys = keys_of(alloc, &created)?;
     let CreateTable {
         name,
         columns,
         constraints,
         options,
     } = created;
-    let keyed = columns_with_keys(alloc, columns, constraints.as_slice())?;
-    if is_reserved(name.as_str()) || !are_distinct(keyed.as_slice()) {
+    if is_reserved(name.as_str()) || !are_distinct(columns.as_slice()) {
         return Err(Fault::NotYet);
     }
-    if !columns_are_served(keyed.as_slice()) {
+    if !columns_are_served(columns.as_slice()) || !are_keys(columns.as_slice(), keys.as_slice()) {
         return Err(Fault::NotYet);
     }
     if !has_rowids(options.as_slice())
-        || !constraints_are_served(keyed.as_slice(), constraints.as_slice())
+        || !constraints_are_served(columns.as_slice(), constraints.as_slice())
     {
         return Err(Fault::NotYet);
     }
-    let rowid = key_place(keyed.as_slice())?;
-    let columns = columns_from(alloc, keyed)?;
+    let rowid = rowid_place(keys.as_slice(), columns.as_slice());
+    let columns = columns_from(alloc, keys.as_slice(), columns)?;
     Ok(Table {
         name,
         root,

@@ -1,11 +1,11 @@
 //! The table that a CREATE TABLE makes. It promises that `table_from` answers Ok only with the table that the text says, that
 //! a row of the schema says one table at most, and that, want of memory aside, a text is refused only where it makes none.
 //! Names and collations are compared here for the crates above too.
-//! Today a text makes a table with the option STRICT alone, columns of the types INT, INTEGER, TEXT and BLOB, and without a
-//! PRIMARY KEY that isn't the rowid, UNIQUE, DESC, AUTOINCREMENT, and a collation other than BINARY.
+//! Today a text makes a table with the option STRICT alone, columns of the types INT, INTEGER, TEXT and BLOB, at most one
+//! PRIMARY KEY, no two keys of the same columns, and without DESC, AUTOINCREMENT, and a collation other than BINARY.
 //!
 //! The modules, in the order in which data passes them: `table` (tables and columns), `served` (constraints and options of
-//! a table), `keys` (PRIMARY KEY behind the columns), `missing` (what rows that are older than a column have
+//! a table), `keys` (which keys a table may have, and the column that is the rowid), `missing` (what rows that are older than a column have
 //! in it), `types` (of columns), `created` (the table of a text), and `laws`.
 #![tactic(auto)]
 

@@ -2,11 +2,13 @@
 ghost use Rattle.std.specs.Prelude.{◌≡◌, ◌↔◌, ◌∷◌, [], All, IsTrue, map, option_map, string_bytes};
 ghost use Rattle.std.specs.List.{Any};
 ghost use Rattle.create_trees.specs.CreateView.{column_of, indexed_of, table_constraint_of};
-ghost use Rattle.schema.specs.Created.{AreColumns, IsBinary, IsNamedIn, IsServedIn, IsSingle};
+ghost use Rattle.schema.specs.Created.{AreColumns, IsBinary, IsNamedIn, IsPlain, IsServedIn};
 ghost use Rattle.schema.specs.Names.{AreDistinct, IsSameName};
 
 use crate::created::{is_named, is_same_name};
-use create_trees::{Column as ColumnDefinition, IndexedColumn, TableConstraint, TableOption};
+use create_trees::{
+    Column as ColumnDefinition, IndexedColumn, KeyOrder, TableConstraint, TableOption,
+};
 
 /// Whether a table of these options is STRICT and has rowids. (STRICT Tables; WITHOUT ROWID Tables)
 pub(crate) fn has_rowids(options: &[TableOption]) -> bool
@@ -16,7 +18,7 @@ pub(crate) fn has_rowids(options: &[TableOption]) -> bool
 }
 
 /// Whether one of the names is this one.
-fn contains(names: &[String], name: &str) -> bool
+pub(crate) fn contains(names: &[String], name: &str) -> bool
     ensures { IsTrue result ↔ Any (λ n. IsSameName (string_bytes n) name.now) names.now }
 {
     names.iter().any(|other| is_same_name(other.as_str(), name))
@@ -49,7 +51,7 @@ fn are_named(columns: &[ColumnDefinition], names: &[String]) -> bool
 }
 
 /// Whether these are columns of a table, each once.
-fn are_columns(columns: &[ColumnDefinition], names: &[String]) -> bool
+pub(crate) fn are_columns(columns: &[ColumnDefinition], names: &[String]) -> bool
     ensures { IsTrue result ↔ AreColumns (map column_of columns.now) (map (λ n. string_bytes n) names.now) }
 {
     are_named(columns, names) && are_different(names)
@@ -65,23 +67,27 @@ pub fn is_binary(collation: &Option<String>) -> bool
     }
 }
 
-/// Whether a key is one column of a table.
-fn is_single(columns: &[ColumnDefinition], key: &[IndexedColumn]) -> bool
-    ensures { IsTrue result ↔ IsSingle (map column_of columns.now) (map indexed_of key.now) }
+/// Whether a column of a key is in the order of its values.
+fn is_plain(column: &IndexedColumn) -> bool
+    ensures { IsTrue result ↔ IsPlain (indexed_of column.now) }
 {
-    match key {
-        [only] => is_column(columns, only.name.as_str()) && is_binary(&only.collation),
-        _ => false,
-    }
+    is_binary(&column.collation) && column.order == KeyOrder::Ascending
 }
 
-/// Whether a constraint of a table needs no index, and names columns of the table. (CREATE TABLE)
+/// Whether each of these columns is.
+fn are_plain(key: &[IndexedColumn]) -> bool
+    ensures { IsTrue result ↔ All IsPlain (map indexed_of key.now) }
+{
+    key.iter().all(|column| is_plain(column))
+}
+
+/// Whether a constraint of a table has no order but that of values, and names columns of the table. (CREATE TABLE)
 fn is_served_in(columns: &[ColumnDefinition], constraint: &TableConstraint) -> bool
     ensures { IsTrue result ↔ IsServedIn (map column_of columns.now) (table_constraint_of constraint.now) }
 {
     match constraint {
-        TableConstraint::PrimaryKey(key) => is_single(columns, key.as_slice()),
-        TableConstraint::Unique(_) => false,
+        TableConstraint::PrimaryKey(key) => are_plain(key.as_slice()),
+        TableConstraint::Unique(key) => are_plain(key.as_slice()),
         TableConstraint::Check => true,
         TableConstraint::ForeignKey(names) => are_columns(columns, names.as_slice()),
     }

@@ -3,10 +3,11 @@ use Rattle.std.proofs.Common.{◌≡◌, ℕ, ◌+◌, ◌<◌, ◌≤◌, List,
 use Rattle.std.proofs.lemmas.List.{append-nil, at_drop_all, drop_more, map_push}
 use Rattle.create_trees.specs.CreateTrees.{TableTree}
 use Rattle.table_keys.specs.Automatic.{AutomaticData, IsIntegerKey, IsTableKey, WantIndexes}
-use Rattle.table_keys.specs.Keys.{KeyData}
-use Rattle.table_keys.specs.KeyView.{automatic_data, key_data}
+use Rattle.declared_keys.specs.Keys.{KeyData}
+use Rattle.declared_keys.specs.KeyView.{key_data}
+use Rattle.table_keys.specs.AutomaticView.{automatic_data}
 use Rattle.table_keys.specs.declared.automatic.AutomaticIndex.{AutomaticIndex}
-use Rattle.table_keys.specs.declared.keys.Key.{Key}
+use Rattle.declared_keys.specs.declared.keys.Key.{Key}
 
 module _ (tree : TableTree) (keys : List Key) where
   -- with whatever the other keys want, these indexes are what all want

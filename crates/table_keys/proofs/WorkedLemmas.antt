@@ -6,7 +6,7 @@ use Rattle.schema.specs.Names.{IsSameName}
 use Rattle.schema.specs.Types.{IsInteger}
 use Rattle.syntax.specs.Tree.{Name}
 use Rattle.table_keys.specs.Automatic.{IsIntegerIn, IsIntegerKey, IsTableKey, WantIndexes}
-use Rattle.table_keys.specs.Keys.{KeyData}
+use Rattle.declared_keys.specs.Keys.{KeyData}
 use Rattle.table_keys.specs.Worked.{KeyTakesOne, RowidTakesNone, worked_table}
 
 abbrev of_rowids : TableTree

@@ -7,7 +7,7 @@ use Rattle.create_trees.specs.declared.create.TableOption.TheVariants.{WithoutRo
 use Rattle.schema.specs.Names.{IsSameName}
 use Rattle.schema.specs.Types.{IsInteger}
 use Rattle.syntax.specs.Tree.{Name}
-use Rattle.table_keys.specs.Keys.{KeyData}
+use Rattle.declared_keys.specs.Keys.{KeyData}
 
 -- an index that SQLite makes: its number among those of its table, and the names of its columns
 pub record AutomaticData : Type 0 where

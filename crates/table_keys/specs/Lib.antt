@@ -1,4 +1,3 @@
-pub mod Keys
 pub mod Automatic
-pub mod KeyView
+pub mod AutomaticView
 pub mod Worked

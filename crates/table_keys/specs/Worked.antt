@@ -6,7 +6,7 @@ use Rattle.create_trees.specs.declared.create.TableOption.{TableOption}
 use Rattle.create_trees.specs.declared.create.TableOption.TheVariants.{Strict, WithoutRowid}
 use Rattle.syntax.specs.Tree.{Name}
 use Rattle.table_keys.specs.Automatic.{AutomaticData, WantIndexes}
-use Rattle.table_keys.specs.Keys.{keys_of}
+use Rattle.declared_keys.specs.Keys.{keys_of}
 
 abbrev column : Name → List ℕ → ConstraintTree → ColumnTree
 column name word constraint = record {

@@ -1,24 +1,25 @@
 //! The indexes that SQLite makes for keys.
-ghost use Rattle.std.specs.Prelude.{◌↔◌, IfOk, IsTrue, map};
+ghost use Rattle.std.specs.Prelude.{◌↔◌, IfOk, IsTrue, map, string_bytes};
 ghost use Rattle.create_trees.specs.CreateView.{column_of, table_of};
 ghost use Rattle.table_keys.specs.Automatic.{IsIntegerIn, IsIntegerKey, IsOneInteger, IsRowless, IsTableKey, WantIndexes};
-ghost use Rattle.table_keys.specs.KeyView.{automatic_data, key_data};
+ghost use Rattle.declared_keys.specs.KeyView.{key_data};
+ghost use Rattle.table_keys.specs.AutomaticView.{automatic_data};
 
-use crate::Key;
 use create_trees::{Column, CreateTable, TableOption};
+use declared_keys::Key;
 use schema::{is_integer, is_same_name};
 use std::alloc::{AllocError, Global};
 
 /// An index that SQLite makes for a key of a table. (CREATE TABLE, "UNIQUE constraints")
 #[derive(Drop)]
-pub struct AutomaticIndex<'k, 't> {
+pub struct AutomaticIndex<'k> {
     /// The number in its name, from 1.
     pub number: usize,
-    pub key: &'k Key<'t>,
+    pub key: &'k Key,
 }
 
 /// Whether a table has no rowids. (WITHOUT ROWID Tables)
-fn is_rowless(created: &CreateTable) -> bool
+pub fn is_rowless(created: &CreateTable) -> bool
     ensures { IsTrue result ↔ IsRowless (table_of created.now) }
 {
     created
@@ -35,35 +36,35 @@ fn is_integer_in(columns: &[Column], name: &str) -> bool
 }
 
 /// Whether these are one name alone, that of a column that is INTEGER.
-fn is_one_integer(columns: &[Column], names: &[&str]) -> bool
-    ensures { IsTrue result ↔ IsOneInteger (map column_of columns.now) (map (λ n. n.now) names.now) }
+fn is_one_integer(columns: &[Column], names: &[String]) -> bool
+    ensures { IsTrue result ↔ IsOneInteger (map column_of columns.now) (map (λ n. string_bytes n) names.now) }
 {
     match names {
-        [only] => is_integer_in(columns, only),
+        [only] => is_integer_in(columns, only.as_str()),
         _ => false,
     }
 }
 
 /// Whether a key of this table is the PRIMARY KEY of one column that is INTEGER. (ROWIDs and the INTEGER PRIMARY KEY)
-fn is_integer_key(created: &CreateTable, key: &Key<'_>) -> bool
+fn is_integer_key(created: &CreateTable, key: &Key) -> bool
     ensures { IsTrue result ↔ IsIntegerKey (table_of created.now) (key_data key.now) }
 {
     key.is_primary && is_one_integer(created.columns.as_slice(), key.columns.as_slice())
 }
 
 /// Whether the tree of this table is by the key, which is another PRIMARY KEY. (WITHOUT ROWID Tables)
-fn is_table_key(created: &CreateTable, key: &Key<'_>) -> bool
+fn is_table_key(created: &CreateTable, key: &Key) -> bool
     ensures { IsTrue result ↔ IsTableKey (table_of created.now) (key_data key.now) }
 {
     key.is_primary && is_rowless(created) && !is_integer_key(created, key)
 }
 
 /// The indexes that SQLite makes for these keys of a table, in their order. (CREATE TABLE, "UNIQUE constraints")
-pub fn automatic_indexes<'k, 't>(
+pub fn automatic_indexes<'k>(
     alloc: Global,
     created: &CreateTable,
-    keys: &'k [Key<'t>],
-) -> Result<Vec<AutomaticIndex<'k, 't>>, AllocError>
+    keys: &'k [Key],
+) -> Result<Vec<AutomaticIndex<'k>>, AllocError>
     ensures { IfOk result (λ indexes. WantIndexes (table_of created.now) 1 (map key_data keys.now)
         (map automatic_data indexes.items)) }
 {

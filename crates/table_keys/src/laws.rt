@@ -2,7 +2,7 @@
 ghost use Rattle.std.specs.Prelude.{◌≡◌, ℕ, List};
 ghost use Rattle.create_trees.specs.CreateTrees.{TableTree};
 ghost use Rattle.table_keys.specs.Automatic.{AutomaticData, WantIndexes};
-ghost use Rattle.table_keys.specs.Keys.{KeyData};
+ghost use Rattle.declared_keys.specs.Keys.{KeyData};
 ghost use Rattle.table_keys.specs.Worked.{KeyTakesOne, RowidTakesNone};
 
 /// Keys of a table want one list of indexes at most.

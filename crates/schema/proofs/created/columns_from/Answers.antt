@@ -1,13 +1,15 @@
-use Rattle.std.proofs.Common.{inr, length, refl, ◌∙◌}
+use Rattle.std.proofs.Common.{inr, length, map, refl, ◌∙◌}
 use Rattle.std.proofs.lemmas.Iterator.Adapters.{YieldsList-from_vec}
 use Rattle.std.proofs.lemmas.Iterator.Consumers.{YieldsList-turn}
+use Rattle.declared_keys.specs.KeyView.{key_data}
 use Rattle.schema.proofs.ColumnLemmas.{no_columns, one_column_more}
 use Rattle.schema.proofs.created.columns_from.Goals as goal
 
 pub loop-definition-preserved : goal.loop-definition-preserved
 loop-definition-preserved c =
-    one_column_more c.loop-definition.yielded c.loop-definition.columns.items c.push.new.self.items c.in-Some.definition
-    c.in-Some-column_from.column c.in_ok-push.ensures.items c.loop-definition.invariant c.in-Some-column_from.ensures.found
+    one_column_more (map key_data c.args.keys.now) c.loop-definition.yielded c.loop-definition.columns.items c.push.new.self.items
+    c.in-Some.definition c.in-Some-column_from.column c.in_ok-push.ensures.items c.loop-definition.invariant
+    c.in-Some-column_from.ensures.found
 
 pub returns-in_default-clause-refused : goal.returns-in_default-clause-refused
 returns-in_default-clause-refused c =
@@ -16,5 +18,6 @@ returns-in_default-clause-refused c =
     c.loop-definition.yielded _ c.loop-definition.yielded_by _ c.next.new.self c.in-Some.definition c.in-Some.is c.next.ensures.steps in
     inr (
       refl,
-      no_columns c.args.definitions.items (length c.loop-definition.yielded) c.in-Some.definition at c.in_default.ensures.none,
+      no_columns (map key_data c.args.keys.now) c.args.definitions.items (length c.loop-definition.yielded) c.in-Some.definition at
+          c.in_default.ensures.none,
     )

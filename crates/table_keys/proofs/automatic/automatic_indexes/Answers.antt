@@ -1,7 +1,7 @@
 use Rattle.std.proofs.Common.{◌≡◌, arith, false, refl, true, IsTrue, ◌↔◌, Bool}
 use Rattle.create_trees.specs.CreateView.{table_of}
 use Rattle.table_keys.specs.Automatic.{IsIntegerKey, IsTableKey}
-use Rattle.table_keys.specs.KeyView.{key_data}
+use Rattle.declared_keys.specs.KeyView.{key_data}
 use Rattle.table_keys.proofs.AutomaticLemmas.{all_so_far, index_next, integer_next, table_next}
 use Rattle.table_keys.proofs.automatic.automatic_indexes.Goals as goal
 use Rattle.table_keys.proofs.automatic.automatic_indexes.Goals.{else-not-is_table_key, then-not-is_table_key+in_ok-push}

@@ -6,7 +6,7 @@ use Rattle.schema.proofs.ListLemmas.{any_is}
 use Rattle.schema.specs.Names.{IsSameName}
 use Rattle.schema.specs.Types.{IsInteger}
 use Rattle.syntax.specs.Tree.{Name}
-use Rattle.table_keys.proofs.KeyLemmas.{any_told}
+use Rattle.schema.proofs.ServedLemmas.{any_told}
 use Rattle.table_keys.proofs.automatic.is_integer_in.Goals as goal
 
 abbrev IsThis : Name → ColumnTree → Type 0
