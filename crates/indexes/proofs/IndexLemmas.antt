@@ -51,7 +51,7 @@ named_twice columns name i j distinct less p q =
     named : (k : ℕ) (is : IsPlaceOf columns name k) → slice_get (map (λ c. c.name) columns) k ≡ Some is.column.name
     named k is = slice_get-map (λ (c : ColumnData). c.name) columns k ∙ ap (option_map (λ (c : ColumnData). c.name)) is.stands
 
-one_place : (columns : List ColumnData) (name : Name) (i j : ℕ) → AreDistinct (map (λ c. c.name) columns)
+pub one_place : (columns : List ColumnData) (name : Name) (i j : ℕ) → AreDistinct (map (λ c. c.name) columns)
     → IsPlaceOf columns name i → IsPlaceOf columns name j → i ≡ j
 one_place columns name i j distinct p q = go (cases_order i j)
   where

@@ -1,2 +1,3 @@
 pub mod IndexLemmas
+pub mod KeyIndexLemmas
 pub mod ConditionLemmas

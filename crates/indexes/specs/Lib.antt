@@ -3,3 +3,5 @@ pub mod IndexView
 pub mod Condition
 pub mod Indexed
 pub mod Refused
+pub mod KeyIndexes
+pub mod KeyIndexView
