@@ -1,18 +1,20 @@
 -- Rows of tables alone say the catalog of these tables.
-use Rattle.std.proofs.Common.{◌≡◌, ℕ, zero, suc, List, [], ◌∷◌, map, slice_get, Some, option_map, inl, refl, sym, ap, ◌∙◌, subst}
+use Rattle.std.proofs.Common.{◌≡◌, ℕ, zero, suc, Contains, List, [], ◌∷◌, map, slice_get, Some, option_map, inl, refl, sym, ap, ◌∙◌, subst}
 use Rattle.std.proofs.lemmas.Option.{slice_get-map}
 use Rattle.std.specs.Char.{to_ascii_lowercase}
 use Rattle.std.specs.List.{AllZip}
 use Rattle.values.specs.Row.{Row}
-use Rattle.indexes.specs.IndexData.{IndexData}
 use Rattle.schema.specs.Names.{IsSameName}
 use Rattle.schema.specs.Rows.{AreTables, SaysTable}
 use Rattle.schema.specs.TableData.{TableData}
-use Rattle.catalog.proofs.LawLemmas.{object_of, row_name}
+use Rattle.catalog.proofs.KindLemmas.{object_of}
+use Rattle.catalog.proofs.TableLemmas.{row_name}
 use Rattle.catalog.proofs.ObjectLemmas.{one_name}
 use Rattle.catalog.specs.Objects.{ObjectData, object_row}
 use Rattle.catalog.specs.Picks.{Picks}
-use Rattle.catalog.specs.Says.{AreIndexesOf, AreTablesOf, IsCatalog, IsOfKind}
+use Rattle.catalog.specs.Says.{AreTablesOf, IsCatalog, IsNoIndex, IsOfKind, SaysAnyIndex}
+use Rattle.catalog.specs.Wanted.{Wants}
+use Rattle.table_keys.specs.Automatic.{AutomaticData}
 use Rattle.catalog.specs.declared.objects.Kind.TheVariants as k
 
 module _ (pages : ℕ) where
@@ -25,12 +27,12 @@ module _ (pages : ℕ) where
   all_tables (row ∷ rows) [] said = absurd said
   all_tables (row ∷ rows) (t ∷ tables) said = Picks.here said.0 (all_tables rows tables said.1)
 
-  no_indexes : (on : List TableData) (rows : List Row) (tables : List TableData) → AllZip (SaysTable pages) rows tables
-      → AreIndexesOf pages on rows []
-  no_indexes on [] [] said = Picks.end
-  no_indexes on [] (t ∷ tables) said = absurd said
-  no_indexes on (row ∷ rows) [] said = absurd said
-  no_indexes on (row ∷ rows) (t ∷ tables) said = Picks.other (inl (of_table row t said.0)) (no_indexes on rows tables said.1)
+  no_indexes : (all : List Row) (on : List TableData) (rows : List Row) (tables : List TableData) → AllZip (SaysTable pages) rows tables
+      → Picks (SaysAnyIndex pages all on) IsNoIndex rows []
+  no_indexes all on [] [] said = Picks.end
+  no_indexes all on [] (t ∷ tables) said = absurd said
+  no_indexes all on (row ∷ rows) [] said = absurd said
+  no_indexes all on (row ∷ rows) (t ∷ tables) said = Picks.other (inl (of_table row t said.0)) (no_indexes all on rows tables said.1)
 
   -- the table of a row
   table_at : (rows : List Row) (tables : List TableData) (i : ℕ) (row : Row) → AllZip (SaysTable pages) rows tables
@@ -50,10 +52,12 @@ module _ (pages : ℕ) where
       slice_get-map (λ (t : TableData). t.name) tables i ∙ ap (option_map (λ (t : TableData). t.name)) at
 
   pub only_tables : (rows : List Row) (tables : List TableData) → AreTables pages rows tables
+      → ((row : Row) (table : TableData) (automatic : AutomaticData) → Contains rows row → ¬ Wants pages row table automatic)
       → IsCatalog pages rows (record { tables = tables; indexes = [] })
-  only_tables rows tables are = record {
+  only_tables rows tables are none = record {
     tables_are = all_tables rows tables are.said;
-    indexes_are = no_indexes tables rows tables are.said;
+    indexes_are = no_indexes rows tables rows tables are.said;
+    kept = λ row table automatic at wants. absurd (none row table automatic at wants);
     distinct = λ d.
         let a = table_at rows tables d.first (object_row d.one) are.said d.one_is in
         let b = table_at rows tables d.second (object_row d.other) are.said d.other_is in

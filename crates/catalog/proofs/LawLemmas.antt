@@ -1,10 +1,7 @@
 -- Rows say one catalog at most, and such rows are refused for no reason.
-use Rattle.std.proofs.Common.{◌≡◌, ℕ, ℤ, pos, ◌<◌, ◌≤◌, ◌⊎◌, inl, inr, Contains, List, [], ◌∷◌, map, slice_get, Option, None, Some, string_bytes, refl, sym, ap, ◌∙◌, subst, arith}
-use Rattle.std.proofs.lemmas.Bool.{cases_order}
-use Rattle.std.proofs.lemmas.Option.{slice_get-get_or}
+use Rattle.std.proofs.Common.{◌≡◌, ℕ, zero, suc, pos, ◌<◌, ◌≤◌, ◌⊎◌, inl, inr, Contains, List, [], ◌∷◌, map, None, Some, string_bytes, refl, sym, ap, ◌∙◌, subst, arith}
 use Rattle.std.specs.Char.{to_ascii_lowercase}
-use Rattle.std.specs.List.{AllZip}
-use Rattle.values.specs.Datum.{text}
+use Rattle.std.specs.List.{AllZip, Any}
 use Rattle.values.specs.Row.{Row}
 use Rattle.values.specs.declared.fault.Fault.{Fault}
 use Rattle.values.specs.declared.fault.Fault.TheVariants as f
@@ -14,25 +11,35 @@ use Rattle.create_reader.specs.CreateGrammar.{SpellsCreate}
 use Rattle.create_reader.specs.IndexTexts.{IsTooMuch as IsIndexTooMuch, SpellsIndex, SpellsNoIndex}
 use Rattle.phrases.specs.Texts.{IsWithin, max_columns}
 use Rattle.create_trees.specs.CreateTrees.{ColumnTree, IndexTree, TableTree, columns_of_index, columns_of_table}
+use Rattle.create_trees.specs.declared.create.TableOption.{TableOption}
+use Rattle.create_trees.specs.declared.create.TableOption.TheVariants.{Strict, WithoutRowid}
+use Rattle.declared_keys.specs.Keys.{KeyData, keys_of}
 use Rattle.indexes.proofs.IndexLemmas.{one_index}
+use Rattle.indexes.proofs.KeyIndexLemmas.{one_key_index}
 use Rattle.indexes.specs.IndexData.{IndexData}
 use Rattle.indexes.specs.Indexed.{IsIndex}
+use Rattle.indexes.specs.KeyIndexes.{IsKeyIndex, automatic_name, rooted}
 use Rattle.schema.proofs.OneLemmas.{one_table}
-use Rattle.schema.specs.Created.{IsColumn, IsTable, columns_with_keys}
+use Rattle.schema.specs.Created.{IsColumn, IsTable}
 use Rattle.schema.specs.Names.{AreDistinct, IsSameName}
 use Rattle.schema.specs.Rows.{SaysTable}
 use Rattle.schema.specs.TableData.{ColumnData, TableData}
 use Rattle.syntax.specs.Tree.{Name}
+use Rattle.table_keys.specs.Automatic.{AutomaticData}
 use Rattle.catalog.specs.CatalogData.{CatalogData}
-use Rattle.catalog.specs.Objects.{ObjectData, int_or_null, object_row, text_or_null}
+use Rattle.catalog.specs.Later.{IsLater}
+use Rattle.catalog.specs.Objects.{ObjectData, object_row}
 use Rattle.catalog.specs.Picks.{Picks}
-use Rattle.catalog.specs.Refused.{HasLaterTable, HasObject, IsBadObject, IsBadSchema, IsBrokenSchema, IsLeftOut, IsTooMuch, IsUnread}
-use Rattle.catalog.specs.Says.{AreTablesOf, Doubled, HasTree, IsCatalog, IsNoIndex, IsNoTable, IsOfKind, IsTrigger, SaysIndex}
+use Rattle.catalog.specs.Refused.{HasLaterTable, HasObject, HasText, IsBadObject, IsBadSchema, IsBrokenSchema, IsLeftOut, IsTooMuch, IsUnread}
+use Rattle.catalog.specs.Says.{AreTablesOf, Doubled, HasTree, IsCatalog, IsNoIndex, IsNoTable, SaysAnyIndex, SaysIndex, SaysKeyIndex}
+use Rattle.catalog.specs.Wanted.{IsKeyRow, Wants}
 use Rattle.catalog.specs.declared.objects.Kind.{Kind}
 use Rattle.catalog.specs.declared.objects.Kind.TheVariants as k
-use Rattle.catalog.proofs.LaterLemmas.{is_served}
-use Rattle.catalog.proofs.ObjectLemmas.{one_kind, one_name}
+use Rattle.catalog.proofs.KeyedLemmas.{one_automatic}
+use Rattle.catalog.proofs.KindLemmas.{index_apart, kind_of, object_of, one_object, table_apart, table_kind, trigger_kind}
+use Rattle.catalog.proofs.NameLemmas.{same_number}
 use Rattle.catalog.proofs.PickLemmas.{picks_from, picks_has}
+use Rattle.catalog.proofs.TableLemmas.{row_name, same_row, same_table}
 
 same_index : (sql : List ℕ) (a b : IndexTree) → SpellsIndex sql a → SpellsIndex sql b → a ≡ b
 same_index sql a b x y = texts.one_index sql x.levels y.levels a b x.spelt y.spelt
@@ -54,41 +61,13 @@ table_within sql tree spelt within (inr (other, there, wide)) =
     let same = one_create sql other tree there spelt in
     let w = subst (λ t. max_columns < columns_of_table t) same wide in omega (arith, few, w)
 
--- ---- An object's row is that of one object
-
-same_root : (a b : Option ℤ) → int_or_null a ≡ int_or_null b → a ≡ b
-same_root None None e = refl
-same_root None (Some b) e = absurd cc
-same_root (Some a) None e = absurd cc
-same_root (Some a) (Some b) e = cc
-
-same_text : (a b : Option (List ℕ)) → text_or_null a ≡ text_or_null b → a ≡ b
-same_text None None e = refl
-same_text None (Some b) e = absurd cc
-same_text (Some a) None e = absurd cc
-same_text (Some a) (Some b) e = cc
-
-one_object : (a b : ObjectData) → object_row a ≡ object_row b → a ≡ b
-one_object a b same =
-    let kind : a.kind ≡ b.kind = one_kind a b same in
-    let name : a.name ≡ b.name = one_name a b same in
-    let owners : Some (text a.owner) ≡ Some (text b.owner) = ap (λ r. slice_get r 2) same in
-    let owner : a.owner ≡ b.owner = cc in
-    let roots : Some (int_or_null a.root) ≡ Some (int_or_null b.root) = ap (λ r. slice_get r 3) same in
-    let root : a.root ≡ b.root = same_root a.root b.root cc in
-    let texts : Some (text_or_null a.sql) ≡ Some (text_or_null b.sql) = ap (λ r. slice_get r 4) same in
-    let sql : a.sql ≡ b.sql = same_text a.sql b.sql cc in
-    λ i. record { kind = kind i; name = name i; owner = owner i; root = root i; sql = sql i }
-
--- the object of a row that says a table
-abbrev pub object_of : {pages : ℕ} {row : Row} {t : TableData} → SaysTable pages row t → ObjectData
-object_of {t = t} says = record {
-  kind = k.Table;
-  name = says.name;
-  owner = says.owner;
-  root = Some (pos t.root);
-  sql = Some says.sql;
-}
+-- a table that a text makes is served
+is_served : (tree : TableTree) (t : TableData) → IsTable tree t → ¬ IsLater tree
+is_served tree t is later = go (subst (λ (os : List TableOption). Any (λ o. o ≡ WithoutRowid) os) is.options_are later)
+  where
+    go : ¬ Any (λ o. o ≡ WithoutRowid) (Strict ∷ [])
+    go (zero, o, within, e, f) = let same : Strict ≡ WithoutRowid = e ∙ f in cc
+    go (suc k, o, within, e, f) = absurd (omega (arith, within))
 
 -- ---- Rows say one list of things at most
 
@@ -102,85 +81,52 @@ module _ {X : Type 0} (Says : Row → X → Type 0) (IsOther : Row → Type 0)
   picks_one (row ∷ rows) _ _ (Picks.other p rest) (Picks.here {x = b} q others) = absurd (apart row b q p)
   picks_one (row ∷ rows) _ _ (Picks.other {xs = xs} p rest) (Picks.other {xs = ys} q others) = picks_one rows xs ys rest others
 
--- the kind of an object whose row is of a kind
-kind_of : (o : ObjectData) (kind : Kind) → IsOfKind kind (object_row o) → o.kind ≡ kind
-kind_of o kind is = one_kind o is.object is.row_is ∙ is.kind_is
+-- ---- Columns and indexes
 
-trigger_kind : (o : ObjectData) → IsTrigger (object_row o) → o.kind ≡ k.Trigger
-trigger_kind o is = one_kind o is.object is.row_is ∙ is.kind_is
-
-table_kind : (pages : ℕ) (o : ObjectData) (t : TableData) → SaysTable pages (object_row o) t → o.kind ≡ k.Table
-table_kind pages o t says = one_kind o (object_of says) says.row_is
-
-index_kind : (pages : ℕ) (tables : List TableData) (o : ObjectData) (x : IndexData) → SaysIndex pages tables (object_row o) x
-    → o.kind ≡ k.Index
-index_kind pages tables o x says = one_kind o says.object says.row_is ∙ says.kind_is
-
-table_apart : (pages : ℕ) (row : Row) (t : TableData) → SaysTable pages row t → ¬ IsNoTable row
-table_apart pages row t says (inl index) =
-    let kind = kind_of (object_of says) k.Index (subst (IsOfKind k.Index) says.row_is index) in cc
-table_apart pages row t says (inr trigger) =
-    let kind = trigger_kind (object_of says) (subst IsTrigger says.row_is trigger) in cc
-
-index_apart : (pages : ℕ) (tables : List TableData) (row : Row) (x : IndexData) → SaysIndex pages tables row x → ¬ IsNoIndex row
-index_apart pages tables row x says (inl table) =
-    let kind = kind_of says.object k.Table (subst (IsOfKind k.Table) says.row_is table) in let is = says.kind_is in cc
-index_apart pages tables row x says (inr trigger) =
-    let kind = kind_of says.object k.Trigger (subst (IsOfKind k.Trigger) says.row_is trigger) in let is = says.kind_is in cc
-
--- ---- Tables of one name
-
-stands_at : (rows : List Row) (row : Row) (at : Contains rows row) → slice_get rows at.0 ≡ Some row
-stands_at rows row (i, within, is) = slice_get-get_or rows i row within ∙ ap Some is
-
--- a table's row has its name
-pub row_name : {pages : ℕ} {row : Row} {t : TableData} → (says : SaysTable pages row t) → IsSameName says.name t.name
-row_name says = says.name_is ∙ sym (ap (map to_ascii_lowercase) says.created.name_is)
-
-names_of : (trees : List ColumnTree) (columns : List ColumnData) → AllZip IsColumn trees columns
+names_of : (keys : List KeyData) (trees : List ColumnTree) (columns : List ColumnData) → AllZip (IsColumn keys) trees columns
     → map (λ c. c.name) trees ≡ map (λ (c : ColumnData). c.name) columns
-names_of [] [] are = refl
-names_of [] (c ∷ columns) are = absurd are
-names_of (t ∷ trees) [] are = absurd are
-names_of (t ∷ trees) (c ∷ columns) are =
+names_of keys [] [] are = refl
+names_of keys [] (c ∷ columns) are = absurd are
+names_of keys (t ∷ trees) [] are = absurd are
+names_of keys (t ∷ trees) (c ∷ columns) are =
     ap (λ n. n ∷ map (λ t. t.name) trees) (sym are.0.name_is)
-    ∙ ap (λ ns. c.name ∷ ns) (names_of trees columns are.1)
+    ∙ ap (λ ns. c.name ∷ ns) (names_of keys trees columns are.1)
 
 distinct_columns : {pages : ℕ} {row : Row} (t : TableData) → SaysTable pages row t → AreDistinct (map (λ c. c.name) t.columns)
 distinct_columns t says =
-    subst AreDistinct (names_of (columns_with_keys says.tree) t.columns says.created.columns_are) says.created.distinct
+    subst AreDistinct (names_of (keys_of says.tree) says.tree.columns t.columns says.created.columns_are) says.created.distinct
 
 module _ (pages : ℕ) (rows : List Row) (apart : ¬ Doubled rows) where
-  doubled : (i j : ℕ) (first second : Row) (a b : TableData) → i < j → slice_get rows i ≡ Some first → slice_get rows j ≡ Some second
-      → SaysTable pages first a → SaysTable pages second b → IsSameName a.name b.name → Doubled rows
-  doubled i j first second a b less p q x y same = record {
-    first = i;
-    second = j;
-    before = less;
-    one = object_of x;
-    other = object_of y;
-    one_is = p ∙ ap Some x.row_is;
-    other_is = q ∙ ap Some y.row_is;
-    one_has_tree = tt;
-    other_has_tree = tt;
-    same = row_name x ∙ (same ∙ sym (row_name y));
-  }
-
-  same_table : (first second : Row) (a b : TableData) → Contains rows first → Contains rows second → SaysTable pages first a
-      → SaysTable pages second b → IsSameName a.name b.name → a ≡ b
-  same_table first second a b p q x y same = go (cases_order p.0 q.0)
-    where
-      go : (p.0 ≡ q.0) ⊎ ((p.0 < q.0) ⊎ (q.0 < p.0)) → a ≡ b
-      go (inl e) =
-          let here = stands_at rows first p in
-          let there = stands_at rows second q in
-          let both : Some first ≡ Some second = sym here ∙ (ap (slice_get rows) e ∙ there) in
-          let one : second ≡ first = cc in
-          one_table pages first a b x (subst (λ r. SaysTable pages r b) one y)
-      go (inr (inl less)) =
-          absurd (apart (doubled p.0 q.0 first second a b less (stands_at rows first p) (stands_at rows second q) x y same))
-      go (inr (inr less)) =
-          absurd (apart (doubled q.0 p.0 second first b a less (stands_at rows second q) (stands_at rows first p) y x (sym same)))
+  -- a row says one index for a key
+  one_key_said : (row : Row) (a b : IndexData) → SaysKeyIndex pages rows row a → SaysKeyIndex pages rows row b → a ≡ b
+  one_key_said row a b x y =
+      let object : x.key_row.object ≡ y.key_row.object =
+      one_object x.key_row.object y.key_row.object (sym x.key_row.row_is ∙ y.key_row.row_is) in
+      let roots : Some (pos a.root) ≡ Some (pos b.root) = sym x.root_is ∙ (ap (λ (o : ObjectData). o.root) object ∙ y.root_is) in
+      let root : a.root ≡ b.root = cc in
+      let owners : IsSameName x.table.name y.table.name =
+      sym x.key_row.owner_is ∙ (ap (λ (o : ObjectData). map to_ascii_lowercase o.owner) object ∙ y.key_row.owner_is) in
+      let table : x.table ≡ y.table =
+      same_table pages rows apart x.table_row y.table_row x.table y.table x.stands y.stands x.wants.says y.wants.says owners in
+      let one : y.table_row ≡ x.table_row =
+      same_row pages rows apart x.table_row y.table_row x.table y.table x.stands y.stands x.wants.says y.wants.says owners in
+      let names : IsSameName (automatic_name x.table.name x.automatic.number) (automatic_name y.table.name y.automatic.number) =
+      sym x.key_row.name_is ∙ (ap (λ (o : ObjectData). map to_ascii_lowercase o.name) object ∙ y.key_row.name_is) in
+      let number : x.automatic.number ≡ y.automatic.number =
+      same_number x.table.name x.automatic.number y.automatic.number x.made.fits y.made.fits
+      (subst (λ (t : TableData). IsSameName (automatic_name x.table.name x.automatic.number) (automatic_name t.name y.automatic.number)) (sym table) names) in
+      let automatic : x.automatic ≡ y.automatic =
+      one_automatic pages x.table_row x.table y.table x.automatic y.automatic x.wants
+      (subst (λ r. Wants pages r y.table y.automatic) one y.wants) number in
+      let made : IsKeyIndex x.table x.automatic y.key_index =
+      subst (λ t. IsKeyIndex t x.automatic y.key_index) (sym table) (subst (λ m. IsKeyIndex y.table m y.key_index) (sym automatic) y.made) in
+      let key_index : x.key_index ≡ y.key_index =
+      one_key_index x.table x.automatic x.key_index y.key_index (distinct_columns x.table x.wants.says) x.made made in
+      x.index_is
+      ∙ (ap (λ i. rooted i x.table.name a.root) key_index
+      ∙ (ap (λ (t : TableData). rooted y.key_index t.name a.root) table
+      ∙ (ap (rooted y.key_index y.table.name) root
+      ∙ sym y.index_is)))
 
   module _ (tables : List TableData) (are : AreTablesOf pages rows tables) where
     -- the row of a table
@@ -190,10 +136,16 @@ module _ (pages : ℕ) (rows : List Row) (apart : ¬ Doubled rows) where
     same_owner : (a b : TableData) → Contains tables a → Contains tables b → IsSameName a.name b.name → a ≡ b
     same_owner a b p q same =
         let x = table_row_of a p in let y = table_row_of b q in
-        same_table x.0 y.0 a b x.1 y.1 x.2 y.2 same
+        same_table pages rows apart x.0 y.0 a b x.1 y.1 x.2 y.2 same
 
-    one_said : (row : Row) (a b : IndexData) → SaysIndex pages tables row a → SaysIndex pages tables row b → a ≡ b
-    one_said row a b x y =
+    -- an index has a text, or none
+    text_apart : {row : Row} {a b : IndexData} → SaysIndex pages tables row a → SaysKeyIndex pages rows row b → ⊥
+    text_apart x y =
+        let object = one_object x.object y.key_row.object (sym x.row_is ∙ y.key_row.row_is) in
+        let some : Some x.sql ≡ None = sym x.sql_is ∙ (ap (λ (o : ObjectData). o.sql) object ∙ y.key_row.sql_is) in cc
+
+    one_text_said : (row : Row) (a b : IndexData) → SaysIndex pages tables row a → SaysIndex pages tables row b → a ≡ b
+    one_text_said row a b x y =
         let object : x.object ≡ y.object = one_object x.object y.object (sym x.row_is ∙ y.row_is) in
         let roots : Some (pos a.root) ≡ Some (pos b.root) =
         sym x.root_is ∙ (ap (λ (o : ObjectData). o.root) object ∙ y.root_is) in
@@ -206,14 +158,20 @@ module _ (pages : ℕ) (rows : List Row) (apart : ¬ Doubled rows) where
         one_index x.tree x.table a b (distinct_columns x.table (table_row_of x.table x.of_table).2) x.created
         (subst (λ t. IsIndex x.tree t b) table (subst (λ t. IsIndex t y.table b) tree y.created)) cc
 
+    one_said : (row : Row) (a b : IndexData) → SaysAnyIndex pages rows tables row a → SaysAnyIndex pages rows tables row b → a ≡ b
+    one_said row a b (inl x) (inl y) = one_text_said row a b x y
+    one_said row a b (inr x) (inr y) = one_key_said row a b x y
+    one_said row a b (inl x) (inr y) = absurd (text_apart x y)
+    one_said row a b (inr x) (inl y) = absurd (text_apart y x)
+
 pub one_catalog : (pages : ℕ) (rows : List Row) (a b : CatalogData) → IsCatalog pages rows a → IsCatalog pages rows b → a ≡ b
 one_catalog pages rows a b p q =
     let tables : a.tables ≡ b.tables =
     picks_one (SaysTable pages) IsNoTable (one_table pages) (table_apart pages) rows a.tables b.tables p.tables_are q.tables_are in
-    let others = subst (λ ts. Picks (SaysIndex pages ts) IsNoIndex rows b.indexes) (sym tables) q.indexes_are in
+    let others = subst (λ ts. Picks (SaysAnyIndex pages rows ts) IsNoIndex rows b.indexes) (sym tables) q.indexes_are in
     let indexes : a.indexes ≡ b.indexes =
-    picks_one (SaysIndex pages a.tables) IsNoIndex (one_said pages rows p.distinct a.tables p.tables_are)
-    (index_apart pages a.tables) rows a.indexes b.indexes p.indexes_are others in
+    picks_one (SaysAnyIndex pages rows a.tables) IsNoIndex (one_said pages rows p.distinct a.tables p.tables_are)
+    (index_apart pages rows a.tables) rows a.indexes b.indexes p.indexes_are others in
     λ i. record { tables = tables i; indexes = indexes i }
 
 -- ---- A catalog excludes each reason to refuse its rows
@@ -231,15 +189,27 @@ module _ (pages : ℕ) (rows : List Row) (catalog : CatalogData) (is : IsCatalog
       go (inr (inl index)) = let other = kind_of o k.Index index in absurd cc
       go (inr (inr trigger)) = let other = trigger_kind o trigger in absurd cc
 
-  index_at : (o : ObjectData) → Contains rows (object_row o) → o.kind ≡ k.Index
-      → (x : IndexData) × Contains catalog.indexes x × SaysIndex pages catalog.tables (object_row o) x
-  index_at o has kind = go (picks_has (SaysIndex pages catalog.tables) IsNoIndex is.indexes_are (object_row o) has)
+  any_index_at : (o : ObjectData) → Contains rows (object_row o) → o.kind ≡ k.Index
+      → (x : IndexData) × Contains catalog.indexes x × SaysAnyIndex pages rows catalog.tables (object_row o) x
+  any_index_at o has kind = go (picks_has (SaysAnyIndex pages rows catalog.tables) IsNoIndex is.indexes_are (object_row o) has)
     where
-      go : ((x : IndexData) × Contains catalog.indexes x × SaysIndex pages catalog.tables (object_row o) x) ⊎ IsNoIndex (object_row o)
-          → (x : IndexData) × Contains catalog.indexes x × SaysIndex pages catalog.tables (object_row o) x
+      go : ((x : IndexData) × Contains catalog.indexes x × SaysAnyIndex pages rows catalog.tables (object_row o) x) ⊎ IsNoIndex (object_row o)
+          → (x : IndexData) × Contains catalog.indexes x × SaysAnyIndex pages rows catalog.tables (object_row o) x
       go (inl found) = found
       go (inr (inl table)) = let other = kind_of o k.Table table in absurd cc
       go (inr (inr trigger)) = let other = kind_of o k.Trigger trigger in absurd cc
+
+  -- an index with a text
+  index_at : (o : ObjectData) (sql : List ℕ) → Contains rows (object_row o) → HasText k.Index sql o
+      → (x : IndexData) × Contains catalog.indexes x × SaysIndex pages catalog.tables (object_row o) x
+  index_at o sql has t = go (any_index_at o has t.kind_is)
+    where
+      go : ((x : IndexData) × Contains catalog.indexes x × SaysAnyIndex pages rows catalog.tables (object_row o) x)
+          → (x : IndexData) × Contains catalog.indexes x × SaysIndex pages catalog.tables (object_row o) x
+      go (x, at, inl says) = (x, at, says)
+      go (x, at, inr says) =
+          let object = one_object o says.key_row.object says.key_row.row_is in
+          let none : Some sql ≡ None = sym t.sql_is ∙ (ap (λ (o : ObjectData). o.sql) object ∙ says.key_row.sql_is) in absurd cc
 
   no_view : (o : ObjectData) → Contains rows (object_row o) → ¬ (o.kind ≡ k.View)
   no_view o has kind = go (picks_has (SaysTable pages) IsNoTable is.tables_are (object_row o) has)
@@ -318,47 +288,76 @@ module _ (pages : ℕ) (rows : List Row) (catalog : CatalogData) (is : IsCatalog
       → (page : ℕ) × (2 ≤ page) × (page ≤ pages) × (o.root ≡ Some (pos page))
   has_root o has tree = go o.kind refl tree
     where
+      index_root : ((x : IndexData) × Contains catalog.indexes x × SaysAnyIndex pages rows catalog.tables (object_row o) x)
+          → (page : ℕ) × (2 ≤ page) × (page ≤ pages) × (o.root ≡ Some (pos page))
+      index_root (x, at, inl says) = (x.root, says.least, says.most, index_root_of o x says)
+      index_root (x, at, inr says) = (
+        x.root,
+        says.least,
+        says.most,
+        ap (λ (o : ObjectData). o.root) (one_object o says.key_row.object says.key_row.row_is) ∙ says.root_is,
+      )
+
       go : (kind : Kind) → o.kind ≡ kind → HasTree kind → (page : ℕ) × (2 ≤ page) × (page ≤ pages) × (o.root ≡ Some (pos page))
       go k.Table e h =
           let found = table_at o has e in (found.0.root, found.2.least, found.2.most, root_of o found.0 found.2)
-      go k.Index e h =
-          let found = index_at o has e in (found.0.root, found.2.least, found.2.most, index_root_of o found.0 found.2)
+      go k.Index e h = index_root (any_index_at o has e)
       go _ e h = absurd h
 
-  has_sql : (o : ObjectData) → Contains rows (object_row o) → ¬ (o.sql ≡ None)
-  has_sql o has none = go o.kind refl
+  has_sql : (o : ObjectData) → Contains rows (object_row o) → ¬ (o.kind ≡ k.Index) → ¬ (o.sql ≡ None)
+  has_sql o has other none = go o.kind refl
     where
       go : (kind : Kind) → o.kind ≡ kind → ⊥
       go k.Table e = let found = table_at o has e in let there = text_of o found.0 found.2 in cc
-      go k.Index e = let found = index_at o has e in let there = index_text_of o found.0 found.2 in cc
+      go k.Index e = other e
       go k.View e = no_view o has e
       go k.Trigger e = no_textless_trigger o has e none
 
   no_bad_object : (o : ObjectData) → Contains rows (object_row o) → ¬ IsBadObject pages o
   no_bad_object o has (IsBadObject.rootless tree none) =
       let root = has_root o has tree in none root.0 root.1 root.2 root.3
-  no_bad_object o has (IsBadObject.textless none other) = has_sql o has none
+  no_bad_object o has (IsBadObject.textless none other) = has_sql o has other none
   no_bad_object o has (IsBadObject.table_names sql tree t spelt other) =
       let found = table_at o has t.kind_is in
       other (named_so o found.0 found.2 tree (tree_of o found.0 found.2 sql tree t.sql_is spelt))
   no_bad_object o has (IsBadObject.index_names sql tree t spelt other) =
-      let found = index_at o has t.kind_is in
+      let found = index_at o sql has t in
       other (index_named_so o found.0 found.2 tree (index_tree_of o found.0 found.2 sql tree t.sql_is spelt))
 
   -- an index's row names a table's
   has_owner : (o : ObjectData) → Contains rows (object_row o) → o.kind ≡ k.Index
       → (t : ObjectData) × Contains rows (object_row t) × (t.kind ≡ k.Table) × IsSameName o.owner t.name
-  has_owner o has kind =
-      let found = index_at o has kind in
-      let says = found.2 in
-      let from = picks_from (SaysTable pages) IsNoTable is.tables_are says.table says.of_table in
-      let table = from.2 in
-      let owner : o.owner ≡ says.object.owner = ap (λ (o : ObjectData). o.owner) (same_index_object o found.0 says) in (
-        object_of table,
-        subst (Contains rows) table.row_is from.1,
-        refl,
-        ap (map to_ascii_lowercase) owner ∙ (says.owner_is ∙ (says.created.owner_is ∙ sym (row_name table))),
-      )
+  has_owner o has kind = go (any_index_at o has kind)
+    where
+      go : ((x : IndexData) × Contains catalog.indexes x × SaysAnyIndex pages rows catalog.tables (object_row o) x)
+          → (t : ObjectData) × Contains rows (object_row t) × (t.kind ≡ k.Table) × IsSameName o.owner t.name
+      go (x, at, inl says) =
+          let from = picks_from (SaysTable pages) IsNoTable is.tables_are says.table says.of_table in
+          let table = from.2 in
+          let owner : o.owner ≡ says.object.owner = ap (λ (o : ObjectData). o.owner) (same_index_object o x says) in (
+            object_of table,
+            subst (Contains rows) table.row_is from.1,
+            refl,
+            ap (map to_ascii_lowercase) owner ∙ (says.owner_is ∙ (says.created.owner_is ∙ sym (row_name table))),
+          )
+      go (x, at, inr says) =
+          let table = says.wants.says in
+          let object = one_object o says.key_row.object says.key_row.row_is in (
+            object_of table,
+            subst (Contains rows) table.row_is says.stands,
+            refl,
+            ap (λ (o : ObjectData). map to_ascii_lowercase o.owner) object ∙ (says.key_row.owner_is ∙ sym (row_name table)),
+          )
+
+  -- an index without a text is one that a key wants
+  no_unwanted : (o : ObjectData) → Contains rows (object_row o) → o.kind ≡ k.Index → o.sql ≡ None
+      → ((row : Row) (table : TableData) (automatic : AutomaticData) → Contains rows row → Wants pages row table automatic
+      → ¬ IsKeyRow table.name (automatic_name table.name automatic.number) (object_row o)) → ⊥
+  no_unwanted o has kind none unwanted = go (any_index_at o has kind)
+    where
+      go : ((x : IndexData) × Contains catalog.indexes x × SaysAnyIndex pages rows catalog.tables (object_row o) x) → ⊥
+      go (x, at, inl says) = let there = index_text_of o x says in let clash : Some says.sql ≡ None = sym there ∙ none in cc
+      go (x, at, inr says) = unwanted says.table_row says.table says.automatic says.stands says.wants says.key_row
 
   pub no_bad_schema : ¬ IsBadSchema pages rows
   no_bad_schema (IsBadSchema.row row has none) = go (picks_has (SaysTable pages) IsNoTable is.tables_are row has)
@@ -370,7 +369,8 @@ module _ (pages : ℕ) (rows : List Row) (catalog : CatalogData) (is : IsCatalog
   no_bad_schema (IsBadSchema.object o has bad) = no_bad_object o has bad
   no_bad_schema (IsBadSchema.ownerless o has kind none) =
       let found = has_owner o has kind in none found.0 found.1 found.2 found.3
-  no_bad_schema (IsBadSchema.unwanted o tables has kind none are) = has_sql o has none
+  no_bad_schema (IsBadSchema.unwanted o tables has kind none are unwanted) = no_unwanted o has kind none unwanted
+  no_bad_schema (IsBadSchema.lacking row table automatic has wants none) = none (is.kept row table automatic has wants)
   no_bad_schema (IsBadSchema.doubled doubled) = is.distinct doubled
 
   -- SchemaText
@@ -382,7 +382,7 @@ module _ (pages : ℕ) (rows : List Row) (catalog : CatalogData) (is : IsCatalog
       let one : found.2.sql ≡ sql = cc in
       none found.2.tree (subst (λ s. SpellsCreate s found.2.tree) one found.2.spelt)
   no_unread o has (IsUnread.index sql t none) =
-      let found = index_at o has t.kind_is in
+      let found = index_at o sql has t in
       let both : Some found.2.sql ≡ Some sql = sym (index_text_of o found.0 found.2) ∙ t.sql_is in
       let one : found.2.sql ≡ sql = cc in
       index_unread sql found.2.tree none (subst (λ s. SpellsIndex s found.2.tree) one found.2.spelt)
@@ -401,7 +401,7 @@ module _ (pages : ℕ) (rows : List Row) (catalog : CatalogData) (is : IsCatalog
       table_within sql found.2.tree (subst (λ s. SpellsCreate s found.2.tree) one found.2.spelt)
       (subst (λ s. IsWithin columns_of_table s found.2.tree) one found.2.within) much
   no_left_out o has (IsLeftOut.index_limit sql t much) =
-      let found = index_at o has t.kind_is in
+      let found = index_at o sql has t in
       let both : Some found.2.sql ≡ Some sql = sym (index_text_of o found.0 found.2) ∙ t.sql_is in
       let one : found.2.sql ≡ sql = cc in
       index_within sql found.2.tree (subst (λ s. SpellsIndex s found.2.tree) one found.2.spelt)
@@ -411,7 +411,7 @@ module _ (pages : ℕ) (rows : List Row) (catalog : CatalogData) (is : IsCatalog
       let same = tree_of o found.0 found.2 sql tree t.sql_is spelt in
       none found.0 (subst (λ t. IsTable t found.0) (sym same) found.2.created)
   no_left_out o has (IsLeftOut.index sql tree row table t spelt at says named none) =
-      let found = index_at o has t.kind_is in
+      let found = index_at o sql has t in
       let index = found.2 in
       let same = index_tree_of o found.0 index sql tree t.sql_is spelt in
       let from = picks_from (SaysTable pages) IsNoTable is.tables_are index.table index.of_table in

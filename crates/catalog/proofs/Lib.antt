@@ -1,6 +1,10 @@
 pub mod ObjectLemmas
 pub mod PickLemmas
-pub mod LaterLemmas
+pub mod KindLemmas
+pub mod NameLemmas
+pub mod TableLemmas
+pub mod KeyedLemmas
+pub mod SearchLemmas
 pub mod DoubleLemmas
 pub mod RefusalLemmas
 pub mod LawLemmas

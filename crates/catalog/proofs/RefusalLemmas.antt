@@ -1,8 +1,7 @@
 -- Why an object was refused, and what its row says otherwise.
-use Rattle.std.proofs.Common.{◌≡◌, ℕ, pos, ◌+◌, ◌<◌, ◌≤◌, ◌⊎◌, inl, inr, Bool, true, false, IsTrue, ◌↔◌, not, get_or, slice_get, All, Bor, Contains, List, length, map, is_some, Option, None, Some, option_map, refl, sym, ap, ◌∙◌, subst, arith}
-use Rattle.std.proofs.lemmas.Bool.{cases_order}
-use Rattle.std.proofs.lemmas.Option.{slice_get-get_or}
+use Rattle.std.proofs.Common.{◌≡◌, ℕ, pos, ◌≤◌, ◌⊎◌, inl, inr, Bool, true, false, IsTrue, ◌↔◌, not, All, Bor, Contains, List, map, is_some, Option, None, Some, option_map, refl, sym, ap, ◌∙◌, subst}
 use Rattle.std.specs.Char.{to_ascii_lowercase}
+use Rattle.std.specs.List.{Any}
 use Rattle.values.specs.Row.{Row}
 use Rattle.values.specs.declared.fault.Fault.{Fault}
 use Rattle.values.specs.declared.fault.Fault.TheVariants as f
@@ -13,21 +12,28 @@ use Rattle.phrases.specs.Texts.{IsWithin}
 use Rattle.create_trees.specs.CreateTrees.{IndexTree, TableTree, columns_of_index, columns_of_table}
 use Rattle.indexes.specs.IndexData.{IndexData}
 use Rattle.indexes.specs.Indexed.{IsIndex}
+use Rattle.indexes.specs.KeyIndexes.{KeyIndexData, automatic_name, rooted}
 use Rattle.indexes.specs.Refused.{IsRefused as IsUnmade}
 use Rattle.schema.specs.Created.{IsTable}
 use Rattle.schema.specs.Names.{IsSameName}
 use Rattle.schema.specs.Refused.{IsRefused as IsRefusedTable}
 use Rattle.schema.specs.Rows.{SaysTable}
 use Rattle.schema.specs.TableData.{TableData}
+use Rattle.table_keys.specs.Automatic.{AutomaticData}
+use Rattle.catalog.specs.Keyed.{AreKeyedOf, IsMade, IsNotWanted, IsRootedAs, KeyedData, SaysKeyed, tables_in}
 use Rattle.catalog.specs.Later.{IsLater}
 use Rattle.catalog.specs.Objects.{ObjectData, object_row}
 use Rattle.catalog.specs.Refused.{HasText, IsBadObject, IsBadSchema, IsLeftOut, IsRefused, IsTooMuch, IsUnread, SpellsNoTable}
-use Rattle.catalog.specs.Says.{AreTablesOf, HasTree, IsNoTable, IsOfKind, SaysIndex}
+use Rattle.catalog.specs.Says.{AreTablesOf, Doubled, HasTree, IsNoTable, IsOfKind, SaysIndex, SaysKeyIndex}
 use Rattle.catalog.specs.TextRefused.{IsTextRefused}
+use Rattle.catalog.specs.Wanted.{IsKeyRow, Wants}
 use Rattle.catalog.specs.declared.objects.Kind.{Kind}
 use Rattle.catalog.specs.declared.objects.Kind.TheVariants as k
-use Rattle.catalog.proofs.ObjectLemmas.{one_kind, table_parts, table_row}
+use Rattle.catalog.proofs.KeyedLemmas.{all_at, tables_said, wanted_at, wanted_by}
+use Rattle.catalog.proofs.KindLemmas.{one_object}
+use Rattle.catalog.proofs.ObjectLemmas.{one_kind, one_name, table_parts, table_row}
 use Rattle.catalog.proofs.PickLemmas.{picks_from, picks_has}
+use Rattle.catalog.proofs.TableLemmas.{same_row, same_table}
 
 -- the text of an object
 pub text_none : (sql : Option (Bor (List ℕ))) → sql ≡ None → option_map (λ (t : Bor (List ℕ)). t.now) sql ≡ None
@@ -117,46 +123,84 @@ module _ (pages : ℕ) (o : ObjectData) where
         index_unmade tables table are at same _ h = absurd h
 
     -- an index whose table none of the tables is
-    pub ownerless : (tables : List TableData) → o.kind ≡ k.Index → AreTablesOf pages rows tables
-        → All (λ t. ¬ IsSameName t.name o.owner) tables → IsBadSchema pages rows
-    ownerless tables kind are none = IsBadSchema.ownerless o has kind other
+    pub ownerless : (keyed : List KeyedData) → o.kind ≡ k.Index → AreKeyedOf pages rows keyed
+        → All (λ k. ¬ IsSameName k.table.name o.owner) keyed → IsBadSchema pages rows
+    ownerless keyed kind are none = IsBadSchema.ownerless o has kind other
       where
         other : (t : ObjectData) → Contains rows (object_row t) → t.kind ≡ k.Table → ¬ IsSameName o.owner t.name
-        other t there is same = go (picks_has (SaysTable pages) IsNoTable are (object_row t) there)
+        other t there is same = go (picks_has (SaysKeyed pages) IsNoTable are (object_row t) there)
           where
             no_kind : (kind : Kind) → IsOfKind kind (object_row t) → ¬ (kind ≡ k.Table) → ⊥
             no_kind kind other not_table = not_table (sym other.kind_is ∙ (sym (one_kind t other.object other.row_is) ∙ is))
 
-            go : ((x : TableData) × Contains tables x × SaysTable pages (object_row t) x) ⊎ IsNoTable (object_row t) → ⊥
-            go (inl (x, at, says)) =
-                let parts = table_parts t says.name says.owner says.sql (pos x.root) says.row_is in
-                let named : IsSameName x.name o.owner =
+            go : ((x : KeyedData) × Contains keyed x × SaysKeyed pages (object_row t) x) ⊎ IsNoTable (object_row t) → ⊥
+            go (inl (x, at, keys)) =
+                let says = keys.says in
+                let parts = table_parts t says.name says.owner says.sql (pos x.table.root) says.row_is in
+                let named : IsSameName x.table.name o.owner =
                 ap (map to_ascii_lowercase) says.created.name_is
                 ∙ (sym says.name_is ∙ (ap (map to_ascii_lowercase) (sym parts.1) ∙ sym same)) in
-                subst (λ (z : TableData). ¬ IsSameName z.name o.owner) at.2 (none at.0 x at.1) named
+                subst (λ (z : KeyedData). ¬ IsSameName z.table.name o.owner) at.2 (none at.0 x at.1) named
             go (inr (inl index)) = no_kind k.Index index (λ e. absurd cc)
             go (inr (inr trigger)) =
                 no_kind k.Trigger (record { object = trigger.object; row_is = trigger.row_is; kind_is = trigger.kind_is })
                 (λ e. absurd cc)
 
+    -- an index without a text that no key of its table wants
+    unwanted : (keyed : List KeyedData) (x : KeyedData) → o.kind ≡ k.Index → o.sql ≡ None → AreKeyedOf pages rows keyed
+        → ¬ Doubled rows → Contains keyed x → IsSameName x.table.name o.owner
+        → All (λ (w : KeyIndexData). ¬ IsSameName o.name w.name) x.wanted → IsBadSchema pages rows
+    unwanted keyed x kind none are apart at owner unlike =
+        IsBadSchema.unwanted o (tables_in keyed) has kind none (tables_said pages are) other
+      where
+        from : (row : Row) × Contains rows row × SaysKeyed pages row x
+        from = picks_from (SaysKeyed pages) IsNoTable are x at
+
+        other : (row : Row) (table : TableData) (a : AutomaticData) → Contains rows row → Wants pages row table a
+            → ¬ IsKeyRow table.name (automatic_name table.name a.number) (object_row o)
+        other row table a there wants key =
+            let object = one_object key.object o (sym key.row_is) in
+            let owners : IsSameName x.table.name table.name =
+            owner ∙ (ap (λ (o : ObjectData). map to_ascii_lowercase o.owner) (sym object) ∙ key.owner_is) in
+            let one = same_row pages rows apart from.0 row x.table table from.1 there from.2.says wants.says owners in
+            let table_is : x.table ≡ table =
+            same_table pages rows apart from.0 row x.table table from.1 there from.2.says wants.says owners in
+            let w = wanted_at pages from.0 x table a from.2 (subst (λ r. Wants pages r table a) one wants) in
+            all_at (λ (w : KeyIndexData). ¬ IsSameName o.name w.name) x.wanted w.0 unlike w.1
+            (ap (λ (o : ObjectData). map to_ascii_lowercase o.name) (sym object)
+            ∙ (key.name_is
+            ∙ (ap (λ (t : TableData). map to_ascii_lowercase (automatic_name t.name a.number)) (sym table_is)
+            ∙ ap (map to_ascii_lowercase) (sym w.2.name_is))))
+
+    pub key_refused : (keyed : List KeyedData) (x : KeyedData) → o.kind ≡ k.Index → o.sql ≡ None → AreKeyedOf pages rows keyed
+        → ¬ Doubled rows → Contains keyed x → IsSameName x.table.name o.owner → (fault : Fault) → IsNotWanted o.name x.wanted fault
+        → IsRefused pages rows fault
+    key_refused keyed x kind none are apart at owner f.NoMemory unlike = tt
+    key_refused keyed x kind none are apart at owner f.SchemaRow unlike = unwanted keyed x kind none are apart at owner unlike
+    key_refused keyed x kind none are apart at owner _ unlike = absurd unlike
+
   -- an object that says a table
-  pub says_table : (sql : List ℕ) (tree : TableTree) (root : ℕ) (table : TableData) → HasText k.Table sql o
+  pub says_keyed : (sql : List ℕ) (tree : TableTree) (root : ℕ) (keyed : KeyedData) → HasText k.Table sql o
       → (o.root ≡ Some (pos root)) × (2 ≤ root) × (root ≤ pages) → SpellsCreate sql tree → IsWithin columns_of_table sql tree
-      → IsSameName o.name tree.name → IsSameName o.owner tree.name → IsTable tree table × (table.root ≡ root)
-      → SaysTable pages (object_row o) table
-  says_table sql tree root table text at spelt within name owner made = record {
-    name = o.name;
-    owner = o.owner;
-    sql = sql;
-    tree = tree;
-    row_is = table_row o table.root sql text.kind_is (at.0 ∙ ap (λ (n : ℕ). Some (pos n)) (sym made.1)) text.sql_is;
-    spelt = spelt;
-    within = within;
-    name_is = name;
-    owner_is = owner;
-    least = subst (λ n. 2 ≤ n) (sym made.1) at.1;
-    most = subst (λ n. n ≤ pages) (sym made.1) at.2;
-    created = made.0;
+      → IsSameName o.name tree.name → IsSameName o.owner tree.name → IsMade tree root keyed → SaysKeyed pages (object_row o) keyed
+  says_keyed sql tree root keyed text at spelt within name owner made = record {
+    says = record {
+      name = o.name;
+      owner = o.owner;
+      sql = sql;
+      tree = tree;
+      row_is = table_row o keyed.table.root sql text.kind_is (at.0 ∙ ap (λ (n : ℕ). Some (pos n)) (sym made.root_is)) text.sql_is;
+      spelt = spelt;
+      within = within;
+      name_is = name;
+      owner_is = owner;
+      least = subst (λ n. 2 ≤ n) (sym made.root_is) at.1;
+      most = subst (λ n. n ≤ pages) (sym made.root_is) at.2;
+      created = made.made;
+    };
+    automatic = made.automatic;
+    want = made.want;
+    are = made.are;
   }
 
   -- an object that says an index
@@ -183,29 +227,41 @@ module _ (pages : ℕ) (o : ObjectData) where
     created = made.0;
   }
 
--- The table of a name, where it was tested whether this one has it
-module _ (tables : List TableData) (name : List ℕ) (i : ℕ) (x : TableData) (given : List ℕ) (found : Bool) (within : i < length tables)
-    (is : x ≡ get_or tables i x) (e : given ≡ x.name) (tested : IsTrue found ↔ IsSameName given name) where
-  pub named_here : found ≡ true → Contains tables x × IsSameName x.name name
-  named_here some = ((i, within, sym is), subst (λ n. IsSameName n name) e (tested.0 some))
+  -- an object that says an index for a key
+  pub says_key_index : (rows : List Row) (keyed : List KeyedData) (x : KeyedData) (root : ℕ) (index : IndexData)
+      → AreKeyedOf pages rows keyed → Contains keyed x → IsSameName x.table.name o.owner → o.kind ≡ k.Index → o.sql ≡ None
+      → (o.root ≡ Some (pos root)) × (2 ≤ root) × (root ≤ pages) → Any (IsRootedAs o.name x.table.name root index) x.wanted
+      → SaysKeyIndex pages rows (object_row o) index
+  says_key_index rows keyed x root index are at owner kind none root_is (i, w, within, is, same) =
+      let found = wanted_by pages rows keyed are x w at (i, within, is) in
+      let a = found.2.0 in
+      let here : index.root ≡ root = ap (λ (i : IndexData). i.root) same.1 in
+      record {
+        table_row = found.0;
+        stands = found.1;
+        table = x.table;
+        automatic = a;
+        wants = found.2.1;
+        key_index = w;
+        made = found.2.2;
+        key_row = record {
+          object = o;
+          row_is = refl;
+          kind_is = kind;
+          sql_is = none;
+          owner_is = sym owner;
+          name_is = same.0 ∙ ap (map to_ascii_lowercase) found.2.2.name_is;
+        };
+        root_is = root_is.0 ∙ ap (λ (n : ℕ). Some (pos n)) (sym here);
+        least = subst (λ n. 2 ≤ n) (sym here) root_is.1;
+        most = subst (λ n. n ≤ pages) (sym here) root_is.2;
+        index_is = same.1 ∙ ap (rooted w x.table.name) (sym here);
+      }
 
-  pub unnamed_more : found ≡ false → ((k : ℕ) (t : TableData) → k < i → ¬ IsSameName (get_or tables k t).name name)
-      → (k : ℕ) (t : TableData) → k < i + 1 → ¬ IsSameName (get_or tables k t).name name
-  unnamed_more none before k t less same = go (cases_order k i)
-    where
-      go : (k ≡ i) ⊎ ((k < i) ⊎ (i < k)) → ⊥
-      go (inl at) =
-          let first : slice_get tables i ≡ Some (get_or tables i t) = slice_get-get_or tables i t within in
-          let second : slice_get tables i ≡ Some (get_or tables i x) = slice_get-get_or tables i x within in
-          let both : Some (get_or tables i t) ≡ Some (get_or tables i x) = sym first ∙ second in
-          let one : get_or tables i t ≡ x = cc in
-          let there : IsSameName (get_or tables i t).name name = subst (λ n. IsSameName (get_or tables n t).name name) at same in
-          let here : IsSameName x.name name = subst (λ (z : TableData). IsSameName z.name name) one there in
-          let h : found ≡ true = tested.1 (subst (λ n. IsSameName n name) (sym e) here) in
-          absurd cc
-      go (inr (inl before_it)) = before k t before_it same
-      go (inr (inr behind)) = absurd (omega (arith, less, behind))
-
-pub unnamed_at_end : (tables : List TableData) (name : List ℕ) (count : ℕ) → length tables ≤ count
-    → ((k : ℕ) (t : TableData) → k < count → ¬ IsSameName (get_or tables k t).name name) → All (λ t. ¬ IsSameName t.name name) tables
-unnamed_at_end tables name count all none = λ k t within. none k t (omega (arith, all, within))
+-- a row of an object without a text, where its last name was tested
+pub key_row_told : (table name : List ℕ) (row : Row) (o : ObjectData) (found : Bool) → row ≡ object_row o → o.kind ≡ k.Index → o.sql ≡ None
+    → IsSameName o.owner table → IsTrue found ↔ IsSameName o.name name → IsTrue found ↔ IsKeyRow table name row
+key_row_told table name row o found is kind none owner tested = (
+  (λ e. record { object = o; row_is = is; kind_is = kind; sql_is = none; owner_is = owner; name_is = tested.0 e }),
+  (λ key. tested.1 (ap (map to_ascii_lowercase) (one_name o key.object (sym is ∙ key.row_is)) ∙ key.name_is)),
+)

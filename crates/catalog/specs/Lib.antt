@@ -4,7 +4,10 @@ pub mod Later
 pub mod CatalogData
 pub mod CatalogView
 pub mod Picks
+pub mod Wanted
 pub mod Says
+pub mod Keyed
+pub mod KeyedView
 pub mod Refused
 pub mod TextRefused
 pub mod Taken

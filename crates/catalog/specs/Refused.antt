@@ -10,11 +10,14 @@ use Rattle.phrases.specs.Texts.{max_columns, max_text}
 use Rattle.create_trees.specs.CreateTrees.{IndexTree, TableTree, columns_of_table}
 use Rattle.indexes.specs.IndexData.{IndexData}
 use Rattle.indexes.specs.Indexed.{IsIndex}
+use Rattle.indexes.specs.KeyIndexes.{automatic_name}
 use Rattle.schema.specs.Created.{IsTable}
 use Rattle.schema.specs.Names.{IsSameName}
 use Rattle.schema.specs.Rows.{SaysTable}
 use Rattle.schema.specs.TableData.{TableData}
 use Rattle.syntax.specs.Tree.{Name}
+use Rattle.table_keys.specs.Automatic.{AutomaticData}
+use Rattle.catalog.specs.Wanted.{HasKeyRow, IsKeyRow, Wants}
 use Rattle.catalog.specs.Later.{IsLater}
 use Rattle.catalog.specs.Objects.{ObjectData, object_row}
 use Rattle.catalog.specs.Says.{AreTablesOf, Doubled, HasTree}
@@ -81,9 +84,14 @@ pub data IsBadSchema (pages : ℕ) (rows : List Row) : Type 0 where
   ownerless : (object : ObjectData) → Contains rows (object_row object) → object.kind ≡ k.Index
       → ((table : ObjectData) → Contains rows (object_row table) → table.kind ≡ k.Table → ¬ IsSameName object.owner table.name)
       → IsBadSchema pages rows
-  -- an index has no text, and each table is served and so wants none
+  -- an index has no text, and no key of a table wants one of its name
   unwanted : (object : ObjectData) (tables : List TableData) → Contains rows (object_row object) → object.kind ≡ k.Index
-      → object.sql ≡ None → AreTablesOf pages rows tables → IsBadSchema pages rows
+      → object.sql ≡ None → AreTablesOf pages rows tables
+      → ((row : Row) (table : TableData) (automatic : AutomaticData) → Contains rows row → Wants pages row table automatic
+      → ¬ IsKeyRow table.name (automatic_name table.name automatic.number) (object_row object)) → IsBadSchema pages rows
+  -- an index that a key of a table wants has no row
+  lacking : (row : Row) (table : TableData) (automatic : AutomaticData) → Contains rows row → Wants pages row table automatic
+      → ¬ HasKeyRow rows table.name (automatic_name table.name automatic.number) → IsBadSchema pages rows
   doubled : Doubled rows → IsBadSchema pages rows
 
 -- one of the rows is that of an object of this name that is so

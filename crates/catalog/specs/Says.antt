@@ -6,10 +6,13 @@ use Rattle.phrases.specs.Texts.{IsWithin}
 use Rattle.create_trees.specs.CreateTrees.{IndexTree, columns_of_index}
 use Rattle.indexes.specs.IndexData.{IndexData}
 use Rattle.indexes.specs.Indexed.{IsIndex}
+use Rattle.indexes.specs.KeyIndexes.{IsKeyIndex, KeyIndexData, automatic_name, rooted}
 use Rattle.schema.specs.Names.{IsSameName}
 use Rattle.schema.specs.Rows.{SaysTable}
 use Rattle.schema.specs.TableData.{TableData}
+use Rattle.table_keys.specs.Automatic.{AutomaticData}
 use Rattle.catalog.specs.CatalogData.{CatalogData}
+use Rattle.catalog.specs.Wanted.{HasKeyRow, IsKeyRow, Wants}
 use Rattle.catalog.specs.Objects.{ObjectData, object_row}
 use Rattle.catalog.specs.Picks.{Picks}
 use Rattle.catalog.specs.declared.objects.Kind.{Kind}
@@ -41,6 +44,26 @@ pub record SaysIndex (pages : ℕ) (tables : List TableData) (row : Row) (index 
   pub most : index.root ≤ pages
   pub created : IsIndex tree table index
 
+-- A row is that of an index that SQLite makes for a key of a table of which one of the rows is: it has NULL for its text, the
+-- name that SQLite gives it, its table's name, and the root of its tree.
+pub record SaysKeyIndex (pages : ℕ) (rows : List Row) (row : Row) (index : IndexData) : Type 0 where
+  pub table_row : Row
+  pub stands : Contains rows table_row
+  pub table : TableData
+  pub automatic : AutomaticData
+  pub wants : Wants pages table_row table automatic
+  pub key_index : KeyIndexData
+  pub made : IsKeyIndex table automatic key_index
+  pub key_row : IsKeyRow table.name (automatic_name table.name automatic.number) row
+  pub root_is : key_row.object.root ≡ Some (pos index.root)
+  pub least : 2 ≤ index.root
+  pub most : index.root ≤ pages
+  pub index_is : index ≡ rooted key_index table.name index.root
+
+-- a row is that of an index of either kind
+abbrev pub SaysAnyIndex : ℕ → List Row → List TableData → Row → IndexData → Type 0
+SaysAnyIndex pages rows tables row index = SaysIndex pages tables row index ⊎ SaysKeyIndex pages rows row index
+
 -- a row of a trigger, for whose text NULL doesn't stand
 pub record IsTrigger (row : Row) : Type 0 where
   pub object : ObjectData
@@ -62,7 +85,7 @@ AreTablesOf pages = Picks (SaysTable pages) IsNoTable
 
 -- and these the indexes
 abbrev pub AreIndexesOf : ℕ → List TableData → List Row → List IndexData → Type 0
-AreIndexesOf pages tables = Picks (SaysIndex pages tables) IsNoIndex
+AreIndexesOf pages tables rows = Picks (SaysAnyIndex pages rows tables) IsNoIndex rows
 
 -- a table or an index, which has a tree and a name of its own
 abbrev pub HasTree : Kind → Type 0
@@ -83,8 +106,15 @@ pub record Doubled (rows : List Row) : Type 0 where
   pub other_has_tree : HasTree other.kind
   pub same : IsSameName one.name other.name
 
--- The rows of the schema are those of these tables and indexes, each of its own name, and of triggers.
+-- each index that a key of a table wants has a row
+abbrev pub AreKept : ℕ → List Row → Type 0
+AreKept pages rows = (row : Row) (table : TableData) (automatic : AutomaticData) → Contains rows row → Wants pages row table automatic
+    → HasKeyRow rows table.name (automatic_name table.name automatic.number)
+
+-- The rows of the schema are those of these tables and indexes, each of its own name, and of triggers. Each index that a key
+-- wants is among them, and no other without a text.
 pub record IsCatalog (pages : ℕ) (rows : List Row) (catalog : CatalogData) : Type 0 where
   pub tables_are : AreTablesOf pages rows catalog.tables
   pub indexes_are : AreIndexesOf pages catalog.tables rows catalog.indexes
+  pub kept : AreKept pages rows
   pub distinct : ¬ Doubled rows

@@ -1,5 +1,6 @@
 //! The index that a row of the schema says.
-ghost use Rattle.std.specs.Prelude.{◌≡◌, All, Contains, IfErr, IfNone, IfOk, IfSome, List};
+ghost use Rattle.std.specs.Prelude.{◌≡◌, All, Contains, IfErr, IfNone, IfOk, IfSome, List, map};
+ghost use Rattle.std.specs.List.{Any};
 ghost use Rattle.values.specs.Row.{Row};
 ghost use Rattle.create_reader.specs.IndexTexts.{IsTooMuch, SpellsIndex, SpellsNoIndex};
 ghost use Rattle.phrases.specs.Texts.{IsWithin};
@@ -9,12 +10,15 @@ ghost use Rattle.indexes.specs.Indexed.{IsIndex};
 ghost use Rattle.indexes.specs.IndexView.{index_data};
 ghost use Rattle.indexes.specs.Refused.{IsRefused as IsUnmade};
 ghost use Rattle.schema.specs.Names.{IsSameName};
+ghost use Rattle.catalog.specs.Keyed.{AreKeyedOf, IsNotWanted, IsRootedAs, tables_in};
+ghost use Rattle.catalog.specs.KeyedView.{keyed_data};
 ghost use Rattle.catalog.specs.Objects.{object_row};
 ghost use Rattle.catalog.specs.ObjectView.{object_data};
 ghost use Rattle.catalog.specs.Refused.{IsRefused};
-ghost use Rattle.catalog.specs.Says.{AreTablesOf, IsNoIndex, SaysIndex};
+ghost use Rattle.catalog.specs.Says.{Doubled, IsNoIndex, SaysAnyIndex};
 ghost use Rattle.catalog.specs.TextRefused.{IsTextRefused};
 
+use crate::keyed::{KeyedTable, wanted_of};
 use crate::objects::{Kind, Object, object_of, root_within};
 use create_reader::read_create_index;
 use create_trees::CreateIndex;
@@ -61,40 +65,60 @@ fn made_by(
 }
 
 /// The table of this name.
-fn table_named<'t>(tables: &'t [Table], name: &str) -> Option<&'t Table>
-    ensures found { IfSome result (λ table. Contains tables.now table.now × IsSameName table.now.name name.now) }
-    ensures none { IfNone result (All (λ table. ¬ IsSameName table.name name.now) tables.now) }
+fn table_named<'t>(tables: &'t [KeyedTable], name: &str) -> Option<&'t KeyedTable>
+    ensures found { IfSome result (λ keyed. Contains (map keyed_data tables.now) (keyed_data keyed.now)
+        × IsSameName keyed.now.table.name name.now) }
+    ensures none { IfNone result (All (λ k. ¬ IsSameName k.table.name name.now) (map keyed_data tables.now)) }
 {
-    for table in tables {
-        if is_same_name(table.name(), name) {
-            return Some(table);
+    for keyed in tables {
+        if is_same_name(keyed.table.name(), name) {
+            return Some(keyed);
         }
     }
     None
 }
 
+/// The index of an object that is one without a text, on the table of its owner's name, whose tree has this root. The fault
+/// is `SchemaRow` where no key of the table wants it; or `NoMemory`.
+fn key_index_by(
+    alloc: Global,
+    object: &Object<'_>,
+    keyed: &KeyedTable,
+    root: u32,
+) -> Result<Index, Fault>
+    ensures said { IfOk result (λ index. Any (IsRootedAs object.now.name.now (keyed_data keyed.now).table.name root (index_data index))
+        (keyed_data keyed.now).wanted) }
+    ensures refused { IfErr result (IsNotWanted object.now.name.now (keyed_data keyed.now).wanted) }
+{
+    let Some(wanted) = wanted_of(keyed.wanted.as_slice(), object.name) else {
+        return Err(Fault::SchemaRow);
+    };
+    Ok(wanted.rooted(alloc, keyed.table.name(), root)?)
+}
+
 /// The index of an object that is one, on one of these tables. The fault is `SchemaRow` where its root or its names aren't
-/// as they have to be, or its text is NULL; `SchemaText` and `UnsupportedObject`, with its name, where the text makes no
-/// index; or `NoMemory`.
+/// as they have to be, or it has no text and no key wants it; `SchemaText` and `UnsupportedObject`, with its name, where the
+/// text makes no index; or `NoMemory`.
 fn index_by(
     alloc: Global,
     object: &Object<'_>,
-    tables: &[Table],
+    tables: &[KeyedTable],
     pages: u32,
 ) -> Result<Index, Fault>
     requires { object.now.kind ≡ Kind.Index }
-    ensures said { IfOk result (λ index. SaysIndex pages tables.now (object_row (object_data object.now)) (index_data index)) }
+    ensures said { IfOk result (λ index. (rows : List Row) → AreKeyedOf pages rows (map keyed_data tables.now)
+        → SaysAnyIndex pages rows (tables_in (map keyed_data tables.now)) (object_row (object_data object.now)) (index_data index)) }
     ensures refused { IfErr result (λ fault. (rows : List Row) → Contains rows (object_row (object_data object.now))
-        → AreTablesOf pages rows tables.now → IsRefused pages rows fault) }
+        → AreKeyedOf pages rows (map keyed_data tables.now) → ¬ Doubled rows → IsRefused pages rows fault) }
 {
     let Some(root) = root_within(object.root, pages) else {
         return Err(Fault::SchemaRow);
     };
-    let Some(table) = table_named(tables, object.owner) else {
+    let Some(keyed) = table_named(tables, object.owner) else {
         return Err(Fault::SchemaRow);
     };
     let Some(sql) = object.sql else {
-        return Err(Fault::SchemaRow);
+        return key_index_by(alloc, object, keyed, root);
     };
     let created = created_by(alloc, object.name, sql)?;
     let name = created.name.as_str();
@@ -102,7 +126,7 @@ fn index_by(
     if !is_same_name(object.name, name) || !is_same_name(object.owner, owner) {
         return Err(Fault::SchemaRow);
     }
-    made_by(alloc, object.name, created, table, root)
+    made_by(alloc, object.name, created, &keyed.table, root)
 }
 
 /// The index that a row of the schema says, on one of these tables; `None` where it says a table or a trigger. (The Schema
@@ -110,13 +134,14 @@ fn index_by(
 pub(crate) fn index_said(
     alloc: Global,
     row: &Row,
-    tables: &[Table],
+    tables: &[KeyedTable],
     pages: u32,
 ) -> Result<Option<Index>, Fault>
-    ensures said { IfOk result (λ found. IfSome found (λ index. SaysIndex pages tables.now row.now (index_data index))) }
+    ensures said { IfOk result (λ found. IfSome found (λ index. (rows : List Row) → AreKeyedOf pages rows (map keyed_data tables.now)
+        → SaysAnyIndex pages rows (tables_in (map keyed_data tables.now)) row.now (index_data index))) }
     ensures other { IfOk result (λ found. IfNone found (IsNoIndex row.now)) }
     ensures refused { IfErr result (λ fault. (rows : List Row) → Contains rows row.now
-        → AreTablesOf pages rows tables.now → IsRefused pages rows fault) }
+        → AreKeyedOf pages rows (map keyed_data tables.now) → ¬ Doubled rows → IsRefused pages rows fault) }
 {
     let Some(object) = object_of(row) else {
         return Err(Fault::SchemaRow);

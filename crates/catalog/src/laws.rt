@@ -1,12 +1,14 @@
 //! What holds of the definitions alone.
-ghost use Rattle.std.specs.Prelude.{◌≡◌, List, [], ℕ};
+ghost use Rattle.std.specs.Prelude.{◌≡◌, Contains, List, [], ℕ};
 ghost use Rattle.values.specs.Row.{Row};
 ghost use Rattle.catalog.specs.CatalogData.{CatalogData};
 ghost use Rattle.catalog.specs.Refused.{HasLaterTable, HasObject, IsBadSchema, IsLeftOut, IsUnread};
 ghost use Rattle.catalog.specs.Says.{IsCatalog};
+ghost use Rattle.catalog.specs.Wanted.{Wants};
 ghost use Rattle.schema.specs.Rows.{AreTables};
 ghost use Rattle.schema.specs.TableData.{TableData};
 ghost use Rattle.syntax.specs.Tree.{Name};
+ghost use Rattle.table_keys.specs.Automatic.{AutomaticData};
 
 /// The rows of a schema say at most one catalog.
 pub fn one_catalog()
@@ -27,8 +29,9 @@ pub fn catalog_is_sound()
         → ¬ HasLaterTable rows }
 {}
 
-/// Where each row is that of a table, and no two have one name, the rows say these tables and no index.
+/// Where each row is that of a table, no two have one name, and no key wants an index, the rows say these tables and no index.
 pub fn only_tables()
     ensures { (pages : ℕ) (rows : List Row) (tables : List TableData) → AreTables pages rows tables
+        → ((row : Row) (table : TableData) (automatic : AutomaticData) → Contains rows row → ¬ Wants pages row table automatic)
         → IsCatalog pages rows (record { tables = tables; indexes = [] }) }
 {}

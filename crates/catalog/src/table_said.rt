@@ -7,19 +7,22 @@ ghost use Rattle.create_trees.specs.CreateTrees.{columns_of_table};
 ghost use Rattle.create_trees.specs.CreateView.{table_of};
 ghost use Rattle.indexes.specs.Refused.{IsRefused as IsUnmade};
 ghost use Rattle.schema.specs.Created.{IsTable};
-ghost use Rattle.schema.specs.Rows.{SaysTable};
+ghost use Rattle.catalog.specs.Keyed.{IsMade, SaysKeyed};
+ghost use Rattle.catalog.specs.KeyedView.{keyed_data};
 ghost use Rattle.catalog.specs.Objects.{object_row};
 ghost use Rattle.catalog.specs.ObjectView.{object_data};
 ghost use Rattle.catalog.specs.Refused.{IsRefused, IsTooMuch, SpellsNoTable};
 ghost use Rattle.catalog.specs.Says.{IsNoTable};
 ghost use Rattle.catalog.specs.TextRefused.{IsTextRefused};
 
-use crate::later::is_later;
+use crate::keyed::{KeyedTable, key_indexes};
 use crate::objects::{Kind, Object, object_of, root_within};
 use create_reader::read_create;
 use create_trees::CreateTable;
-use schema::{Table, is_same_name, table_from};
+use declared_keys::keys_of;
+use schema::{is_same_name, table_from};
 use std::alloc::Global;
+use table_keys::{automatic_indexes, is_rowless};
 use values::{Fault, Row};
 
 /// The CREATE TABLE that the text of an object of this name spells. The fault is `SchemaText` where it spells none, and
@@ -37,14 +40,19 @@ fn created_by(alloc: Global, name: &str, sql: &str) -> Result<CreateTable, Fault
     }
 }
 
-/// The table that the CREATE TABLE of an object of this name makes, whose tree has this root. The fault is
-/// `UnsupportedObject`, with that name, where it makes none; or `NoMemory`.
-fn made_by(alloc: Global, name: &str, created: CreateTable, root: u32) -> Result<Table, Fault>
-    ensures made { IfOk result (λ table. IsTable (table_of created) table × (table.root ≡ root)) }
+/// The table that the CREATE TABLE of an object of this name makes, whose tree has this root, with the indexes that its keys
+/// want. The fault is `UnsupportedObject`, with that name, where it makes none; or `NoMemory`.
+fn made_by(alloc: Global, name: &str, created: CreateTable, root: u32) -> Result<KeyedTable, Fault>
+    ensures made { IfOk result (λ keyed. IsMade (table_of created) root (keyed_data keyed)) }
     ensures refused { IfErr result (IsUnmade (IsTable (table_of created)) name.now) }
 {
+    let keys = keys_of(alloc, &created)?;
+    let automatic = automatic_indexes(alloc, &created, keys.as_slice())?;
     match table_from(alloc, created, root) {
-        Ok(table) => Ok(table),
+        Ok(table) => {
+            let wanted = key_indexes(alloc, &table, automatic.as_slice())?;
+            Ok(KeyedTable { table, wanted })
+        }
         Err(fault) => match fault {
             Fault::NoMemory => Err(Fault::NoMemory),
             _ => Err(Fault::UnsupportedObject(String::from_str(alloc, name)?)),
@@ -52,12 +60,12 @@ fn made_by(alloc: Global, name: &str, created: CreateTable, root: u32) -> Result
     }
 }
 
-/// The table of an object that is one. The fault is `SchemaRow` where its root or its names aren't as they have to be, or
+/// The table of an object that is one, with the indexes that its keys want. The fault is `SchemaRow` where its root or its names aren't as they have to be, or
 /// its text is NULL; `SchemaText` and `UnsupportedObject`, with its name, where the text makes no table; `NotYet` where it
 /// makes one that isn't served yet; or `NoMemory`.
-fn table_by(alloc: Global, object: &Object<'_>, pages: u32) -> Result<Table, Fault>
+fn table_by(alloc: Global, object: &Object<'_>, pages: u32) -> Result<KeyedTable, Fault>
     requires { object.now.kind ≡ Kind.Table }
-    ensures said { IfOk result (SaysTable pages (object_row (object_data object.now))) }
+    ensures said { IfOk result (λ keyed. SaysKeyed pages (object_row (object_data object.now)) (keyed_data keyed)) }
     ensures refused { IfErr result (λ fault. (rows : List Row) → Contains rows (object_row (object_data object.now))
         → IsRefused pages rows fault) }
 {
@@ -72,7 +80,7 @@ fn table_by(alloc: Global, object: &Object<'_>, pages: u32) -> Result<Table, Fau
     if !is_same_name(object.name, name) || !is_same_name(object.owner, name) {
         return Err(Fault::SchemaRow);
     }
-    if is_later(&created) {
+    if is_rowless(&created) {
         return Err(Fault::NotYet);
     }
     made_by(alloc, object.name, created, root)
@@ -80,8 +88,8 @@ fn table_by(alloc: Global, object: &Object<'_>, pages: u32) -> Result<Table, Fau
 
 /// The table that a row of the schema says; `None` where it says an index or a trigger. (The Schema Table) The fault is one
 /// of those above, or `SchemaRow` where the row is that of no object, and `UnsupportedObject` where it is a view's.
-pub(crate) fn table_said(alloc: Global, row: &Row, pages: u32) -> Result<Option<Table>, Fault>
-    ensures said { IfOk result (λ found. IfSome found (SaysTable pages row.now)) }
+pub(crate) fn table_said(alloc: Global, row: &Row, pages: u32) -> Result<Option<KeyedTable>, Fault>
+    ensures said { IfOk result (λ found. IfSome found (λ keyed. SaysKeyed pages row.now (keyed_data keyed))) }
     ensures other { IfOk result (λ found. IfNone found (IsNoTable row.now)) }
     ensures refused { IfErr result (λ fault. (rows : List Row) → Contains rows row.now → IsRefused pages rows fault) }
 {

@@ -2,20 +2,23 @@
 ghost use Rattle.std.specs.Prelude.{◌≡◌, ◌≤◌, All, IfErr, IfOk, map};
 ghost use Rattle.indexes.specs.IndexView.{index_data};
 ghost use Rattle.catalog.specs.CatalogView.{catalog_data};
+ghost use Rattle.catalog.specs.Keyed.{AreKeyedOf, tables_in};
+ghost use Rattle.catalog.specs.KeyedView.{keyed_data};
 ghost use Rattle.catalog.specs.Refused.{IsRefused};
-ghost use Rattle.catalog.specs.Says.{AreIndexesOf, AreTablesOf, IsCatalog};
+ghost use Rattle.catalog.specs.Says.{AreIndexesOf, Doubled, IsCatalog};
 
 use crate::doubles::are_doubled;
 use crate::index_said::index_said;
+use crate::keyed::{KeyedTable, lack_row, tables_from};
 use crate::table_said::table_said;
 use indexes::Index;
 use schema::Table;
 use std::alloc::Global;
 use values::{Fault, Row};
 
-/// The tables that the rows say, in their order.
-fn tables_of(alloc: Global, rows: &[Row], pages: u32) -> Result<Vec<Table>, Fault>
-    ensures said { IfOk result (λ tables. AreTablesOf pages rows.now tables.items) }
+/// The tables that the rows say, in their order, with the indexes that their keys want.
+fn tables_of(alloc: Global, rows: &[Row], pages: u32) -> Result<Vec<KeyedTable>, Fault>
+    ensures said { IfOk result (λ tables. AreKeyedOf pages rows.now (map keyed_data tables.items)) }
     ensures refused { IfErr result (IsRefused pages rows.now) }
 {
     let mut tables = Vec::with_capacity(alloc, rows.len())?;
@@ -31,11 +34,12 @@ fn tables_of(alloc: Global, rows: &[Row], pages: u32) -> Result<Vec<Table>, Faul
 fn indexes_of(
     alloc: Global,
     rows: &[Row],
-    tables: &[Table],
+    tables: &[KeyedTable],
     pages: u32,
 ) -> Result<Vec<Index>, Fault>
-    requires { AreTablesOf pages rows.now tables.now }
-    ensures said { IfOk result (λ indexes. AreIndexesOf pages tables.now rows.now (map index_data indexes.items)) }
+    requires keyed { AreKeyedOf pages rows.now (map keyed_data tables.now) }
+    requires distinct { ¬ Doubled rows.now }
+    ensures said { IfOk result (λ indexes. AreIndexesOf pages (tables_in (map keyed_data tables.now)) rows.now (map index_data indexes.items)) }
     ensures refused { IfErr result (IsRefused pages rows.now) }
 {
     let mut indexes = Vec::with_capacity(alloc, rows.len())?;
@@ -59,7 +63,7 @@ impl Catalog {
     ///
     /// # Errors
     ///
-    /// `SchemaRow` where a row isn't as SQLite writes it; `SchemaText` with the name of a table or an index whose text can't
+    /// `SchemaRow` where a row isn't as SQLite writes it, or an index for a key has none; `SchemaText` with the name of a table or an index whose text can't
     /// be read; `UnsupportedObject` with the name of a view, or of a table or an index that can be read and has what is left
     /// out; `NotYet` where a table isn't served yet; `NoMemory`.
     pub fn read(alloc: Global, rows: &[Row], pages: u32) -> Result<Catalog, Fault>
@@ -67,11 +71,15 @@ impl Catalog {
         ensures roots { IfOk result (λ catalog. All (λ t. (2 ≤ t.root) × (t.root ≤ pages)) (catalog_data catalog).tables) }
         ensures refused { IfErr result (IsRefused pages rows.now) }
     {
-        let tables = tables_of(alloc, rows, pages)?;
-        let indexes = indexes_of(alloc, rows, tables.as_slice(), pages)?;
+        let keyed = tables_of(alloc, rows, pages)?;
         if are_doubled(rows) {
             return Err(Fault::SchemaRow);
         }
+        let indexes = indexes_of(alloc, rows, keyed.as_slice(), pages)?;
+        if lack_row(rows, keyed.as_slice()) {
+            return Err(Fault::SchemaRow);
+        }
+        let tables = tables_from(alloc, keyed)?;
         Ok(Catalog { tables, indexes })
     }
 

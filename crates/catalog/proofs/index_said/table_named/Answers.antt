@@ -1,16 +1,26 @@
-use Rattle.catalog.proofs.RefusalLemmas.{named_here, unnamed_at_end, unnamed_more}
+use Rattle.std.proofs.Common.{◌≡◌, subst, true}
+use Rattle.schema.specs.Names.{IsSameName}
+use Rattle.catalog.specs.Keyed.{KeyedData}
+use Rattle.catalog.specs.KeyedView.{keyed_data}
+use Rattle.catalog.proofs.SearchLemmas.{found_here, none_at_end, none_more}
 use Rattle.catalog.proofs.index_said.table_named.Goals as goal
 
 pub returns-then-is_same_name-clause-found : goal.returns-then-is_same_name-clause-found
-returns-then-is_same_name-clause-found c =
-    named_here c.args.tables.now c.args.name.now c.loop-table.table-index c.table-item.result c.name.result.now
-    c.is_same_name.result c.loop-table-test.true c.table-item.is c.name.ensures c.is_same_name.ensures c.if-is_same_name.true
+returns-then-is_same_name-clause-found c = (
+  found_here keyed_data (λ (k : KeyedData). IsSameName k.table.name c.args.name.now) c.args.tables.now c.loop-keyed.keyed-index
+      c.keyed-item.result c.loop-keyed-test.true c.keyed-item.is,
+  subst (λ n. IsSameName n c.args.name.now) c.name.ensures (c.is_same_name.ensures.0 c.if-is_same_name.true),
+)
 
-pub loop-table-preserved : goal.loop-table-preserved
-loop-table-preserved c =
-    unnamed_more c.args.tables.now c.args.name.now c.loop-table.table-index c.table-item.result c.name.result.now
-    c.is_same_name.result c.loop-table-test.true c.table-item.is c.name.ensures c.is_same_name.ensures c.if-is_same_name.false
-    c.loop-table.invariant
+pub loop-keyed-preserved : goal.loop-keyed-preserved
+loop-keyed-preserved c =
+    none_more keyed_data (λ (k : KeyedData). IsSameName k.table.name c.args.name.now) c.args.tables.now c.loop-keyed.keyed-index
+    c.keyed-item.result c.loop-keyed-test.true c.keyed-item.is
+    (λ same. let h : c.is_same_name.result ≡ true = c.is_same_name.ensures.1 (let e = c.name.ensures in rw e same) in
+    let none = c.if-is_same_name.false in cc)
+    c.loop-keyed.invariant
 
 pub returns-clause-none : goal.returns-clause-none
-returns-clause-none c = unnamed_at_end c.args.tables.now c.args.name.now c.loop-table.table-index c.loop-table-test.false c.loop-table.invariant
+returns-clause-none c =
+    none_at_end keyed_data (λ (k : KeyedData). IsSameName k.table.name c.args.name.now) c.args.tables.now c.loop-keyed.keyed-index
+    c.loop-keyed-test.false c.loop-keyed.invariant

@@ -1,15 +1,17 @@
-use Rattle.std.proofs.Common.{[], IfNone, IfSome, Option, sym, subst}
+use Rattle.std.proofs.Common.{[], IfNone, IfSome, Option, ap, map, sym, subst, ◌∙◌}
+use Rattle.std.proofs.lemmas.List.{map_push}
 use Rattle.std.proofs.lemmas.Result.{err_from_is_err_and}
-use Rattle.schema.specs.Rows.{SaysTable}
-use Rattle.schema.specs.TableData.{TableData}
+use Rattle.catalog.specs.Keyed.{AreKeyedOf, SaysKeyed}
+use Rattle.catalog.specs.KeyedView.{keyed_data}
 use Rattle.catalog.specs.Picks.{Picks}
-use Rattle.catalog.specs.Says.{AreTablesOf, IsNoTable}
+use Rattle.catalog.specs.Says.{IsNoTable}
+use Rattle.catalog.specs.declared.keyed.KeyedTable.{KeyedTable}
 use Rattle.catalog.proofs.PickLemmas.{other_more, said_more}
 use Rattle.catalog.proofs.whole.tables_of.Goals as goal
 use Rattle.catalog.proofs.whole.tables_of.Goals.{in-Some+in_ok-push, in_default}
 
 pub loop-row-init : goal.loop-row-init
-loop-row-init c = subst (AreTablesOf c.args.pages []) (sym c.in_ok-tables.ensures.items) Picks.end
+loop-row-init c = subst (λ xs. AreKeyedOf c.args.pages [] (map keyed_data xs)) (sym c.in_ok-tables.ensures.items) Picks.end
 
 pub returns-in_err-table-clause-refused : goal.returns-in_err-table-clause-refused
 returns-in_err-table-clause-refused c =
@@ -24,14 +26,15 @@ loop-row-preserved c =
     let row = c.row-item.result in
     elim c.match-branch-3.branch [
       | in-Some+in_ok-push w ↦
-          said_more (SaysTable pages) IsNoTable rows c.loop-row.row-index row c.loop-row-test.true c.row-item.is c.loop-row.tables.items
-          c.match-branch-3.tables.items w.in-Some.table
-          (let pushed = w.in_ok-push.ensures.items in let is = w.tables-is in rw is pushed)
-          (subst (λ (found : Option TableData). IfSome found (SaysTable pages row)) w.in-Some.is c.in_ok-table.ensures.said)
+          said_more (SaysKeyed pages) IsNoTable rows c.loop-row.row-index row c.loop-row-test.true c.row-item.is
+          (map keyed_data c.loop-row.tables.items) (map keyed_data c.match-branch-3.tables.items) (keyed_data w.in-Some.table)
+          (let pushed = w.in_ok-push.ensures.items in let is = w.tables-is in
+          rw is (ap (map keyed_data) pushed ∙ map_push keyed_data c.loop-row.tables.items w.in-Some.table))
+          (subst (λ (found : Option KeyedTable). IfSome found (λ k. SaysKeyed pages row (keyed_data k))) w.in-Some.is c.in_ok-table.ensures.said)
           c.loop-row.invariant
       | in_default w ↦
-          other_more (SaysTable pages) IsNoTable rows c.loop-row.row-index row c.loop-row-test.true c.row-item.is c.loop-row.tables.items
-          c.match-branch-3.tables.items (let is = w.tables-is in cc)
-          (subst (λ (found : Option TableData). IfNone found (IsNoTable row)) w.in_default.is c.in_ok-table.ensures.other)
+          other_more (SaysKeyed pages) IsNoTable rows c.loop-row.row-index row c.loop-row-test.true c.row-item.is
+          (map keyed_data c.loop-row.tables.items) (map keyed_data c.match-branch-3.tables.items) (let is = w.tables-is in cc)
+          (subst (λ (found : Option KeyedTable). IfNone found (IsNoTable row)) w.in_default.is c.in_ok-table.ensures.other)
           c.loop-row.invariant
     ]
