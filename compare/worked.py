@@ -101,6 +101,15 @@ SCHEMA_ROWS: dict[bytes, list[tuple[Value, ...]]] = {
         ("index", "i", "gone", 2, INDEX),
         ("index", "i", "item", 2, "CREATE INDEX i ON gone(qty)"),
         ("index", "Item", "item", 2, "CREATE INDEX item ON item(qty)"),
+        ("index", "sqlite_autoindex_item_1", "item", 2, None),
+        # Tables whose keys want indexes, which have no rows.
+        *(
+            ("table", "t", "t", 2, f"CREATE TABLE t({columns}) STRICT")
+            for columns in (
+                *("a INT UNIQUE", "a TEXT PRIMARY KEY", "a INT PRIMARY KEY", "a INT, PRIMARY KEY(a)", "a INT, UNIQUE(a)"),
+                "a INTEGER, b INT, PRIMARY KEY(a, b)",
+            )
+        ),
     ],
     # Texts that are none of a table, or of an index.
     fault_line(21, "t"): [
@@ -126,6 +135,8 @@ SCHEMA_ROWS: dict[bytes, list[tuple[Value, ...]]] = {
                 *("a REAL", "a ANY", "a", "a INT(10)", "a TEXT COLLATE NOCASE", "a INTEGER PRIMARY KEY DESC"),
                 *("a INTEGER PRIMARY KEY AUTOINCREMENT", "a INT, A TEXT", "a INT, FOREIGN KEY (b) REFERENCES u"),
                 *("a INTEGER PRIMARY KEY, b INTEGER PRIMARY KEY", "a INTEGER PRIMARY KEY, PRIMARY KEY (a)"),
+                *("a INT UNIQUE UNIQUE", "a INT PRIMARY KEY UNIQUE", "a INT, b INT, UNIQUE (a, b), UNIQUE (A, b)"),
+                *("a INT, UNIQUE (a DESC)", "a TEXT, UNIQUE (a COLLATE NOCASE)", "a INT, UNIQUE (a, A)", "a INT, PRIMARY KEY (b)"),
                 ", ".join(f"c{place} INT" for place in range(101)),
             )
         ),
@@ -145,17 +156,10 @@ SCHEMA_ROWS: dict[bytes, list[tuple[Value, ...]]] = {
             )
         ),
     ],
-    # Partial indexes; and tables that want an index of their own, or have no rowids.
+    # Partial indexes, and a table without rowids.
     fault_line(29): [
         ("index", "I", "ITEM", 2, "CREATE UNIQUE INDEX i ON item(qty DESC, name) WHERE qty IS NOT NULL"),
         ("index", "i", "item", 2, "CREATE INDEX i ON item(qty) WHERE item.qty > -1 AND NOT name IN ('a') OR qty BETWEEN 1 AND 2"),
-        *(
-            ("table", "t", "t", 2, f"CREATE TABLE t({columns}) STRICT")
-            for columns in (
-                *("a INT UNIQUE", "a TEXT PRIMARY KEY", "a INT PRIMARY KEY", "a INT, PRIMARY KEY(a)", "a INT, UNIQUE(a)"),
-                "a INTEGER, b INT, PRIMARY KEY(a, b)",
-            )
-        ),
         ("table", "t", "t", 2, "CREATE TABLE t(a INTEGER PRIMARY KEY) STRICT, WITHOUT ROWID"),
     ],
 }

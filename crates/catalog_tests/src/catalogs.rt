@@ -196,10 +196,10 @@ const REFUSED: [(&[Object], u8); 16] = [
     ),
 ];
 
-/// Tables that aren't served, with their names, by the number of their fault.
+/// Tables that aren't served, or whose keys want indexes that have no rows, with their names, by the number of their fault.
 const NO_TABLES: [(&str, &str, u8); 24] = [
-    ("t", "CREATE TABLE t(a INT PRIMARY KEY) STRICT", 29),
-    ("t", "CREATE TABLE t(a TEXT PRIMARY KEY) STRICT", 29),
+    ("t", "CREATE TABLE t(a INT PRIMARY KEY) STRICT", 20),
+    ("t", "CREATE TABLE t(a TEXT PRIMARY KEY) STRICT", 20),
     (
         "t",
         "CREATE TABLE t(a INTEGER PRIMARY KEY, b INTEGER PRIMARY KEY) STRICT",
@@ -213,7 +213,7 @@ const NO_TABLES: [(&str, &str, u8); 24] = [
     ("t", "CREATE TABLE t(a INT, b INT, A TEXT) STRICT", 22),
     ("sqlite_x", "CREATE TABLE sqlite_x(a INT) STRICT", 22),
     ("SQLite_", "CREATE TABLE \"SQLite_\"(a INT) STRICT", 22),
-    ("t", "CREATE TABLE t(a INT UNIQUE) STRICT", 29),
+    ("t", "CREATE TABLE t(a INT UNIQUE) STRICT", 20),
     ("t", "CREATE TABLE t(a INTEGER PRIMARY KEY DESC) STRICT", 22),
     (
         "t",
@@ -228,8 +228,8 @@ const NO_TABLES: [(&str, &str, u8); 24] = [
         "CREATE TABLE t(a INTEGER PRIMARY KEY) STRICT, WITHOUT ROWID",
         29,
     ),
-    ("t", "CREATE TABLE t(a INT, UNIQUE (a)) STRICT", 29),
-    ("t", "CREATE TABLE t(a INT, PRIMARY KEY (a)) STRICT", 29),
+    ("t", "CREATE TABLE t(a INT, UNIQUE (a)) STRICT", 20),
+    ("t", "CREATE TABLE t(a INT, PRIMARY KEY (a)) STRICT", 20),
     (
         "t",
         "CREATE TABLE t(a INTEGER, PRIMARY KEY (a DESC)) STRICT",
@@ -238,7 +238,7 @@ const NO_TABLES: [(&str, &str, u8); 24] = [
     (
         "t",
         "CREATE TABLE t(a INTEGER, b INT, PRIMARY KEY (a, b)) STRICT",
-        29,
+        20,
     ),
     (
         "t",
