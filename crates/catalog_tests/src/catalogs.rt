@@ -119,6 +119,86 @@ const CATALOGS: [(&[Object], &str); 10] = [
     ),
 ];
 
+/// An index that SQLite makes for a key: its name, the name of its table, and its root.
+type KeyObject = (&'static str, &'static str, i64);
+
+const BIN: Object = (
+    "table",
+    "Bin",
+    "Bin",
+    2,
+    "CREATE TABLE Bin(code TEXT PRIMARY KEY, id INTEGER UNIQUE, UNIQUE (id, CODE)) STRICT",
+);
+
+const PART: Object = (
+    "table",
+    "part",
+    "part",
+    2,
+    "CREATE TABLE part(a INT UNIQUE, id INTEGER PRIMARY KEY, UNIQUE (id, a)) STRICT",
+);
+
+/// Tables whose keys want indexes, with these, and the tables and indexes that the rows say.
+const KEYED: [(&[Object], &[KeyObject], &str); 2] = [
+    (
+        &[BIN],
+        &[
+            ("sqlite_autoindex_Bin_1", "Bin", 3),
+            ("SQLITE_autoindex_bin_3", "BIN", 5),
+            ("sqlite_autoindex_Bin_2", "Bin", 4),
+        ],
+        "Bin at 2 | code: text filled | id: int\n\
+         sqlite_autoindex_Bin_1 of Bin at 3, unique: the first up\n\
+         sqlite_autoindex_Bin_3 of Bin at 5, unique: the second up, the first up\n\
+         sqlite_autoindex_Bin_2 of Bin at 4, unique: the second up\n",
+    ),
+    (
+        &[PART],
+        &[
+            ("sqlite_autoindex_part_1", "part", 3),
+            ("sqlite_autoindex_part_2", "part", 4),
+        ],
+        "part at 2 by the second | a: int | id: int\n\
+         sqlite_autoindex_part_1 of part at 3, unique: the first up\n\
+         sqlite_autoindex_part_2 of part at 4, unique: the second up, the first up\n",
+    ),
+];
+
+/// Tables with indexes that no key wants, without one that a key wants, and with one twice or at no page.
+const UNKEPT: [(&[Object], &[KeyObject]); 6] = [
+    (&[ITEM], &[("sqlite_autoindex_item_1", "item", 3)]),
+    (&[PART], &[("sqlite_autoindex_part_1", "part", 3)]),
+    (
+        &[PART],
+        &[
+            ("sqlite_autoindex_part_1", "part", 3),
+            ("sqlite_autoindex_part_3", "part", 4),
+        ],
+    ),
+    (
+        &[PART],
+        &[
+            ("sqlite_autoindex_part_1", "part", 3),
+            ("sqlite_autoindex_part_2", "item", 4),
+        ],
+    ),
+    (
+        &[PART],
+        &[
+            ("sqlite_autoindex_part_1", "part", 3),
+            ("sqlite_autoindex_part_2", "part", 4),
+            ("sqlite_autoindex_PART_2", "part", 5),
+        ],
+    ),
+    (
+        &[PART],
+        &[
+            ("sqlite_autoindex_part_1", "part", 3),
+            ("sqlite_autoindex_part_2", "part", 1),
+        ],
+    ),
+];
+
 /// Rows of the schema that say no catalog, by the number of their fault.
 const REFUSED: [(&[Object], u8); 16] = [
     // Roots that are no pages, of 9; another name of the table or in the row; a name twice.
@@ -289,8 +369,8 @@ fn row(alloc: Global, values: &[ValueRef<'_>]) -> Result<Row, AllocError> {
     Ok(row)
 }
 
-/// The catalog of an image of 9 pages with these rows.
-fn read(alloc: Global, objects: &[Object]) -> Result<Catalog, Fault> {
+/// The rows of these objects.
+fn rows_of(alloc: Global, objects: &[Object]) -> Result<Vec<Row>, AllocError> {
     let mut rows = Vec::new(alloc);
     for (kind, name, owner, root, sql) in objects {
         let values = [
@@ -299,6 +379,27 @@ fn read(alloc: Global, objects: &[Object]) -> Result<Catalog, Fault> {
             ValueRef::Text(owner),
             ValueRef::Int(*root),
             ValueRef::Text(sql),
+        ];
+        rows.push(row(alloc, &values)?)?;
+    }
+    Ok(rows)
+}
+
+/// The catalog of an image of 9 pages with these rows.
+fn read(alloc: Global, objects: &[Object]) -> Result<Catalog, Fault> {
+    Catalog::read(alloc, rows_of(alloc, objects)?.as_slice(), 9)
+}
+
+/// The same with indexes that SQLite makes for keys.
+fn read_keyed(alloc: Global, objects: &[Object], keys: &[KeyObject]) -> Result<Catalog, Fault> {
+    let mut rows = rows_of(alloc, objects)?;
+    for (name, owner, root) in keys {
+        let values = [
+            ValueRef::Text("index"),
+            ValueRef::Text(name),
+            ValueRef::Text(owner),
+            ValueRef::Int(*root),
+            ValueRef::Null,
         ];
         rows.push(row(alloc, &values)?)?;
     }
@@ -407,9 +508,21 @@ fn wrong_catalog(alloc: Global) -> Result<Option<usize>, Fault> {
     Ok(None)
 }
 
+/// The first row of `KEYED` that isn't so.
+fn wrong_keys(alloc: Global) -> Result<Option<usize>, Fault> {
+    for (place, (objects, keys, wanted)) in KEYED.iter().enumerate() {
+        let catalog = read_keyed(alloc, objects, keys)?;
+        if written_catalog(alloc, &catalog)?.as_str() != *wanted {
+            return Ok(Some(place));
+        }
+    }
+    Ok(None)
+}
+
 #[test]
 fn catalogs(rt: HostRuntime) -> Result<(), Fail> {
     assert_eq!(rt; wrong_catalog(rt.alloc())?, None);
+    assert_eq!(rt; wrong_keys(rt.alloc())?, None);
     let schema = [Table::schema(rt.alloc())?];
     assert_eq!(rt;
         written(rt.alloc(), &schema)?.as_str(),
@@ -446,6 +559,13 @@ fn refusals(rt: HostRuntime) -> Result<(), Fail> {
     for (name, sql, number) in NO_TABLES {
         let objects = [("table", name, name, 2, sql)];
         assert_eq!(rt; fault_of(read(rt.alloc(), &objects)), number, "{sql}");
+    }
+    for (objects, keys) in UNKEPT {
+        assert_eq!(rt;
+            fault_of(read_keyed(rt.alloc(), objects, keys)),
+            20,
+            "{keys:?}"
+        );
     }
     assert_eq!(rt; taken_row(rt.alloc())?, None);
     Ok(())
