@@ -33,6 +33,7 @@ TOP = Path(__file__).resolve().parent.parent
 MADE = ("out", ".git", "__pycache__")
 # The programs that are run here and by the scripts of compare/, with the words of a run.
 PROGRAMS = {
+    "catalog_lines": [],
     "further_runs": ["data/rows.db", "data/chains.db"],
     "seleq": ["data/shop.db", "SELECT name FROM item"],
     "table_counts": ["data/shop.db"],
@@ -95,7 +96,7 @@ def scripts(folder: Path, more: dict[str, str], rounds: list[str]) -> list[Part]
     """The comparisons, over programs that are built."""
     more = {**more, "BUILT": "1"}
     shells = [Part(name, ["sh", f"compare/{name}.sh"], folder, more) for name in ("counts", "tables", "answers")]
-    ours = [Part(name, ["python3", f"compare/{name}.py"], folder, more) for name in ("worked", "interrupted")]
+    ours = [Part(name, ["python3", f"compare/{name}.py"], folder, more) for name in ("worked", "interrupted", "catalogs")]
     return [Part("outside", ["python3", "compare/outside.py", "--built", *rounds], folder, more), *ours, *shells]
 
 

@@ -1,0 +1,79 @@
+//! Catalogs as lines.
+use catalog::Catalog;
+use create_trees::KeyOrder;
+use indexes::Index;
+use schema::{Column, Table};
+use std::alloc::{AllocError, Global};
+use values::Ty;
+
+/// The word for a type.
+const fn word_of(ty: Ty) -> &'static str {
+    match ty {
+        Ty::Int => "int",
+        Ty::Text => "text",
+        Ty::Blob => "blob",
+        Ty::Null => "null",
+    }
+}
+
+/// Writes a column's name, its type, and whether none of its values is NULL.
+fn write_column(text: &mut String, column: &Column) -> Result<(), AllocError> {
+    text.push_str("    column ")?;
+    text.push_str(column.name())?;
+    text.push(' ')?;
+    text.push_str(word_of(column.ty()))?;
+    text.push_str(if column.is_not_null() {
+        " not null\n"
+    } else {
+        "\n"
+    })
+}
+
+/// Writes a table's name, its root, the place of the rowid, and its columns.
+fn write_table(alloc: Global, text: &mut String, table: &Table) -> Result<(), AllocError> {
+    text.push_str(format!(in alloc; "table {} {}", table.name(), table.root())?.as_str())?;
+    if let Some(place) = table.rowid() {
+        text.push_str(format!(in alloc; " rowid {place}")?.as_str())?;
+    }
+    text.push('\n')?;
+    for column in table.columns() {
+        write_column(text, column)?;
+    }
+    Ok(())
+}
+
+/// Writes an index's name, its table's, its root, what it is, and the places and orders of its columns.
+fn write_index(alloc: Global, text: &mut String, index: &Index) -> Result<(), AllocError> {
+    text.push_str(format!(in alloc;
+        "index {} {} {}",
+        index.name(),
+        index.table(),
+        index.root()
+    )?.as_str())?;
+    text.push_str(if index.is_unique() { " unique" } else { "" })?;
+    text.push_str(if index.condition().is_some() {
+        " partial"
+    } else {
+        ""
+    })?;
+    for column in index.columns() {
+        text.push_str(format!(in alloc; " {}", column.place())?.as_str())?;
+        text.push_str(match column.order() {
+            KeyOrder::Ascending => "",
+            KeyOrder::Descending => "-",
+        })?;
+    }
+    text.push('\n')
+}
+
+/// The tables of a catalog and then its indexes, each on a line, and the columns of a table behind it.
+pub fn written_catalog(alloc: Global, catalog: &Catalog) -> Result<String, AllocError> {
+    let mut text = String::new(alloc);
+    for table in catalog.tables() {
+        write_table(alloc, &mut text, table)?;
+    }
+    for index in catalog.indexes() {
+        write_index(alloc, &mut text, index)?;
+    }
+    Ok(text)
+}
