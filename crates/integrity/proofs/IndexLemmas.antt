@@ -12,7 +12,7 @@ use Rattle.schema.specs.Names.{IsSameName}
 use Rattle.schema.specs.TableData.{TableData}
 use Rattle.catalog.specs.CatalogData.{CatalogData}
 use Rattle.catalog.specs.Picks.{Picks}
-use Rattle.catalog.specs.Says.{AreIndexesOf, IsCatalog}
+use Rattle.catalog.specs.Says.{IsCatalog, IsNoIndex, SaysAnyIndex}
 use Rattle.tree_walk.specs.declared.counts.TreeCounts.{TreeCounts}
 use Rattle.index_walk.specs.Checked.{IsIndexWalkFault}
 use Rattle.index_walk.proofs.CheckedLemmas.{unbroken_index}
@@ -38,28 +38,35 @@ index_only FloatValue h = tt
 index_only BadText h = tt
 index_only fault h = absurd h
 
+abbrev IsWithin : ℕ → IndexData → Type 0
+IsWithin count index = (2 ≤ index.root) × (index.root ≤ count)
+
+root_within : (count : ℕ) (rows : List Row) (tables : List TableData) (row : Row) (index : IndexData) → SaysAnyIndex count rows tables row index
+    → IsWithin count index
+root_within count rows tables row index (inl says) = (says.least, says.most)
+root_within count rows tables row index (inr says) = (says.least, says.most)
+
 -- the trees of a catalog's indexes begin at pages of the image
-roots_within : (count : ℕ) (tables : List TableData) (rows : List Row) (indexes : List IndexData) → AreIndexesOf count tables rows indexes
-    → All (λ index. (2 ≤ index.root) × (index.root ≤ count)) indexes
-roots_within count tables rows indexes Picks.end = All-nil (λ index. (2 ≤ index.root) × (index.root ≤ count))
-roots_within count tables (row ∷ rows) (index ∷ indexes) (Picks.here says others) =
-    All-cons (λ index. (2 ≤ index.root) × (index.root ≤ count)) index indexes (says.least, says.most)
-    (roots_within count tables rows indexes others)
-roots_within count tables (row ∷ rows) indexes (Picks.other is others) = roots_within count tables rows indexes others
+roots_within : (count : ℕ) (all : List Row) (tables : List TableData) (rows : List Row) (indexes : List IndexData)
+    → Picks (SaysAnyIndex count all tables) IsNoIndex rows indexes → All (IsWithin count) indexes
+roots_within count all tables rows indexes Picks.end = All-nil (IsWithin count)
+roots_within count all tables (row ∷ rows) (index ∷ indexes) (Picks.here says others) =
+    All-cons (IsWithin count) index indexes (root_within count all tables row index says) (roots_within count all tables rows indexes others)
+roots_within count all tables (row ∷ rows) indexes (Picks.other is others) = roots_within count all tables rows indexes others
 
 pub index_roots : (state : PagerState) (count : ℕ) (rows : List Row) (catalog : CatalogData) → count ≡ state.header.pages
     → IsCatalog count rows catalog → All (λ index. IsPageNumber state index.root) catalog.indexes
-index_roots state count rows catalog same says = numbers catalog.indexes (roots_within count catalog.tables rows catalog.indexes says.indexes_are)
+index_roots state count rows catalog same says = numbers catalog.indexes (roots_within count rows catalog.tables rows catalog.indexes says.indexes_are)
   where
-    numbers : (indexes : List IndexData) → All (λ index. (2 ≤ index.root) × (index.root ≤ count)) indexes
+    numbers : (indexes : List IndexData) → All (IsWithin count) indexes
         → All (λ index. IsPageNumber state index.root) indexes
     numbers [] all = All-nil (λ index. IsPageNumber state index.root)
     numbers (index ∷ indexes) all =
-        let here = All-head (λ index. (2 ≤ index.root) × (index.root ≤ count)) index indexes all in
+        let here = All-head (IsWithin count) index indexes all in
         let least = here.0 in
         let most = here.1 in
         All-cons (λ index. IsPageNumber state index.root) index indexes (omega (arith, least), omega (arith, most, same))
-        (numbers indexes (All-tail (λ index. (2 ≤ index.root) × (index.root ≤ count)) index indexes all))
+        (numbers indexes (All-tail (IsWithin count) index indexes all))
 
 module _ (pages : Pages) (rows : List Row) (catalog : CatalogData) (has : HasCatalog pages rows catalog) where
   -- an index's tree has a fault's condition
