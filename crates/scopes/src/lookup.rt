@@ -1,5 +1,5 @@
 //! The column of a name.
-ghost use Rattle.std.specs.Prelude.{◌≡◌, ◌≤◌, [], drop, length, option_map, IfOk, MatchOption, string_bytes};
+ghost use Rattle.std.specs.Prelude.{◌≡◌, ◌≤◌, [], None, drop, length, option_map, IfOk, MatchOption, string_bytes};
 ghost use Rattle.naming.specs.Scope as spec;
 ghost use Rattle.naming.specs.Statement as statement;
 ghost use Rattle.query_trees.specs.Outcome.{Gives};
@@ -42,6 +42,20 @@ pub(crate) fn column(
         return Err(Fault::Ambiguous);
     }
     Ok(scope[at].term(alloc, table, at)?)
+}
+
+/// The places at which the one column of this bare name looks. The fault is `UnknownColumn` where none is called so, `Ambiguous`
+/// where two are, or `NoMemory`.
+pub(crate) fn places(scope: &[Shown], name: &str) -> Result<Vec<usize>, Fault>
+    ensures { Gives (λ v. v.items) result (spec.places_of scope.now None name.now) }
+{
+    let Some(at) = next_called(scope, 0, None, name) else {
+        return Err(Fault::UnknownColumn);
+    };
+    if next_called(scope, at + 1, None, name).is_some() {
+        return Err(Fault::Ambiguous);
+    }
+    Ok(scope[at].places()?)
 }
 
 /// The name of the first column that is called so, as its source declares it; where none is, the name that is written.

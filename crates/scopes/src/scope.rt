@@ -1,13 +1,15 @@
 //! The columns that a FROM shows.
-ghost use Rattle.std.specs.Prelude.{◌≡◌, IfOk, length, map, option_map, string_bytes};
-ghost use Rattle.naming.specs.Scope.{column_of};
+ghost use Rattle.std.specs.Prelude.{◌≡◌, ◌++◌, IfOk, None, OnOk, length, map, option_map, string_bytes};
+ghost use Rattle.naming.specs.Scope.{column_of, places_of};
+ghost use Rattle.naming.specs.Sources as sources;
 ghost use Rattle.naming.specs.Statement as spec;
 ghost use Rattle.query_trees.specs.Outcome.{Gives};
 ghost use Rattle.query_trees.specs.TermView.{term};
 ghost use Rattle.scopes.specs.ResultView.{result_of};
 
-use crate::lookup::{column, declared_name};
+use crate::lookup::{column, declared_name, places};
 use crate::stars::{starred, starred_of};
+use crate::using::{hide, merge};
 use crate::{ResultColumn, Shown};
 use query_trees::Term;
 use std::alloc::{AllocError, Global};
@@ -50,6 +52,37 @@ impl Scope {
         ensures { Gives term result (column_of self.now (option_map (λ t. t.now) table.entry) name.now) }
     {
         column(alloc, self.columns.as_slice(), table, name)
+    }
+
+    /// The places at which the one column of this bare name looks. The fault is `UnknownColumn` where none is called so,
+    /// `Ambiguous` where two are, or `NoMemory`. (SELECT, "Determination of input data")
+    pub fn places(&self, name: &str) -> Result<Vec<usize>, Fault>
+        ensures { Gives (λ v. v.items) result (places_of self.now None name.now) }
+    {
+        places(self.columns.as_slice(), name)
+    }
+
+    /// These columns, and behind them those of a source to the right.
+    pub fn append(&mut self, right: Scope) -> Result<(), AllocError>
+        ensures { OnOk result (self.new ≡ self.old ++ right) }
+    {
+        let Scope { mut columns } = right;
+        self.columns.append(&mut columns)
+    }
+
+    /// The columns of this bare name look at these places too, which are those of the column of a source to the right that USING
+    /// names. (SELECT, "Determination of input data")
+    pub fn merge(&mut self, name: &str, places: &[usize]) -> Result<(), AllocError>
+        ensures { OnOk result (self.new ≡ sources.merged name.now places.now self.old) }
+    {
+        merge(self.columns.as_mut_slice(), name, places)
+    }
+
+    /// This bare name is no longer that of a column, since USING names it. (SELECT, "Determination of input data")
+    pub fn hide(&mut self, name: &str)
+        ensures { self.new ≡ sources.hidden name.now self.old }
+    {
+        hide(self.columns.as_mut_slice(), name);
     }
 
     /// The name of the first column that is called so, as its source declares it; where none is, the name that is written.

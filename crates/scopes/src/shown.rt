@@ -1,8 +1,9 @@
 //! A column that a FROM shows.
-ghost use Rattle.std.specs.Prelude.{◌≡◌, IfOk, map, option_map, string_bytes};
+ghost use Rattle.std.specs.Prelude.{◌≡◌, IfOk, OnOk, map, option_map, string_bytes};
 ghost use Rattle.expr.specs.Term.{column};
 ghost use Rattle.naming.specs.Scope as spec;
 ghost use Rattle.query_trees.specs.TermView.{term};
+ghost use Rattle.scopes.specs.Using.{hidden_column, merged_column};
 
 use query_trees::Term;
 use std::alloc::{AllocError, Global};
@@ -39,8 +40,8 @@ fn columns(alloc: Global, places: &[usize]) -> Result<Vec<Term>, AllocError>
     Ok(items)
 }
 
-/// The value of the first of these places that isn't NULL; mostly the one value.
-fn bare_term(alloc: Global, places: &[usize]) -> Result<Term, AllocError>
+/// The value of the first of these places that isn't NULL; mostly the one value. (SELECT, "Determination of input data")
+pub fn bare_term(alloc: Global, places: &[usize]) -> Result<Term, AllocError>
     ensures { IfOk result (λ e. term e ≡ spec.bare_term places.now) }
 {
     match places {
@@ -115,5 +116,31 @@ impl Shown {
         ensures { IfOk result (λ name. string_bytes name ≡ self.now.name) }
     {
         String::from_str(alloc, self.name.as_str())
+    }
+
+    /// The places at which its bare name looks, in memory of their own.
+    pub(crate) fn places(&self) -> Result<Vec<usize>, AllocError>
+        ensures { IfOk result (λ v. v.items ≡ self.now.places) }
+    {
+        self.places.clone()
+    }
+
+    /// Its bare name, if it is this one, looks at these places too.
+    pub(crate) fn merge(&mut self, name: &str, places: &[usize]) -> Result<(), AllocError>
+        ensures { OnOk result (self.new ≡ merged_column name.now places.now self.old) }
+    {
+        if self.is_called(None, name) {
+            self.places.extend_from_slice(places)?;
+        }
+        Ok(())
+    }
+
+    /// Its bare name, if it is this one, is no longer its own.
+    pub(crate) fn hide(&mut self, name: &str)
+        ensures { self.new ≡ hidden_column name.now self.old }
+    {
+        if self.is_called(None, name) {
+            self.places.clear();
+        }
     }
 }
