@@ -1,0 +1,3 @@
+mod StepLemmas
+mod GroupLemmas
+mod KeyLemmas

@@ -1,0 +1,14 @@
+use Rattle.std.proofs.Common.{map, string_bytes, subst}
+use Rattle.grammar.specs.Reading.{terms_of}
+use Rattle.naming.specs.Statement.{keys_of}
+use Rattle.order_keys.specs.KeyView.{key_of}
+use Rattle.query_trees.specs.Outcome.{Gives}
+use Rattle.statement_trees.specs.TreeView.{term_of}
+use Rattle.select_names.proofs.KeyLemmas.{one_row}
+use Rattle.select_names.proofs.behind.sort_keys.Goals as goal
+
+pub returns : goal.returns
+returns g c =
+    subst (λ row. Gives (λ v. map key_of v.items) c.keys.result (keys_of (map (λ n. string_bytes n) c.args.names.now) row (terms_of (map term_of c.args.order.now))))
+    (one_row (λ row. row.now) g.P.Place.meaning (g.I.InnerQueries.answers c.args.inner.now) c.args.distinct c.args.place.now c.rows.result c.rows.ensures)
+    c.keys.ensures

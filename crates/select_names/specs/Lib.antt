@@ -1,0 +1,3 @@
+pub mod BehindView
+pub mod Groups
+pub mod NamedView
