@@ -1,0 +1,3 @@
+mod KnownLemmas
+mod UsingLemmas
+mod JoinLemmas

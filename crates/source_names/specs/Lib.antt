@@ -1,0 +1,2 @@
+pub mod GivenView
+pub mod Matched
