@@ -166,6 +166,19 @@ def indexes(connection: sqlite3.Connection, rng: Random) -> None:
     connection.execute("CREATE INDEX of_empty ON empty(a)")
 
 
+def keys(connection: sqlite3.Connection, rng: Random) -> None:
+    """Tables with keys, for which SQLite makes indexes: at a column and behind all, of one column and of several, with and
+    without NULLs; some rows were deleted and changed."""
+    connection.execute("CREATE TABLE coded(code TEXT PRIMARY KEY, a INT UNIQUE, b BLOB, UNIQUE (b, a)) STRICT")
+    connection.execute("CREATE TABLE paired(a INT, b INTEGER, c TEXT UNIQUE, PRIMARY KEY (b, a)) STRICT")
+    connection.execute("CREATE TABLE aliased(id INTEGER PRIMARY KEY, a TEXT, CONSTRAINT once UNIQUE (a, id)) STRICT")
+    fill(connection, "coded", ((f"{row} {random_text(rng, 40)}", random_int(rng), rng.randbytes(4)) for row in range(600)))
+    fill(connection, "paired", ((row % 7, row, None if row % 4 else random_text(rng, 600)) for row in range(400)))
+    fill(connection, "aliased", ((random_int(rng), random_text(rng, 5)) for _ in range(300)))
+    connection.execute("DELETE FROM coded WHERE abs(a % 5) = 2")
+    connection.execute("UPDATE paired SET a = a + 100, b = -b WHERE b % 3 = 0")
+
+
 def many_tables(connection: sqlite3.Connection, rng: Random) -> None:
     """A hundred tables, whose schema has many leaves where a page is short."""
     for number in range(100):
@@ -233,6 +246,7 @@ RECIPES = [
     Recipe("altered", altered),
     Recipe("triggered", triggered),
     Recipe("indexes", indexes, (512, 1024, 4096, 65536)),
+    Recipe("keys", keys, (512, 2048)),
     Recipe("no_tables", no_tables, ALL_SIZES),
 ]
 

@@ -22,10 +22,6 @@ SELECT = "SELECT * FROM item"
 UNSERVED = {
     "a table without rowids": ("CREATE TABLE x(a INTEGER PRIMARY KEY) STRICT, WITHOUT ROWID", NOT_YET),
     "a partial index": ("CREATE INDEX x ON item(name) WHERE id > 1", NOT_YET),
-    "a unique column": ("CREATE TABLE x(a INT UNIQUE) STRICT", NOT_YET),
-    "a key that isn't the rowid": ("CREATE TABLE x(a INT PRIMARY KEY) STRICT", NOT_YET),
-    "a key of a text": ("CREATE TABLE x(a TEXT PRIMARY KEY) STRICT", NOT_YET),
-    "a key behind the columns": ("CREATE TABLE x(a INT, PRIMARY KEY(a)) STRICT", NOT_YET),
     "a view": ("CREATE VIEW x AS SELECT 1", LEFT_OUT),
     "AUTOINCREMENT": ("CREATE TABLE x(a INTEGER PRIMARY KEY AUTOINCREMENT) STRICT", LEFT_OUT),
     "a table that isn't STRICT": ("CREATE TABLE x(a INT)", LEFT_OUT),
