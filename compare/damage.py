@@ -161,7 +161,7 @@ def respell(image: bytearray, rng: Random) -> str:
     places = [place for place in range(size_of_page(image)) if image.startswith(b"CREATE", place)]
     if not places:
         return "no text to respell"
-    place = rng.choice(places) + rng.randrange(80)
+    place = min(rng.choice(places) + rng.randrange(80), len(image) - 1)
     image[place] = rng.choice(b" ,()'\"[]`/*-;xTNI0_\n\xc3\0")
     return f"byte {place} of the schema is {bytes(image[place : place + 1])!r}"
 
