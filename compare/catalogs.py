@@ -31,6 +31,13 @@ COLUMNS = [
     "a INT /* no */ UNIQUE, b INT",
 ]
 
+# Tables without rowids, by what stands in the parentheses of `CREATE TABLE t(..) STRICT, WITHOUT ROWID`.
+ROWLESS = [
+    *("a INT PRIMARY KEY", "a INTEGER PRIMARY KEY", "a TEXT NOT NULL PRIMARY KEY, b INT", "a INT, b TEXT, PRIMARY KEY (b)"),
+    *("a INT, b TEXT, c BLOB, PRIMARY KEY (a, b)", "a INT, b TEXT, c BLOB, PRIMARY KEY (c, a)", "a INT, b INT, PRIMARY KEY (B, A)"),
+    *("a INTEGER, PRIMARY KEY (a)", "a INT, b INTEGER NOT NULL, c INT DEFAULT 7, d INT, PRIMARY KEY (d, b, a)"),
+]
+
 # Tables by their whole texts, and tables with indexes of their own.
 TEXTS = [
     ['CREATE TABLE "Two words"(a INT UNIQUE) STRICT'],
@@ -42,6 +49,14 @@ TEXTS = [
     ["CREATE TABLE t(a INT UNIQUE, b INT) STRICT", "ALTER TABLE t RENAME TO other"],
     ["CREATE TABLE t(a INT UNIQUE, b INT) STRICT", "ALTER TABLE t RENAME COLUMN a TO z"],
     ["CREATE TABLE t(a INT UNIQUE) STRICT", "ALTER TABLE t ADD COLUMN b TEXT DEFAULT 'x'"],
+    ["create table t(a int primary key) without rowid, strict", "CREATE INDEX i ON t(a)", "CREATE INDEX j ON t(a DESC)"],
+    [
+        "CREATE TABLE tag(item INT, label TEXT, w INT, PRIMARY KEY (label, item)) STRICT, WITHOUT ROWID",
+        *("CREATE INDEX tag_w ON tag(w DESC)", "CREATE INDEX tag_item ON tag(item)", "CREATE UNIQUE INDEX tag_key ON tag(item, label)"),
+        *("CREATE INDEX tag_label ON tag(w, LABEL) WHERE w > 5", "CREATE TABLE other(a INT UNIQUE, b INT) STRICT"),
+        "CREATE INDEX other_b ON other(b, a)",
+    ],
+    ["CREATE TABLE t(a INTEGER PRIMARY KEY, b INT) STRICT, WITHOUT ROWID", "ALTER TABLE t ADD COLUMN c INT", "CREATE INDEX i ON t(c)"],
 ]
 
 # Texts that sqlite3 takes and the catalog leaves out, by the fault's line.
@@ -53,8 +68,12 @@ LEFT_OUT = {
             "a TEXT COLLATE NOCASE UNIQUE",
         )),
         "CREATE TABLE t(a INT UNIQUE)",
+        *(f"CREATE TABLE t({columns}) STRICT, WITHOUT ROWID" for columns in (
+            *("a INT PRIMARY KEY, b INT UNIQUE", "a INT, b INT, PRIMARY KEY (a, b), UNIQUE (b, a)", "a INT PRIMARY KEY DESC"),
+            "a INT, b INT, PRIMARY KEY (a, b, a)",
+        )),
+        "CREATE TABLE t(a INT PRIMARY KEY) WITHOUT ROWID",
     ],
-    fault_line(29): ["CREATE TABLE t(a INT PRIMARY KEY) STRICT, WITHOUT ROWID"],
 }
 
 
@@ -65,20 +84,25 @@ def quoted(name: str) -> str:
 def table_lines(database: sqlite3.Connection, name: str, root: int) -> str:
     """A table with its columns, as the pragmas tell them."""
     columns = database.execute(f"PRAGMA table_xinfo({quoted(name)})").fetchall()
-    keys = [place for place, column in enumerate(columns) if column[5]]
-    alias = ""
-    if len(keys) == 1 and columns[keys[0]][2].upper() == "INTEGER":
-        alias = f" rowid {keys[0]}"
+    keys = sorted((column[5], place) for place, column in enumerate(columns) if column[5])
+    key = ""
+    if database.execute(f"PRAGMA table_list({quoted(name)})").fetchone()[4]:
+        key = " key" + "".join(f" {place}" for _, place in keys)
+    elif len(keys) == 1 and columns[keys[0][1]][2].upper() == "INTEGER":
+        key = f" rowid {keys[0][1]}"
     lines = [f"    column {column[1]} {CLASSES[column[2].upper()]}{' not null' if column[3] else ''}\n" for column in columns]
-    return f"table {name} {root}{alias}\n" + "".join(lines)
+    return f"table {name} {root}{key}\n" + "".join(lines)
 
 
 def index_line(database: sqlite3.Connection, name: str, table: str, root: int) -> str:
     """An index with its columns, as the pragmas tell them."""
     listed = {row[1]: row for row in database.execute(f"PRAGMA index_list({quoted(table)})")}
     kind = listed[name]
-    columns = [row for row in database.execute(f"PRAGMA index_xinfo({quoted(name)})") if row[5]]
-    places = "".join(f" {row[1]}{'-' if row[3] else ''}" for row in columns)
+    columns = database.execute(f"PRAGMA index_xinfo({quoted(name)})").fetchall()
+    places = "".join(f" {row[1]}{'-' if row[3] else ''}" for row in columns if row[5])
+    others = "".join(f" {row[1]}" for row in columns if not row[5] and row[1] >= 0)
+    if others:
+        places += " with" + others
     return f"index {name} {table} {root}{' unique' if kind[2] else ''}{' partial' if kind[4] else ''}{places}\n"
 
 
@@ -115,7 +139,9 @@ def answers(schemas: list[str]) -> list[str]:
 def main() -> int:
     """Compares each of the catalogs."""
     wanted = []
-    for texts in [*([f"CREATE TABLE t({columns}) STRICT"] for columns in COLUMNS), *TEXTS]:
+    served = [f"CREATE TABLE t({columns}) STRICT" for columns in COLUMNS]
+    served.extend(f"CREATE TABLE t({columns}) STRICT, WITHOUT ROWID" for columns in ROWLESS)
+    for texts in [*([text] for text in served), *TEXTS]:
         rows, catalog = read(texts)
         wanted.append((texts, rows, catalog))
     for line, left_out in LEFT_OUT.items():

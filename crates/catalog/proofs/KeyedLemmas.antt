@@ -9,6 +9,7 @@ use Rattle.values.specs.Datum.{int, text}
 use Rattle.create_reader.proofs.CreateTexts.{one_create}
 use Rattle.create_reader.specs.CreateGrammar.{SpellsCreate}
 use Rattle.create_trees.specs.CreateTrees.{ColumnTree, TableTree}
+use Rattle.create_trees.specs.declared.create.TableOption.{TableOption}
 use Rattle.declared_keys.specs.Keys.{KeyData, keys_of}
 use Rattle.indexes.specs.KeyIndexes.{HasColumn, IsKeyIndex, KeyIndexData, automatic_name}
 use Rattle.indexes.specs.KeyIndexView.{key_index_data}
@@ -46,14 +47,14 @@ want_all tree P number _ _ (WantIndexes.integer {keys = keys} {indexes = indexes
     want_all tree P number keys indexes rest (λ k d within. all (suc k) d (omega (arith, within)))
 
 -- a column that is named is one of the table's
-has_column : (keys : List KeyData) (trees : List ColumnTree) (columns : List ColumnData) (name : Name)
-    → AllZip (IsColumn keys) trees columns → IsNamedIn trees name → HasColumn columns name
-has_column keys [] columns name all (k, c, within, is, same) = absurd (omega (arith, within))
-has_column keys (t ∷ trees) [] name all named = absurd all
-has_column keys (t ∷ trees) (c ∷ columns) name all (zero, x, within, is, same) =
+has_column : (options : List TableOption) (keys : List KeyData) (trees : List ColumnTree) (columns : List ColumnData) (name : Name)
+    → AllZip (IsColumn options keys) trees columns → IsNamedIn trees name → HasColumn columns name
+has_column options keys [] columns name all (k, c, within, is, same) = absurd (omega (arith, within))
+has_column options keys (t ∷ trees) [] name all named = absurd all
+has_column options keys (t ∷ trees) (c ∷ columns) name all (zero, x, within, is, same) =
     (0, c, omega arith, refl, ap (map to_ascii_lowercase) (all.0.name_is ∙ ap (λ (t : ColumnTree). t.name) is) ∙ same)
-has_column keys (t ∷ trees) (c ∷ columns) name all (suc k, x, within, is, same) =
-    let rest = has_column keys trees columns name all.1 (k, x, omega (arith, within), is, same) in
+has_column options keys (t ∷ trees) (c ∷ columns) name all (suc k, x, within, is, same) =
+    let rest = has_column options keys trees columns name all.1 (k, x, omega (arith, within), is, same) in
     (suc rest.0, rest.1, omega (arith, rest.2), rest.3, rest.4)
 
 pub have_columns : (tree : TableTree) (table : TableData) (automatic : List AutomaticData) → IsTable tree table
@@ -61,7 +62,7 @@ pub have_columns : (tree : TableTree) (table : TableData) (automatic : List Auto
 have_columns tree table automatic is want =
     want_all tree (λ names. All (HasColumn table.columns) names) 1 (keys_of tree) automatic want
     (λ k d within i n inside.
-    has_column (keys_of tree) tree.columns table.columns _ is.columns_are ((is.keys_are.columns_are k d within).named i n inside))
+    has_column tree.options (keys_of tree) tree.columns table.columns _ is.columns_are ((is.keys_are.columns_are k d within).named i n inside))
 
 -- ---- Lists side by side
 

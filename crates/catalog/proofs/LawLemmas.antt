@@ -1,7 +1,7 @@
 -- Rows say one catalog at most, and such rows are refused for no reason.
-use Rattle.std.proofs.Common.{◌≡◌, ℕ, zero, suc, pos, ◌<◌, ◌≤◌, ◌⊎◌, inl, inr, Contains, List, [], ◌∷◌, map, None, Some, string_bytes, refl, sym, ap, ◌∙◌, subst, arith}
+use Rattle.std.proofs.Common.{◌≡◌, ℕ, pos, ◌<◌, ◌≤◌, ◌⊎◌, inl, inr, Contains, List, [], ◌∷◌, map, None, Some, string_bytes, refl, sym, ap, ◌∙◌, subst, arith}
 use Rattle.std.specs.Char.{to_ascii_lowercase}
-use Rattle.std.specs.List.{AllZip, Any}
+use Rattle.std.specs.List.{AllZip}
 use Rattle.values.specs.Row.{Row}
 use Rattle.values.specs.declared.fault.Fault.{Fault}
 use Rattle.values.specs.declared.fault.Fault.TheVariants as f
@@ -12,7 +12,6 @@ use Rattle.create_reader.specs.IndexTexts.{IsTooMuch as IsIndexTooMuch, SpellsIn
 use Rattle.phrases.specs.Texts.{IsWithin, max_columns}
 use Rattle.create_trees.specs.CreateTrees.{ColumnTree, IndexTree, TableTree, columns_of_index, columns_of_table}
 use Rattle.create_trees.specs.declared.create.TableOption.{TableOption}
-use Rattle.create_trees.specs.declared.create.TableOption.TheVariants.{Strict, WithoutRowid}
 use Rattle.declared_keys.specs.Keys.{KeyData, keys_of}
 use Rattle.indexes.proofs.IndexLemmas.{one_index}
 use Rattle.indexes.proofs.KeyIndexLemmas.{one_key_index}
@@ -27,10 +26,9 @@ use Rattle.schema.specs.TableData.{ColumnData, TableData}
 use Rattle.syntax.specs.Tree.{Name}
 use Rattle.table_keys.specs.Automatic.{AutomaticData}
 use Rattle.catalog.specs.CatalogData.{CatalogData}
-use Rattle.catalog.specs.Later.{IsLater}
 use Rattle.catalog.specs.Objects.{ObjectData, object_row}
 use Rattle.catalog.specs.Picks.{Picks}
-use Rattle.catalog.specs.Refused.{HasLaterTable, HasObject, HasText, IsBadObject, IsBadSchema, IsBrokenSchema, IsLeftOut, IsTooMuch, IsUnread}
+use Rattle.catalog.specs.Refused.{HasObject, HasText, IsBadObject, IsBadSchema, IsBrokenSchema, IsLeftOut, IsTooMuch, IsUnread}
 use Rattle.catalog.specs.Says.{AreTablesOf, Doubled, HasTree, IsCatalog, IsNoIndex, IsNoTable, SaysAnyIndex, SaysIndex, SaysKeyIndex}
 use Rattle.catalog.specs.Wanted.{IsKeyRow, Wants}
 use Rattle.catalog.specs.declared.objects.Kind.{Kind}
@@ -61,14 +59,6 @@ table_within sql tree spelt within (inr (other, there, wide)) =
     let same = one_create sql other tree there spelt in
     let w = subst (λ t. max_columns < columns_of_table t) same wide in omega (arith, few, w)
 
--- a table that a text makes is served
-is_served : (tree : TableTree) (t : TableData) → IsTable tree t → ¬ IsLater tree
-is_served tree t is later = go (subst (λ (os : List TableOption). Any (λ o. o ≡ WithoutRowid) os) is.options_are later)
-  where
-    go : ¬ Any (λ o. o ≡ WithoutRowid) (Strict ∷ [])
-    go (zero, o, within, e, f) = let same : Strict ≡ WithoutRowid = e ∙ f in cc
-    go (suc k, o, within, e, f) = absurd (omega (arith, within))
-
 -- ---- Rows say one list of things at most
 
 module _ {X : Type 0} (Says : Row → X → Type 0) (IsOther : Row → Type 0)
@@ -83,18 +73,18 @@ module _ {X : Type 0} (Says : Row → X → Type 0) (IsOther : Row → Type 0)
 
 -- ---- Columns and indexes
 
-names_of : (keys : List KeyData) (trees : List ColumnTree) (columns : List ColumnData) → AllZip (IsColumn keys) trees columns
-    → map (λ c. c.name) trees ≡ map (λ (c : ColumnData). c.name) columns
-names_of keys [] [] are = refl
-names_of keys [] (c ∷ columns) are = absurd are
-names_of keys (t ∷ trees) [] are = absurd are
-names_of keys (t ∷ trees) (c ∷ columns) are =
+names_of : (options : List TableOption) (keys : List KeyData) (trees : List ColumnTree) (columns : List ColumnData)
+    → AllZip (IsColumn options keys) trees columns → map (λ c. c.name) trees ≡ map (λ (c : ColumnData). c.name) columns
+names_of options keys [] [] are = refl
+names_of options keys [] (c ∷ columns) are = absurd are
+names_of options keys (t ∷ trees) [] are = absurd are
+names_of options keys (t ∷ trees) (c ∷ columns) are =
     ap (λ n. n ∷ map (λ t. t.name) trees) (sym are.0.name_is)
-    ∙ ap (λ ns. c.name ∷ ns) (names_of keys trees columns are.1)
+    ∙ ap (λ ns. c.name ∷ ns) (names_of options keys trees columns are.1)
 
 distinct_columns : {pages : ℕ} {row : Row} (t : TableData) → SaysTable pages row t → AreDistinct (map (λ c. c.name) t.columns)
 distinct_columns t says =
-    subst AreDistinct (names_of (keys_of says.tree) says.tree.columns t.columns says.created.columns_are) says.created.distinct
+    subst AreDistinct (names_of says.tree.options (keys_of says.tree) says.tree.columns t.columns says.created.columns_are) says.created.distinct
 
 module _ (pages : ℕ) (rows : List Row) (apart : ¬ Doubled rows) where
   -- a row says one index for a key
@@ -406,7 +396,7 @@ module _ (pages : ℕ) (rows : List Row) (catalog : CatalogData) (is : IsCatalog
       let one : found.2.sql ≡ sql = cc in
       index_within sql found.2.tree (subst (λ s. SpellsIndex s found.2.tree) one found.2.spelt)
       (subst (λ s. IsWithin columns_of_index s found.2.tree) one found.2.within) much
-  no_left_out o has (IsLeftOut.table sql tree t spelt now none) =
+  no_left_out o has (IsLeftOut.table sql tree t spelt none) =
       let found = table_at o has t.kind_is in
       let same = tree_of o found.0 found.2 sql tree t.sql_is spelt in
       none found.0 (subst (λ t. IsTable t found.0) (sym same) found.2.created)
@@ -429,14 +419,6 @@ module _ (pages : ℕ) (rows : List Row) (catalog : CatalogData) (is : IsCatalog
   no_broken_schema (f.SchemaText name) unread = no_unread_object (string_bytes name) unread
   no_broken_schema (f.UnsupportedObject name) out = no_left_out_object (string_bytes name) out
   no_broken_schema fault none = none
-
-  -- NotYet
-
-  pub no_later_table : ¬ HasLaterTable rows
-  no_later_table (object, has, later) =
-      let found = table_at object has later.text.kind_is in
-      let same = tree_of object found.0 found.2 later.sql later.tree later.text.sql_is later.spelt in
-      is_served later.tree found.0 (subst (λ t. IsTable t found.0) (sym same) found.2.created) later.later
 
   -- what one of the rows says is one of the tables
   pub said_of_them : (row : Row) → Contains rows row → (t : TableData) → SaysTable pages row t → Contains catalog.tables t

@@ -21,7 +21,6 @@ use Rattle.schema.specs.Rows.{SaysTable}
 use Rattle.schema.specs.TableData.{TableData}
 use Rattle.table_keys.specs.Automatic.{AutomaticData}
 use Rattle.catalog.specs.Keyed.{AreKeyedOf, IsMade, IsNotWanted, IsRootedAs, KeyedData, SaysKeyed, tables_in}
-use Rattle.catalog.specs.Later.{IsLater}
 use Rattle.catalog.specs.Objects.{ObjectData, object_row}
 use Rattle.catalog.specs.Refused.{HasText, IsBadObject, IsBadSchema, IsLeftOut, IsRefused, IsTooMuch, IsUnread, SpellsNoTable}
 use Rattle.catalog.specs.Says.{AreTablesOf, Doubled, HasTree, IsNoTable, IsOfKind, SaysIndex, SaysKeyIndex}
@@ -87,14 +86,11 @@ module _ (pages : ℕ) (o : ObjectData) where
         pub table_names : ¬ (IsSameName o.name tree.name × IsSameName o.owner tree.name) → IsBadSchema pages rows
         table_names other = IsBadSchema.object o has (IsBadObject.table_names sql tree text spelt other)
 
-        pub table_later : IsLater tree → IsRefused pages rows f.NotYet
-        table_later later = (o, has, record { sql = sql; tree = tree; text = text; spelt = spelt; later = later })
-
-        pub table_unmade : ¬ IsLater tree → (fault : Fault) → IsUnmade (IsTable tree) o.name fault → IsRefused pages rows fault
-        table_unmade now f.NoMemory h = tt
-        table_unmade now (f.UnsupportedObject told) h =
-            record { object = o; stands = has; name_is = h.0; is = IsLeftOut.table sql tree text spelt now h.1 }
-        table_unmade now _ h = absurd h
+        pub table_unmade : (fault : Fault) → IsUnmade (IsTable tree) o.name fault → IsRefused pages rows fault
+        table_unmade f.NoMemory h = tt
+        table_unmade (f.UnsupportedObject told) h =
+            record { object = o; stands = has; name_is = h.0; is = IsLeftOut.table sql tree text spelt h.1 }
+        table_unmade _ h = absurd h
 
     module _ (sql : List ℕ) (text : HasText k.Index sql o) where
       pub index_text : (fault : Fault) → IsTextRefused (SpellsNoIndex sql) (index_texts.IsTooMuch sql) o.name fault → IsRefused pages rows fault

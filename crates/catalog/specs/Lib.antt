@@ -1,6 +1,5 @@
 pub mod Objects
 pub mod ObjectView
-pub mod Later
 pub mod CatalogData
 pub mod CatalogView
 pub mod Picks

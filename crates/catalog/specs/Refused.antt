@@ -18,7 +18,6 @@ use Rattle.schema.specs.TableData.{TableData}
 use Rattle.syntax.specs.Tree.{Name}
 use Rattle.table_keys.specs.Automatic.{AutomaticData}
 use Rattle.catalog.specs.Wanted.{HasKeyRow, IsKeyRow, Wants}
-use Rattle.catalog.specs.Later.{IsLater}
 use Rattle.catalog.specs.Objects.{ObjectData, object_row}
 use Rattle.catalog.specs.Says.{AreTablesOf, Doubled, HasTree}
 use Rattle.catalog.specs.declared.objects.Kind.{Kind}
@@ -62,19 +61,11 @@ pub data IsLeftOut (pages : ℕ) (rows : List Row) (object : ObjectData) : Type 
       → IsLeftOut pages rows object
   index_limit : (sql : List ℕ) → HasText k.Index sql object → index_texts.IsTooMuch sql
       → IsLeftOut pages rows object
-  table : (sql : List ℕ) (tree : TableTree) → HasText k.Table sql object → SpellsCreate sql tree → ¬ IsLater tree
+  table : (sql : List ℕ) (tree : TableTree) → HasText k.Table sql object → SpellsCreate sql tree
       → ((table : TableData) → ¬ IsTable tree table) → IsLeftOut pages rows object
   index : (sql : List ℕ) (tree : IndexTree) (row : Row) (table : TableData) → HasText k.Index sql object → SpellsIndex sql tree
       → Contains rows row → SaysTable pages row table → IsSameName tree.table table.name
       → ((index : IndexData) → ¬ IsIndex tree table index) → IsLeftOut pages rows object
-
--- a table that isn't served yet
-pub record IsLaterTable (object : ObjectData) : Type 0 where
-  pub sql : List ℕ
-  pub tree : TableTree
-  pub text : HasText k.Table sql object
-  pub spelt : SpellsCreate sql tree
-  pub later : IsLater tree
 
 -- SchemaRow: one of the rows isn't as SQLite writes it
 pub data IsBadSchema (pages : ℕ) (rows : List Row) : Type 0 where
@@ -108,12 +99,7 @@ IsBrokenSchema pages rows (f.SchemaText name) = HasObject IsUnread rows (string_
 IsBrokenSchema pages rows (f.UnsupportedObject name) = HasObject (IsLeftOut pages rows) rows (string_bytes name)
 IsBrokenSchema pages rows _ = ⊥
 
--- one of the rows is that of a table that isn't served yet
-abbrev pub HasLaterTable : List Row → Type 0
-HasLaterTable rows = (object : ObjectData) × Contains rows (object_row object) × IsLaterTable object
-
 -- why the rows of the schema were refused
 abbrev pub IsRefused : ℕ → List Row → Fault → Type 0
 IsRefused pages rows f.NoMemory = Unit {0}
-IsRefused pages rows f.NotYet = HasLaterTable rows
 IsRefused pages rows fault = IsBrokenSchema pages rows fault

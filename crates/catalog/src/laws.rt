@@ -2,7 +2,7 @@
 ghost use Rattle.std.specs.Prelude.{◌≡◌, Contains, List, [], ℕ};
 ghost use Rattle.values.specs.Row.{Row};
 ghost use Rattle.catalog.specs.CatalogData.{CatalogData};
-ghost use Rattle.catalog.specs.Refused.{HasLaterTable, HasObject, IsBadSchema, IsLeftOut, IsUnread};
+ghost use Rattle.catalog.specs.Refused.{HasObject, IsBadSchema, IsLeftOut, IsUnread};
 ghost use Rattle.catalog.specs.Says.{IsCatalog};
 ghost use Rattle.catalog.specs.Wanted.{Wants};
 ghost use Rattle.schema.specs.Rows.{AreTables};
@@ -16,8 +16,8 @@ pub fn one_catalog()
         → IsCatalog pages rows second → first ≡ second }
 {}
 
-/// Where rows say a catalog, each of them is as SQLite writes it, each text of a table or an index is read, nothing that is
-/// left out stands there, and each table is served.
+/// Where rows say a catalog, each of them is as SQLite writes it, each text of a table or an index is read, and nothing that is
+/// left out stands there.
 pub fn catalog_is_sound()
     ensures row { (pages : ℕ) (rows : List Row) (catalog : CatalogData) → IsCatalog pages rows catalog
         → ¬ IsBadSchema pages rows }
@@ -25,8 +25,6 @@ pub fn catalog_is_sound()
         → ¬ HasObject IsUnread rows name }
     ensures object { (pages : ℕ) (rows : List Row) (catalog : CatalogData) (name : Name) → IsCatalog pages rows catalog
         → ¬ HasObject (IsLeftOut pages rows) rows name }
-    ensures later { (pages : ℕ) (rows : List Row) (catalog : CatalogData) → IsCatalog pages rows catalog
-        → ¬ HasLaterTable rows }
 {}
 
 /// Where each row is that of a table, no two have one name, and no key wants an index, the rows say these tables and no index.

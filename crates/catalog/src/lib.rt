@@ -1,9 +1,8 @@
 //! The catalog of an image: the tables and indexes that the rows of its schema say. It promises that a catalog has exactly
 //! those, and that, want of memory aside, a schema is refused only for a reason: `SchemaRow` where a row isn't as SQLite
 //! writes it, an index that SQLite makes for a key of a table has no row, or an index without a text is none of these;
-//! `SchemaText` where a table's or an index's text can't be read, `UnsupportedObject` where such a text says what is left
-//! out, or a row is a view's, and `NotYet` where a table isn't served yet. Triggers are ignored.
-//! Today a table isn't served that has no rowids.
+//! `SchemaText` where a table's or an index's text can't be read, and `UnsupportedObject` where such a text says what is left
+//! out, or a row is a view's. Triggers are ignored.
 //!
 //! The modules, in the order in which data passes them: `objects` (what a row has of an object), `keyed` (tables with the
 //! indexes that their keys want), `table_said` (the table that a row says), `index_said` (the index that one says),

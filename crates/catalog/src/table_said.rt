@@ -22,7 +22,7 @@ use create_trees::CreateTable;
 use declared_keys::keys_of;
 use schema::{is_same_name, table_from};
 use std::alloc::Global;
-use table_keys::{automatic_indexes, is_rowless};
+use table_keys::automatic_indexes;
 use values::{Fault, Row};
 
 /// The CREATE TABLE that the text of an object of this name spells. The fault is `SchemaText` where it spells none, and
@@ -60,9 +60,9 @@ fn made_by(alloc: Global, name: &str, created: CreateTable, root: u32) -> Result
     }
 }
 
-/// The table of an object that is one, with the indexes that its keys want. The fault is `SchemaRow` where its root or its names aren't as they have to be, or
-/// its text is NULL; `SchemaText` and `UnsupportedObject`, with its name, where the text makes no table; `NotYet` where it
-/// makes one that isn't served yet; or `NoMemory`.
+/// The table of an object that is one, with the indexes that its keys want. The fault is `SchemaRow` where its root or its names
+/// aren't as they have to be, or its text is NULL; `SchemaText` and `UnsupportedObject`, with its name, where the text makes no
+/// table; or `NoMemory`.
 fn table_by(alloc: Global, object: &Object<'_>, pages: u32) -> Result<KeyedTable, Fault>
     requires { object.now.kind ≡ Kind.Table }
     ensures said { IfOk result (λ keyed. SaysKeyed pages (object_row (object_data object.now)) (keyed_data keyed)) }
@@ -79,9 +79,6 @@ fn table_by(alloc: Global, object: &Object<'_>, pages: u32) -> Result<KeyedTable
     let name = created.name.as_str();
     if !is_same_name(object.name, name) || !is_same_name(object.owner, name) {
         return Err(Fault::SchemaRow);
-    }
-    if is_rowless(&created) {
-        return Err(Fault::NotYet);
     }
     made_by(alloc, object.name, created, root)
 }

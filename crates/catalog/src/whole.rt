@@ -65,7 +65,7 @@ impl Catalog {
     ///
     /// `SchemaRow` where a row isn't as SQLite writes it, or one that an index for a key wants is lacking; `SchemaText` with
     /// the name of a table or an index whose text can't be read; `UnsupportedObject` with the name of a view, or of a table or
-    /// an index that can be read and has what is left out; `NotYet` where a table isn't served yet; `NoMemory`.
+    /// an index that can be read and has what is left out; `NoMemory`.
     pub fn read(alloc: Global, rows: &[Row], pages: u32) -> Result<Catalog, Fault>
         ensures said { IfOk result (λ catalog. IsCatalog pages rows.now (catalog_data catalog)) }
         ensures roots { IfOk result (λ catalog. All (λ t. (2 ≤ t.root) × (t.root ≤ pages)) (catalog_data catalog).tables) }

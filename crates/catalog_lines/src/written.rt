@@ -2,7 +2,7 @@
 use catalog::Catalog;
 use create_trees::KeyOrder;
 use indexes::Index;
-use schema::{Column, Table};
+use schema::{Column, RowKey, Table};
 use std::alloc::{AllocError, Global};
 use values::Ty;
 
@@ -29,12 +29,30 @@ fn write_column(text: &mut String, column: &Column) -> Result<(), AllocError> {
     })
 }
 
-/// Writes a table's name, its root, the place of the rowid, and its columns.
+/// Writes places of columns.
+fn write_places(alloc: Global, text: &mut String, places: &[usize]) -> Result<(), AllocError> {
+    for place in places {
+        text.push_str(format!(in alloc; " {place}")?.as_str())?;
+    }
+    Ok(())
+}
+
+/// Writes the place of the column that is the rowid, or the places of those by which rows are found.
+fn write_key(alloc: Global, text: &mut String, key: &RowKey) -> Result<(), AllocError> {
+    match key {
+        RowKey::Rowid(None) => Ok(()),
+        RowKey::Rowid(Some(place)) => text.push_str(format!(in alloc; " rowid {place}")?.as_str()),
+        RowKey::Primary(places) => {
+            text.push_str(" key")?;
+            write_places(alloc, text, places.as_slice())
+        }
+    }
+}
+
+/// Writes a table's name, its root, how its rows are found, and its columns.
 fn write_table(alloc: Global, text: &mut String, table: &Table) -> Result<(), AllocError> {
     text.push_str(format!(in alloc; "table {} {}", table.name(), table.root())?.as_str())?;
-    if let Some(place) = table.rowid() {
-        text.push_str(format!(in alloc; " rowid {place}")?.as_str())?;
-    }
+    write_key(alloc, text, table.key())?;
     text.push('\n')?;
     for column in table.columns() {
         write_column(text, column)?;
@@ -42,7 +60,8 @@ fn write_table(alloc: Global, text: &mut String, table: &Table) -> Result<(), Al
     Ok(())
 }
 
-/// Writes an index's name, its table's, its root, what it is, and the places and orders of its columns.
+/// Writes an index's name, its table's, its root, what it is, the places and orders of its columns, and the places of those that
+/// its entries have behind them.
 fn write_index(alloc: Global, text: &mut String, index: &Index) -> Result<(), AllocError> {
     text.push_str(format!(in alloc;
         "index {} {} {}",
@@ -63,6 +82,12 @@ fn write_index(alloc: Global, text: &mut String, index: &Index) -> Result<(), Al
             KeyOrder::Descending => "-",
         })?;
     }
+    text.push_str(if index.others().is_empty() {
+        ""
+    } else {
+        " with"
+    })?;
+    write_places(alloc, text, index.others())?;
     text.push('\n')
 }
 

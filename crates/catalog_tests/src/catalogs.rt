@@ -277,7 +277,7 @@ const REFUSED: [(&[Object], u8); 16] = [
 ];
 
 /// Tables that aren't served, or whose keys want indexes that have no rows, with their names, by the number of their fault.
-const NO_TABLES: [(&str, &str, u8); 24] = [
+const NO_TABLES: [(&str, &str, u8); 26] = [
     ("t", "CREATE TABLE t(a INT PRIMARY KEY) STRICT", 20),
     ("t", "CREATE TABLE t(a TEXT PRIMARY KEY) STRICT", 20),
     (
@@ -303,10 +303,12 @@ const NO_TABLES: [(&str, &str, u8); 24] = [
     ("t", "CREATE TABLE t(a TEXT COLLATE NOCASE) STRICT", 22),
     ("t", "CREATE TABLE t(a INT)", 22),
     ("t", "CREATE TABLE t(a INT) STRICT, STRICT", 22),
+    ("t", "CREATE TABLE t(a INT) STRICT, WITHOUT ROWID", 22),
+    ("t", "CREATE TABLE t(a INT PRIMARY KEY) WITHOUT ROWID", 22),
     (
         "t",
-        "CREATE TABLE t(a INTEGER PRIMARY KEY) STRICT, WITHOUT ROWID",
-        29,
+        "CREATE TABLE t(a INT PRIMARY KEY, b INT UNIQUE) STRICT, WITHOUT ROWID",
+        22,
     ),
     ("t", "CREATE TABLE t(a INT, UNIQUE (a)) STRICT", 20),
     ("t", "CREATE TABLE t(a INT, PRIMARY KEY (a)) STRICT", 20),

@@ -1,8 +1,7 @@
 -- The index that a CREATE INDEX makes.
-use Rattle.std.proofs.Common.{◌≡◌, ℕ, suc, zero, ◌+◌, ◌<◌, ◌≤◌, ◌⊎◌, inl, inr, Bool, true, false, IsTrue, ◌↔◌, List, [], ◌∷◌, ◌++◌, length, get_or, map, take, slice_get, Option, Some, None, refl, sym, ap, ◌∙◌, subst, arith}
-use Rattle.std.proofs.lemmas.Bool.{cases_order}
+use Rattle.std.proofs.Common.{◌≡◌, ℕ, suc, zero, ◌+◌, ◌<◌, ◌≤◌, Bool, true, false, IsTrue, ◌↔◌, List, [], ◌∷◌, ◌++◌, length, get_or, map, take, slice_get, Option, Some, None, refl, sym, ap, ◌∙◌, subst, arith}
 use Rattle.std.proofs.lemmas.Option.{slice_get-get_or, slice_get-map, slice_get_within}
-use Rattle.std.proofs.lemmas.List.{take_all}
+use Rattle.std.proofs.lemmas.List.{length-map, take_all}
 use Rattle.std.specs.List.{AllZip}
 use Rattle.std.specs.Option.{option_map}
 use Rattle.create_trees.specs.CreateTrees.{IndexedColumnTree, IndexTree}
@@ -11,10 +10,12 @@ use Rattle.create_trees.specs.declared.create.IndexedColumn.{IndexedColumn}
 use Rattle.expr.specs.Term.{Term}
 use Rattle.indexes.specs.Condition.{IsCondition}
 use Rattle.indexes.specs.IndexData.{IndexData, IndexedData}
-use Rattle.indexes.specs.Indexed.{AreIndexed, IsIndex, IsIndexed, IsPlaceOf}
+use Rattle.indexes.specs.Indexed.{AreIndexed, IsIndex, IsIndexed}
+use Rattle.indexes.specs.Others.{others_of}
 use Rattle.schema.proofs.ListLemmas.{all_zip_push, map_next}
+use Rattle.schema.proofs.NameLemmas.{one_place}
 use Rattle.schema.proofs.OneLemmas.{zip_same}
-use Rattle.schema.specs.Names.{AreDistinct, IsSameName}
+use Rattle.schema.specs.Names.{AreDistinct, IsPlaceOf, IsSameName}
 use Rattle.schema.specs.TableData.{ColumnData, TableData}
 use Rattle.syntax.specs.ExprTree.{ExprTree}
 use Rattle.syntax.specs.Tree.{Name}
@@ -22,48 +23,33 @@ use Rattle.syntax.specs.Tree.{Name}
 -- The place of a column, where it was tested whether this one has the name
 module _ (columns : List ColumnData) (name : Name) (i : ℕ) (x : ColumnData) (given : Name) (found : Bool) (within : i < length columns)
     (is : x ≡ get_or columns i x) (e : given ≡ x.name) (tested : IsTrue found ↔ IsSameName given name) where
-  stands : slice_get columns i ≡ Some x
-  stands = slice_get-get_or columns i x within ∙ ap Some (sym is)
+  stands : slice_get (map (λ (c : ColumnData). c.name) columns) i ≡ Some x.name
+  stands =
+      slice_get-map (λ (c : ColumnData). c.name) columns i
+      ∙ ap (option_map (λ (c : ColumnData). c.name)) (slice_get-get_or columns i x within ∙ ap Some (sym is))
 
-  pub place_here : found ≡ true → IsPlaceOf columns name i
-  place_here some = record { column = x; stands = stands; named = subst (λ n. IsSameName n name) e (tested.0 some) }
+  pub place_here : found ≡ true → IsPlaceOf (map (λ c. c.name) columns) name i
+  place_here some = record { other = x.name; stands = stands; named = subst (λ n. IsSameName n name) e (tested.0 some) }
 
-  pub place_not_here : found ≡ false → ¬ IsPlaceOf columns name i
+  pub place_not_here : found ≡ false → ¬ IsPlaceOf (map (λ c. c.name) columns) name i
   place_not_here none place =
-      let same : place.column ≡ x = let p = place.stands in let q = stands in cc in
-      let h : found ≡ true =
-      tested.1 (subst (λ n. IsSameName n name) (sym e) (subst (λ (c : ColumnData). IsSameName c.name name) same place.named)) in
+      let same : place.other ≡ x.name = let p = place.stands in let q = stands in cc in
+      let h : found ≡ true = tested.1 (subst (λ n. IsSameName n name) (same ∙ sym e) place.named) in
       cc
 
 pub no_place : (columns : List ColumnData) (name : Name) (count : ℕ) → length columns ≤ count
-    → ((k : ℕ) → k < count → ¬ IsPlaceOf columns name k) → (place : ℕ) → ¬ IsPlaceOf columns name place
+    → ((k : ℕ) → k < count → ¬ IsPlaceOf (map (λ c. c.name) columns) name k) → (place : ℕ) → ¬ IsPlaceOf (map (λ c. c.name) columns) name place
 no_place columns name count all none place is =
-    let within = slice_get_within columns place is.column is.stands in
-    none place (omega (arith, all, within)) is
+    let within = slice_get_within (map (λ (c : ColumnData). c.name) columns) place is.other is.stands in
+    let long = length-map columns (λ (c : ColumnData). c.name) in
+    none place (omega (arith, all, within, long)) is
 
--- one place
-
-named_twice : (columns : List ColumnData) (name : Name) (i j : ℕ) → AreDistinct (map (λ c. c.name) columns) → i < j
-    → IsPlaceOf columns name i → ¬ IsPlaceOf columns name j
-named_twice columns name i j distinct less p q =
-    distinct i j p.column.name q.column.name less (named i p) (named j q) (p.named ∙ sym q.named)
-  where
-    named : (k : ℕ) (is : IsPlaceOf columns name k) → slice_get (map (λ c. c.name) columns) k ≡ Some is.column.name
-    named k is = slice_get-map (λ (c : ColumnData). c.name) columns k ∙ ap (option_map (λ (c : ColumnData). c.name)) is.stands
-
-pub one_place : (columns : List ColumnData) (name : Name) (i j : ℕ) → AreDistinct (map (λ c. c.name) columns)
-    → IsPlaceOf columns name i → IsPlaceOf columns name j → i ≡ j
-one_place columns name i j distinct p q = go (cases_order i j)
-  where
-    go : (i ≡ j) ⊎ ((i < j) ⊎ (j < i)) → i ≡ j
-    go (inl e) = e
-    go (inr (inl less)) = absurd (named_twice columns name i j distinct less p q)
-    go (inr (inr less)) = absurd (named_twice columns name j i distinct less q p)
+-- one index
 
 one_indexed : (columns : List ColumnData) → AreDistinct (map (λ c. c.name) columns) → (tree : IndexedColumnTree) (a b : IndexedData)
     → IsIndexed columns tree a → IsIndexed columns tree b → a ≡ b
 one_indexed columns distinct tree a b p q =
-    let place : a.place ≡ b.place = one_place columns tree.name a.place b.place distinct p.place_is q.place_is in
+    let place : a.place ≡ b.place = one_place (map (λ c. c.name) columns) distinct tree.name a.place b.place p.place_is q.place_is in
     let order : a.order ≡ b.order = p.order_is ∙ sym q.order_is in
     λ i. record { place = place i; order = order i }
 
@@ -84,9 +70,18 @@ one_index tree table a b distinct p q root =
     let owner : a.table ≡ b.table = p.table_is ∙ sym q.table_is in
     let columns : a.columns ≡ b.columns =
     zip_same (IsIndexed table.columns) (one_indexed table.columns distinct) tree.columns a.columns b.columns p.columns_are.each q.columns_are.each in
+    let others : a.others ≡ b.others = p.others_are ∙ (ap (others_of table.key) columns ∙ sym q.others_are) in
     let is_unique : a.is_unique ≡ b.is_unique = p.unique_is ∙ sym q.unique_is in
     let condition : a.condition ≡ b.condition = one_condition table tree.condition a.condition b.condition p.condition_is q.condition_is in
-    λ i. record { name = name i; table = owner i; root = root i; columns = columns i; is_unique = is_unique i; condition = condition i }
+    λ i. record {
+      name = name i;
+      table = owner i;
+      root = root i;
+      columns = columns i;
+      others = others i;
+      is_unique = is_unique i;
+      condition = condition i;
+    }
 
 -- The columns, one after the other
 

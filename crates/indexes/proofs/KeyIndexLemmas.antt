@@ -1,25 +1,30 @@
 -- The indexes that SQLite makes for the keys of tables.
-use Rattle.std.proofs.Common.{◌≡◌, ℕ, ◌+◌, ◌<◌, ◌≤◌, All, IfNone, List, [], ◌∷◌, ◌++◌, length, get_or, map, take, string_bytes, Global, String, IsSome, Option, Some, None, sym, ap, ◌∙◌, subst}
+use Rattle.std.proofs.Common.{◌≡◌, ℕ, ◌+◌, ◌<◌, ◌≤◌, All, IfNone, List, [], ◌∷◌, ◌++◌, length, get_or, map, take, string_bytes, Global, String, IsSome, Option, Some, None, option_map, sym, ap, ◌∙◌, subst}
 use Rattle.std.proofs.lemmas.List.{take_all}
-use Rattle.std.proofs.lemmas.Option.{slice_get-get_or}
+use Rattle.std.proofs.lemmas.Option.{slice_get-get_or, slice_get-map}
 use Rattle.std.specs.List.{AllZip}
 use Rattle.schema.proofs.ListLemmas.{all_from_map, all_zip_push, map_next}
 use Rattle.schema.proofs.OneLemmas.{zip_same}
-use Rattle.schema.specs.Names.{AreDistinct}
+use Rattle.schema.proofs.NameLemmas.{one_place}
+use Rattle.schema.specs.Names.{AreDistinct, IsPlaceOf}
 use Rattle.schema.specs.TableData.{ColumnData, TableData}
 use Rattle.syntax.specs.Tree.{Name}
 use Rattle.table_keys.specs.Automatic.{AutomaticData}
 use Rattle.indexes.specs.IndexData.{IndexedData}
-use Rattle.indexes.specs.Indexed.{IsPlaceOf}
 use Rattle.indexes.specs.KeyIndexes.{HasColumn, IsKeyColumn, IsKeyIndex, KeyIndexData}
-use Rattle.indexes.proofs.IndexLemmas.{one_place}
+use Rattle.indexes.specs.Others.{others_of}
 
 -- a column that is there has a place
-pub some_place : (columns : List ColumnData) (name : Name) (place : Option ℕ) → IfNone place ((k : ℕ) → ¬ IsPlaceOf columns name k)
+pub some_place : (columns : List ColumnData) (name : Name) (place : Option ℕ) → IfNone place ((k : ℕ) → ¬ IsPlaceOf (map (λ c. c.name) columns) name k)
     → HasColumn columns name → IsSome place
 some_place columns name (Some k) none has = cc
 some_place columns name None none (k, x, within, is, same) =
-    absurd (none k (record { column = x; stands = slice_get-get_or columns k x within ∙ ap Some is; named = same }))
+    absurd (none k (record {
+      other = x.name;
+      stands = slice_get-map (λ (c : ColumnData). c.name) columns k
+          ∙ ap (option_map (λ (c : ColumnData). c.name)) (slice_get-get_or columns k x within ∙ ap Some is);
+      named = same;
+    }))
 
 -- The columns of a key, one after the other
 module _ (columns : List ColumnData) (names : List (String Global)) where
@@ -47,7 +52,7 @@ module _ (columns : List ColumnData) (names : List (String Global)) where
 one_key_column : (columns : List ColumnData) → AreDistinct (map (λ c. c.name) columns) → (name : Name) (a b : IndexedData)
     → IsKeyColumn columns name a → IsKeyColumn columns name b → a ≡ b
 one_key_column columns distinct name a b p q =
-    let place : a.place ≡ b.place = one_place columns name a.place b.place distinct p.place_is q.place_is in
+    let place : a.place ≡ b.place = one_place (map (λ c. c.name) columns) distinct name a.place b.place p.place_is q.place_is in
     let order : a.order ≡ b.order = p.order_is ∙ sym q.order_is in
     λ i. record { place = place i; order = order i }
 
@@ -57,4 +62,5 @@ one_key_index table automatic a b distinct p q =
     let name : a.name ≡ b.name = p.name_is ∙ sym q.name_is in
     let columns : a.columns ≡ b.columns =
     zip_same (IsKeyColumn table.columns) (one_key_column table.columns distinct) automatic.columns a.columns b.columns p.columns_are q.columns_are in
-    λ i. record { name = name i; columns = columns i }
+    let others : a.others ≡ b.others = p.others_are ∙ (ap (others_of table.key) columns ∙ sym q.others_are) in
+    λ i. record { name = name i; columns = columns i; others = others i }

@@ -10,6 +10,7 @@ index_data i = record {
   table = string_bytes i.table;
   root = i.root;
   columns = i.columns.items;
+  others = i.others.items;
   is_unique = i.is_unique;
   condition = option_map term i.condition;
 }

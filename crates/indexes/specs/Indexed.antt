@@ -1,23 +1,17 @@
 -- The index that a CREATE INDEX makes. (CREATE INDEX)
-use Rattle.std.specs.Prelude.{◌≡◌, ℕ, List, map, slice_get, Some}
+use Rattle.std.specs.Prelude.{◌≡◌, List, map}
 use Rattle.std.specs.List.{AllZip}
 use Rattle.create_trees.specs.CreateTrees.{IndexedColumnTree, IndexTree}
 use Rattle.indexes.specs.Condition.{IsCondition}
 use Rattle.indexes.specs.IndexData.{IndexData, IndexedData}
 use Rattle.schema.specs.Created.{IsBinary}
-use Rattle.schema.specs.Names.{AreDistinct, IsSameName}
+use Rattle.indexes.specs.Others.{others_of}
+use Rattle.schema.specs.Names.{AreDistinct, IsPlaceOf, IsSameName}
 use Rattle.schema.specs.TableData.{ColumnData, TableData}
-use Rattle.syntax.specs.Tree.{Name}
-
--- the column at this place has this name
-pub record IsPlaceOf (columns : List ColumnData) (name : Name) (place : ℕ) : Type 0 where
-  pub column : ColumnData
-  pub stands : slice_get columns place ≡ Some column
-  pub named : IsSameName column.name name
 
 -- a column of the table, whose texts are compared by their bytes (Indexed column)
 pub record IsIndexed (columns : List ColumnData) (tree : IndexedColumnTree) (indexed : IndexedData) : Type 0 where
-  pub place_is : IsPlaceOf columns tree.name indexed.place
+  pub place_is : IsPlaceOf (map (λ c. c.name) columns) tree.name indexed.place
   pub order_is : indexed.order ≡ tree.order
   pub binary : IsBinary tree.collation
 
@@ -32,5 +26,6 @@ pub record IsIndex (tree : IndexTree) (table : TableData) (index : IndexData) : 
   pub table_is : index.table ≡ tree.table
   pub owner_is : IsSameName tree.table table.name
   pub columns_are : AreIndexed table.columns tree.columns index.columns
+  pub others_are : index.others ≡ others_of table.key index.columns
   pub unique_is : index.is_unique ≡ tree.is_unique
   pub condition_is : IsCondition table tree.condition index.condition

@@ -45,6 +45,7 @@ pub struct Index {
     pub(crate) table: String,
     pub(crate) root: u32,
     pub(crate) columns: Vec<IndexedColumn>,
+    pub(crate) others: Vec<usize>,
     pub(crate) is_unique: bool,
     pub(crate) condition: Option<Expr>,
 }
@@ -76,6 +77,15 @@ impl Index {
         ensures { result.now ≡ (index_data self.now).columns }
     {
         self.columns.as_slice()
+    }
+
+    /// The places of the columns of its table's PRIMARY KEY that it lacks, in the key's order, where rows are found by that: an
+    /// entry has them behind the columns. (Database File Format, "Suppression of redundant columns in WITHOUT ROWID secondary
+    /// indexes")
+    pub fn others(&self) -> &[usize]
+        ensures { result.now ≡ (index_data self.now).others }
+    {
+        self.others.as_slice()
     }
 
     /// Whether no two rows may agree in all of the columns, unless one of these is NULL. (CREATE INDEX, "Unique Indexes")

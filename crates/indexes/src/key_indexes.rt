@@ -7,6 +7,7 @@ ghost use Rattle.indexes.specs.KeyIndexes.{HasColumn, IsKeyColumn, IsKeyIndex, r
 ghost use Rattle.indexes.specs.KeyIndexView.{key_index_data};
 ghost use Rattle.table_keys.specs.AutomaticView.{automatic_data};
 
+use crate::others::others_of;
 use crate::places::place_of;
 use crate::{Index, IndexedColumn};
 use create_trees::KeyOrder;
@@ -69,6 +70,7 @@ fn copied(alloc: Global, columns: &[IndexedColumn]) -> Result<Vec<IndexedColumn>
 pub struct KeyIndex {
     name: String,
     columns: Vec<IndexedColumn>,
+    others: Vec<usize>,
 }
 
 impl KeyIndex {
@@ -83,7 +85,12 @@ impl KeyIndex {
     {
         let name = automatic_name(alloc, table.name(), automatic.number)?;
         let columns = key_columns(alloc, table.columns(), automatic.key.columns.as_slice())?;
-        Ok(KeyIndex { name, columns })
+        let others = others_of(alloc, table, columns.as_slice())?;
+        Ok(KeyIndex {
+            name,
+            columns,
+            others,
+        })
     }
 
     /// The name, which SQLite gives.
@@ -100,11 +107,13 @@ impl KeyIndex {
         let name = self.name.clone()?;
         let table = String::from_str(alloc, table)?;
         let columns = copied(alloc, self.columns.as_slice())?;
+        let others = Vec::from_slice(alloc, self.others.as_slice())?;
         Ok(Index {
             name,
             table,
             root,
             columns,
+            others,
             is_unique: true,
             condition: None,
         })

@@ -12,6 +12,7 @@ ghost use Rattle.indexes.specs.Refused.{IsRefused};
 ghost use Rattle.schema.specs.Names.{IsSameName};
 ghost use Rattle.statement_trees.specs.TreeView.{expr_of};
 
+use crate::others::others_of;
 use crate::places::{are_distinct, indexed};
 use crate::{Index, IndexedColumn, conditions};
 use create_trees::{CreateIndex, IndexedColumn as NamedColumn};
@@ -88,11 +89,13 @@ pub fn index_from(
         Err(Fault::NoMemory) => return Err(Fault::NoMemory),
         Err(_) => return Err(Fault::UnsupportedObject(name)),
     };
+    let others = others_of(alloc, table, columns.as_slice())?;
     Ok(Index {
         name,
         table: owner,
         root,
         columns,
+        others,
         is_unique,
         condition,
     })

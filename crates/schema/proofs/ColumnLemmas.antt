@@ -6,6 +6,7 @@ use Rattle.create_trees.specs.CreateTrees.{ConstraintTree}
 use Rattle.create_trees.specs.CreateView.{column_of, constraint_of}
 use Rattle.create_trees.specs.declared.create.Column.{Column}
 use Rattle.create_trees.specs.declared.create.ColumnConstraint.{ColumnConstraint}
+use Rattle.create_trees.specs.declared.create.TableOption.{TableOption}
 use Rattle.declared_keys.specs.Keys.{KeyData}
 use Rattle.schema.proofs.ListLemmas.{all_zip_push, any_at, beside}
 use Rattle.schema.specs.Created.{IsColumn, is_not_null}
@@ -33,23 +34,23 @@ contains_constraint constraints tree found h = (
       (λ d. sym (get_or-map constraint_of constraints k.0 d tree within) ∙ k.2))),
 )
 
-module _ (keys : List KeyData) where
+module _ (options : List TableOption) (keys : List KeyData) where
   pub one_column_more : (definitions : List Column) (columns more : List ColumnData) (definition : Column) (column : ColumnData)
-      → more ≡ columns ++ column ∷ [] → AllZip (IsColumn keys) (map column_of definitions) columns
-      → IsColumn keys (column_of definition) column → AllZip (IsColumn keys) (map column_of (definitions ++ definition ∷ [])) more
+      → more ≡ columns ++ column ∷ [] → AllZip (IsColumn options keys) (map column_of definitions) columns
+      → IsColumn options keys (column_of definition) column → AllZip (IsColumn options keys) (map column_of (definitions ++ definition ∷ [])) more
   one_column_more definitions columns more definition column e all here =
-      subst (AllZip (IsColumn keys) (map column_of (definitions ++ definition ∷ []))) (sym e)
-      (subst (λ ds. AllZip (IsColumn keys) ds (columns ++ column ∷ [])) (sym (map_push column_of definitions definition))
-      (all_zip_push (IsColumn keys) (map column_of definitions) columns (column_of definition) column all here))
+      subst (AllZip (IsColumn options keys) (map column_of (definitions ++ definition ∷ []))) (sym e)
+      (subst (λ ds. AllZip (IsColumn options keys) ds (columns ++ column ∷ [])) (sym (map_push column_of definitions definition))
+      (all_zip_push (IsColumn options keys) (map column_of definitions) columns (column_of definition) column all here))
 
   -- a definition that declares no column
   pub no_columns : (definitions : List Column) (i : ℕ) (definition : Column)
       → (i < length definitions) × (definition ≡ get_or definitions i definition)
-      → ((column : ColumnData) → ¬ IsColumn keys (column_of definition) column) → (columns : List ColumnData)
-      → ¬ AllZip (IsColumn keys) (map column_of definitions) columns
+      → ((column : ColumnData) → ¬ IsColumn options keys (column_of definition) column) → (columns : List ColumnData)
+      → ¬ AllZip (IsColumn options keys) (map column_of definitions) columns
   no_columns definitions i definition at none columns are =
       let within : i < length (map column_of definitions) = let l = length-map definitions column_of in let w = at.0 in omega (arith, l, w) in
       let is : column_of definition ≡ get_or (map column_of definitions) i (column_of definition) =
       ap column_of at.1 ∙ sym (get_or-map column_of definitions i definition (column_of definition) at.0) in
-      let found = beside (IsColumn keys) (map column_of definitions) columns i (column_of definition) within is are in
+      let found = beside (IsColumn options keys) (map column_of definitions) columns i (column_of definition) within is are in
       none found.0 found.1

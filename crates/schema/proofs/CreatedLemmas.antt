@@ -1,7 +1,8 @@
 -- The table that a CREATE TABLE makes.
-use Rattle.std.proofs.Common.{◌≡◌, ℕ, Bool, true, false, IsTrue, ◌↔◌, All, inl, inr, List, [], ◌∷◌, length, map, string_bytes, Option, None, Some, refl, sym, ap, subst, arith}
+use Rattle.std.proofs.Common.{◌≡◌, ℕ, ◌<◌, ◌≤◌, Bool, true, false, IsTrue, ◌↔◌, All, inl, inr, List, [], ◌∷◌, length, map, string_bytes, None, Some, refl, sym, ap, subst, arith}
 use Rattle.std.proofs.lemmas.Option.{slice_get_within}
-use Rattle.std.proofs.lemmas.List.Elements.{All-map}
+use Rattle.std.proofs.lemmas.List.{length-map}
+use Rattle.std.proofs.lemmas.List.Elements.{All-cons, All-map, All-nil}
 use Rattle.std.specs.List.{AllZip}
 use Rattle.values.specs.declared.fault.Fault.{Fault}
 use Rattle.create_trees.specs.CreateTrees.{ColumnTree}
@@ -9,12 +10,13 @@ use Rattle.syntax.specs.Tree.{Name}
 use Rattle.create_trees.specs.CreateView.{column_of, constraint_of, table_of}
 use Rattle.create_trees.specs.declared.create.Column.{Column}
 use Rattle.create_trees.specs.declared.create.CreateTable.{CreateTable}
+use Rattle.create_trees.specs.declared.create.TableOption.{TableOption}
 use Rattle.schema.proofs.ListLemmas.{all_from_map}
 use Rattle.declared_keys.specs.Keys.{KeyData, keys_of}
-use Rattle.schema.specs.Created.{AreKeys, AreServed, IsColumn, IsRowidPlace, IsServed, IsTable}
-use Rattle.schema.specs.Names.{AreDistinct, IsReserved}
+use Rattle.schema.specs.Created.{AreKeys, AreServed, IsColumn, IsRowKey, IsServed, IsTable, column_names}
+use Rattle.schema.specs.Names.{AreDistinct, IsPlaceOf, IsReserved}
 use Rattle.schema.specs.Refused.{IsRefused}
-use Rattle.schema.specs.TableData.{ColumnData, IsPlaceIn, TableData}
+use Rattle.schema.specs.TableData.{ColumnData, IsKeyWithin, RowKeyData, TableData}
 
 -- what is refused, as what it is a part of
 pub refused_part : {A B : Type 0} (IsPart : A → Type 0) (IsWhole : B → Type 0) (fault : Fault) → IsRefused IsPart fault
@@ -27,20 +29,33 @@ pub names_of : (columns : List Column) → map (λ c. c.name) (map column_of col
 names_of [] = refl
 names_of (column ∷ columns) = ap (λ names. string_bytes column.name ∷ names) (names_of columns)
 
-zip_length : (keys : List KeyData) (trees : List ColumnTree) (columns : List ColumnData) → AllZip (IsColumn keys) trees columns
-    → length trees ≡ length columns
-zip_length keys [] [] all = refl
-zip_length keys [] (column ∷ columns) all = absurd all
-zip_length keys (tree ∷ trees) [] all = absurd all
-zip_length keys (tree ∷ trees) (column ∷ columns) all = let rest = zip_length keys trees columns all.1 in omega (arith, rest)
+zip_length : {X Y : Type 0} (R : X → Y → Type 0) (xs : List X) (ys : List Y) → AllZip R xs ys → length xs ≡ length ys
+zip_length R [] [] all = refl
+zip_length R [] (y ∷ ys) all = absurd all
+zip_length R (x ∷ xs) [] all = absurd all
+zip_length R (x ∷ xs) (y ∷ ys) all = let rest = zip_length R xs ys all.1 in omega (arith, rest)
 
-pub place_within : (keys : List KeyData) (trees : List ColumnTree) (columns : List ColumnData) (place : Option ℕ)
-    → IsRowidPlace keys trees place → AllZip (IsColumn keys) trees columns → IsPlaceIn place (length columns)
-place_within keys trees columns None is all = tt
-place_within keys trees columns (Some at) is all =
-    let within = slice_get_within trees at is.0 is.1 in
-    let same = zip_length keys trees columns all in
+places_within : (all names : List Name) (places : List ℕ) (count : ℕ) → length all ≤ count → AllZip (IsPlaceOf all) names places
+    → All (λ place. place < count) places
+places_within all [] [] count long zip = All-nil _
+places_within all [] (place ∷ places) count long zip = absurd zip
+places_within all (name ∷ names) [] count long zip = absurd zip
+places_within all (name ∷ names) (place ∷ places) count long zip =
+    All-cons (λ place. place < count) place places
+    (let within = slice_get_within all place zip.0.other zip.0.stands in omega (arith, within, long))
+    (places_within all names places count long zip.1)
+
+pub key_within : (options : List TableOption) (keys : List KeyData) (trees : List ColumnTree) (columns : List ColumnData) (key : RowKeyData)
+    → IsRowKey options keys trees key → AllZip (IsColumn options keys) trees columns → IsKeyWithin key (length columns)
+key_within options keys trees columns (RowKeyData.Rowid None) is all = tt
+key_within options keys trees columns (RowKeyData.Rowid (Some at)) is all =
+    let within = slice_get_within trees at is.1.0 is.1.1 in
+    let same = zip_length (IsColumn options keys) trees columns all in
     omega (arith, within, same)
+key_within options keys trees columns (RowKeyData.Primary places) is all =
+    let same = zip_length (IsColumn options keys) trees columns all in
+    let names = length-map trees (λ (c : ColumnTree). c.name) in
+    places_within (column_names trees) is.1.key.columns places (length columns) (omega (arith, names, same)) is.1.places_are
 
 -- the tests of a table's names
 module _ (created : CreateTable) where
@@ -90,23 +105,37 @@ module _ (created : CreateTable) where
             let all = subst (λ cs. AreKeys cs keys) (sym same) (subst (AreKeys (table_of created).columns) (sym keyed) is.keys_are) in
             let h : found ≡ true = tested.1 all in absurd cc
 
-      pub rowid_is : (place : Option ℕ) → IsRowidPlace keys (map column_of columns) place
-          → IsRowidPlace (keys_of (table_of created)) (table_of created).columns place
-      rowid_is place is =
-          subst (λ ks. IsRowidPlace ks (table_of created).columns place) keyed (subst (λ cs. IsRowidPlace keys cs place) same is)
+      -- what holds of its options, keys and columns as they are read
+      module _ (options : List TableOption) (f : options ≡ created.options.items) where
+        told : {A : Type 0} (P : List TableOption → List KeyData → List ColumnTree → A → Type 0) (x : A)
+            → P options keys (map column_of columns) x → P (table_of created).options (keys_of (table_of created)) (table_of created).columns x
+        told P x p =
+            subst (λ os. P os (keys_of (table_of created)) (table_of created).columns x) f
+            (subst (λ ks. P options ks (table_of created).columns x) keyed (subst (λ cs. P options keys cs x) same p))
 
-      pub columns_are : (made : List ColumnData) → AllZip (IsColumn keys) (map column_of columns) made
-          → AllZip (IsColumn (keys_of (table_of created))) (table_of created).columns made
-      columns_are made all =
-          subst (λ ks. AllZip (IsColumn ks) (table_of created).columns made) keyed
-          (subst (λ cs. AllZip (IsColumn keys) cs made) same all)
+        read : {A : Type 0} (P : List TableOption → List KeyData → List ColumnTree → A → Type 0) (x : A)
+            → P (table_of created).options (keys_of (table_of created)) (table_of created).columns x → P options keys (map column_of columns) x
+        read P x p =
+            subst (λ cs. P options keys cs x) (sym same)
+            (subst (λ ks. P options ks (table_of created).columns x) (sym keyed)
+            (subst (λ os. P os (keys_of (table_of created)) (table_of created).columns x) (sym f) p))
 
-      pub columns_refused : (fault : Fault) → IsRefused (λ (cs : List ColumnData). AllZip (IsColumn keys) (map column_of columns) cs) fault
-          → IsRefused (IsTable (table_of created)) fault
-      columns_refused fault refused =
-          refused_part (λ (cs : List ColumnData). AllZip (IsColumn keys) (map column_of columns) cs) (IsTable (table_of created)) fault refused
-          (λ table is. (
-            table.columns,
-            subst (λ cs. AllZip (IsColumn keys) cs table.columns) (sym same)
-                (subst (λ ks. AllZip (IsColumn ks) (table_of created).columns table.columns) (sym keyed) is.columns_are),
-          ))
+        pub key_is : (key : RowKeyData) → IsRowKey options keys (map column_of columns) key
+            → IsRowKey (table_of created).options (keys_of (table_of created)) (table_of created).columns key
+        key_is key is = told IsRowKey key is
+
+        pub keyless_refused : ((key : RowKeyData) → ¬ IsRowKey options keys (map column_of columns) key) → (table : TableData)
+            → ¬ IsTable (table_of created) table
+        keyless_refused none table is = none table.key (read IsRowKey table.key is.key_is)
+
+        pub columns_are : (made : List ColumnData) → AllZip (IsColumn options keys) (map column_of columns) made
+            → AllZip (IsColumn (table_of created).options (keys_of (table_of created))) (table_of created).columns made
+        columns_are made all = told (λ os ks cs made. AllZip (IsColumn os ks) cs made) made all
+
+        pub columns_refused : (fault : Fault)
+            → IsRefused (λ (cs : List ColumnData). AllZip (IsColumn options keys) (map column_of columns) cs) fault
+            → IsRefused (IsTable (table_of created)) fault
+        columns_refused fault refused =
+            refused_part (λ (cs : List ColumnData). AllZip (IsColumn options keys) (map column_of columns) cs) (IsTable (table_of created))
+            fault refused
+            (λ table is. (table.columns, read (λ os ks cs made. AllZip (IsColumn os ks) cs made) table.columns is.columns_are))

@@ -1,16 +1,20 @@
--- The keys of a table, and the column that is the rowid.
-use Rattle.std.proofs.Common.{◌≡◌, ℕ, zero, suc, ◌+◌, ◌<◌, ◌≤◌, inl, inr, Bool, true, false, IsTrue, ◌↔◌, All, List, [], ◌∷◌, ◌++◌, length, get_or, map, take, slice_get, None, Some, option_map, sym, ap, ◌∙◌, subst, arith}
+-- The keys of a table, the column that is the rowid, and how rows are found.
+use Rattle.std.proofs.Common.{◌≡◌, ℕ, zero, suc, ◌+◌, ◌<◌, ◌≤◌, inl, inr, Bool, true, false, IsTrue, ◌↔◌, All, List, [], ◌∷◌, ◌++◌, length, get_or, map, take, slice_get, string_bytes, Global, String, IfNone, IsSome, Option, None, Some, option_map, sym, ap, ◌∙◌, subst, arith}
+use Rattle.std.proofs.lemmas.List.{take_all}
 use Rattle.std.proofs.lemmas.List.Elements.{All-from_all_within, All-map}
 use Rattle.std.proofs.lemmas.Option.{slice_get-get_or, slice_get-map}
 use Rattle.std.specs.List.{AllWithin, AllZip}
 use Rattle.create_trees.specs.CreateTrees.{ColumnTree}
 use Rattle.create_trees.specs.CreateView.{column_of}
 use Rattle.create_trees.specs.declared.create.Column.{Column}
+use Rattle.create_trees.specs.declared.create.TableOption.{TableOption}
 use Rattle.declared_keys.specs.Keys.{KeyData}
 use Rattle.syntax.specs.Tree.{Name}
-use Rattle.schema.specs.Created.{AreColumns, AreKeys, Clash, IsRowid, IsRowidPlace}
-use Rattle.schema.specs.Names.{AreApart, IsSameName}
-use Rattle.schema.proofs.ListLemmas.{all_zip_push, map_next}
+use Rattle.schema.specs.Created.{AreColumns, AreKeys, Clash, IsNamedIn, IsOnlyPrimary, IsRowid, IsRowidPlace, IsRowKey, IsRowless, column_names}
+use Rattle.schema.specs.Names.{AreApart, IsPlaceOf, IsSameName}
+use Rattle.schema.specs.TableData.{RowKeyData}
+use Rattle.schema.proofs.ListLemmas.{all_from_map, all_zip_push, map_next}
+use Rattle.schema.proofs.ServedLemmas.{any_from_map}
 
 module _ {A : Type 0} (R : A → A → Type 0) where
   zip_at : (xs ys : List A) (i : ℕ) (x y : A) → slice_get xs i ≡ Some x → slice_get ys i ≡ Some y → AllZip R xs ys → R x y
@@ -61,18 +65,79 @@ module _ (columns : List ColumnTree) (keys : List KeyData) (found : Bool)
   keys_astray none = ((λ e. absurd cc), (λ a. tested.1 a.columns_are))
 
 -- the search for the column that is the rowid
-module _ (keys : List KeyData) (columns : List Column) where
-  pub rowid_here : (i : ℕ) (x : Column) → i < length columns → x ≡ get_or columns i x → IsRowid keys (column_of x)
-      → IsRowidPlace keys (map column_of columns) (Some i)
+module _ (options : List TableOption) (keys : List KeyData) (columns : List Column) where
+  pub rowid_here : (i : ℕ) (x : Column) → i < length columns → x ≡ get_or columns i x → IsRowid options keys (column_of x)
+      → IsRowidPlace options keys (map column_of columns) (Some i)
   rowid_here i x within is rowid = (
     column_of x,
     slice_get-map column_of columns i ∙ ap (option_map column_of) (slice_get-get_or columns i x within ∙ ap Some (sym is)),
     rowid,
   )
 
-  pub no_rowid : (count : ℕ) → length columns ≤ count → AllWithin (λ (c : Column). ¬ IsRowid keys (column_of c)) columns 0 count
-      → IsRowidPlace keys (map column_of columns) None
+  pub no_rowid : (count : ℕ) → length columns ≤ count → AllWithin (λ (c : Column). ¬ IsRowid options keys (column_of c)) columns 0 count
+      → IsRowidPlace options keys (map column_of columns) None
   no_rowid count all none =
-      All-map (λ c. ¬ IsRowid keys c) column_of columns
-      (All-from_all_within (λ (c : Column). ¬ IsRowid keys (column_of c)) columns
+      All-map (λ c. ¬ IsRowid options keys c) column_of columns
+      (All-from_all_within (λ (c : Column). ¬ IsRowid options keys (column_of c)) columns
       (λ k d from below. none k d from (omega (arith, below, all))))
+
+-- the search for the place of a column
+module _ (columns : List Column) (name : Name) where
+  pub place_here : (i : ℕ) (x : Column) (given : Name) (found : Bool) → i < length columns → x ≡ get_or columns i x
+      → given ≡ string_bytes x.name → IsTrue found ↔ IsSameName given name → found ≡ true
+      → IsPlaceOf (column_names (map column_of columns)) name i
+  place_here i x given found within is e tested some = record {
+    other = string_bytes x.name;
+    stands = slice_get-map (λ (c : ColumnTree). c.name) (map column_of columns) i
+        ∙ ap (option_map (λ (c : ColumnTree). c.name))
+        (slice_get-map column_of columns i ∙ ap (option_map column_of) (slice_get-get_or columns i x within ∙ ap Some (sym is)));
+    named = subst (λ n. IsSameName n name) e (tested.0 some);
+  }
+
+  pub no_place : (count : ℕ) → length columns ≤ count → AllWithin (λ (c : Column). ¬ IsSameName (string_bytes c.name) name) columns 0 count
+      → ¬ IsNamedIn (map column_of columns) name
+  no_place count all none named =
+      let at = any_from_map (λ c. IsSameName c.name name) column_of columns named in
+      let within = at.2 in
+      none at.0 at.1 (omega arith) (omega (arith, within, all))
+      (subst (λ (c : Column). IsSameName (string_bytes c.name) name) (sym at.3) at.4)
+
+-- a column that is there has a place
+pub some_place : (columns : List ColumnTree) (name : Name) (place : Option ℕ) → IfNone place (¬ IsNamedIn columns name)
+    → IsNamedIn columns name → IsSome place
+some_place columns name (Some k) none named = cc
+some_place columns name None none named = absurd (none named)
+
+-- the places of a key's columns, one after the other
+module _ (columns : List ColumnTree) (names : List (String Global)) where
+  abbrev pub PlacesSoFar : ℕ → List ℕ → Type 0
+  PlacesSoFar count places = AllZip (IsPlaceOf (column_names columns)) (map (λ n. string_bytes n) (take count names)) places
+
+  pub all_places : (count : ℕ) (places : List ℕ) → length names ≤ count → PlacesSoFar count places
+      → AllZip (IsPlaceOf (column_names columns)) (map (λ n. string_bytes n) names) places
+  all_places count places end far =
+      subst (λ ns. AllZip (IsPlaceOf (column_names columns)) (map (λ n. string_bytes n) ns) places) (take_all count names end) far
+
+  module _ (i : ℕ) (x : String Global) (within : i < length names) (is : x ≡ get_or names i x) where
+    pub named_at : All (IsNamedIn columns) (map (λ n. string_bytes n) names) → IsNamedIn columns (string_bytes x)
+    named_at all =
+        subst (λ n. IsNamedIn columns (string_bytes n)) (sym is) (all_from_map (IsNamedIn columns) (λ n. string_bytes n) names all i x within)
+
+    pub place_more : (places more : List ℕ) (next : ℕ) → IsPlaceOf (column_names columns) (string_bytes x) next
+        → more ≡ places ++ next ∷ [] → PlacesSoFar i places → PlacesSoFar (i + 1) more
+    place_more places more next here e far =
+        subst (PlacesSoFar (i + 1)) (sym e)
+        (subst (λ ns. AllZip (IsPlaceOf (column_names columns)) ns (places ++ next ∷ [])) (sym (map_next (λ n. string_bytes n) names i x within is))
+        (all_zip_push (IsPlaceOf (column_names columns)) (map (λ n. string_bytes n) (take i names)) places (string_bytes x) next far here))
+
+-- the columns of the only key are columns of the table
+pub only_named : (columns : List ColumnTree) (keys : List KeyData) (key : KeyData) → AreKeys columns keys → IsOnlyPrimary keys key
+    → All (IsNamedIn columns) key.columns
+only_named columns keys key are primary =
+    (subst (λ ks. All (λ (k : KeyData). AreColumns columns k.columns) ks) primary.0 are.columns_are 0 key (omega arith)).named
+
+-- a table has neither rowids nor such a key
+pub no_key : (options : List TableOption) (keys : List KeyData) (columns : List ColumnTree) → IsRowless options
+    → ((key : KeyData) → ¬ IsOnlyPrimary keys key) → (key : RowKeyData) → ¬ IsRowKey options keys columns key
+no_key options keys columns rowless none (RowKeyData.Rowid place) is = is.0 rowless
+no_key options keys columns rowless none (RowKeyData.Primary places) is = none is.1.key is.1.primary

@@ -8,13 +8,14 @@ use Rattle.values.specs.Row.{Row}
 use Rattle.create_reader.proofs.CreateTexts.{one_create}
 use Rattle.create_reader.specs.CreateGrammar.{SpellsCreate}
 use Rattle.create_trees.specs.CreateTrees.{ColumnTree, TableTree}
+use Rattle.create_trees.specs.declared.create.TableOption.{TableOption}
 use Rattle.declared_keys.specs.Keys.{KeyData, keys_of}
-use Rattle.schema.specs.Created.{Clash, IsColumn, IsKeyOf, IsRowid, IsRowidPlace, IsTable}
-use Rattle.schema.specs.Names.{AreApart, AreDistinct, IsSameName}
+use Rattle.schema.specs.Created.{Clash, IsColumn, IsKeyOf, IsRowid, IsRowidPlace, IsRowKey, IsTable, column_names}
+use Rattle.schema.specs.Names.{AreApart, AreDistinct, IsPlaceOf, IsSameName}
 use Rattle.schema.specs.Rows.{SaysTable}
-use Rattle.schema.specs.TableData.{ColumnData, TableData}
+use Rattle.schema.specs.TableData.{ColumnData, RowKeyData, TableData}
 use Rattle.schema.proofs.MissingLemmas.{one_missing}
-use Rattle.schema.proofs.NameLemmas.{same_test}
+use Rattle.schema.proofs.NameLemmas.{one_place, same_test}
 use Rattle.schema.proofs.TypeLemmas.{one_type, same_words}
 use Rattle.syntax.specs.Tree.{Name}
 
@@ -29,8 +30,9 @@ zip_same R one (x ∷ xs) (a ∷ ys) [] p q = absurd q
 zip_same R one (x ∷ xs) (a ∷ ys) (b ∷ zs) p q =
     ap (λ y. y ∷ ys) (one x a b p.0 q.0) ∙ ap (λ ys. b ∷ ys) (zip_same R one xs ys zs p.1 q.1)
 
-one_column : (keys : List KeyData) (tree : ColumnTree) (a b : ColumnData) → IsColumn keys tree a → IsColumn keys tree b → a ≡ b
-one_column keys tree a b p q =
+one_column : (options : List TableOption) (keys : List KeyData) (tree : ColumnTree) (a b : ColumnData) → IsColumn options keys tree a
+    → IsColumn options keys tree b → a ≡ b
+one_column options keys tree a b p q =
     let name : a.name ≡ b.name = p.name_is ∙ sym q.name_is in
     let ty : a.ty ≡ b.ty = one_type tree.ty a.ty b.ty p.ty_is q.ty_is in
     let not_null : a.not_null ≡ b.not_null = same_test a.not_null b.not_null _ p.not_null_is q.not_null_is in
@@ -38,7 +40,8 @@ one_column keys tree a b p q =
     λ i. record { name = name i; ty = ty i; not_null = not_null i; missing = missing i }
 
 -- one column is the rowid
-module _ (columns : List ColumnTree) (keys : List KeyData) (distinct : AreDistinct (map (λ c. c.name) columns)) (apart : AreApart Clash keys) where
+module _ (options : List TableOption) (columns : List ColumnTree) (keys : List KeyData) (distinct : AreDistinct (column_names columns))
+    (apart : AreApart Clash keys) where
   -- the one PRIMARY KEY is alone of columns of one name
   same_key : (a b : Name) → Any (IsKeyOf a) keys → Any (IsKeyOf b) keys → IsSameName a b
   same_key a b (i, x, within, is, p) (j, y, inside, at, q) = go (cases_order i j)
@@ -62,34 +65,46 @@ module _ (columns : List ColumnTree) (keys : List KeyData) (distinct : AreDistin
   named_at i column at =
       slice_get-map (λ (c : ColumnTree). c.name) columns i ∙ ap (option_map (λ (c : ColumnTree). c.name)) at
 
-  no_place : (at : ℕ) → IsRowidPlace keys columns None → IsRowidPlace keys columns (Some at) → ⊥
+  no_place : (at : ℕ) → IsRowidPlace options keys columns None → IsRowidPlace options keys columns (Some at) → ⊥
   no_place at none (column, is, rowid) =
       none at column (slice_get_within columns at column is)
-      (subst (IsRowid keys) (sym (get_or_from_slice_get columns at column column is)) rowid)
+      (subst (IsRowid options keys) (sym (get_or_from_slice_get columns at column column is)) rowid)
 
-  one_place : (a b : Option ℕ) → IsRowidPlace keys columns a → IsRowidPlace keys columns b → a ≡ b
-  one_place None None p q = refl
-  one_place None (Some j) p q = absurd (no_place j p q)
-  one_place (Some i) None p q = absurd (no_place i q p)
-  one_place (Some i) (Some j) p q = go (cases_order i j)
+  one_rowid : (a b : Option ℕ) → IsRowidPlace options keys columns a → IsRowidPlace options keys columns b → a ≡ b
+  one_rowid None None p q = refl
+  one_rowid None (Some j) p q = absurd (no_place j p q)
+  one_rowid (Some i) None p q = absurd (no_place i q p)
+  one_rowid (Some i) (Some j) p q = go (cases_order i j)
     where
       same : IsSameName p.0.name q.0.name
-      same = same_key p.0.name q.0.name p.2.1 q.2.1
+      same = same_key p.0.name q.0.name p.2.2 q.2.2
 
       go : (i ≡ j) ⊎ ((i < j) ⊎ (j < i)) → Some i ≡ Some j
       go (inl e) = ap Some e
       go (inr (inl less)) = absurd (distinct i j p.0.name q.0.name less (named_at i p.0 p.1) (named_at j q.0 q.1) same)
       go (inr (inr less)) = absurd (distinct j i q.0.name p.0.name less (named_at j q.0 q.1) (named_at i p.0 p.1) (sym same))
 
+  -- and rows are found in one way
+  one_row_key : (a b : RowKeyData) → IsRowKey options keys columns a → IsRowKey options keys columns b → a ≡ b
+  one_row_key (RowKeyData.Rowid i) (RowKeyData.Rowid j) p q = ap RowKeyData.Rowid (one_rowid i j p.1 q.1)
+  one_row_key (RowKeyData.Rowid i) (RowKeyData.Primary ys) p q = absurd (p.0 q.0)
+  one_row_key (RowKeyData.Primary xs) (RowKeyData.Rowid j) p q = absurd (q.0 p.0)
+  one_row_key (RowKeyData.Primary xs) (RowKeyData.Primary ys) p q =
+      let both : p.1.key ∷ [] ≡ q.1.key ∷ [] = sym p.1.primary.0 ∙ q.1.primary.0 in
+      let same : p.1.key ≡ q.1.key = cc in
+      ap RowKeyData.Primary
+      (zip_same (IsPlaceOf (column_names columns)) (one_place (column_names columns) distinct) q.1.key.columns xs ys
+      (subst (λ (k : KeyData). AllZip (IsPlaceOf (column_names columns)) k.columns xs) same p.1.places_are) q.1.places_are)
+
 one_created : (tree : TableTree) (a b : TableData) → IsTable tree a → IsTable tree b → a.root ≡ b.root → a ≡ b
 one_created tree a b p q root =
     let name : a.name ≡ b.name = p.name_is ∙ sym q.name_is in
     let keys = keys_of tree in
     let columns : a.columns ≡ b.columns =
-    zip_same (IsColumn keys) (one_column keys) tree.columns a.columns b.columns p.columns_are q.columns_are in
-    let rowid : a.rowid ≡ b.rowid =
-    one_place tree.columns keys p.distinct p.keys_are.apart a.rowid b.rowid p.rowid_is q.rowid_is in
-    λ i. record { name = name i; root = root i; columns = columns i; rowid = rowid i }
+    zip_same (IsColumn tree.options keys) (one_column tree.options keys) tree.columns a.columns b.columns p.columns_are q.columns_are in
+    let key : a.key ≡ b.key =
+    one_row_key tree.options tree.columns keys p.distinct p.keys_are.apart a.key b.key p.key_is q.key_is in
+    λ i. record { name = name i; root = root i; columns = columns i; key = key i }
 
 pub one_table : (pages : ℕ) (row : Row) (a b : TableData) → SaysTable pages row a → SaysTable pages row b → a ≡ b
 one_table pages row a b x y =

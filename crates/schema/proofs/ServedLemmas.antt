@@ -10,9 +10,8 @@ use Rattle.create_trees.specs.declared.create.Column.{Column}
 use Rattle.create_trees.specs.declared.create.CreateTable.{CreateTable}
 use Rattle.create_trees.specs.declared.create.TableConstraint.{TableConstraint}
 use Rattle.create_trees.specs.declared.create.TableOption.{TableOption}
-use Rattle.create_trees.specs.declared.create.TableOption.TheVariants.{Strict}
 use Rattle.schema.proofs.ListLemmas.{all_from_map, any_at}
-use Rattle.schema.specs.Created.{AreColumns, IsNamedIn, IsServedIn, IsTable}
+use Rattle.schema.specs.Created.{AreColumns, AreOptions, IsNamedIn, IsServedIn, IsTable}
 use Rattle.schema.specs.Names.{AreDistinct, IsSameName}
 use Rattle.schema.specs.TableData.{TableData}
 
@@ -61,13 +60,13 @@ module _ {X : Type 0} (name_of : X → Name) (columns : List ColumnTree) (names 
 
 module _ (created : CreateTable) where
   pub other_options : (options : List TableOption) (found : Bool) → options ≡ created.options.items
-      → IsTrue found ↔ (options ≡ Strict ∷ []) → found ≡ false → (table : TableData) → ¬ IsTable (table_of created) table
+      → IsTrue found ↔ AreOptions options → found ≡ false → (table : TableData) → ¬ IsTable (table_of created) table
   other_options options found e tested none table is =
-      let h : found ≡ true = tested.1 (e ∙ is.options_are) in absurd cc
+      let h : found ≡ true = tested.1 (subst AreOptions (sym e) is.options_are) in absurd cc
 
   pub options_are : (options : List TableOption) (found : Bool) → options ≡ created.options.items
-      → IsTrue found ↔ (options ≡ Strict ∷ []) → found ≡ true → created.options.items ≡ Strict ∷ []
-  options_are options found e tested all = sym e ∙ tested.0 all
+      → IsTrue found ↔ AreOptions options → found ≡ true → AreOptions created.options.items
+  options_are options found e tested all = subst AreOptions e (tested.0 all)
 
   module _ (columns : List Column) (constraints : List TableConstraint) (found : Bool)
       (e : columns ≡ created.columns.items) (f : constraints ≡ created.constraints.items)

@@ -1,14 +1,15 @@
--- The table that a CREATE TABLE makes. (CREATE TABLE; STRICT Tables; ROWIDs and the INTEGER PRIMARY KEY)
+-- The table that a CREATE TABLE makes. (CREATE TABLE; STRICT Tables; ROWIDs and the INTEGER PRIMARY KEY; WITHOUT ROWID Tables)
 use Rattle.std.specs.Prelude.{◌≡◌, ◌↔◌, ◌⊎◌, Bool, true, false, IsTrue, ℕ, All, Contains, List, [], ◌∷◌, codes, map, slice_get, Option, None, Some}
 use Rattle.std.specs.List.{AllZip, Any}
 use Rattle.create_trees.specs.CreateTrees.{ConstraintTree, ColumnTree, IndexedColumnTree, TableConstraintTree, TableTree}
 use Rattle.declared_keys.specs.Keys.{KeyData, keys_of}
 use Rattle.schema.specs.Missing.{IsMissing}
-use Rattle.schema.specs.TableData.{ColumnData, TableData}
+use Rattle.schema.specs.TableData.{ColumnData, RowKeyData, TableData}
 use Rattle.create_trees.specs.declared.create.KeyOrder.TheVariants.{Ascending}
 use Rattle.syntax.specs.Tree.{Name}
-use Rattle.create_trees.specs.declared.create.TableOption.TheVariants.{Strict}
-use Rattle.schema.specs.Names.{AreApart, AreDistinct, IsReserved, IsSameName}
+use Rattle.create_trees.specs.declared.create.TableOption.{TableOption}
+use Rattle.create_trees.specs.declared.create.TableOption.TheVariants.{Strict, WithoutRowid}
+use Rattle.schema.specs.Names.{AreApart, AreDistinct, IsPlaceOf, IsReserved, IsSameName}
 use Rattle.schema.specs.Types.{IsInteger, IsType}
 
 -- NOT NULL
@@ -24,6 +25,19 @@ IsServed _ = Unit {0}
 
 abbrev pub AreServed : ColumnTree → Type 0
 AreServed column = All IsServed column.constraints
+
+-- what may stand behind the columns: STRICT, alone or beside WITHOUT ROWID
+abbrev pub AreOptions : List TableOption → Type 0
+AreOptions options =
+    (options ≡ Strict ∷ []) ⊎ ((options ≡ Strict ∷ WithoutRowid ∷ []) ⊎ (options ≡ WithoutRowid ∷ Strict ∷ []))
+
+-- a table of these options has no rowids
+abbrev pub IsRowless : List TableOption → Type 0
+IsRowless options = Any (λ o. o ≡ WithoutRowid) options
+
+-- the names of columns, in their order
+abbrev pub column_names : List ColumnTree → List Name
+column_names columns = map (λ c. c.name) columns
 
 -- one of the columns has this name
 abbrev pub IsNamedIn : List ColumnTree → Name → Type 0
@@ -63,41 +77,58 @@ pub record AreKeys (columns : List ColumnTree) (keys : List KeyData) : Type 0 wh
 abbrev pub IsKeyOf : Name → KeyData → Type 0
 IsKeyOf name key = (key.is_primary ≡ true) × AllZip IsSameName key.columns (name ∷ [])
 
--- a column that is the rowid: it is INTEGER, and alone the PRIMARY KEY
-abbrev pub IsRowid : List KeyData → ColumnTree → Type 0
-IsRowid keys column = IsInteger column.ty × Any (IsKeyOf column.name) keys
+-- a column that is the rowid: the table has rowids, it is INTEGER, and alone the PRIMARY KEY
+abbrev pub IsRowid : List TableOption → List KeyData → ColumnTree → Type 0
+IsRowid options keys column = (¬ IsRowless options) × IsInteger column.ty × Any (IsKeyOf column.name) keys
 
 -- PRIMARY KEY of a column of this name, maybe with others
 abbrev pub HasColumn : Name → KeyData → Type 0
 HasColumn name key = (key.is_primary ≡ true) × Any (λ n. IsSameName n name) key.columns
 
 -- no value of a column is NULL: NOT NULL says so, or it is of the PRIMARY KEY, and isn't the rowid (STRICT Tables)
-abbrev pub IsNotNull : List KeyData → ColumnTree → Type 0
-IsNotNull keys column =
-    Contains column.constraints ConstraintTree.NotNull ⊎ (Any (HasColumn column.name) keys × (¬ IsRowid keys column))
+abbrev pub IsNotNull : List TableOption → List KeyData → ColumnTree → Type 0
+IsNotNull options keys column =
+    Contains column.constraints ConstraintTree.NotNull ⊎ (Any (HasColumn column.name) keys × (¬ IsRowid options keys column))
 
--- the column that a column's text declares, in a table of these keys
-pub record IsColumn (keys : List KeyData) (tree : ColumnTree) (column : ColumnData) : Type 0 where
+-- the column that a column's text declares, in a table of these options and keys
+pub record IsColumn (options : List TableOption) (keys : List KeyData) (tree : ColumnTree) (column : ColumnData) : Type 0 where
   pub name_is : column.name ≡ tree.name
   pub ty_is : IsType tree.ty column.ty
-  pub not_null_is : IsTrue column.not_null ↔ IsNotNull keys tree
+  pub not_null_is : IsTrue column.not_null ↔ IsNotNull options keys tree
   pub missing_is : IsMissing tree.constraints column.missing
 
 -- the place of the column that is the rowid, where there is one
-abbrev pub IsRowidPlace : List KeyData → List ColumnTree → Option ℕ → Type 0
-IsRowidPlace keys columns None = All (λ c. ¬ IsRowid keys c) columns
-IsRowidPlace keys columns (Some at) = (column : ColumnTree) × (slice_get columns at ≡ Some column) × IsRowid keys column
+abbrev pub IsRowidPlace : List TableOption → List KeyData → List ColumnTree → Option ℕ → Type 0
+IsRowidPlace options keys columns None = All (λ c. ¬ IsRowid options keys c) columns
+IsRowidPlace options keys columns (Some at) =
+    (column : ColumnTree) × (slice_get columns at ≡ Some column) × IsRowid options keys column
+
+-- PRIMARY KEY is the only key
+abbrev pub IsOnlyPrimary : List KeyData → KeyData → Type 0
+IsOnlyPrimary keys key = (keys ≡ key ∷ []) × (key.is_primary ≡ true)
+
+-- these are the places of the columns of the PRIMARY KEY, which is the only key
+pub record IsKeyPlaces (keys : List KeyData) (columns : List ColumnTree) (places : List ℕ) : Type 0 where
+  pub key : KeyData
+  pub primary : IsOnlyPrimary keys key
+  pub places_are : AllZip (IsPlaceOf (column_names columns)) key.columns places
+
+-- How the rows of a table of these columns are found: by their rowids, or WITHOUT ROWID by the PRIMARY KEY, beside which such a
+-- table has no key.
+abbrev pub IsRowKey : List TableOption → List KeyData → List ColumnTree → RowKeyData → Type 0
+IsRowKey options keys columns (RowKeyData.Rowid place) = (¬ IsRowless options) × IsRowidPlace options keys columns place
+IsRowKey options keys columns (RowKeyData.Primary places) = IsRowless options × IsKeyPlaces keys columns places
 
 -- A table of this text. Its columns have different names, and its keys are of its columns: PRIMARY KEY stands once at most,
--- and no two keys are of the same columns. There is no DESC, no AUTOINCREMENT, no collation but BINARY, and no option but
--- STRICT; a FOREIGN KEY names columns of the table, each once.
+-- and no two keys are of the same columns. There is no DESC, no AUTOINCREMENT and no collation but BINARY; STRICT stands there,
+-- and WITHOUT ROWID where PRIMARY KEY is the only key; a FOREIGN KEY names columns of the table, each once.
 pub record IsTable (tree : TableTree) (table : TableData) : Type 0 where
   pub name_is : table.name ≡ tree.name
   pub unreserved : ¬ IsReserved tree.name
-  pub columns_are : AllZip (IsColumn (keys_of tree)) tree.columns table.columns
-  pub distinct : AreDistinct (map (λ c. c.name) tree.columns)
+  pub columns_are : AllZip (IsColumn tree.options (keys_of tree)) tree.columns table.columns
+  pub distinct : AreDistinct (column_names tree.columns)
   pub served : All AreServed tree.columns
   pub served_in : All (IsServedIn tree.columns) tree.constraints
   pub keys_are : AreKeys tree.columns (keys_of tree)
-  pub options_are : tree.options ≡ Strict ∷ []
-  pub rowid_is : IsRowidPlace (keys_of tree) tree.columns table.rowid
+  pub options_are : AreOptions tree.options
+  pub key_is : IsRowKey tree.options (keys_of tree) tree.columns table.key

@@ -10,6 +10,12 @@ IsSameName a b = map to_ascii_lowercase a ≡ map to_ascii_lowercase b
 abbrev pub same_name : Name → Name → Bool
 same_name a b = bytes_eq (map to_ascii_lowercase a) (map to_ascii_lowercase b)
 
+-- the name at this place is this one
+pub record IsPlaceOf (names : List Name) (name : Name) (place : ℕ) : Type 0 where
+  pub other : Name
+  pub stands : slice_get names place ≡ Some other
+  pub named : IsSameName other name
+
 -- of no two of these, one before the other, the relation holds
 abbrev pub AreApart : {A : Type 0} → (A → A → Type 0) → List A → Type 0
 AreApart {A = A} R xs = (i j : ℕ) (a b : A) → i < j → slice_get xs i ≡ Some a → slice_get xs j ≡ Some b → ¬ R a b

@@ -1,5 +1,5 @@
 -- What is known of a table: its name, where its tree is, and its columns. (Database File Format, section 2.6)
-use Rattle.std.specs.Prelude.{Bool, false, ℕ, ◌<◌, List, [], ◌∷◌, codes, Option, None, Some}
+use Rattle.std.specs.Prelude.{Bool, false, ℕ, ◌<◌, All, List, [], ◌∷◌, codes, Option, None, Some}
 use Rattle.values.specs.Datum.{Datum}
 use Rattle.values.specs.declared.value.Ty.{Ty}
 use Rattle.values.specs.declared.value.Ty.TheVariants.{Int, Text}
@@ -19,18 +19,42 @@ pub record ColumnData : Type 0 where
   pub not_null : Bool
   pub missing : MissingData
 
--- A table: its name as it was declared, the page at the root of its tree, its columns, and the place of the column
--- that is the rowid, where there is one.
+-- How the rows of a table are found in its tree: by their rowids, with the place of the column that is the rowid, where there is
+-- one; or by the columns of the PRIMARY KEY at these places, in the key's order. (ROWIDs and the INTEGER PRIMARY KEY; WITHOUT
+-- ROWID Tables)
+pub data RowKeyData : Type 0 where
+  Rowid : Option ℕ → RowKeyData
+  Primary : List ℕ → RowKeyData
+
+-- A table: its name as it was declared, the page at the root of its tree, its columns, and how its rows are found.
 pub record TableData : Type 0 where
   pub name : Name
   pub root : ℕ
   pub columns : List ColumnData
-  pub rowid : Option ℕ
+  pub key : RowKeyData
+
+-- a table whose rows have rowids
+abbrev pub IsByRowid : RowKeyData → Type 0
+IsByRowid (RowKeyData.Rowid place) = Unit {0}
+IsByRowid (RowKeyData.Primary places) = ⊥
+
+abbrev pub HasRowids : TableData → Type 0
+HasRowids table = IsByRowid table.key
+
+-- the place of the column that is the rowid, where there is one
+abbrev pub rowid_of : RowKeyData → Option ℕ
+rowid_of (RowKeyData.Rowid place) = place
+rowid_of (RowKeyData.Primary places) = None
 
 -- a place, where there is one, is that of one of so many columns
 abbrev pub IsPlaceIn : Option ℕ → ℕ → Type 0
 IsPlaceIn None count = Unit {0}
 IsPlaceIn (Some at) count = at < count
+
+-- the places that a key names are those of some of so many columns
+abbrev pub IsKeyWithin : RowKeyData → ℕ → Type 0
+IsKeyWithin (RowKeyData.Rowid place) count = IsPlaceIn place count
+IsKeyWithin (RowKeyData.Primary places) count = All (λ place. place < count) places
 
 -- a column of the schema's table, in which each row has its own value or NULL
 abbrev pub nullable : Name → Ty → ColumnData
@@ -43,5 +67,5 @@ schema_table = record {
   root = 1;
   columns = nullable (codes "type") Text ∷ nullable (codes "name") Text ∷ nullable (codes "tbl_name") Text
       ∷ nullable (codes "rootpage") Int ∷ nullable (codes "sql") Text ∷ [];
-  rowid = None;
+  key = RowKeyData.Rowid None;
 }

@@ -10,12 +10,14 @@ ghost use Rattle.schema.specs.Names.{AreDistinct, IsReserved, IsSameName};
 ghost use Rattle.schema.specs.Refused.{IsRefused};
 ghost use Rattle.schema.specs.TableData.{ColumnData};
 
-use crate::keys::{are_keys, is_in_primary, is_rowid, rowid_place};
+use crate::keys::{are_keys, is_in_primary, is_rowid, row_key};
 use crate::missing::missing_by;
-use crate::served::{constraints_are_served, has_rowids};
+use crate::served::{are_options, constraints_are_served};
 use crate::types::type_of;
 use crate::{Column, Table};
-use create_trees::{Column as ColumnDefinition, ColumnConstraint, CreateTable, KeyOrder};
+use create_trees::{
+    Column as ColumnDefinition, ColumnConstraint, CreateTable, KeyOrder, TableOption,
+};
 use declared_keys::{Key, keys_of};
 use std::alloc::Global;
 use values::Fault;
@@ -111,20 +113,26 @@ fn is_declared_not_null(column: &ColumnDefinition) -> bool
         .any(|constraint| demands_value(constraint))
 }
 
-/// Whether no value of a column may be NULL, in a table of these keys. (STRICT Tables)
-fn is_not_null(keys: &[Key], column: &ColumnDefinition) -> bool
-    ensures { IsTrue result ↔ IsNotNull (map key_data keys.now) (column_of column.now) }
+/// Whether no value of a column may be NULL, in a table of these options and keys. (STRICT Tables; WITHOUT ROWID Tables)
+fn is_not_null(options: &[TableOption], keys: &[Key], column: &ColumnDefinition) -> bool
+    ensures { IsTrue result ↔ IsNotNull options.now (map key_data keys.now) (column_of column.now) }
 {
     is_declared_not_null(column)
-        || (is_in_primary(keys, column.name.as_str()) && !is_rowid(keys, column))
+        || (is_in_primary(keys, column.name.as_str()) && !is_rowid(options, keys, column))
 }
 
-/// The column that a definition declares, in a table of these keys; `None` where its type isn't served. (STRICT Tables)
-fn column_from(keys: &[Key], definition: ColumnDefinition) -> Option<Column>
-    ensures found { IfSome result (IsColumn (map key_data keys.now) (column_of definition)) }
-    ensures none { IfNone result ((column : ColumnData) → ¬ IsColumn (map key_data keys.now) (column_of definition) column) }
+/// The column that a definition declares, in a table of these options and keys; `None` where its type isn't served. (STRICT
+/// Tables)
+fn column_from(
+    options: &[TableOption],
+    keys: &[Key],
+    definition: ColumnDefinition,
+) -> Option<Column>
+    ensures found { IfSome result (IsColumn options.now (map key_data keys.now) (column_of definition)) }
+    ensures none { IfNone result ((column : ColumnData)
+        → ¬ IsColumn options.now (map key_data keys.now) (column_of definition) column) }
 {
-    let not_null = is_not_null(keys, &definition);
+    let not_null = is_not_null(options, keys, &definition);
     let ColumnDefinition {
         name,
         ty,
@@ -139,20 +147,22 @@ fn column_from(keys: &[Key], definition: ColumnDefinition) -> Option<Column>
     })
 }
 
-/// The columns that the definitions declare, in a table of these keys. The fault is `NotYet` where a type isn't served, or
-/// `NoMemory`.
+/// The columns that the definitions declare, in a table of these options and keys. The fault is `NotYet` where a type isn't
+/// served, or `NoMemory`.
 fn columns_from(
     alloc: Global,
+    options: &[TableOption],
     keys: &[Key],
     definitions: Vec<ColumnDefinition>,
 ) -> Result<Vec<Column>, Fault>
-    ensures made { IfOk result (λ columns. AllZip (IsColumn (map key_data keys.now)) (map column_of definitions.items) columns.items) }
-    ensures refused { IfErr result (IsRefused
-        (λ (columns : List ColumnData). AllZip (IsColumn (map key_data keys.now)) (map column_of definitions.items) columns)) }
+    ensures made { IfOk result (λ columns. AllZip (IsColumn options.now (map key_data keys.now)) (map column_of definitions.items)
+        columns.items) }
+    ensures refused { IfErr result (IsRefused (λ (columns : List ColumnData). AllZip (IsColumn options.now (map key_data keys.now))
+        (map column_of definitions.items) columns)) }
 {
     let mut columns = Vec::with_capacity(alloc, definitions.len())?;
     for definition in definitions {
-        let Some(column) = column_from(keys, definition) else {
+        let Some(column) = column_from(options, keys, definition) else {
             return Err(Fault::NotYet);
         };
         columns.push(column)?;
@@ -161,8 +171,8 @@ fn columns_from(
 }
 
 /// The table that a CREATE TABLE makes, whose tree has this root. (CREATE TABLE) The fault is `NotYet` where it makes
-/// none: its name is reserved, two columns have one name, a type, a constraint or an option isn't served, or its keys aren't
-/// of its columns, or are two where there may be one; or `NoMemory`.
+/// none: its name is reserved, two columns have one name, a type, a constraint or an option isn't served, its keys aren't of its
+/// columns, or are two where there may be one, or it has no rowids, and PRIMARY KEY isn't its only key; or `NoMemory`.
 pub fn table_from(alloc: Global, created: CreateTable, root: u32) -> Result<Table, Fault>
     ensures made { IfOk result (λ table. IsTable (table_of created) table) }
     ensures root { IfOk result (λ table. table.root ≡ root) }
@@ -181,17 +191,20 @@ pub fn table_from(alloc: Global, created: CreateTable, root: u32) -> Result<Tabl
     if !columns_are_served(columns.as_slice()) || !are_keys(columns.as_slice(), keys.as_slice()) {
         return Err(Fault::NotYet);
     }
-    if !has_rowids(options.as_slice())
+    if !are_options(options.as_slice())
         || !constraints_are_served(columns.as_slice(), constraints.as_slice())
     {
         return Err(Fault::NotYet);
     }
-    let rowid = rowid_place(keys.as_slice(), columns.as_slice());
-    let columns = columns_from(alloc, keys.as_slice(), columns)?;
+    let (options, keys) = (options.as_slice(), keys.as_slice());
+    let Some(key) = row_key(alloc, options, keys, columns.as_slice())? else {
+        return Err(Fault::NotYet);
+    };
+    let columns = columns_from(alloc, options, keys, columns)?;
     Ok(Table {
         name,
         root,
         columns,
-        rowid,
+        key,
     })
 }

@@ -1,16 +1,21 @@
 //! The keys of a table.
-ghost use Rattle.std.specs.Prelude.{◌≡◌, ◌↔◌, ◌∷◌, [], All, IsTrue, map, string_bytes};
+ghost use Rattle.std.specs.Prelude.{◌≡◌, ◌↔◌, ◌∷◌, [], All, IfNone, IfOk, IfSome, IsTrue, map, string_bytes};
 ghost use Rattle.std.specs.List.{AllZip, Any};
 ghost use Rattle.create_trees.specs.CreateView.{column_of};
+ghost use Rattle.declared_keys.specs.Keys.{KeyData};
 ghost use Rattle.declared_keys.specs.KeyView.{key_data};
-ghost use Rattle.schema.specs.Created.{AreColumns, AreKeys, Clash, HasColumn, IsKeyOf, IsRowid, IsRowidPlace};
-ghost use Rattle.schema.specs.Names.{AreApart, IsSameName};
+ghost use Rattle.schema.specs.Created.{AreColumns, AreKeys, Clash, HasColumn, IsKeyOf, IsNamedIn, IsOnlyPrimary, IsRowid, IsRowidPlace, IsRowKey, column_names};
+ghost use Rattle.schema.specs.Names.{AreApart, IsPlaceOf, IsSameName};
+ghost use Rattle.schema.specs.RowKeyView.{row_key_of};
+ghost use Rattle.schema.specs.TableData.{RowKeyData};
 
+use crate::RowKey;
 use crate::created::is_same_name;
-use crate::served::{are_columns, contains};
+use crate::served::{are_columns, contains, is_rowless};
 use crate::types::is_integer;
-use create_trees::Column as ColumnDefinition;
+use create_trees::{Column as ColumnDefinition, TableOption};
 use declared_keys::Key;
+use std::alloc::{AllocError, Global};
 
 /// Whether these are the same names, in the same order.
 fn are_same(first: &[String], second: &[String]) -> bool
@@ -113,21 +118,93 @@ fn is_key(keys: &[Key], name: &str) -> bool
     keys.iter().any(|key| is_key_of(key, name))
 }
 
-/// Whether a column is the rowid, in a table of these keys. (ROWIDs and the INTEGER PRIMARY KEY)
-pub(crate) fn is_rowid(keys: &[Key], column: &ColumnDefinition) -> bool
-    ensures { IsTrue result ↔ IsRowid (map key_data keys.now) (column_of column.now) }
+/// Whether a column is the rowid, in a table of these options and keys. (ROWIDs and the INTEGER PRIMARY KEY)
+pub(crate) fn is_rowid(options: &[TableOption], keys: &[Key], column: &ColumnDefinition) -> bool
+    ensures { IsTrue result ↔ IsRowid options.now (map key_data keys.now) (column_of column.now) }
 {
-    is_integer(column) && is_key(keys, column.name.as_str())
+    !is_rowless(options) && is_integer(column) && is_key(keys, column.name.as_str())
 }
 
 /// The place of the column that is the rowid, where there is one. (ROWIDs and the INTEGER PRIMARY KEY)
-pub(crate) fn rowid_place(keys: &[Key], columns: &[ColumnDefinition]) -> Option<usize>
-    ensures { IsRowidPlace (map key_data keys.now) (map column_of columns.now) result }
+fn rowid_place(options: &[TableOption], keys: &[Key], columns: &[ColumnDefinition]) -> Option<usize>
+    ensures { IsRowidPlace options.now (map key_data keys.now) (map column_of columns.now) result }
 {
     for (place, column) in columns.iter().enumerate() {
-        if is_rowid(keys, column) {
+        if is_rowid(options, keys, column) {
             return Some(place);
         }
     }
     None
+}
+
+/// The PRIMARY KEY, where it is the only key.
+fn only_primary(keys: &[Key]) -> Option<&Key>
+    ensures found { IfSome result (λ key. IsOnlyPrimary (map key_data keys.now) (key_data key.now)) }
+    ensures none { IfNone result ((key : KeyData) → ¬ IsOnlyPrimary (map key_data keys.now) key) }
+{
+    match keys {
+        [key] if key.is_primary => Some(key),
+        _ => None,
+    }
+}
+
+/// The place of the first column of this name.
+fn place_of(columns: &[ColumnDefinition], name: &str) -> Option<usize>
+    ensures found { IfSome result (IsPlaceOf (column_names (map column_of columns.now)) name.now) }
+    ensures none { IfNone result (¬ IsNamedIn (map column_of columns.now) name.now) }
+{
+    for (place, column) in columns.iter().enumerate() {
+        if is_same_name(column.name.as_str(), name) {
+            return Some(place);
+        }
+    }
+    None
+}
+
+/// The place of the column that is called so.
+fn column_place(columns: &[ColumnDefinition], name: &str) -> usize
+    requires { IsNamedIn (map column_of columns.now) name.now }
+    ensures { IsPlaceOf (column_names (map column_of columns.now)) name.now result }
+{
+    place_of(columns, name).unwrap()
+}
+
+/// The places of the columns that are called so.
+fn key_places(
+    alloc: Global,
+    columns: &[ColumnDefinition],
+    names: &[String],
+) -> Result<Vec<usize>, AllocError>
+    requires { All (IsNamedIn (map column_of columns.now)) (map (λ n. string_bytes n) names.now) }
+    ensures { IfOk result (λ places. AllZip (IsPlaceOf (column_names (map column_of columns.now)))
+        (map (λ n. string_bytes n) names.now) places.items) }
+{
+    let mut places = Vec::with_capacity(alloc, names.len())?;
+    for name in names {
+        places.push(column_place(columns, name.as_str()))?;
+    }
+    Ok(places)
+}
+
+/// How the rows of a table of these columns are found; `None` where it has no rowids, and PRIMARY KEY isn't its only key.
+pub(crate) fn row_key(
+    alloc: Global,
+    options: &[TableOption],
+    keys: &[Key],
+    columns: &[ColumnDefinition],
+) -> Result<Option<RowKey>, AllocError>
+    requires { AreKeys (map column_of columns.now) (map key_data keys.now) }
+    ensures found { IfOk result (λ found. IfSome found (λ key. IsRowKey options.now (map key_data keys.now) (map column_of columns.now)
+        (row_key_of key))) }
+    ensures none { IfOk result (λ found. IfNone found ((key : RowKeyData)
+        → ¬ IsRowKey options.now (map key_data keys.now) (map column_of columns.now) key)) }
+{
+    if !is_rowless(options) {
+        return Ok(Some(RowKey::Rowid(rowid_place(options, keys, columns))));
+    }
+    let Some(key) = only_primary(keys) else {
+        return Ok(None);
+    };
+    let places = key_places(alloc, columns, key.columns.as_slice())?;
+    Ok(Some(RowKey::Primary(places)))
 }

@@ -2,7 +2,7 @@
 ghost use Rattle.std.specs.Prelude.{◌≡◌, ◌↔◌, ◌∷◌, [], All, IsTrue, map, option_map, string_bytes};
 ghost use Rattle.std.specs.List.{Any};
 ghost use Rattle.create_trees.specs.CreateView.{column_of, indexed_of, table_constraint_of};
-ghost use Rattle.schema.specs.Created.{AreColumns, IsBinary, IsNamedIn, IsPlain, IsServedIn};
+ghost use Rattle.schema.specs.Created.{AreColumns, AreOptions, IsBinary, IsNamedIn, IsPlain, IsRowless, IsServedIn};
 ghost use Rattle.schema.specs.Names.{AreDistinct, IsSameName};
 
 use crate::created::{is_named, is_same_name};
@@ -10,11 +10,25 @@ use create_trees::{
     Column as ColumnDefinition, IndexedColumn, KeyOrder, TableConstraint, TableOption,
 };
 
-/// Whether a table of these options is STRICT and has rowids. (STRICT Tables; WITHOUT ROWID Tables)
-pub(crate) fn has_rowids(options: &[TableOption]) -> bool
-    ensures { IsTrue result ↔ (options.now ≡ TableOption.Strict ∷ []) }
+/// Whether STRICT stands behind the columns, alone or beside WITHOUT ROWID. (STRICT Tables; WITHOUT ROWID Tables)
+pub(crate) fn are_options(options: &[TableOption]) -> bool
+    ensures { IsTrue result ↔ AreOptions options.now }
 {
-    matches!(options, [TableOption::Strict])
+    matches!(
+        options,
+        [TableOption::Strict]
+            | [TableOption::Strict, TableOption::WithoutRowid]
+            | [TableOption::WithoutRowid, TableOption::Strict]
+    )
+}
+
+/// Whether a table of these options has no rowids. (WITHOUT ROWID Tables)
+pub fn is_rowless(options: &[TableOption]) -> bool
+    ensures { IsTrue result ↔ IsRowless options.now }
+{
+    options
+        .iter()
+        .any(|option| matches!(option, TableOption::WithoutRowid))
 }
 
 /// Whether one of the names is this one.

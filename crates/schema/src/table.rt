@@ -1,9 +1,10 @@
 //! Tables and their columns.
-ghost use Rattle.std.specs.Prelude.{◌≡◌, IfOk, length};
+ghost use Rattle.std.specs.Prelude.{◌≡◌, ◌↔◌, IfOk, IsTrue, length};
 ghost use Rattle.schema.specs.MissingView.{missing_of};
-ghost use Rattle.schema.specs.TableData.{IsPlaceIn, nullable, schema_table};
+ghost use Rattle.schema.specs.RowKeyView.{row_key_of};
+ghost use Rattle.schema.specs.TableData.{HasRowids, IsKeyWithin, IsPlaceIn, nullable, rowid_of, schema_table};
 
-use crate::Missing;
+use crate::{Missing, RowKey};
 use std::alloc::{AllocError, Global};
 use std::marker::Model;
 use values::Ty;
@@ -76,18 +77,19 @@ pub struct Table {
     pub(crate) name: String,
     pub(crate) root: u32,
     pub(crate) columns: Vec<Column>,
-    pub(crate) rowid: Option<usize>,
+    pub(crate) key: RowKey,
 }
 
 impl Model for Table {
     ghost use Rattle.std.specs.Prelude.{length, map, string_bytes};
-    ghost use Rattle.schema.specs.TableData.{IsPlaceIn, TableData};
+    ghost use Rattle.schema.specs.RowKeyView.{row_key_of};
+    ghost use Rattle.schema.specs.TableData.{IsKeyWithin, TableData};
 
     ghost Value = { TableData };
 
-    ghost view = { λ t. record { name = string_bytes t.name; root = t.root; columns = t.columns.items; rowid = t.rowid } };
+    ghost view = { λ t. record { name = string_bytes t.name; root = t.root; columns = t.columns.items; key = row_key_of t.key } };
 
-    ghost invariant = { λ t. IsPlaceIn t.rowid (length t.columns.items) };
+    ghost invariant = { λ t. IsKeyWithin (row_key_of t.key) (length t.columns.items) };
 }
 
 impl Table {
@@ -106,7 +108,7 @@ impl Table {
             name,
             root: 1,
             columns,
-            rowid: None,
+            key: RowKey::Rowid(None),
         })
     }
 
@@ -133,9 +135,27 @@ impl Table {
 
     /// The place of the column that is the rowid, where there is one. (ROWIDs and the INTEGER PRIMARY KEY)
     pub fn rowid(&self) -> Option<usize>
-        ensures same { result ≡ self.now.rowid }
+        ensures same { result ≡ rowid_of self.now.key }
         ensures within { IsPlaceIn result (length self.now.columns) }
     {
-        self.rowid
+        match &self.key {
+            RowKey::Rowid(place) => *place,
+            RowKey::Primary(_) => None,
+        }
+    }
+
+    /// Whether the rows have rowids. (WITHOUT ROWID Tables)
+    pub fn has_rowids(&self) -> bool
+        ensures { IsTrue result ↔ HasRowids self.now }
+    {
+        matches!(self.key, RowKey::Rowid(_))
+    }
+
+    /// How the rows are found in the table's tree.
+    pub fn key(&self) -> &RowKey
+        ensures same { row_key_of result.now ≡ self.now.key }
+        ensures within { IsKeyWithin (row_key_of result.now) (length self.now.columns) }
+    {
+        &self.key
     }
 }

@@ -6,7 +6,7 @@ use Rattle.values.specs.Datum.{Datum, datum_of_ref, null}
 use Rattle.values.specs.declared.value.ValueRef.{ValueRef}
 use Rattle.stored_rows.proofs.RowLemmas.{take_next}
 use Rattle.std.specs.Option.{option_map}
-use Rattle.schema.specs.TableData.{ColumnData, MissingData, TableData}
+use Rattle.schema.specs.TableData.{ColumnData, MissingData, TableData, rowid_of}
 use Rattle.stored_rows.specs.Stored.{filled_values, older_values, without_rowid}
 
 fill_same : (x y : Datum) → MissingData.Fill x ≡ MissingData.Fill y → x ≡ y
@@ -92,7 +92,7 @@ length-without None xs = refl
 length-without (Some at) xs = length-slice_set xs at (MissingData.Fill null)
 
 pub length-older : (table : TableData) → length (older_values table) ≡ length table.columns
-length-older table = length-without table.rowid (map (λ c. c.missing) table.columns) ∙ length-map table.columns (λ c. c.missing)
+length-older table = length-without (rowid_of table.key) (map (λ c. c.missing) table.columns) ∙ length-map table.columns (λ c. c.missing)
 
 -- as many as the table has columns
 pub length-filled : (table : TableData) (values : List Datum) → length values ≤ length table.columns

@@ -22,7 +22,7 @@ use Rattle.image.proofs.ChainLemmas.{one_payload}
 use Rattle.image.proofs.ListLemmas.{cons_cases, in_head, in_none, in_tail}
 use Rattle.image.proofs.TableLemmas.{leaf_place, rowids}
 use Rattle.schema.proofs.OneLemmas.{zip_same}
-use Rattle.schema.specs.TableData.{MissingData, TableData}
+use Rattle.schema.specs.TableData.{MissingData, TableData, rowid_of}
 use Rattle.stored_rows.specs.RowFaults.{HasRecordFault, IsCellFault, IsRecordFault}
 use Rattle.stored_rows.specs.Stored.{Fits, HoldsRows, IsNoRow, IsRowFrom, IsRowOf, IsRowRecord, StoresRow, filled_values, row_from}
 use Rattle.stored_rows.proofs.FilledLemmas.{fills_same, none_refused}
@@ -46,7 +46,7 @@ one_record_row table rowid bytes a b one other =
     let values = one_record bytes one.values other.values one.record_is other.record_is in
     let filled =
     fills_same one.makes.filled other.makes.filled (one.makes.filled_is ∙ (λ k. filled_values table (values k)) ∙ sym other.makes.filled_is) in
-    one.makes.row_is ∙ (λ k. row_from table.rowid rowid (filled k)) ∙ sym other.makes.row_is
+    one.makes.row_is ∙ (λ k. row_from (rowid_of table.key) rowid (filled k)) ∙ sym other.makes.row_is
 
 -- a record that is that of a row isn't that of none
 is_some : (table : TableData) (rowid : Option ℤ) (values : List Datum) (row : Row) → IsRowFrom table rowid values row → ¬ IsNoRow table values

@@ -10,7 +10,7 @@ use Rattle.values.specs.Datum.{Datum, datum_of_ref, null, int}
 use Rattle.records.specs.Fields.{AreUnread, Unread}
 use Rattle.records.specs.Record.{IsRecord}
 use Rattle.values.specs.Row.{Row}
-use Rattle.schema.specs.TableData.{ColumnData, MissingData, TableData}
+use Rattle.schema.specs.TableData.{ColumnData, MissingData, TableData, rowid_of}
 use Rattle.stored_rows.specs.Reading.{IsReading, Reading, value_in}
 use Rattle.stored_rows.specs.Stored.{Fits, FitsColumn, IsRowRecord, filled_values, older_values, row_from}
 use Rattle.stored_rows.proofs.FilledLemmas.{behind, drop-all, filled_at, full_filled, length-filled, length-slice_set, not_refused, set_here, set_other, stored_at}
@@ -27,21 +27,21 @@ at_other (Some key) None values column other = refl
 at_other None rowid values column other = refl
 
 -- another of its values
-pub value_stored : (reading : Reading) (row : Row) (column : ℕ) (value : Datum) → IsStoredAt reading.table.rowid reading.rowid column
+pub value_stored : (reading : Reading) (row : Row) (column : ℕ) (value : Datum) → IsStoredAt (rowid_of reading.table.key) reading.rowid column
     → (is : IsReading reading row) → slice_get is.values column ≡ Some value → slice_get row column ≡ Some value
 value_stored reading row column value other is here =
     let m = is.makes in
-    ap (λ (r : Row). slice_get r column) m.row_is ∙ at_other reading.table.rowid reading.rowid m.filled column other
+    ap (λ (r : Row). slice_get r column) m.row_is ∙ at_other (rowid_of reading.table.key) reading.rowid m.filled column other
     ∙ filled_at m.filled (filled_values reading.table is.values) column value m.filled_is
     (stored_at is.values (drop (length is.values) (older_values reading.table)) column value here)
 
 -- and one that its record lacks
-pub value_older : (reading : Reading) (row : Row) (column : ℕ) (value : Datum) → IsStoredAt reading.table.rowid reading.rowid column
+pub value_older : (reading : Reading) (row : Row) (column : ℕ) (value : Datum) → IsStoredAt (rowid_of reading.table.key) reading.rowid column
     → (is : IsReading reading row) → length is.values ≤ column → slice_get (older_values reading.table) column ≡ Some (MissingData.Fill value)
     → slice_get row column ≡ Some value
 value_older reading row column value other is past here =
     let m = is.makes in
-    ap (λ (r : Row). slice_get r column) m.row_is ∙ at_other reading.table.rowid reading.rowid m.filled column other
+    ap (λ (r : Row). slice_get r column) m.row_is ∙ at_other (rowid_of reading.table.key) reading.rowid m.filled column other
     ∙ filled_at m.filled (filled_values reading.table is.values) column value m.filled_is
     (behind is.values (older_values reading.table) column past ∙ here)
 
@@ -56,7 +56,7 @@ abbrev pub IsBehind : Reading → Reading → Reading → ℕ → Type 0
 IsBehind old back now column = (row : Row) → IsReading old row → (is : IsReading back row) × (length is.values ≤ column) × IsReading now row
 
 pub older_found : (old back now : Reading) (column : ℕ) (table : TableData) (found : Option ValueRef) → IsBehind old back now column
-    → IsStoredAt back.table.rowid back.rowid column → table ≡ back.table
+    → IsStoredAt (rowid_of back.table.key) back.rowid column → table ≡ back.table
     → IfSome found (λ value. slice_get (older_values table) column ≡ Some (MissingData.Fill (datum_of_ref value)))
     → IfSome found (λ value. (row : Row) → IsReading old row → (slice_get row column ≡ Some (datum_of_ref value)) × IsReading now row)
 older_found old back now column table None less other same told = tt
@@ -154,7 +154,7 @@ length-row None rowid values = refl
 
 -- a value of a row's record fits its column
 abbrev FitsAt : TableData → Option ℤ → ℕ → Datum → Type 0
-FitsAt table rowid k stored = (column : ColumnData) → slice_get table.columns k ≡ Some column → FitsColumn column (value_in table.rowid rowid k stored)
+FitsAt table rowid k stored = (column : ColumnData) → slice_get table.columns k ≡ Some column → FitsColumn column (value_in (rowid_of table.key) rowid k stored)
 
 -- the first so many fields of a record were read, and are values of their columns
 pub record FirstFit (table : TableData) (rowid : Option ℤ) (payload : List ℕ) (unread : Unread) (count : ℕ) : Type 0 where
@@ -176,7 +176,7 @@ module _ (table : TableData) (rowid : Option ℤ) (payload : List ℕ) where
   pub one_more : (old new : Unread) (count : ℕ) (column : ColumnData) (stored : Datum) → FirstFit table rowid payload old count
       → slice_get table.columns count ≡ Some column
       → ((first : Datum) (others : List Datum) → AreUnread old (first ∷ others) ↔ ((first ≡ stored) × AreUnread new others))
-      → FitsColumn column (value_in table.rowid rowid count stored) → FirstFit table rowid payload new (count + 1)
+      → FitsColumn column (value_in (rowid_of table.key) rowid count stored) → FirstFit table rowid payload new (count + 1)
   one_more old new count column stored so_far here read now = record {
     values = so_far.values ++ stored ∷ [];
     long = long_push so_far.values _ stored count so_far.long refl;
@@ -184,7 +184,7 @@ module _ (table : TableData) (rowid : Option ℤ) (payload : List ℕ) where
         subst (λ (l : List Datum). IsRecord payload l) (sym (append_assoc so_far.values (stored ∷ []) rest))
         (so_far.found (stored ∷ rest) ((read stored rest).1 (refl, unread)));
     fit = each_push (FitsAt table rowid) so_far.values _ stored count so_far.long refl
-        (λ other there. subst (λ (c : ColumnData). FitsColumn c (value_in table.rowid rowid count stored)) (some_is column other (sym here ∙ there)) now) so_far.fit;
+        (λ other there. subst (λ (c : ColumnData). FitsColumn c (value_in (rowid_of table.key) rowid count stored)) (some_is column other (sym here ∙ there)) now) so_far.fit;
   }
     where
       some_is : (x y : ColumnData) → Some x ≡ Some y → x ≡ y
@@ -194,13 +194,13 @@ module _ (table : TableData) (rowid : Option ℤ) (payload : List ℕ) where
       → (row : Row) × IsRowRecord table rowid payload row × Fits table row
   all_read unread all done =
       let whole : IsRecord payload all.values = subst (λ (l : List Datum). IsRecord payload l) (append-nil all.values) (all.found [] done) in (
-        row_from table.rowid rowid all.values,
+        row_from (rowid_of table.key) rowid all.values,
         record { values = all.values; record_is = whole; makes = record { filled = all.values; few = omega (arith, all.long); filled_is = full_filled table all.values all.long; row_is = refl } },
-        all_from_each FitsColumn table.columns (row_from table.rowid rowid all.values) (length-row table.rowid rowid all.values ∙ all.long)
+        all_from_each FitsColumn table.columns (row_from (rowid_of table.key) rowid all.values) (length-row (rowid_of table.key) rowid all.values ∙ all.long)
             (λ k column value within here there.
             let stored = get_or all.values k null in
             let at : slice_get all.values k ≡ Some stored = slice_get-get_or all.values k null (omega (arith, within, all.long)) in
-            subst (λ (v : Datum). FitsColumn column v) (same_some _ _ (sym (row_at table.rowid rowid all.values k stored at) ∙ there)) (all.fit k stored at column here)),
+            subst (λ (v : Datum). FitsColumn column v) (same_some _ _ (sym (row_at (rowid_of table.key) rowid all.values k stored at) ∙ there)) (all.fit k stored at column here)),
       )
     where
       same_some : (x y : Datum) → Some x ≡ Some y → x ≡ y

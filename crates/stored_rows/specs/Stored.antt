@@ -13,7 +13,7 @@ use Rattle.image.specs.Tree.{Place, IsRowAt, Reaches}
 use Rattle.image.specs.Shape.{HasShape, places_under}
 use Rattle.image.specs.Sound.{AreRowsOf}
 use Rattle.values.specs.Row.{Row}
-use Rattle.schema.specs.TableData.{ColumnData, MissingData, TableData}
+use Rattle.schema.specs.TableData.{ColumnData, MissingData, TableData, rowid_of}
 
 -- The row that a record's values are: at the place of the column that is the rowid stands the rowid, whatever is stored
 -- there.
@@ -39,7 +39,7 @@ without_rowid (Some at) missing = slice_set missing at (MissingData.Fill null)
 
 -- what a row that is older than the columns of a table has in each of them
 abbrev pub older_values : TableData → List MissingData
-older_values table = without_rowid table.rowid (map (λ column. column.missing) table.columns)
+older_values table = without_rowid (rowid_of table.key) (map (λ column. column.missing) table.columns)
 
 -- What is in the columns of a table, of a record of these values: they, and behind them what an older row has in the
 -- columns that the record lacks. A NULL that is stored stays one. (ALTER TABLE ADD COLUMN)
@@ -51,7 +51,7 @@ pub record IsRowFrom (table : TableData) (rowid : Option ℤ) (values : List Dat
   pub filled : List Datum
   pub few : length values ≤ length table.columns
   pub filled_is : map MissingData.Fill filled ≡ filled_values table values
-  pub row_is : row ≡ row_from table.rowid rowid filled
+  pub row_is : row ≡ row_from (rowid_of table.key) rowid filled
 
 -- a record of these values is that of no row: there are too many, or a column is lacking whose value isn't known
 abbrev pub IsNoRow : TableData → List Datum → Type 0

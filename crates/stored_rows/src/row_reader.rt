@@ -2,6 +2,7 @@
 ghost use Rattle.std.specs.Prelude.{◌≡◌, ◌<◌, ◌≤◌, IfNone, IfSome, IsFalse, IsTrue, None, Some, length, slice_get};
 ghost use Rattle.values.specs.Datum.{datum_of_ref};
 ghost use Rattle.values.specs.Row.{Row};
+ghost use Rattle.schema.specs.TableData.{rowid_of};
 ghost use Rattle.stored_rows.specs.Reading.{GoesBack, IsReading};
 ghost use Rattle.stored_rows.specs.Stored.{IsRowRecord};
 
@@ -56,8 +57,8 @@ impl<'p> RowReader<'p> {
     /// The rowid, where the row has it in this column.
     #[inline]
     fn rowid_at(&self, column: usize) -> Option<i64>
-        ensures found { IfSome result (λ rowid. (self.now.table.rowid ≡ Some column) × (self.now.rowid ≡ Some rowid)) }
-        ensures none { IfNone result (self.now.table.rowid ≡ Some column → self.now.rowid ≡ None) }
+        ensures found { IfSome result (λ rowid. (rowid_of self.now.table.key ≡ Some column) × (self.now.rowid ≡ Some rowid)) }
+        ensures none { IfNone result (rowid_of self.now.table.key ≡ Some column → self.now.rowid ≡ None) }
     {
         match (self.table.rowid(), self.rowid) {
             (Some(key), Some(rowid)) if key == column => Some(rowid),

@@ -3,7 +3,7 @@
 use Rattle.std.specs.Prelude.{◌≡◌, true, ℕ, ◌+◌, List, [], ◌∷◌}
 use Rattle.std.specs.List.{Any}
 use Rattle.create_trees.specs.CreateTrees.{ColumnTree, TableTree}
-use Rattle.create_trees.specs.declared.create.TableOption.TheVariants.{WithoutRowid}
+use Rattle.schema.specs.Created.{IsRowless}
 use Rattle.schema.specs.Names.{IsSameName}
 use Rattle.schema.specs.Types.{IsInteger}
 use Rattle.syntax.specs.Tree.{Name}
@@ -13,10 +13,6 @@ use Rattle.declared_keys.specs.Keys.{KeyData}
 pub record AutomaticData : Type 0 where
   pub number : ℕ
   pub columns : List Name
-
--- the table is one WITHOUT ROWID
-abbrev pub IsRowless : TableTree → Type 0
-IsRowless tree = Any (λ o. o ≡ WithoutRowid) tree.options
 
 -- one of the columns is called so, and is INTEGER
 abbrev pub IsIntegerIn : List ColumnTree → Name → Type 0
@@ -35,7 +31,7 @@ pub record IsIntegerKey (tree : TableTree) (key : KeyData) : Type 0 where
 -- another PRIMARY KEY of a table without rowids: the table's own tree is by this key
 pub record IsTableKey (tree : TableTree) (key : KeyData) : Type 0 where
   pub primary_is : key.is_primary ≡ true
-  pub rowless : IsRowless tree
+  pub rowless : IsRowless tree.options
   pub other : ¬ IsIntegerKey tree key
 
 -- Keys in textual order, the first of which takes this number if it takes one, and the indexes that SQLite makes for them: one

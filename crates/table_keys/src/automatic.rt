@@ -1,13 +1,13 @@
 //! The indexes that SQLite makes for keys.
 ghost use Rattle.std.specs.Prelude.{◌↔◌, IfOk, IsTrue, map, string_bytes};
 ghost use Rattle.create_trees.specs.CreateView.{column_of, table_of};
-ghost use Rattle.table_keys.specs.Automatic.{IsIntegerIn, IsIntegerKey, IsOneInteger, IsRowless, IsTableKey, WantIndexes};
+ghost use Rattle.table_keys.specs.Automatic.{IsIntegerIn, IsIntegerKey, IsOneInteger, IsTableKey, WantIndexes};
 ghost use Rattle.declared_keys.specs.KeyView.{key_data};
 ghost use Rattle.table_keys.specs.AutomaticView.{automatic_data};
 
-use create_trees::{Column, CreateTable, TableOption};
+use create_trees::{Column, CreateTable};
 use declared_keys::Key;
-use schema::{is_integer, is_same_name};
+use schema::{is_integer, is_rowless, is_same_name};
 use std::alloc::{AllocError, Global};
 
 /// An index that SQLite makes for a key of a table. (CREATE TABLE, "UNIQUE constraints")
@@ -16,16 +16,6 @@ pub struct AutomaticIndex<'k> {
     /// The number in its name, from 1.
     pub number: usize,
     pub key: &'k Key,
-}
-
-/// Whether a table has no rowids. (WITHOUT ROWID Tables)
-pub fn is_rowless(created: &CreateTable) -> bool
-    ensures { IsTrue result ↔ IsRowless (table_of created.now) }
-{
-    created
-        .options
-        .iter()
-        .any(|option| matches!(option, TableOption::WithoutRowid))
 }
 
 /// Whether one of the columns is called so, and is INTEGER.
@@ -56,7 +46,7 @@ fn is_integer_key(created: &CreateTable, key: &Key) -> bool
 fn is_table_key(created: &CreateTable, key: &Key) -> bool
     ensures { IsTrue result ↔ IsTableKey (table_of created.now) (key_data key.now) }
 {
-    key.is_primary && is_rowless(created) && !is_integer_key(created, key)
+    key.is_primary && is_rowless(created.options.as_slice()) && !is_integer_key(created, key)
 }
 
 /// The indexes that SQLite makes for these keys of a table, in their order. (CREATE TABLE, "UNIQUE constraints")

@@ -8,4 +8,4 @@
 mod automatic;
 pub mod laws;
 
-pub use automatic::{AutomaticIndex, automatic_indexes, is_rowless};
+pub use automatic::{AutomaticIndex, automatic_indexes};

@@ -1,4 +1,4 @@
-use Rattle.catalog.proofs.LawLemmas.{no_bad_schema, no_later_table, no_left_out_object, no_unread_object}
+use Rattle.catalog.proofs.LawLemmas.{no_bad_schema, no_left_out_object, no_unread_object}
 use Rattle.catalog.proofs.laws.catalog_is_sound.Goals as goal
 
 pub returns-clause-row : goal.returns-clause-row
@@ -9,6 +9,3 @@ returns-clause-text c pages rows catalog name is = no_unread_object pages rows c
 
 pub returns-clause-object : goal.returns-clause-object
 returns-clause-object c pages rows catalog name is = no_left_out_object pages rows catalog is name
-
-pub returns-clause-later : goal.returns-clause-later
-returns-clause-later c = no_later_table

@@ -7,7 +7,7 @@ use Rattle.catalog.specs.KeyedView.{keyed_data}
 use Rattle.catalog.specs.ObjectView.{object_data}
 use Rattle.catalog.specs.Says.{HasTree}
 use Rattle.catalog.specs.declared.objects.Kind.TheVariants as k
-use Rattle.catalog.proofs.RefusalLemmas.{rootless, says_keyed, table_later, table_names, table_text, table_unmade, text_none, text_some, textless}
+use Rattle.catalog.proofs.RefusalLemmas.{rootless, says_keyed, table_names, table_text, table_unmade, text_none, text_some, textless}
 use Rattle.catalog.proofs.table_said.table_by.Goals as goal
 use Rattle.catalog.proofs.table_said.table_by.Goals.{
   then-not-is_same_name-via-else-not-is_same_name+then-not-is_same_name-2,
@@ -47,12 +47,6 @@ returns-then-not-is_same_name-clause-refused c = λ rows has.
           w.is_same_name-else-not-is_same_name.ensures c.as_str-name.ensures.value w.if-not-is_same_name-2.true both.1
     ])
 
-pub returns-then-is_rowless-clause-refused : goal.returns-then-is_rowless-clause-refused
-returns-then-is_rowless-clause-refused c = λ rows has.
-    table_later c.args.pages (object_data c.args.object.now) rows has c.in-Some-sql.sql.now
-    (record { kind_is = c.requires; sql_is = text_some c.args.object.now.sql c.in-Some-sql.sql c.in-Some-sql.is })
-    (table_of c.in_ok-created.created) c.in_ok-created.ensures.spelt (c.is_rowless.ensures.0 c.if-is_rowless.true)
-
 pub returns-clause-said : goal.returns-clause-said
 returns-clause-said c =
     let o = object_data c.args.object.now in
@@ -70,5 +64,4 @@ returns-clause-refused c =
     MatchResult-weaker c.made_by.result c.made_by.ensures.refused (λ table is. is)
     (λ fault unmade rows has. table_unmade c.args.pages (object_data c.args.object.now) rows has c.in-Some-sql.sql.now
     (record { kind_is = c.requires; sql_is = text_some c.args.object.now.sql c.in-Some-sql.sql c.in-Some-sql.is })
-    (table_of c.in_ok-created.created) c.in_ok-created.ensures.spelt
-    (λ later. let h = c.is_rowless.ensures.1 later in let e = c.if-is_rowless.false in absurd cc) fault unmade)
+    (table_of c.in_ok-created.created) c.in_ok-created.ensures.spelt fault unmade)

@@ -7,7 +7,7 @@ use Rattle.schema.proofs.created.columns_from.Goals as goal
 
 pub loop-definition-preserved : goal.loop-definition-preserved
 loop-definition-preserved c =
-    one_column_more (map key_data c.args.keys.now) c.loop-definition.yielded c.loop-definition.columns.items c.push.new.self.items
+    one_column_more c.args.options.now (map key_data c.args.keys.now) c.loop-definition.yielded c.loop-definition.columns.items c.push.new.self.items
     c.in-Some.definition c.in-Some-column_from.column c.in_ok-push.ensures.items c.loop-definition.invariant
     c.in-Some-column_from.ensures.found
 
@@ -18,6 +18,6 @@ returns-in_default-clause-refused c =
     c.loop-definition.yielded _ c.loop-definition.yielded_by _ c.next.new.self c.in-Some.definition c.in-Some.is c.next.ensures.steps in
     inr (
       refl,
-      no_columns (map key_data c.args.keys.now) c.args.definitions.items (length c.loop-definition.yielded) c.in-Some.definition at
+      no_columns c.args.options.now (map key_data c.args.keys.now) c.args.definitions.items (length c.loop-definition.yielded) c.in-Some.definition at
           c.in_default.ensures.none,
     )

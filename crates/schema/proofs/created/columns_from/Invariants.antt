@@ -6,4 +6,4 @@ use Rattle.schema.specs.Created.{IsColumn}
 use Rattle.schema.proofs.created.columns_from.Given as goal
 
 abbrev pub invariant-loop-definition : goal.invariant-loop-definition
-invariant-loop-definition l = AllZip (IsColumn (map key_data l.fn.keys)) (map column_of l.yielded) l.columns.items
+invariant-loop-definition l = AllZip (IsColumn l.fn.options (map key_data l.fn.keys)) (map column_of l.yielded) l.columns.items

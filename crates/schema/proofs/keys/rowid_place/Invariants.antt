@@ -7,4 +7,4 @@ use Rattle.schema.specs.Created.{IsRowid}
 use Rattle.schema.proofs.keys.rowid_place.Given as goal
 
 abbrev pub invariant-loop-place : goal.invariant-loop-place
-invariant-loop-place l = AllWithin (λ (c : Column). ¬ IsRowid (map key_data l.keys) (column_of c)) l.columns 0 l.place
+invariant-loop-place l = AllWithin (λ (c : Column). ¬ IsRowid l.options (map key_data l.keys) (column_of c)) l.columns 0 l.place

@@ -1,6 +1,6 @@
 use Rattle.std.proofs.Common.{◌∙◌, ap, refl, sym}
 use Rattle.values.specs.Datum.{datum_of_ref}
-use Rattle.schema.specs.TableData.{TableData}
+use Rattle.schema.specs.TableData.{TableData, rowid_of}
 use Rattle.stored_rows.specs.Reading.{Reading}
 use Rattle.stored_rows.proofs.ReadingLemmas.{IsBehind, IsStoredAt, older_found, older_none, value_stored}
 use Rattle.stored_rows.proofs.row_reader.RowReader.value.Goals as goal
@@ -13,15 +13,15 @@ returns-in-Some-stored-clause-found c = λ row is.
     let back = c.if-not-go_back.ensures.back refl in
     let now = back.reads row is in
     let found = c.in-Some-stored.ensures.found row now in
-    let other : IsStoredAt c.go_back.new.self.table.rowid c.go_back.new.self.rowid c.args.column =
-    λ key. back.rowid ∙ c.in_default.ensures.none (ap (λ (t : TableData). t.rowid) (sym back.table) ∙ key) in
+    let other : IsStoredAt (rowid_of c.go_back.new.self.table.key) c.go_back.new.self.rowid c.args.column =
+    λ key. back.rowid ∙ c.in_default.ensures.none (ap (λ (t : TableData). rowid_of t.key) (sym back.table) ∙ key) in
     (value_stored c.go_back.new.self row c.args.column (datum_of_ref c.in-Some-stored.value) other now found.0, found.1)
 
 pub returns-clause-found : goal.returns-clause-found
 returns-clause-found c =
     let back = c.if-not-go_back.ensures.back refl in
-    let other : IsStoredAt c.go_back.new.self.table.rowid c.go_back.new.self.rowid c.args.column =
-    λ key. back.rowid ∙ c.in_default.ensures.none (ap (λ (t : TableData). t.rowid) (sym back.table) ∙ key) in
+    let other : IsStoredAt (rowid_of c.go_back.new.self.table.key) c.go_back.new.self.rowid c.args.column =
+    λ key. back.rowid ∙ c.in_default.ensures.none (ap (λ (t : TableData). rowid_of t.key) (sym back.table) ∙ key) in
     let less : IsBehind c.args.self.now c.go_back.new.self c.stored.new.self c.args.column =
     λ row is.
     let now = back.reads row is in

@@ -2,10 +2,10 @@ use Rattle.std.proofs.Common.{◌≡◌, rules, tests}
 use Rattle.std.proofs.lemmas.Iterator.{YieldsList-from_slice, cases_from_any}
 use Rattle.create_trees.specs.declared.create.TableOption.TheVariants.{WithoutRowid}
 use Rattle.schema.proofs.ListLemmas.{any_is}
-use Rattle.table_keys.proofs.automatic.is_rowless.Goals as goal
+use Rattle.schema.proofs.served.is_rowless.Goals as goal
 
 pub returns : goal.returns
 returns c =
-    any_is (λ x. x ≡ WithoutRowid) c.args.created.now.options.items c.any.result
+    any_is (λ x. x ≡ WithoutRowid) c.args.options.now c.any.result
     (cases_from_any _ _ _ (λ x. x ≡ WithoutRowid) (λ x. ¬ (x ≡ WithoutRowid))
-    c.any.ensures.ran (YieldsList-from_slice c.args.created.now.options.items cc) (λ x q k. search (rules, tests)) (λ x q k. search (rules, tests)))
+    c.any.ensures.ran (YieldsList-from_slice c.args.options.now cc) (λ x q k. search (rules, tests)) (λ x q k. search (rules, tests)))
