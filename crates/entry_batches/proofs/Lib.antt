@@ -1,0 +1,4 @@
+pub mod CodeLemmas
+pub mod CutLemmas
+pub mod KeyLemmas
+pub mod AddLemmas

@@ -1,0 +1,22 @@
+-- The code of values: bytes, of which two rows of values have the same only where they are the same.
+use Rattle.std.specs.Prelude.{◌≡◌, ◌<◌, ◌++◌, ◌∷◌, [], ◌^◌, ℕ, List, flat_map, length}
+use Rattle.std.specs.Int.{cast_signed, cast_unsigned, to_le_bytes, w64}
+use Rattle.values.specs.Datum.{Datum, blob, int, null, text}
+use Rattle.values.specs.Row.{Row}
+
+-- its kind, and behind it the eight bytes of a whole number; or of a text or a blob its length and its bytes
+abbrev pub code_of : Datum → List ℕ
+code_of null = 0 ∷ []
+code_of (int n) = 1 ∷ to_le_bytes w64 (cast_unsigned w64 n)
+code_of (text bytes) = 2 ∷ to_le_bytes w64 (length bytes) ++ bytes
+code_of (blob bytes) = 3 ∷ to_le_bytes w64 (length bytes) ++ bytes
+
+abbrev pub codes_of : Row → List ℕ
+codes_of values = flat_map code_of values
+
+-- a value that memory holds: a number of 64 bits, or bytes that 64 bits count
+abbrev pub IsHeld : Datum → Type 0
+IsHeld null = Unit {0}
+IsHeld (int n) = (cast_unsigned w64 n < 2 ^ 64) × (cast_signed w64 (cast_unsigned w64 n) ≡ n)
+IsHeld (text bytes) = length bytes < 2 ^ 64
+IsHeld (blob bytes) = length bytes < 2 ^ 64

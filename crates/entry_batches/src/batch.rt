@@ -1,0 +1,161 @@
+//! A batch of entries, in which one is looked for by its key.
+ghost use Rattle.std.specs.Prelude.{◌≡◌, ◌<◌, ◌≤◌, ◌↔◌, ◌++◌, ◌∷◌, [], ℕ, Contains, IfNone, IfOk, IfSome, IsFalse, IsTrue, List, OnErr, length, slice_range};
+ghost use Rattle.entry_batches.specs.declared.batch.Slot.{Slot};
+ghost use Rattle.entry_batches.specs.Batches.{AreBelow, Ascend, ComeBefore, HasKeyAt, IsCut, code_at, last_end};
+
+use std::alloc::{AllocError, Global};
+use std::marker::Model;
+
+/// The key of an entry, and where its code ends.
+#[derive(Clone, Copy, Debug)]
+pub(crate) struct Slot {
+    pub(crate) key: i64,
+    pub(crate) end: usize,
+}
+
+/// The place of a key among slots whose keys ascend.
+fn find(slots: &[Slot], key: i64) -> Option<usize>
+    requires { Ascend slots.now }
+    ensures found { IfSome result (HasKeyAt slots.now key) }
+    ensures none { IfNone result ((place : ℕ) → ¬ HasKeyAt slots.now key place) }
+{
+    let mut low = 0;
+    let mut high = slots.len();
+    while low < high {
+        let middle = low + (high - low) / 2;
+        if slots[middle].key < key {
+            low = middle + 1;
+        } else {
+            high = middle;
+        }
+    }
+    if low < slots.len() && slots[low].key == key {
+        Some(low)
+    } else {
+        None
+    }
+}
+
+/// Where the code of the entry at a place begins and ends, within so many bytes.
+fn bounds_of(slots: &[Slot], place: usize, most: usize) -> (usize, usize)
+    requires within { place < length slots.now }
+    requires cut { IsCut 0 slots.now most }
+    ensures up { result.0 ≤ result.1 }
+    ensures most { result.1 ≤ most }
+    ensures code { (codes : List ℕ) → slice_range codes result.0 result.1 ≡ code_at 0 slots.now codes place }
+{
+    let end = slots[place].end;
+    if place == 0 {
+        (0, end)
+    } else {
+        (slots[place - 1].end, end)
+    }
+}
+
+/// The code of the entry at a place.
+fn code_of<'b>(slots: &[Slot], codes: &'b [u8], place: usize) -> &'b [u8]
+    requires within { place < length slots.now }
+    requires cut { IsCut 0 slots.now (length codes.now) }
+    ensures { result.now ≡ code_at 0 slots.now codes.now place }
+{
+    let (start, end) = bounds_of(slots, place, codes.len());
+    &codes[start..end]
+}
+
+/// Whether two codes are the same.
+fn is_same(one: &[u8], other: &[u8]) -> bool
+    ensures { IsTrue result ↔ (one.now ≡ other.now) }
+{
+    one == other
+}
+
+/// Where the code of the last of some entries ends.
+fn end_of(slots: &[Slot]) -> usize
+    ensures { result ≡ last_end 0 slots.now }
+{
+    match slots.last() {
+        Some(slot) => slot.end,
+        None => 0,
+    }
+}
+
+/// Whether a key is above those of all entries.
+fn is_above(slots: &[Slot], key: i64) -> bool
+    requires { Ascend slots.now }
+    ensures { IsTrue result ↔ AreBelow key slots.now }
+{
+    match slots.last() {
+        Some(slot) => slot.key < key,
+        None => true,
+    }
+}
+
+/// Entries of an index, each by the rowid of its row, which ascend, and by the code of its values.
+#[derive(Debug, Drop)]
+pub struct Batch {
+    slots: Vec<Slot>,
+    codes: Vec<u8>,
+}
+
+impl Model for Batch {
+    ghost use Rattle.std.specs.Prelude.{List};
+    ghost use Rattle.wanted_entries.specs.Bags.{Coded};
+    ghost use Rattle.entry_batches.specs.Batches.{IsBatch, coded};
+
+    ghost Value = { List Coded };
+
+    ghost view = { λ b. coded 0 b.slots.items b.codes.items };
+
+    ghost invariant = { λ b. IsBatch b.slots.items b.codes.items };
+}
+
+impl Batch {
+    /// A batch of no entries.
+    pub fn new(alloc: Global) -> Batch
+        ensures { result ≡ [] }
+    {
+        Batch {
+            slots: Vec::new(alloc),
+            codes: Vec::new(alloc),
+        }
+    }
+
+    /// Puts an entry behind the others, where its key is above theirs; tells whether it is. An error leaves the batch as it
+    /// was.
+    pub fn add(&mut self, key: i64, code: &[u8]) -> Result<bool, AllocError>
+        ensures above { IfOk result (λ added. IsTrue added ↔ ComeBefore key self.old) }
+        ensures added { IfOk result (λ added. (IsTrue added → self.new ≡ self.old ++ record { key = key; code = code.now } ∷ [])
+            × (IsFalse added → self.new ≡ self.old)) }
+        ensures err { OnErr result (self.new ≡ self.old) }
+    {
+        if !is_above(self.slots.as_slice(), key) {
+            return Ok(false);
+        }
+        let start = end_of(self.slots.as_slice());
+        self.codes.truncate(start);
+        self.codes.extend_from_slice(code)?;
+        self.slots.push(Slot {
+            key,
+            end: self.codes.len(),
+        })?;
+        Ok(true)
+    }
+
+    /// Whether it has an entry of this key with this code.
+    pub fn has(&self, key: i64, code: &[u8]) -> bool
+        ensures { IsTrue result ↔ Contains self.now (record { key = key; code = code.now }) }
+    {
+        let slots = self.slots.as_slice();
+        match find(slots, key) {
+            Some(place) => is_same(code_of(slots, self.codes.as_slice(), place), code),
+            None => false,
+        }
+    }
+
+    /// Takes all entries out.
+    pub fn clear(&mut self)
+        ensures { self.new ≡ [] }
+    {
+        self.slots.clear();
+    }
+}

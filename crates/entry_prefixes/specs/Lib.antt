@@ -1,0 +1,4 @@
+pub mod Entries
+pub mod Repeats
+pub mod Counting
+pub mod Prefixes
