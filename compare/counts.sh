@@ -97,10 +97,20 @@ long_indexes() {
     echo "DELETE FROM item WHERE id % 5 = 1;"
 }
 
-# said FILE KIND: what sqlite3 says: a line for each table, and how many pages are neither free nor overflow pages.
+# distinct FILE INDEX TABLE: how many different values the index's first columns have, for each number of columns.
+distinct() {
+    columns=
+    for column in $(sqlite3 "$1" "SELECT name FROM pragma_index_info('$2') ORDER BY seqno"); do
+        columns="$columns${columns:+, }\"$column\""
+        printf ' %s' "$(sqlite3 "$1" "SELECT count(*) FROM (SELECT DISTINCT $columns FROM \"$3\")")"
+    done
+}
+
+# said FILE KIND: what sqlite3 says: a line for each table and index, another for the first columns of
+# an index, and how many pages are neither free nor overflow pages.
 said() {
-    objects="SELECT name, tbl_name FROM sqlite_schema ORDER BY type DESC, rowid"
-    sqlite3 "$1" "$objects" | while IFS='|' read -r name table; do
+    objects="SELECT name, tbl_name, type FROM sqlite_schema ORDER BY type DESC, rowid"
+    sqlite3 "$1" "$objects" | while IFS='|' read -r name table type; do
         rows=$(sqlite3 "$1" "SELECT count(*) FROM \"$table\"")
         tree=
         # The path of a page in its tree, as /000/01c/, has a slash more than there are levels above it.
@@ -110,6 +120,9 @@ said() {
                 WHERE name = '$name' AND pagetype <> 'overflow'")
         fi
         echo "$name $rows$tree"
+        if test "$type" = index; then
+            echo "$name:$(distinct "$1" "$name" "$table")"
+        fi
     done
     overflow=0
     if test "$words" -eq 4; then
@@ -124,7 +137,16 @@ said() {
 # found FILE KIND: the same as the check finds it.
 found() {
     "$program/out/table_counts" "$1" >"$folder/lines" 2>&1
-    cut -d ' ' -f "1-$words" "$folder/lines"
+    awk -v words="$words" '{
+        line = $1
+        for (i = 2; i <= words; i++) line = line " " $i
+        print line
+        if (NF > 4) {
+            line = $1 ":"
+            for (i = 5; i <= NF; i++) line = line " " $i
+            print line
+        }
+    }' "$folder/lines"
     case "$words $2" in
     "2 long_"*) ;;
     *) awk '{ pages += $3 } END { print pages + 1 " pages" }' "$folder/lines" ;;

@@ -27,6 +27,17 @@ SOUND: dict[str, list[tuple[Value, ...]]] = {
     "CREATE INDEX i ON item(id)": [(1, 1), (2, 2), (3, 3), (4, 4)],
     "CREATE UNIQUE INDEX i ON item(qty, id DESC)": [(None, 2, 2), (7, 4, 4), (7, 3, 3), (40, 1, 1)],
     "CREATE UNIQUE INDEX i ON item(qty, name)": [(None, "nut", 2), (7, "cap", 3), (7, "nut", 4), (40, "bolt", 1)],
+    # Entries of those rows alone of which a condition is true, also where it has no value for the others; a column that isn't
+    # indexed, and the rowid; rows that would agree with one that is left out.
+    "CREATE INDEX i ON item(qty) WHERE qty > 7": [(40, 1)],
+    "CREATE INDEX i ON item(qty) WHERE NOT qty > 7": [(7, 3), (7, 4)],
+    "CREATE INDEX i ON item(name DESC) WHERE qty IS NOT NULL": [("nut", 4), ("cap", 3), ("bolt", 1)],
+    "CREATE INDEX i ON item(qty) WHERE item.qty ISNULL OR name IN ('cap', 'pin')": [(None, 2), (7, 3)],
+    "CREATE INDEX i ON item(name, qty DESC) WHERE id BETWEEN 2 AND 3 AND qty <> -7": [("cap", 7, 3)],
+    "CREATE INDEX i ON item(qty) WHERE id > 4": [],
+    "CREATE INDEX i ON item(qty) WHERE id": IN_ORDER,
+    "CREATE UNIQUE INDEX i ON item(name) WHERE qty NOTNULL": [("bolt", 1), ("cap", 3), ("nut", 4)],
+    "CREATE UNIQUE INDEX i ON item(qty) WHERE name >= 'cat' OR qty = 40": [(None, 2), (7, 4), (40, 1)],
 }
 
 # Entries of the index by `qty` that are none, and the number of the fault: one lacks; one is too many; another rowid; another
@@ -47,10 +58,26 @@ BROKEN: list[tuple[list[tuple[Value, ...]], bytes]] = [
     ([(None, 2), (7, 3), (), (40, 1)], fault_line(17, 3)),
 ]
 
+# The index by `qty` of the two rows of which a condition is true, and entries that aren't just theirs: a row that is kept has
+# none; rows that are left out have theirs too, one for which the condition has no value among them; one that is left out has
+# its entry in the place of one that is kept; no row has.
+FEW = "CREATE INDEX i ON item(qty) WHERE qty < 10"
+LEFT_OUT: list[list[tuple[Value, ...]]] = [
+    [(7, 3)],
+    IN_ORDER,
+    [(7, 3), (7, 4), (40, 1)],
+    [(None, 2), (7, 3), (7, 4)],
+    [(7, 3), (40, 1)],
+    [(None, 2), (7, 4)],
+    [(40, 1)],
+    [],
+]
+
 # Unique indexes over the rows: two agree in all columns, or have a NULL there.
 REPEATED = {
     "CREATE UNIQUE INDEX i ON item(qty)": IN_ORDER,
     "CREATE UNIQUE INDEX i ON item(name)": [("bolt", 1), ("cap", 3), ("nut", 2), ("nut", 4)],
+    "CREATE UNIQUE INDEX i ON item(qty) WHERE id > 1": [(None, 2), (7, 3), (7, 4)],
 }
 
 
@@ -90,7 +117,8 @@ def broken_images() -> Iterator[tuple[str, bytes, bytes]]:
         yield sql, indexed(sql, entries), fault_line(25, "i")
     descending = "CREATE INDEX i ON item(qty DESC)"
     yield f"{descending}, in the order of one that ascends", indexed(descending, IN_ORDER), fault_line(15, 3)
-    yield "a partial index", indexed("CREATE INDEX i ON item(qty) WHERE qty > 7", [(40, 1)]), fault_line(29)
+    for entries in LEFT_OUT:
+        yield f"{FEW}, the entries {entries}", indexed(FEW, entries), fault_line(24, "i")
     for root, line in ((2, fault_line(13, 2)), (4, fault_line(11, 4))):
         writer = items()
         writer.index("i", "item", BY_QTY, [record(entry) for entry in IN_ORDER])

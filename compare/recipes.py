@@ -166,6 +166,29 @@ def indexes(connection: sqlite3.Connection, rng: Random) -> None:
     connection.execute("CREATE INDEX of_empty ON empty(a)")
 
 
+def partial_indexes(connection: sqlite3.Connection, rng: Random) -> None:
+    """Indexes of some rows of their table, by conditions of each form: one of all rows and of none, unique ones among rows that
+    agree in the columns; some rows were deleted, and some changed so that they went in or out."""
+    connection.execute("CREATE TABLE p(id INTEGER PRIMARY KEY, a INT, b TEXT, c BLOB, d INT NOT NULL) STRICT")
+    conditions = {
+        "positive": ("a", "a > 0"),
+        "known": ("b DESC, a", "b IS NOT NULL AND a NOTNULL"),
+        "few": ("c, d", "d IN (1, 2, -3) OR p.b < 'm'"),
+        "far": ("a DESC", "NOT a BETWEEN -1000 AND 1000"),
+        "none": ("b", "d > 9"),
+        "every": ("d, a", "id OR NOT id"),
+        "flagged": ("b", "d"),
+    }
+    for name, (columns, condition) in conditions.items():
+        connection.execute(f"CREATE INDEX {name} ON p({columns}) WHERE {condition}")
+    connection.execute("CREATE UNIQUE INDEX once ON p(a) WHERE d = 0 AND a <> 7")
+    kinds = (("INT", 8), ("TEXT", rng.choice((9, 900))), ("BLOB", 5))
+    rows = ((*(random_value(rng, kind, most) for kind, most in kinds), rng.randint(-9, 9)) for _ in range(700))
+    fill(connection, "p", ((row, *values) for row, values in enumerate(rows)))
+    connection.execute("DELETE FROM p WHERE id % 7 < 2")
+    connection.execute("UPDATE OR IGNORE p SET a = -a, d = -d WHERE id % 5 = 1 AND a > -9223372036854775808")
+
+
 def keys(connection: sqlite3.Connection, rng: Random) -> None:
     """Tables with keys, for which SQLite makes indexes: at a column and behind all, of one column and of several, with and
     without NULLs; some rows were deleted and changed."""
@@ -246,6 +269,7 @@ RECIPES = [
     Recipe("altered", altered),
     Recipe("triggered", triggered),
     Recipe("indexes", indexes, (512, 1024, 4096, 65536)),
+    Recipe("partial_indexes", partial_indexes, (512, 4096)),
     Recipe("keys", keys, (512, 2048)),
     Recipe("no_tables", no_tables, ALL_SIZES),
 ]

@@ -21,7 +21,7 @@ SELECT = "SELECT * FROM item"
 # What SQLite makes and the program doesn't serve: a name, what is made after a table that is served, and the fault's line.
 UNSERVED = {
     "a table without rowids": ("CREATE TABLE x(a INTEGER PRIMARY KEY) STRICT, WITHOUT ROWID", NOT_YET),
-    "a partial index": ("CREATE INDEX x ON item(name) WHERE id > 1", NOT_YET),
+    "a partial index with a function": ("CREATE INDEX x ON item(name) WHERE abs(id) > 1", LEFT_OUT),
     "a view": ("CREATE VIEW x AS SELECT 1", LEFT_OUT),
     "AUTOINCREMENT": ("CREATE TABLE x(a INTEGER PRIMARY KEY AUTOINCREMENT) STRICT", LEFT_OUT),
     "a table that isn't STRICT": ("CREATE TABLE x(a INT)", LEFT_OUT),

@@ -156,12 +156,13 @@ SCHEMA_ROWS: dict[bytes, list[tuple[Value, ...]]] = {
             )
         ),
     ],
-    # Partial indexes, and a table without rowids.
-    fault_line(29): [
+    # Indexes that are served, but for the root, which is the table's too.
+    fault_line(13, 2): [
         ("index", "I", "ITEM", 2, "CREATE UNIQUE INDEX i ON item(qty DESC, name) WHERE qty IS NOT NULL"),
         ("index", "i", "item", 2, "CREATE INDEX i ON item(qty) WHERE item.qty > -1 AND NOT name IN ('a') OR qty BETWEEN 1 AND 2"),
-        ("table", "t", "t", 2, "CREATE TABLE t(a INTEGER PRIMARY KEY) STRICT, WITHOUT ROWID"),
     ],
+    # A table without rowids.
+    fault_line(29): [("table", "t", "t", 2, "CREATE TABLE t(a INTEGER PRIMARY KEY) STRICT, WITHOUT ROWID")],
 }
 
 # Triggers, which are ignored: one of its own name, and one of its table's.

@@ -1,25 +1,26 @@
 -- An index held against the rows of its table: some rows were looked up, and a cursor stands before the cells of the others.
-use Rattle.std.proofs.Common.{◌≡◌, ◌≢◌, ◌⊎◌, ◌+◌, ◌*◌, ◌≤◌, ℕ, true, IsTrue, Contains, IsPermutation, List, [], ◌∷◌, None, Option, Some, drop, length, map, refl, sym, ◌∙◌, ap, subst, inl, inr, ⊎_elim, arith}
-use Rattle.std.specs.List.{AllZip}
+use Rattle.std.proofs.Common.{◌≡◌, ◌≢◌, ◌⊎◌, ◌+◌, ◌-◌, ◌^◌, ◌≤◌, ℕ, Bool, true, false, IsTrue, Contains, IsPermutation, List, [], ◌∷◌, None, Option, Some, drop, length, map, min, refl, sym, ◌∙◌, ap, subst, inl, inr, ⊎_elim, arith}
+use Rattle.std.specs.List.{AllZip, filter}
 use Rattle.std.proofs.lemmas.List.{length-map}
 use Rattle.std.proofs.lemmas.List.Sorted.{Contains-permutation, IsPermutation-sym, IsPermutation-trans, length_permutation}
 use Rattle.values.specs.Row.{Row}
 use Rattle.values.specs.declared.fault.Fault.{Fault}
-use Rattle.pager.specs.PagerState.{IsSoundHeader, PagerState}
-use Rattle.pager.specs.declared.header.Header.{Header}
+use Rattle.pager.specs.PagerState.{PagerState}
 use Rattle.pager.specs.Calls.{IsReadFault, SameImage}
 use Rattle.pager.proofs.CallLemmas.{SameImage-trans}
 use Rattle.image.specs.declared.kind.TreeKind.TheVariants as kind
 use Rattle.image.specs.Cell.{CellData}
-use Rattle.image.specs.Pages.{Pages, WhereSteady, pages_in, pages_seen}
+use Rattle.image.specs.Pages.{IsNumber, Pages, WhereSteady, pages_seen}
 use Rattle.image.specs.Shape.{places_under}
-use Rattle.image.specs.Tree.{Place}
+use Rattle.image.specs.Tree.{ArePlacesOf, Place}
 use Rattle.image.proofs.CellLemmas.{one_cell}
 use Rattle.image.proofs.ListLemmas.{cons_cases, get_contains, in_head, in_none, in_tail}
-use Rattle.image.proofs.TableLemmas.{rows_of}
 use Rattle.btree.proofs.SeenLemmas.{same_pages, still_steady}
+use Rattle.expr.specs.Term.{Term}
 use Rattle.wanted_entries.proofs.BagLemmas.{same}
+use Rattle.wanted_entries.proofs.KeptLemmas.{in_map, kept_first, left_first}
 use Rattle.wanted_entries.specs.Wanted.{KeyedRow, entry_of, wanted}
+use Rattle.tree_walk.specs.Counts.{counted}
 use Rattle.cursor.specs.declared.cursor.Cursor.{Cursor}
 use Rattle.cursor.specs.Calls.{HasFailed, HasStepped, IsOpenedAt}
 use Rattle.cursor.specs.Listing.{IsAt, IsEntry}
@@ -29,79 +30,77 @@ use Rattle.stored_rows.specs.Stored.{IsRowOf}
 use Rattle.index_rows.specs.declared.index.TableIndex.{TableIndex}
 use Rattle.index_rows.specs.Checked.{IsCheckedTable, IsCheckedTableIndex}
 use Rattle.index_rows.specs.Compared.{IsDifferentIndex, IsIndexOf}
-use Rattle.index_rows.specs.Entries.{HoldsEntries, indexed}
+use Rattle.entry_prefixes.specs.Entries.{HoldsEntries}
+use Rattle.entry_prefixes.proofs.EntryLemmas.{holds_entries, in_order, same_entries, searchable, values}
+use Rattle.entry_prefixes.proofs.ListLemmas.{get_of, mapped_at}
+use Rattle.index_rows.specs.Entries.{indexed}
+use Rattle.index_rows.specs.Kept.{condition_of, keeps_row}
 use Rattle.index_rows.specs.Rows.{HoldsKeyedRows, StoresKeyedRow}
-use Rattle.index_rows.proofs.CountLemmas.{counts_tell, few_places, mapped_at}
-use Rattle.index_rows.proofs.EntryLemmas.{holds_entries, in_order, same_entries, searchable, values}
-use Rattle.index_rows.proofs.ListLemmas.{as_long, get_of}
-use Rattle.index_rows.proofs.RowLemmas.{all_wanted, holds_keyed, once_wanted, one_keyed_rows, rows, stored}
+use Rattle.index_rows.proofs.RowLemmas.{holds_keyed, once_wanted, one_keyed_rows, rows, stored}
 use Rattle.index_rows.proofs.StandLemmas.{at_now}
 
 -- ---- the definitions alone
 
-module _ (pages : Pages) (table : TableData) (columns : List ℕ) (root : ℕ) where
+-- the rows that a condition keeps
+abbrev pub kept_rows : Option Term → List KeyedRow → List KeyedRow
+kept_rows condition keyed = filter (λ k. keeps_row condition k.row) keyed
+
+module _ (pages : Pages) (table : TableData) (columns : List ℕ) (condition : Option Term) (root : ℕ) where
   -- wanted entries that are as many as the index has, and each of which it has, are its entries
   pub is_index : (keyed : List KeyedRow) (entries : List Row) → HoldsKeyedRows pages table keyed → HoldsEntries pages root entries
-      → length entries ≤ length keyed → ((k : KeyedRow) → Contains keyed k → Contains entries (entry_of (indexed columns) k))
-      → IsIndexOf pages table columns root
+      → length entries ≤ length (kept_rows condition keyed)
+      → ((k : KeyedRow) → Contains (kept_rows condition keyed) k → Contains entries (entry_of (indexed columns) k))
+      → IsIndexOf pages table columns condition root
   is_index keyed entries keyed_are entries_are few found =
-      let long = length-map keyed (entry_of (indexed columns)) in
-      let bag = same (map (entry_of (indexed columns)) keyed) entries (once_wanted pages table columns keyed keyed_are)
-      (λ entry h. each_found entry h) (omega (arith, long, few)) in
+      let long = length-map (kept_rows condition keyed) (entry_of (indexed columns)) in
+      let bag = same (map (entry_of (indexed columns)) (kept_rows condition keyed)) entries
+      (once_wanted pages table columns keyed keyed_are (keeps_row condition)) (λ entry h. each_found entry h) (omega (arith, long, few)) in
       record {
         rows = keyed;
         entries = entries;
         rows_are = keyed_are;
         entries_are = entries_are;
-        same = subst (λ (l : List Row). IsPermutation entries l) (sym (all_wanted columns keyed))
-            (IsPermutation-sym (map (entry_of (indexed columns)) keyed) entries bag);
+        same = IsPermutation-sym (map (entry_of (indexed columns)) (kept_rows condition keyed)) entries bag;
       }
     where
-      each_found : (entry : Row) → Contains (map (entry_of (indexed columns)) keyed) entry → Contains entries entry
+      each_found : (entry : Row) → Contains (map (entry_of (indexed columns)) (kept_rows condition keyed)) entry → Contains entries entry
       each_found entry h =
-          let x = mapped_at (entry_of (indexed columns)) keyed h.0 entry (get_of (map (entry_of (indexed columns)) keyed) entry h) in
-          subst (λ (e : Row). Contains entries e) x.is (found x.x (get_contains keyed h.0 x.x x.at))
+          let x = mapped_at (entry_of (indexed columns)) (kept_rows condition keyed) h.0 entry
+          (get_of (map (entry_of (indexed columns)) (kept_rows condition keyed)) entry h) in
+          subst (λ (e : Row). Contains entries e) x.is (found x.x (get_contains (kept_rows condition keyed) h.0 x.x x.at))
 
   -- an index that lacks a wanted entry, or has another number of them, differs
   pub lacks : (keyed : List KeyedRow) (entries : List Row) → HoldsKeyedRows pages table keyed → HoldsEntries pages root entries
-      → (k : KeyedRow) → Contains keyed k → ¬ Contains entries (entry_of (indexed columns) k) → IsDifferentIndex pages table columns root
+      → (k : KeyedRow) → Contains (kept_rows condition keyed) k → ¬ Contains entries (entry_of (indexed columns) k)
+      → IsDifferentIndex pages table columns condition root
   lacks keyed entries keyed_are entries_are k among none = record {
     rows = keyed;
     entries = entries;
     rows_are = keyed_are;
     entries_are = entries_are;
-    differ = λ bag. none (Contains-permutation (wanted (indexed columns) (λ row. true) keyed) entries (entry_of (indexed columns) k)
-        (IsPermutation-sym entries (wanted (indexed columns) (λ row. true) keyed) bag)
-        (subst (λ (l : List Row). Contains l (entry_of (indexed columns) k)) (sym (all_wanted columns keyed)) (in_map keyed k among)));
+    differ = λ bag. none (Contains-permutation (wanted (indexed columns) (keeps_row condition) keyed) entries (entry_of (indexed columns) k)
+        (IsPermutation-sym entries (wanted (indexed columns) (keeps_row condition) keyed) bag)
+        (in_map (entry_of (indexed columns)) (kept_rows condition keyed) k among));
   }
-    where
-      in_map : (ks : List KeyedRow) (k : KeyedRow) → Contains ks k → Contains (map (entry_of (indexed columns)) ks) (entry_of (indexed columns) k)
-      in_map [] k h = absurd (in_none k h)
-      in_map (first ∷ ks) k h = ⊎_elim
-          (λ (e : first ≡ k). subst (λ (z : KeyedRow). Contains (entry_of (indexed columns) first ∷ map (entry_of (indexed columns)) ks) (entry_of (indexed columns) z)) e
-          (in_head (entry_of (indexed columns) first) (map (entry_of (indexed columns)) ks)))
-          (λ (there : Contains ks k). in_tail (entry_of (indexed columns) first) (entry_of (indexed columns) k) (map (entry_of (indexed columns)) ks) (in_map ks k there))
-          (cons_cases first k ks h)
 
   pub other_count : (keyed : List KeyedRow) (entries : List Row) → HoldsKeyedRows pages table keyed → HoldsEntries pages root entries
-      → length keyed ≢ length entries → IsDifferentIndex pages table columns root
+      → length (kept_rows condition keyed) ≢ length entries → IsDifferentIndex pages table columns condition root
   other_count keyed entries keyed_are entries_are differ = record {
     rows = keyed;
     entries = entries;
     rows_are = keyed_are;
     entries_are = entries_are;
     differ = λ bag.
-        let long = length_permutation entries (wanted (indexed columns) (λ row. true) keyed) bag in
-        let same = ap length (all_wanted columns keyed) ∙ length-map keyed (entry_of (indexed columns)) in
-        differ (sym same ∙ long);
+        let long = length_permutation entries (wanted (indexed columns) (keeps_row condition) keyed) bag in
+        differ (sym (length-map (kept_rows condition keyed) (entry_of (indexed columns))) ∙ long);
   }
 
   -- an index isn't both
-  pub not_different : IsIndexOf pages table columns root → ¬ IsDifferentIndex pages table columns root
+  pub not_different : IsIndexOf pages table columns condition root → ¬ IsDifferentIndex pages table columns condition root
   not_different is different =
       let same_rows = one_keyed_rows pages table is.rows different.rows is.rows_are different.rows_are in
-      different.differ (subst (λ (l : List KeyedRow). IsPermutation different.entries (wanted (indexed columns) (λ row. true) l)) same_rows
-      (IsPermutation-trans different.entries is.entries (wanted (indexed columns) (λ row. true) is.rows)
+      different.differ (subst (λ (l : List KeyedRow). IsPermutation different.entries (wanted (indexed columns) (keeps_row condition) l)) same_rows
+      (IsPermutation-trans different.entries is.entries (wanted (indexed columns) (keeps_row condition) is.rows)
       (same_entries pages root different.entries is.entries different.entries_are is.entries_are) is.same))
 
 -- ---- the loop over the rows
@@ -142,90 +141,126 @@ abbrev pub TellsCell : Cursor → Option CellData → Type 0
 TellsCell cursor cell = (pages : Pages) (levels : ℕ) (places : List Place) (asked budget : ℕ) → IsAt pages kind.Table levels cursor places asked budget
     → IsEntry pages kind.Table places cell
 
--- each row is still to come, or the index has the entry that it wants
-pub record StandsBefore (pages : Pages) (table : TableData) (columns : List ℕ) (keyed : List KeyedRow) (entries : List Row) (levels : ℕ)
-    (cursor : Cursor) (asked : ℕ) : Type 0 where
+-- Each row that the condition keeps is still to come, or the index has the entry that it wants; and so many of them were
+-- counted.
+pub record StandsBefore (pages : Pages) (table : TableData) (columns : List ℕ) (condition : Option Term) (keyed : List KeyedRow) (entries : List Row)
+    (levels : ℕ) (cursor : Cursor) (asked kept : ℕ) : Type 0 where
   pub rest : List KeyedRow
   pub places : List Place
   pub budget : ℕ
+  pub passed : ℕ
   pub at : IsAt pages kind.Table levels cursor places asked budget
   pub stored_are : AllZip (StoresKeyedRow pages table) places rest
-  pub among : (k : KeyedRow) → Contains rest k → Contains keyed k
-  pub found : (k : KeyedRow) → Contains keyed k → Contains rest k ⊎ Contains entries (entry_of (indexed columns) k)
+  pub among : (k : KeyedRow) → Contains (kept_rows condition rest) k → Contains (kept_rows condition keyed) k
+  pub found : (k : KeyedRow) → Contains (kept_rows condition keyed) k
+      → Contains (kept_rows condition rest) k ⊎ Contains entries (entry_of (indexed columns) k)
+  pub many : passed + length (kept_rows condition rest) ≡ length (kept_rows condition keyed)
+  pub kept_are : kept ≡ counted passed
 
 -- the entries of an index that was checked
 module _ (pages : Pages) (index : TableIndex) (count : ℕ) (checked : IsCheckedTableIndex pages index count) where
+  abbrev pub places_of_index : List Place
+  places_of_index = places_under pages kind.Index checked.counts.levels index.root
+
   abbrev pub entries_of_index : List Row
-  entries_of_index = map (values pages (length index.places.now + 1) index.descends.now index.root checked.counts checked.number checked.tree)
-      (places_under pages kind.Index checked.counts.levels index.root)
+  entries_of_index = map (values pages (length index.places.now + 1) index.descends.now index.root checked.counts checked.number checked.tree) places_of_index
 
   pub holds_of_index : HoldsEntries pages index.root entries_of_index
   holds_of_index = holds_entries pages (length index.places.now + 1) index.descends.now index.root checked.counts checked.number checked.tree
 
+  pub places_are : ArePlacesOf pages kind.Index index.root places_of_index
+  places_are = (in_order pages (length index.places.now + 1) index.descends.now index.root checked.counts checked.number checked.tree).cells
+
+  pub counted_are : count ≡ counted (length places_of_index)
+  counted_are = checked.entries_are ∙ checked.tree.counts_are.cells_is
+
 -- what the loop keeps
-pub record Comparing (start now : PagerState) (table : TableData) (index : TableIndex) (n m : ℕ) (cursor : Cursor) : Type 0 where
+pub record Comparing (start now : PagerState) (table : TableData) (index : TableIndex) (m : ℕ) (cursor : Cursor) (kept : ℕ) : Type 0 where
   pub stays : SameImage start now
   pub failures : now.source.failures ≡ start.source.failures
-  pub compares : WhereSteady start (λ pages. (one : IsCheckedTable pages table n) (other : IsCheckedTableIndex pages index m)
-      → StandsBefore pages table index.places.now (rows pages table one.counts one.tree) (entries_of_index pages index m other) one.counts.levels cursor now.asked)
+  pub compares : WhereSteady start (λ pages. (one : IsCheckedTable pages table) (other : IsCheckedTableIndex pages index m)
+      → StandsBefore pages table index.places.now (condition_of index) (rows pages table one.counts one.tree) (entries_of_index pages index m other)
+      one.counts.levels cursor now.asked kept)
 
 -- a cursor at the first cell
-pub opened : (start now : PagerState) (table : TableData) (index : TableIndex) (n m : ℕ) (cursor : Cursor) → SameImage start now
-    → now.source.failures ≡ start.source.failures → IsOpenedAt start now kind.Table table.root cursor → Comparing start now table index n m cursor
-opened start now table index n m cursor stays failures is = record {
+pub opened : (start now : PagerState) (table : TableData) (index : TableIndex) (m : ℕ) (cursor : Cursor) → SameImage start now
+    → now.source.failures ≡ start.source.failures → IsOpenedAt start now kind.Table table.root cursor → Comparing start now table index m cursor 0
+opened start now table index m cursor stays failures is = record {
   stays = stays;
   failures = failures;
   compares = λ steady one other. record {
     rest = rows (pages_seen start) table one.counts one.tree;
     places = places_under (pages_seen start) kind.Table one.counts.levels table.root;
     budget = _;
+    passed = 0;
     at = is.lists steady one.counts.levels (record { few = one.tree.few; number = one.number; shape = one.tree.shape });
     stored_are = stored (pages_seen start) table one.counts one.tree;
     among = λ k h. h;
     found = λ k h. inl h;
+    many = omega arith;
+    kept_are = omega arith;
   };
 }
 
--- an index and a table of which one has more than the other
-module _ (pages : Pages) (table : TableData) (index : TableIndex) (n m : ℕ) (one : IsCheckedTable pages table n) (other : IsCheckedTableIndex pages index m) where
-  long_rows : length (rows pages table one.counts one.tree) ≡ length (places_under pages kind.Table one.counts.levels table.root)
-  long_rows = as_long (StoresKeyedRow pages table) (places_under pages kind.Table one.counts.levels table.root) (rows pages table one.counts one.tree)
-      (stored pages table one.counts one.tree)
+module _ (start now : PagerState) (table : TableData) (index : TableIndex) (m : ℕ) (cursor : Cursor) (kept : ℕ)
+    (s : Comparing start now table index m cursor kept) where
+  module _ (steady : IsTrue start.source.steady) (one : IsCheckedTable (pages_seen start) table) (other : IsCheckedTableIndex (pages_seen start) index m) where
+    abbrev condition : Option Term
+    condition = condition_of index
 
-  long_entries : length (entries_of_index pages index m other) ≡ length (places_under pages kind.Index other.counts.levels index.root)
-  long_entries = length-map (places_under pages kind.Index other.counts.levels index.root) _
-
-  pub not_as_many : (length (places_under pages kind.Table one.counts.levels table.root) ≢ length (places_under pages kind.Index other.counts.levels index.root))
-      → IsDifferentIndex pages table index.places.now index.root
-  not_as_many differ = other_count pages table index.places.now index.root (rows pages table one.counts one.tree) (entries_of_index pages index m other)
-      (holds_keyed pages table one.counts one.tree) (holds_of_index pages index m other) (λ e. differ (sym long_rows ∙ e ∙ long_entries))
-
-module _ (start now : PagerState) (table : TableData) (index : TableIndex) (n m : ℕ) (cursor : Cursor) (s : Comparing start now table index n m cursor) where
-  module _ (steady : IsTrue start.source.steady) (one : IsCheckedTable (pages_seen start) table n) (other : IsCheckedTableIndex (pages_seen start) index m) where
     abbrev keyed : List KeyedRow
     keyed = rows (pages_seen start) table one.counts one.tree
 
     abbrev entries : List Row
     entries = entries_of_index (pages_seen start) index m other
 
-    abbrev here : StandsBefore (pages_seen start) table index.places.now keyed entries one.counts.levels cursor now.asked
+    abbrev here : StandsBefore (pages_seen start) table index.places.now condition keyed entries one.counts.levels cursor now.asked kept
     here = s.compares steady one other
 
     -- the cursor has a cell or an end
     pub never_ends : ((pages : Pages) (levels : ℕ) (places : List Place) (asked budget : ℕ) → IsAt pages kind.Table levels cursor places asked budget → ⊥) → ⊥
     never_ends none = none _ _ _ _ _ here.at
 
-    pub all_found : TellsCell cursor None
-        → length (places_under (pages_seen start) kind.Table one.counts.levels table.root) ≡ length (places_under (pages_seen start) kind.Index other.counts.levels index.root)
-        → IsIndexOf (pages_seen start) table index.places.now index.root
-    all_found told as_many =
-        let none = no_keyed (pages_seen start) table here.places here.rest here.stored_are (told _ _ _ _ _ here.at) in
-        let a = long_rows (pages_seen start) table index n m one other in
-        let b = long_entries (pages_seen start) table index n m one other in
-        is_index (pages_seen start) table index.places.now index.root keyed entries (holds_keyed (pages_seen start) table one.counts one.tree)
-        (holds_of_index (pages_seen start) index m other) (omega (arith, a, b, as_many))
-        (λ k h. ⊎_elim (λ (left : Contains here.rest k). absurd (in_none k (subst (λ (l : List KeyedRow). Contains l k) none left)))
-        (λ (there : Contains entries (entry_of (indexed index.places.now) k)). there) (here.found k h))
+    -- what the index's cells are, by the pages that were read since
+    pub number_now : IsNumber (pages_seen now) index.root
+    number_now = subst (λ (p : Pages). IsNumber p index.root) (sym (same_pages _ _ s.stays)) other.number
+
+    abbrev pub its_places : List Place
+    its_places = places_of_index (pages_seen start) index m other
+
+    pub places_now : ArePlacesOf (pages_seen now) kind.Index index.root its_places
+    places_now = subst (λ (p : Pages). ArePlacesOf p kind.Index index.root its_places) (sym (same_pages _ _ s.stays)) (places_are (pages_seen start) index m other)
+
+    -- how many rows the condition keeps
+    abbrev pub kept_many : ℕ
+    kept_many = length (kept_rows condition keyed)
+
+    module _ (told : TellsCell cursor None) where
+      none_left : here.rest ≡ []
+      none_left = no_keyed (pages_seen start) table here.places here.rest here.stored_are (told _ _ _ _ _ here.at)
+
+      no_kept : kept_rows condition here.rest ≡ []
+      no_kept = ap (λ (l : List KeyedRow). kept_rows condition l) none_left
+
+      all_passed : here.passed ≡ kept_many
+      all_passed = let long = ap length no_kept in let many = here.many in omega (arith, long, many)
+
+      pub all_counted : kept ≡ counted kept_many
+      all_counted = here.kept_are ∙ ap counted all_passed
+
+      pub all_found : kept_many ≡ length its_places → IsIndexOf (pages_seen start) table index.places.now condition index.root
+      all_found as_many =
+          let long = length-map its_places (values (pages_seen start) (length index.places.now + 1) index.descends.now index.root other.counts other.number other.tree) in
+          is_index (pages_seen start) table index.places.now condition index.root keyed entries (holds_keyed (pages_seen start) table one.counts one.tree)
+          (holds_of_index (pages_seen start) index m other) (omega (arith, long, as_many))
+          (λ k h. ⊎_elim (λ (left : Contains (kept_rows condition here.rest) k). absurd (in_none k (subst (λ (l : List KeyedRow). Contains l k) no_kept left)))
+          (λ (there : Contains entries (entry_of (indexed index.places.now) k)). there) (here.found k h))
+
+      pub not_as_many : kept_many ≢ length its_places → IsDifferentIndex (pages_seen start) table index.places.now condition index.root
+      not_as_many differ =
+          let long = length-map its_places (values (pages_seen start) (length index.places.now + 1) index.descends.now index.root other.counts other.number other.tree) in
+          other_count (pages_seen start) table index.places.now condition index.root keyed entries (holds_keyed (pages_seen start) table one.counts one.tree)
+          (holds_of_index (pages_seen start) index m other) (λ e. differ (e ∙ long))
 
     -- what a look-up stands on
     pub search_now : IsSearchableIndex (pages_seen now) index.descends.now
@@ -242,9 +277,6 @@ module _ (start now : PagerState) (table : TableData) (index : TableIndex) (n m 
       pub row_now : IsRowOf (pages_seen now) table cell first.keyed.row
       row_now = subst (λ (p : Pages). IsRowOf p table cell first.keyed.row) (sym (same_pages _ _ s.stays)) first.is
 
-      first_among : Contains keyed first.keyed
-      first_among = here.among first.keyed (subst (λ (l : List KeyedRow). Contains l first.keyed) (sym first.rest_is) (in_head first.keyed first.more))
-
       -- whether the index has the entry that the row wants, as a look-up tells it
       abbrev pub IsThereNow : Type 0
       IsThereNow = Contains (map (values (pages_seen start) (length index.places.now + 1) index.descends.now index.root other.counts other.number other.tree)
@@ -256,9 +288,25 @@ module _ (start now : PagerState) (table : TableData) (index : TableIndex) (n m 
           (places_under (same_pages _ _ s.stays k) kind.Index other.counts.levels index.root))
           (entry_of (indexed index.places.now) (sym first.keyed_is k))
 
-      pub not_there : ¬ IsThereNow → IsDifferentIndex (pages_seen start) table index.places.now index.root
-      not_there none = lacks (pages_seen start) table index.places.now index.root keyed entries (holds_keyed (pages_seen start) table one.counts one.tree)
-          (holds_of_index (pages_seen start) index m other) first.keyed first_among
+      -- whether the condition keeps the row
+      abbrev pub keeps_now : Bool
+      keeps_now = keeps_row condition first.keyed.row
+
+      kept_is : keeps_now ≡ true → kept_rows condition here.rest ≡ first.keyed ∷ kept_rows condition first.more
+      kept_is keeps = ap (λ (l : List KeyedRow). kept_rows condition l) first.rest_is
+          ∙ kept_first (λ (k : KeyedRow). keeps_row condition k.row) first.keyed first.more keeps
+
+      left_is : keeps_now ≡ false → kept_rows condition here.rest ≡ kept_rows condition first.more
+      left_is left = ap (λ (l : List KeyedRow). kept_rows condition l) first.rest_is
+          ∙ left_first (λ (k : KeyedRow). keeps_row condition k.row) first.keyed first.more left
+
+      first_among : keeps_now ≡ true → Contains (kept_rows condition keyed) first.keyed
+      first_among keeps = here.among first.keyed (subst (λ (l : List KeyedRow). Contains l first.keyed) (sym (kept_is keeps))
+          (in_head first.keyed (kept_rows condition first.more)))
+
+      pub not_there : keeps_now ≡ true → ¬ IsThereNow → IsDifferentIndex (pages_seen start) table index.places.now condition index.root
+      not_there keeps none = lacks (pages_seen start) table index.places.now condition index.root keyed entries
+          (holds_keyed (pages_seen start) table one.counts one.tree) (holds_of_index (pages_seen start) index m other) first.keyed (first_among keeps)
           (λ h. none (subst (λ (t : Type 0). t) (sym same_there) h))
 
       -- the cursor stands where it stood, once the index was read
@@ -274,38 +322,49 @@ module _ (start now : PagerState) (table : TableData) (index : TableIndex) (n m 
         pub stopped : (next : Cursor) (e : Fault) → HasFailed read cursor next e → IsReadFault e
         stopped next e failed = failed.sound steady_read kind.Table one.counts.levels here.places _ still_there
 
-        pub one_further : (then : PagerState) (next : Cursor) → HasStepped read then cursor next → IsThereNow
-            → StandsBefore (pages_seen start) table index.places.now keyed entries one.counts.levels next then.asked
-        one_further then next stepped there = record {
-          rest = first.more;
-          places = drop 1 here.places;
-          budget = read.asked + here.budget;
-          at = subst (λ (p : Pages). IsAt p kind.Table one.counts.levels next (drop 1 here.places) then.asked (read.asked + here.budget))
+        module _ (then : PagerState) (next : Cursor) (stepped : HasStepped read then cursor next) where
+          next_at : IsAt (pages_seen start) kind.Table one.counts.levels next (drop 1 here.places) then.asked (read.asked + here.budget)
+          next_at = subst (λ (p : Pages). IsAt p kind.Table one.counts.levels next (drop 1 here.places) then.asked (read.asked + here.budget))
               (same_pages _ _ (SameImage-trans _ _ _ s.stays reads))
-              (stepped.lists steady_read kind.Table one.counts.levels here.places (read.asked + here.budget) still_there).0;
-          stored_are = first.stored_are;
-          among = λ k h. here.among k (subst (λ (l : List KeyedRow). Contains l k) (sym first.rest_is) (in_tail first.keyed k first.more h));
-          found = λ k h. ⊎_elim
-              (λ (left : Contains here.rest k). ⊎_elim
-              (λ (e : first.keyed ≡ k). inr (subst (λ (z : KeyedRow). Contains entries (entry_of (indexed index.places.now) z)) e (subst (λ (t : Type 0). t) same_there there)))
-              (λ (later : Contains first.more k). inl later)
-              (cons_cases first.keyed k first.more (subst (λ (l : List KeyedRow). Contains l k) first.rest_is left)))
-              inr
-              (here.found k h);
-        }
+              (stepped.lists steady_read kind.Table one.counts.levels here.places (read.asked + here.budget) still_there).0
 
--- the counts of a table and its index, in an image with this header
-module _ (header : Header) (image : List ℕ) (sound : IsSoundHeader header) (table : TableData) (index : TableIndex) (n m : ℕ)
-    (one : IsCheckedTable (pages_in header image) table n) (other : IsCheckedTableIndex (pages_in header image) index m) where
-  abbrev table_cells : ℕ
-  table_cells = length (places_under (pages_in header image) kind.Table one.counts.levels table.root)
+          -- a row that is kept was found
+          pub one_further : keeps_now ≡ true → IsThereNow → (counts : ℕ) → counts ≡ min (kept + 1) (2 ^ 64 - 1)
+              → StandsBefore (pages_seen start) table index.places.now condition keyed entries one.counts.levels next then.asked counts
+          one_further keeps there counts is = record {
+            rest = first.more;
+            places = drop 1 here.places;
+            budget = read.asked + here.budget;
+            passed = here.passed + 1;
+            at = next_at;
+            stored_are = first.stored_are;
+            among = λ k h. here.among k (subst (λ (l : List KeyedRow). Contains l k) (sym (kept_is keeps)) (in_tail first.keyed k (kept_rows condition first.more) h));
+            found = λ k h. ⊎_elim
+                (λ (left : Contains (kept_rows condition here.rest) k). ⊎_elim
+                (λ (e : first.keyed ≡ k). inr (subst (λ (z : KeyedRow). Contains entries (entry_of (indexed index.places.now) z)) e (subst (λ (t : Type 0). t) same_there there)))
+                (λ (later : Contains (kept_rows condition first.more) k). inl later)
+                (cons_cases first.keyed k (kept_rows condition first.more) (subst (λ (l : List KeyedRow). Contains l k) (kept_is keeps) left)))
+                inr
+                (here.found k h);
+            many = let long = ap length (kept_is keeps) in let many = here.many in omega (arith, long, many);
+            kept_are = let are = here.kept_are in omega (arith, are, is);
+          }
 
-  abbrev index_cells : ℕ
-  index_cells = length (places_under (pages_in header image) kind.Index other.counts.levels index.root)
-
-  pub as_many_tell : (n ≡ m → table_cells ≡ index_cells) × (table_cells ≡ index_cells → (n ≡ m) × (n ≤ header.pages * 65536))
-  as_many_tell = counts_tell header sound table_cells index_cells n m
-      (few_places header image kind.Table table.root sound one.number _ (rows_of (pages_in header image) table.root one.counts.levels one.tree.shape one.tree.sound.order).cells)
-      (few_places header image kind.Index index.root sound other.number _
-      (in_order (pages_in header image) (length index.places.now + 1) index.descends.now index.root other.counts other.number other.tree).cells)
-      (one.rows_are ∙ one.tree.counts_are.cells_is) (other.entries_are ∙ other.tree.counts_are.cells_is)
+          -- a row that isn't kept was passed over
+          pub passed_over : keeps_now ≡ false → (counts : ℕ) → counts ≡ kept
+              → StandsBefore (pages_seen start) table index.places.now condition keyed entries one.counts.levels next then.asked counts
+          passed_over left counts is = record {
+            rest = first.more;
+            places = drop 1 here.places;
+            budget = read.asked + here.budget;
+            passed = here.passed;
+            at = next_at;
+            stored_are = first.stored_are;
+            among = λ k h. here.among k (subst (λ (l : List KeyedRow). Contains l k) (sym (left_is left)) h);
+            found = λ k h. ⊎_elim
+                (λ (later : Contains (kept_rows condition here.rest) k). inl (subst (λ (l : List KeyedRow). Contains l k) (left_is left) later))
+                inr
+                (here.found k h);
+            many = let long = ap length (left_is left) in let many = here.many in omega (arith, long, many);
+            kept_are = is ∙ here.kept_are;
+          }

@@ -1,37 +1,25 @@
 -- How many cells the tree of an image has.
-use Rattle.std.proofs.Common.{◌≡◌, ◌*◌, ◌+◌, ◌-◌, ◌^◌, ◌<◌, ◌≤◌, ℕ, Contains, List, Option, None, Some, length, map, slice_get, refl, sym, ◌∙◌, subst, ⊎_elim, arith}
+use Rattle.std.proofs.Common.{◌≡◌, ◌*◌, ◌+◌, ◌-◌, ◌^◌, ◌<◌, ◌≤◌, ℕ, Contains, List, Some, length, map, slice_get, refl, sym, ◌∙◌, subst, ⊎_elim, arith}
 use Rattle.std.specs.List.{range_with_len}
-use Rattle.std.specs.Prelude.{option_map}
 use Rattle.std.proofs.Math.Nat.{mul-le-mul_left}
 use Rattle.std.proofs.lemmas.Bool.{cases_lt}
 use Rattle.std.proofs.lemmas.List.{length-take, length-map}
 use Rattle.std.proofs.lemmas.List.FromFn.{get_or-range_with_len, length-range_with_len}
 use Rattle.std.proofs.lemmas.List.Sorted.{length_permutation}
-use Rattle.std.proofs.lemmas.Option.{slice_get-map, slice_get_read}
+use Rattle.std.proofs.lemmas.Option.{slice_get_read}
 use Rattle.pager.specs.PagerState.{IsSoundHeader}
 use Rattle.pager.specs.Page.{page_of}
 use Rattle.pager.specs.declared.header.Header.{Header}
 use Rattle.image.specs.declared.kind.TreeKind.{TreeKind}
+use Rattle.image.specs.declared.kind.TreeKind.TheVariants.{Index}
 use Rattle.image.specs.Pages.{IsNumber, Pages, pages_in}
 use Rattle.image.specs.Tree.{ArePlacesOf, IsPlaceOf, Place, StandsAt, below, top}
 use Rattle.image.proofs.ListLemmas.{get_contains}
 use Rattle.btree.proofs.SeenLemmas.{readable}
 use Rattle.wanted_entries.specs.Bags.{IsOnce}
+use Rattle.entry_prefixes.proofs.ListLemmas.{mapped_at}
 use Rattle.wanted_entries.proofs.BagLemmas.{same}
 use Rattle.tree_walk.specs.Counts.{counted}
-
--- what an element of a mapped list is given by
-pub record IsFrom {X Y : Type 0} (f : X → Y) (xs : List X) (i : ℕ) (y : Y) : Type 0 where
-  pub x : X
-  pub at : slice_get xs i ≡ Some x
-  pub is : f x ≡ y
-
-from_option : {X Y : Type 0} (f : X → Y) (xs : List X) (i : ℕ) (y : Y) (found : Option X) → slice_get xs i ≡ found → option_map f found ≡ Some y → IsFrom f xs i y
-from_option f xs i y None at is = let e : None ≡ Some y = is in cc
-from_option f xs i y (Some x) at is = let e : Some (f x) ≡ Some y = is in record { x = x; at = at; is = cc }
-
-pub mapped_at : {X Y : Type 0} (f : X → Y) (xs : List X) (i : ℕ) (y : Y) → slice_get (map f xs) i ≡ Some y → IsFrom f xs i y
-mapped_at f xs i y at = from_option f xs i y (slice_get xs i) refl (sym (slice_get-map f xs i) ∙ at)
 
 -- so many different numbers aren't all below a smaller one
 few_below : (most : ℕ) (ns : List ℕ) → IsOnce ns → ((n : ℕ) → Contains ns n → n < most) → length ns ≤ most
@@ -82,7 +70,7 @@ module _ (header : Header) (image : List ℕ) (kind : TreeKind) (root : ℕ) (so
       let q : a.index ≡ b.index = omega (arith, e, i, j, n.0, m.0) in
       λ k. record { page = p k; index = q k }
 
-  pub few_places : (places : List Place) → ArePlacesOf pages kind root places → length places ≤ header.pages * 65536
+  few_places : (places : List Place) → ArePlacesOf pages kind root places → length places ≤ header.pages * 65536
   few_places places are =
       let few = few_below (header.pages * 65536) (map code places)
       (λ i j n at_i at_j.
@@ -103,11 +91,19 @@ few_pages header sound =
     let product = mul-le-mul_left header.pages least in
     omega (arith, most, product)
 
--- counts of so few cells don't stay at the greatest number
-pub counts_tell : (header : Header) → IsSoundHeader header → (n m rows entries : ℕ) → n ≤ header.pages * 65536 → m ≤ header.pages * 65536
-    → rows ≡ counted n → entries ≡ counted m → (rows ≡ entries → n ≡ m) × (n ≡ m → (rows ≡ entries) × (rows ≤ header.pages * 65536))
-counts_tell header sound n m rows entries few_n few_m rows_are entries_are =
+-- a count of so few cells doesn't stay at the greatest number
+pub counts_tell : (header : Header) → IsSoundHeader header → (n m rows entries : ℕ) → m ≤ header.pages * 65536 → rows ≡ counted n → entries ≡ counted m
+    → (rows ≡ entries → rows ≤ header.pages * 65536 → n ≡ m) × (n ≡ m → (rows ≡ entries) × (rows ≤ header.pages * 65536))
+counts_tell header sound n m rows entries few rows_are entries_are =
     let pages = few_pages header sound in (
-      λ same. omega (arith, pages, few_n, few_m, rows_are, entries_are, same),
-      λ same. (omega (arith, rows_are, entries_are, same), omega (arith, pages, few_n, rows_are)),
+      λ same least. omega (arith, pages, few, rows_are, entries_are, same, least),
+      λ same. (omega (arith, rows_are, entries_are, same), omega (arith, pages, few, same, rows_are)),
     )
+
+-- the counts of rows and of an index's cells
+pub as_many_tell : (header : Header) (image : List ℕ) → IsSoundHeader header → (root many : ℕ) (places : List Place) → IsNumber (pages_in header image) root
+    → ArePlacesOf (pages_in header image) Index root places → (rows entries : ℕ) → rows ≡ counted many → entries ≡ counted (length places)
+    → (rows ≡ entries → rows ≤ header.pages * 65536 → many ≡ length places)
+    × (many ≡ length places → (rows ≡ entries) × (rows ≤ header.pages * 65536))
+as_many_tell header image sound root many places number are rows entries =
+    counts_tell header sound many (length places) rows entries (few_places header image Index root sound number places are)

@@ -1,9 +1,6 @@
+pub mod ConditionLemmas
 pub mod CountLemmas
-pub mod ListLemmas
 pub mod StandLemmas
-pub mod EntryLemmas
 pub mod RowLemmas
 pub mod LookLemmas
 pub mod CompareLemmas
-pub mod AgreeLemmas
-pub mod RepeatLemmas

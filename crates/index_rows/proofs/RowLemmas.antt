@@ -1,6 +1,6 @@
 -- The rows of a table that was checked, each with its rowid, and the entries that they want.
-use Rattle.std.proofs.Common.{◌≡◌, ◌<◌, ◌≤◌, ◌<ℤ◌, ◌++◌, ℕ, ℤ, true, All, List, [], ◌∷◌, Some, length, map, slice_get, refl, sym, ◌∙◌, ap, subst, ⊎_elim, arith}
-use Rattle.std.specs.List.{AllZip, filter}
+use Rattle.std.proofs.Common.{◌≡◌, ◌<◌, ◌≤◌, ◌<ℤ◌, ◌++◌, ℕ, ℤ, All, Bool, List, [], ◌∷◌, Some, length, map, slice_get, refl, sym, ◌∙◌, ap, subst, ⊎_elim, arith}
+use Rattle.std.specs.List.{AllZip}
 use Rattle.std.proofs.lemmas.Bool.{cases_lt}
 use Rattle.std.proofs.lemmas.Int.{ints}
 use Rattle.std.proofs.lemmas.List.{length-map}
@@ -16,6 +16,7 @@ use Rattle.image.proofs.CellLemmas.{one_cell}
 use Rattle.image.proofs.TableLemmas.{rows_of}
 use Rattle.wanted_entries.specs.Bags.{IsOnce}
 use Rattle.wanted_entries.specs.Wanted.{KeyedRow, entry_of, row_key, values_at, wanted}
+use Rattle.wanted_entries.proofs.KeptLemmas.{once_kept}
 use Rattle.tree_walk.specs.declared.counts.TreeCounts.{TreeCounts}
 use Rattle.schema.specs.TableData.{TableData}
 use Rattle.schema.proofs.OneLemmas.{zip_same}
@@ -24,16 +25,7 @@ use Rattle.stored_rows.proofs.OneLemmas.{one_places, one_row}
 use Rattle.table_walk.specs.Checked.{IsCheckedTree}
 use Rattle.index_rows.specs.Entries.{indexed}
 use Rattle.index_rows.specs.Rows.{HoldsKeyedRows, StoresKeyedRow}
-use Rattle.index_rows.proofs.CountLemmas.{mapped_at}
-use Rattle.index_rows.proofs.ListLemmas.{beside}
-
--- of rows that are all kept each wants its entry
-all_kept : (rows : List KeyedRow) → filter (λ keyed. true) rows ≡ rows
-all_kept [] = refl
-all_kept (keyed ∷ rows) = ap (λ (l : List KeyedRow). keyed ∷ l) (all_kept rows)
-
-pub all_wanted : (columns : List ℕ) (rows : List KeyedRow) → wanted (indexed columns) (λ row. true) rows ≡ map (entry_of (indexed columns)) rows
-all_wanted columns rows = ap (λ (l : List KeyedRow). map (entry_of (indexed columns)) l) (all_kept rows)
+use Rattle.entry_prefixes.proofs.ListLemmas.{beside, mapped_at}
 
 -- the last value of an entry is the rowid
 last_same : (xs ys : Row) (p q : ℤ) → length xs ≡ length ys → xs ++ int p ∷ [] ≡ ys ++ int q ∷ [] → p ≡ q
@@ -84,14 +76,18 @@ module _ (pages : Pages) (table : TableData) where
         (same_rowid columns x.x y.x a.rowid b.rowid (p.holds.rowid_is ∙ a.has_rowid) (q.holds.rowid_is ∙ b.has_rowid) (x.is ∙ sym y.is))
         (holds.cells.ascend i j p.x q.x a.rowid b.rowid less p.at q.at (p.holds.cell, a, a.has_rowid) (q.holds.cell, b, b.has_rowid))
 
-    pub once_wanted : IsOnce (map (entry_of (indexed columns)) rows)
-    once_wanted i j entry at_i at_j = ⊎_elim
+    once_entries : IsOnce (map (entry_of (indexed columns)) rows)
+    once_entries i j entry at_i at_j = ⊎_elim
         (λ (less : i < j). absurd (not_before i j entry less at_i at_j))
         (λ (least : j ≤ i). ⊎_elim
         (λ (less : j < i). absurd (not_before j i entry less at_j at_i))
         (λ (most : i ≤ j). omega arith)
         (cases_lt j i))
         (cases_lt i j)
+
+    -- also where a condition leaves rows out
+    pub once_wanted : (keeps : Row → Bool) → IsOnce (wanted (indexed columns) keeps rows)
+    once_wanted keeps = once_kept (entry_of (indexed columns)) (λ keyed. keeps keyed.row) rows once_entries
 
   -- the rows at places at which rows are
   record AreKeyed (places : List Place) : Type 0 where

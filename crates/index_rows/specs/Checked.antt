@@ -15,9 +15,8 @@ pub record IsCheckedTableIndex (pages : Pages) (index : TableIndex) (entries : �
   pub tree : IsCheckedIndex pages (length index.places.now + 1) index.descends.now index.root counts
   pub entries_are : entries ≡ counts.cells
 
--- the tree of a table was checked, and has so many rows
-pub record IsCheckedTable (pages : Pages) (table : TableData) (rows : ℕ) : Type 0 where
+-- the tree of a table was checked
+pub record IsCheckedTable (pages : Pages) (table : TableData) : Type 0 where
   pub counts : TreeCounts
   pub number : IsNumber pages table.root
   pub tree : IsCheckedTree pages table counts
-  pub rows_are : rows ≡ counts.cells

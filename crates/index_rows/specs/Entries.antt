@@ -1,26 +1,7 @@
--- The entries of an index. (Database File Format, section 2.3 "Representation Of SQL Indices")
+-- The columns of an index of a table with rowids. (Database File Format, section 2.3 "Representation Of SQL Indices")
 use Rattle.std.specs.Prelude.{ℕ, List, []}
-use Rattle.std.specs.List.{AllZip}
-use Rattle.values.specs.Row.{Row}
-use Rattle.image.specs.declared.kind.TreeKind.TheVariants.{Index}
-use Rattle.image.specs.declared.kind.Level.{Level}
-use Rattle.image.specs.Pages.{Pages}
-use Rattle.image.specs.Tree.{ArePlacesOf, IsPageOf, Place}
 use Rattle.wanted_entries.specs.Wanted.{IndexedPlaces}
-use Rattle.index_entries.specs.Entries.{HasValues}
 
 -- an index of these columns of a table with rowids
 abbrev pub indexed : List ℕ → IndexedPlaces
 indexed columns = record { columns = columns; others = [] }
-
--- the entry at a place of an index has these values
-pub record StoresEntry (pages : Pages) (place : Place) (values : Row) : Type 0 where
-  pub level : Level
-  pub page : IsPageOf pages Index level place.page
-  pub has : HasValues pages level place.page place.index values
-
--- the index that has this root has these entries, in whichever order: one for each cell of its tree
-pub record HoldsEntries (pages : Pages) (root : ℕ) (entries : List Row) : Type 0 where
-  pub places : List Place
-  pub cells : ArePlacesOf pages Index root places
-  pub entries_are : AllZip (StoresEntry pages) places entries

@@ -1,16 +1,16 @@
 //! Whether an index has the entries that its table's rows want.
-ghost use Rattle.std.specs.Prelude.{◌≡◌, ◌↔◌, IfErr, IsTrue, MatchResult, length};
+ghost use Rattle.std.specs.Prelude.{◌≡◌, ◌↔◌, ℕ, IfErr, IsTrue, List, MatchResult, length};
 ghost use Rattle.pager.specs.Calls.{IsReadFault, ReadsPages};
 ghost use Rattle.image.specs.declared.kind.TreeKind.TheVariants as kind;
-ghost use Rattle.image.specs.Pages.{WhereSteady, pages_seen};
-ghost use Rattle.image.specs.Shape.{places_under};
-ghost use Rattle.schema.specs.TableData.{TableData};
-ghost use Rattle.index_rows.specs.declared.index.TableIndex.{TableIndex};
+ghost use Rattle.image.specs.Pages.{IsNumber, WhereSteady, pages_seen};
+ghost use Rattle.image.specs.Tree.{ArePlacesOf, Place};
+ghost use Rattle.tree_walk.specs.Counts.{counted};
 ghost use Rattle.table_walk.specs.Walked.{IsWalkFault};
 ghost use Rattle.index_rows.specs.Checked.{IsCheckedTable, IsCheckedTableIndex};
 ghost use Rattle.index_rows.specs.Compared.{IsDifferentIndex, IsIndexOf};
+ghost use Rattle.index_rows.specs.Kept.{condition_of};
 
-use crate::entries::has_wanted;
+use crate::entries::{Lookup, look_up};
 use crate::index::TableIndex;
 use cursor::Cursor;
 use image::TreeKind;
@@ -19,21 +19,21 @@ use schema::Table;
 use std::alloc::Global;
 use values::Fault;
 
-/// Whether the tree of a table and that of an index have as many cells, by their counts, which stay at the greatest number.
+/// Whether so many rows are as many as the entries of an index, by their counts, which stay at the greatest number.
 fn are_as_many<S: Source>(pager: &Pager<S>, rows: u64, entries: u64) -> bool
-    ensures { (table : TableData) (index : TableIndex) (one : IsCheckedTable (pages_seen pager.now.state) table rows)
-        (other : IsCheckedTableIndex (pages_seen pager.now.state) index entries)
-        → IsTrue result ↔ (length (places_under (pages_seen pager.now.state) kind.Table one.counts.levels table.root)
-        ≡ length (places_under (pages_seen pager.now.state) kind.Index other.counts.levels index.root)) }
+    ensures { (root many : ℕ) (places : List Place) → IsNumber (pages_seen pager.now.state) root
+        → ArePlacesOf (pages_seen pager.now.state) kind.Index root places → rows ≡ counted many → entries ≡ counted (length places)
+        → IsTrue result ↔ (many ≡ length places) }
 {
     // A page has fewer than 65,536 cells, so that no count of an image's cells stays there.
     let most = u64::from(pager.header().pages) * 65_536;
     rows == entries && rows <= most
 }
 
-/// Whether an index has exactly the entries that the rows of its table want, where the trees of both were checked and have
-/// so many rows and entries. Each wanted entry is looked up: they differ from one another, so that where there are as many
-/// entries these are the wanted ones. (Database File Format, section 2.3 "Representation Of SQL Indices")
+/// Whether an index has exactly the entries that those rows of its table want which its condition keeps, where the trees of
+/// both were checked and the index has so many entries. Each wanted entry is looked up: they differ from one another, so that
+/// where there are as many entries these are the wanted ones. (Database File Format, section 2.3 "Representation Of SQL
+/// Indices"; Partial Indexes)
 ///
 /// # Errors
 ///
@@ -43,31 +43,29 @@ pub fn is_index_of<S: Source>(
     pager: &mut Pager<S>,
     table: &Table,
     index: &TableIndex<'_>,
-    rows: u64,
     entries: u64,
 ) -> Result<bool, Fault>
-    ensures same { WhereSteady pager.old.state (λ pages. IsCheckedTable pages table.now rows → IsCheckedTableIndex pages index.now entries
-        → MatchResult result (λ same. (IsTrue same → IsIndexOf pages table.now index.now.places.now index.now.root)
-        × (¬ IsTrue same → IsDifferentIndex pages table.now index.now.places.now index.now.root)) IsReadFault) }
+    ensures same { WhereSteady pager.old.state (λ pages. IsCheckedTable pages table.now → IsCheckedTableIndex pages index.now entries
+        → MatchResult result (λ same. (IsTrue same → IsIndexOf pages table.now index.now.places.now (condition_of index.now) index.now.root)
+        × (¬ IsTrue same → IsDifferentIndex pages table.now index.now.places.now (condition_of index.now) index.now.root)) IsReadFault) }
     ensures only { IfErr result IsWalkFault }
     ensures reads { ReadsPages result pager.old.state pager.new.state }
 {
-    if !are_as_many(pager, rows, entries) {
-        return Ok(false);
-    }
     let root = table.root();
     let mut cursor = Cursor::first(alloc, pager, TreeKind::Table, root)?;
+    let mut kept: u64 = 0;
     loop {
         // A cell that was checked is there again, unless the source has changed.
         let Ok(entry) = cursor.entry() else {
             return Err(Fault::BadPage(root));
         };
         let Some(cell) = entry else {
-            return Ok(true);
+            return Ok(are_as_many(pager, kept, entries));
         };
-        let found = has_wanted(alloc, pager, table, &cell, index)?;
-        if !found {
-            return Ok(false);
+        match look_up(alloc, pager, table, &cell, index)? {
+            Lookup::LeftOut => {}
+            Lookup::Found => kept = kept.saturating_add(1),
+            Lookup::Missing => return Ok(false),
         }
         cursor.next(pager)?;
     }

@@ -1,7 +1,9 @@
 //! An index of a table.
 
+use expr::Expr;
+
 /// An index of a table with rowids. Each of its entries has the values of its columns, and behind them the rowid.
-#[derive(Clone, Copy, Debug)]
+#[derive(Clone, Copy)]
 pub struct TableIndex<'i> {
     /// The number of the page at its root.
     pub root: u32,
@@ -9,4 +11,6 @@ pub struct TableIndex<'i> {
     pub places: &'i [usize],
     /// Which of its columns descend; the rowid ascends.
     pub descends: &'i [bool],
+    /// The condition on a row's columns, where it has only entries of rows of which this is true. (Partial Indexes)
+    pub condition: Option<&'i Expr>,
 }

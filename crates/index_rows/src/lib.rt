@@ -1,19 +1,19 @@
 //! An index, held against the rows of its table. It promises to tell, of a table and an index whose trees were checked,
-//! whether the index has exactly the entries that the table's rows want: the values of its columns, and the rowid; and
-//! whether two entries agree in all of its columns, none of which is NULL.
+//! whether the index has exactly the entries that the table's rows want, those alone of which its condition is true: the
+//! values of its columns, and the rowid.
 //!
-//! The modules, in the order in which data passes them: `index` (an index of a table), `entries` (the entry that a row
-//! wants, and whether the index has it), `comparison` (all rows against all entries), `repeats` (entries that agree) and
-//! `laws`.
+//! The modules, in the order in which data passes them: `index` (an index of a table), `conditions` (the rows that an index
+//! keeps), `entries` (the entry that a row wants, and whether the index has it), `comparison` (all rows against all entries)
+//! and `laws`.
 #![tactic(auto)]
 
 mod comparison;
+mod conditions;
 mod entries;
 mod index;
 pub mod laws;
-mod repeats;
 
 pub use comparison::is_index_of;
+pub use conditions::is_kept;
 pub use entries::has_wanted;
 pub use index::TableIndex;
-pub use repeats::has_repeats;

@@ -13,7 +13,7 @@ use Rattle.tree_walk.specs.declared.counts.TreeCounts.{TreeCounts}
 use Rattle.catalog.proofs.LawLemmas.{row_of_table}
 use Rattle.catalog.specs.CatalogData.{CatalogData}
 use Rattle.catalog.specs.Refused.{IsRefused}
-use Rattle.integrity.specs.Checked.{HasCause, HasWholeIndexes, IsCheckFault, IsTableOf, later, partial, said}
+use Rattle.integrity.specs.Checked.{HasCause, HaveRowids, IsCheckFault, IsTableOf, said}
 use Rattle.table_walk.specs.Checked.{IsCheckedTree, IsStoredTable}
 use Rattle.integrity.specs.Denotes.{HasCatalog, HasTables}
 use Rattle.stored_rows.specs.RowFaults.{IsBrokenTable}
@@ -64,15 +64,14 @@ module _ (pages : Pages) where
         → HasCause pages fault
     broken_table table fault among broken = inr (inl (inl (table, table_of table among, broken)))
 
-    -- a catalog that has a partial index isn't served
-    pub has_partial : ¬ HasWholeIndexes catalog → HasCause pages NotYet
-    has_partial some = inr (inr (refl, partial rows catalog has some))
+    -- a catalog that has a table without rowids isn't served
+    pub has_rowless : ¬ HaveRowids catalog → HasCause pages NotYet
+    has_rowless some = inr (inr (refl, record { rows = rows; catalog = catalog; has = has; some = some }))
 
-  -- rows that were refused have the condition that a fault says, or aren't served
+  -- rows that were refused have the condition that a fault says
   pub refused_rows : (rows : List Row) → HoldsRows pages schema_table rows → (fault : Fault) → IsRefused pages.count rows fault
       → HasCause pages fault
   refused_rows rows stored NoMemory is = inl (inr refl)
-  refused_rows rows stored NotYet is = inr (inr (refl, later rows stored is))
   refused_rows rows stored fault is = inr (inl (inr (inr (inl (rows, stored, is)))))
 
 pub refused_here : (n m : ℕ) (rows others : List Row) (fault : Fault) → n ≡ m → rows ≡ others → IsRefused n rows fault
@@ -86,7 +85,6 @@ only_memory fault is = subst (λ (x : Fault). IsCheckFault x) (sym is) tt
 
 pub refused_only : (n : ℕ) (rows : List Row) (fault : Fault) → IsRefused n rows fault → IsCheckFault fault
 refused_only n rows NoMemory h = tt
-refused_only n rows NotYet h = tt
 refused_only n rows SchemaRow h = tt
 refused_only n rows (SchemaText name) h = tt
 refused_only n rows (UnsupportedObject name) h = tt

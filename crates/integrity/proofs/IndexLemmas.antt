@@ -13,19 +13,18 @@ use Rattle.schema.specs.TableData.{TableData}
 use Rattle.catalog.specs.CatalogData.{CatalogData}
 use Rattle.catalog.specs.Picks.{Picks}
 use Rattle.catalog.specs.Says.{IsCatalog, IsNoIndex, SaysAnyIndex}
-use Rattle.tree_walk.specs.declared.counts.TreeCounts.{TreeCounts}
-use Rattle.index_walk.specs.Checked.{IsIndexWalkFault}
+use Rattle.integrity.specs.declared.index_trees.IndexCounts.{IndexCounts}
 use Rattle.index_walk.proofs.CheckedLemmas.{unbroken_index}
 use Rattle.index_rows.proofs.CompareLemmas.{not_different}
-use Rattle.index_rows.proofs.EntryLemmas.{still_repeated}
-use Rattle.index_rows.specs.Repeats.{IsUniqueIndex}
+use Rattle.entry_prefixes.proofs.EntryLemmas.{still_repeated}
+use Rattle.entry_prefixes.specs.Repeats.{IsUniqueIndex}
 use Rattle.integrity.specs.Checked.{HasBrokenIndex, HasCause, IsCheckFault}
 use Rattle.integrity.specs.Denotes.{HasCatalog}
-use Rattle.integrity.specs.Indexes.{AreBrokenEntries, AreItsEntries, IsBrokenIndexTree, IsCheckedIndexOf, IsTableIndex, places_of}
+use Rattle.integrity.specs.Indexes.{AreBrokenEntries, AreItsEntries, IsBrokenIndexTree, IsCheckedIndexOf, IsIndexCheckFault, IsTableIndex, places_of}
 use Rattle.integrity.proofs.OneLemmas.{same_catalog}
 
--- the faults of the walk over an index are those of a check
-pub index_only : (fault : Fault) → IsIndexWalkFault fault → IsCheckFault fault
+-- the faults of the check of an index alone are those of a check
+pub index_only : (fault : Fault) → IsIndexCheckFault fault → IsCheckFault fault
 index_only ReadFailed h = tt
 index_only NoMemory h = tt
 index_only (BadPage n) h = tt
@@ -36,6 +35,7 @@ index_only (BadDepth n) h = tt
 index_only (BadRecord n) h = tt
 index_only FloatValue h = tt
 index_only BadText h = tt
+index_only (NotUnique name) h = tt
 index_only fault h = absurd h
 
 abbrev IsWithin : ℕ → IndexData → Type 0
@@ -87,8 +87,8 @@ module _ (pages : Pages) (rows : List Row) (catalog : CatalogData) (has : HasCat
       ))))))
 
   -- the tree of one of the indexes was checked
-  checked_in : (indexes : List IndexData) (trees : List TreeCounts) (index : IndexData) → AllZip (IsCheckedIndexOf pages) indexes trees
-      → Contains indexes index → (counts : TreeCounts) × IsCheckedIndexOf pages index counts
+  checked_in : (indexes : List IndexData) (counted : List IndexCounts) (index : IndexData) → AllZip (IsCheckedIndexOf pages) indexes counted
+      → Contains indexes index → (counts : IndexCounts) × IsCheckedIndexOf pages index counts
   checked_in [] trees index checked (k, within, at) = absurd (omega (arith, within))
   checked_in (i ∷ indexes) [] index checked at = absurd checked
   checked_in (i ∷ indexes) (c ∷ trees) index checked (zero, within, at) =
@@ -98,12 +98,17 @@ module _ (pages : Pages) (rows : List Row) (catalog : CatalogData) (has : HasCat
   unbroken_entries : (table : TableData) (index : IndexData) → AreItsEntries pages table index → (fault : Fault)
       → AreBrokenEntries pages table index fault → ⊥
   unbroken_entries table index its (IndexDiffers name) (named, differs) =
-      not_different pages table (places_of index) index.root its.same differs
-  unbroken_entries table index its (NotUnique name) (named, is_unique, repeats) =
-      let columns = length (places_of index) in
-      let unique : IsUniqueIndex pages index.root columns = its.unique is_unique in
-      unique.unique (still_repeated pages index.root unique.entries repeats.entries unique.entries_are repeats.entries_are columns repeats.repeated)
+      not_different pages table (places_of index) index.condition index.root its differs
   unbroken_entries table index its fault broken = absurd broken
+
+  -- nothing is broken of an index that was checked alone
+  unbroken_alone : (index : IndexData) (counts : IndexCounts) → IsCheckedIndexOf pages index counts → (fault : Fault)
+      → IsBrokenIndexTree pages index fault → ⊥
+  unbroken_alone index counts checked (NotUnique name) (named, is_unique, repeats) =
+      let columns = length (places_of index) in
+      let unique : IsUniqueIndex pages index.root columns = checked.unique is_unique in
+      unique.unique (still_repeated pages index.root unique.entries repeats.entries unique.entries_are repeats.entries_are columns repeats.repeated)
+  unbroken_alone index counts checked fault broken = unbroken_index pages _ _ index.root counts.tree checked.tree fault broken
 
   -- the catalog's indexes are the image's
   table_index : (table : TableData) (index : IndexData) → IsTableIndex pages table index
@@ -121,12 +126,12 @@ module _ (pages : Pages) (rows : List Row) (catalog : CatalogData) (has : HasCat
   its_entries each table index is = let among = table_index table index is in each table index among.0 among.1 is.owner
 
   -- nothing is broken of indexes whose trees and entries were checked
-  pub unbroken_indexes : (trees : List TreeCounts) → AllZip (IsCheckedIndexOf pages) catalog.indexes trees
+  pub unbroken_indexes : (counted : List IndexCounts) → AllZip (IsCheckedIndexOf pages) catalog.indexes counted
       → ((table : TableData) (index : IndexData) → IsTableIndex pages table index → AreItsEntries pages table index)
       → (fault : Fault) → HasBrokenIndex pages fault → ⊥
   unbroken_indexes trees checked its fault (inl (index, is, broken)) =
       let same = same_catalog pages is.rows rows is.catalog catalog is.has has in
       let found = checked_in catalog.indexes trees index checked (subst (λ (c : CatalogData). Contains c.indexes index) same is.is_index) in
-      unbroken_index pages _ _ index.root found.0 found.1 fault broken
+      unbroken_alone index found.0 found.1 fault broken
   unbroken_indexes trees checked its fault (inr (table, index, is, broken)) =
       unbroken_entries table index (its table index is) fault broken

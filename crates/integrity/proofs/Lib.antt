@@ -4,6 +4,7 @@ pub mod ZipLemmas
 pub mod OneLemmas
 pub mod IndexLemmas
 pub mod EntryLemmas
+pub mod DistinctLemmas
 pub mod UnbrokenLemmas
 pub mod DenotesLemmas
 pub mod TreesLemmas

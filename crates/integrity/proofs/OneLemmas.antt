@@ -4,13 +4,13 @@ use Rattle.values.specs.Row.{Row}
 use Rattle.values.specs.declared.fault.Fault.{Fault}
 use Rattle.image.specs.Pages.{Pages}
 use Rattle.schema.specs.TableData.{schema_table}
-use Rattle.catalog.proofs.LawLemmas.{no_broken_schema, no_later_table, one_catalog}
+use Rattle.catalog.proofs.LawLemmas.{no_broken_schema, one_catalog}
 use Rattle.catalog.specs.CatalogData.{CatalogData}
-use Rattle.catalog.specs.Refused.{HasLaterTable, IsBrokenSchema}
+use Rattle.catalog.specs.Refused.{IsBrokenSchema}
 use Rattle.catalog.specs.Says.{IsCatalog}
 use Rattle.stored_rows.specs.Stored.{HoldsRows}
 use Rattle.stored_rows.proofs.OneLemmas.{one_rows}
-use Rattle.integrity.specs.Checked.{HasWholeIndexes, IsBeyond, later, partial}
+use Rattle.integrity.specs.Checked.{HaveRowids, IsBeyond}
 use Rattle.integrity.specs.Denotes.{HasCatalog}
 
 module _ (pages : Pages) where
@@ -27,9 +27,6 @@ module _ (pages : Pages) where
         no_broken_schema pages.count rows catalog has.says fault
         (subst (λ (l : List Row). IsBrokenSchema pages.count l fault) same broken)
 
-    pub all_served : HasWholeIndexes catalog → ¬ IsBeyond pages
-    all_served whole (later others stored is) =
-        let same = one_rows pages schema_table others rows stored has.stored in
-        no_later_table pages.count rows catalog has.says (subst (λ (l : List Row). HasLaterTable l) same is)
-    all_served whole (partial others other too some) =
-        some (subst (λ (c : CatalogData). HasWholeIndexes c) (same_catalog rows others catalog other has too) whole)
+    pub all_served : HaveRowids catalog → ¬ IsBeyond pages
+    all_served rowids beyond =
+        beyond.some (subst (λ (c : CatalogData). HaveRowids c) (same_catalog rows beyond.rows catalog beyond.catalog has beyond.has) rowids)

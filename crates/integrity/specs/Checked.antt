@@ -15,25 +15,26 @@ use Rattle.page_use.specs.Free.{header_on}
 use Rattle.page_use.specs.Marks.{IsUsedTwice}
 use Rattle.values.specs.Row.{Row}
 use Rattle.schema.specs.Rows.{SaysTable}
-use Rattle.schema.specs.TableData.{TableData, schema_table}
+use Rattle.schema.specs.TableData.{HasRowids, TableData, schema_table}
 use Rattle.indexes.specs.IndexData.{IndexData}
 use Rattle.catalog.specs.CatalogData.{CatalogData}
-use Rattle.catalog.specs.Refused.{HasLaterTable, IsBrokenSchema}
+use Rattle.catalog.specs.Refused.{IsBrokenSchema}
 use Rattle.tree_walk.specs.declared.counts.TreeCounts.{TreeCounts}
 use Rattle.table_walk.specs.Checked.{IsCheckedTree}
 use Rattle.table_walk.specs.Walked.{IsWalkFault}
+use Rattle.integrity.specs.declared.index_trees.IndexCounts.{IndexCounts}
 use Rattle.integrity.specs.Denotes.{HasCatalog, HasTables}
-use Rattle.integrity.specs.Indexes.{AreBrokenEntries, AreItsEntries, IsBrokenIndexTree, IsCheckedIndexOf, IsImageIndex, IsTableIndex, IsWhole}
+use Rattle.integrity.specs.Indexes.{AreBrokenEntries, AreItsEntries, IsBrokenIndexTree, IsCheckedIndexOf, IsImageIndex, IsTableIndex}
 use Rattle.integrity.specs.Used.{users_of}
 use Rattle.stored_rows.specs.RowFaults.{IsBrokenTable}
 use Rattle.stored_rows.specs.Stored.{HoldsRows, StoresRow}
 
--- the tables and indexes that an image has, and what the tree of each has
+-- the tables and indexes that an image has, and what the check counts of each
 pub record CheckedData : Type 0 where
   pub tables : List TableData
   pub trees : List TreeCounts
   pub indexes : List IndexData
-  pub index_trees : List TreeCounts
+  pub index_counts : List IndexCounts
 
 -- a table of the image: that of the schema, or one that a row of the schema says
 pub data IsTableOf (pages : Pages) : TableData → Type 0 where
@@ -65,14 +66,16 @@ abbrev pub IsBrokenImage : Pages → Fault → Type 0
 IsBrokenImage pages fault = ((table : TableData) × IsTableOf pages table × IsBrokenTable pages table fault) ⊎ IsMisused pages fault
     ⊎ ((rows : List Row) × HoldsRows pages schema_table rows × IsBrokenSchema pages.count rows fault) ⊎ HasBrokenIndex pages fault
 
--- a catalog without partial indexes: which rows these leave out isn't told yet
-abbrev pub HasWholeIndexes : CatalogData → Type 0
-HasWholeIndexes catalog = All IsWhole catalog.indexes
+-- a catalog of tables with rowids alone: how the rows of others are stored isn't told yet
+abbrev pub HaveRowids : CatalogData → Type 0
+HaveRowids catalog = All HasRowids catalog.tables
 
--- What isn't served yet: a table that the catalog doesn't serve, and a partial index.
-pub data IsBeyond (pages : Pages) : Type 0 where
-  later : (rows : List Row) → HoldsRows pages schema_table rows → HasLaterTable rows → IsBeyond pages
-  partial : (rows : List Row) (catalog : CatalogData) → HasCatalog pages rows catalog → ¬ HasWholeIndexes catalog → IsBeyond pages
+-- What isn't served yet: a table without rowids.
+pub record IsBeyond (pages : Pages) : Type 0 where
+  pub rows : List Row
+  pub catalog : CatalogData
+  pub has : HasCatalog pages rows catalog
+  pub some : ¬ HaveRowids catalog
 
 -- The condition of an image that a fault of the check says is broken, or why the image isn't served yet.
 abbrev pub IsCheckCause : Pages → Fault → Type 0
@@ -113,13 +116,13 @@ IsCheckFault (IndexDiffers _) = Unit {0}
 IsCheckFault (NotUnique _) = Unit {0}
 IsCheckFault fault = IsWalkFault fault
 
--- An image was checked: these are its tables and indexes, with what the tree of each has, and each index has just the entries
--- of its table's rows; none of the conditions that are examined is broken, and it has nothing that isn't served yet.
+-- An image was checked: these are its tables and indexes, with what was counted of each, and each index has just the entries
+-- that its table's rows want; none of the conditions that are examined is broken, and it has nothing that isn't served yet.
 pub record HasCheckedImage (pager : PagerState) (checked : CheckedData) : Type 0 where
   pub roots : All (λ table. IsPageNumber pager table.root) checked.tables
   pub tables : WhereSteady pager (λ pages. HasTables pages checked.tables)
   pub trees : WhereSteady pager (λ pages. AllZip (IsCheckedTree pages) checked.tables checked.trees)
-  pub index_trees : WhereSteady pager (λ pages. AllZip (IsCheckedIndexOf pages) checked.indexes checked.index_trees)
+  pub index_counts : WhereSteady pager (λ pages. AllZip (IsCheckedIndexOf pages) checked.indexes checked.index_counts)
   pub entries : WhereSteady pager (λ pages. (table : TableData) (index : IndexData) → IsTableIndex pages table index → AreItsEntries pages table index)
   pub unbroken : WhereSteady pager (λ pages. (fault : Fault) → IsExamined fault → ¬ IsBrokenImage pages fault)
   pub served : WhereSteady pager (λ pages. ¬ IsBeyond pages)

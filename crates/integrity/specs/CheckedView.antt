@@ -8,5 +8,5 @@ checked_data c = record {
   tables = (catalog_data c.catalog).tables;
   trees = c.trees.items;
   indexes = (catalog_data c.catalog).indexes;
-  index_trees = c.index_trees.items;
+  index_counts = c.index_counts.items;
 }

@@ -1,6 +1,6 @@
 -- The indexes of an image: their trees, and their entries beside the rows of their tables. (Database File Format, section 2.3
--- "Representation Of SQL Indices"; CREATE INDEX, "Unique Indexes"; the faults of docs/FAULTS.md)
-use Rattle.std.specs.Prelude.{◌≡◌, ℕ, ◌+◌, Bool, true, false, Contains, List, length, map, None, string_bytes}
+-- "Representation Of SQL Indices"; Partial Indexes; CREATE INDEX, "Unique Indexes"; the faults of docs/FAULTS.md)
+use Rattle.std.specs.Prelude.{◌≡◌, ℕ, suc, ◌+◌, Bool, true, false, Contains, List, Some, length, map, slice_get, string_bytes}
 use Rattle.values.specs.declared.fault.Fault.{Fault}
 use Rattle.values.specs.declared.fault.Fault.TheVariants.{IndexDiffers, NotUnique}
 use Rattle.values.specs.Row.{Row}
@@ -13,10 +13,13 @@ use Rattle.indexes.specs.IndexData.{IndexData}
 use Rattle.catalog.specs.CatalogData.{CatalogData}
 use Rattle.tree_walk.specs.declared.counts.TreeCounts.{TreeCounts}
 use Rattle.index_walk.specs.Broken.{IsBrokenIndex}
-use Rattle.index_walk.specs.Checked.{IsCheckedIndex}
+use Rattle.index_walk.specs.Checked.{IsCheckedIndex, IsIndexWalkFault}
+use Rattle.entry_prefixes.specs.Entries.{HoldsEntries}
+use Rattle.entry_prefixes.specs.Prefixes.{HasCount}
+use Rattle.entry_prefixes.specs.Repeats.{HasRepeats, IsUniqueIndex}
 use Rattle.index_rows.specs.Checked.{IsCheckedTable}
 use Rattle.index_rows.specs.Compared.{IsDifferentIndex, IsIndexOf}
-use Rattle.index_rows.specs.Repeats.{HasRepeats, IsUniqueIndex}
+use Rattle.integrity.specs.declared.index_trees.IndexCounts.{IndexCounts}
 use Rattle.integrity.specs.Denotes.{HasCatalog}
 
 abbrev pub is_descending : KeyOrder → Bool
@@ -36,19 +39,32 @@ abbrev pub width_of : IndexData → ℕ
 width_of index = length (places_of index) + 1
 
 -- the tree of an index was checked
-abbrev pub IsCheckedIndexOf : Pages → IndexData → TreeCounts → Type 0
-IsCheckedIndexOf pages index counts = IsCheckedIndex pages (width_of index) (descends_of index) index.root counts
+abbrev pub IsCheckedIndexTree : Pages → IndexData → TreeCounts → Type 0
+IsCheckedIndexTree pages index counts = IsCheckedIndex pages (width_of index) (descends_of index) index.root counts
+
+-- its first columns have so many different values, for each number of columns
+pub record HasDistinct (pages : Pages) (index : IndexData) (distinct : List ℕ) : Type 0 where
+  pub entries : List Row
+  pub entries_are : HoldsEntries pages index.root entries
+  pub long : length distinct ≡ length (places_of index)
+  pub counts : (columns count : ℕ) → slice_get distinct columns ≡ Some count → HasCount entries (suc columns) count
+
+-- These are the counts of an index that was checked, no two entries of which agree where it is unique.
+pub record IsCheckedIndexOf (pages : Pages) (index : IndexData) (counts : IndexCounts) : Type 0 where
+  pub tree : IsCheckedIndexTree pages index counts.tree
+  pub distinct : HasDistinct pages index counts.distinct.items
+  pub unique : index.is_unique ≡ true → IsUniqueIndex pages index.root (length (places_of index))
 
 -- and has so many entries
 pub record IsCheckedIndexWith (pages : Pages) (index : IndexData) (entries : ℕ) : Type 0 where
   pub counts : TreeCounts
   pub number : IsNumber pages index.root
-  pub tree : IsCheckedIndexOf pages index counts
+  pub tree : IsCheckedIndexTree pages index counts
   pub entries_are : entries ≡ counts.cells
 
--- so was that of its table, which has so many rows
-pub record IsCheckedWith (pages : Pages) (table : TableData) (rows : ℕ) (index : IndexData) (entries : ℕ) : Type 0 where
-  pub table_is : IsCheckedTable pages table rows
+-- so was that of its table
+pub record IsCheckedWith (pages : Pages) (table : TableData) (index : IndexData) (entries : ℕ) : Type 0 where
+  pub table_is : IsCheckedTable pages table
   pub index_is : IsCheckedIndexWith pages index entries
 
 -- an index of the image
@@ -67,23 +83,23 @@ pub record IsTableIndex (pages : Pages) (table : TableData) (index : IndexData) 
   pub is_table : Contains catalog.tables table
   pub owner : IsSameName index.table table.name
 
--- the condition on an index's tree that a fault says is broken
+-- the condition on an index's tree, or on its entries beside one another, that a fault says is broken
 abbrev pub IsBrokenIndexTree : Pages → IndexData → Fault → Type 0
+IsBrokenIndexTree pages index (NotUnique name) =
+    (string_bytes name ≡ index.name) × (index.is_unique ≡ true) × HasRepeats pages index.root (length (places_of index))
 IsBrokenIndexTree pages index fault = IsBrokenIndex pages (width_of index) (descends_of index) index.root fault
 
--- the condition on an index's entries that a fault says is broken
+-- the faults of the check of an index's tree, and of its entries beside one another
+abbrev pub IsIndexCheckFault : Fault → Type 0
+IsIndexCheckFault (NotUnique _) = Unit {0}
+IsIndexCheckFault fault = IsIndexWalkFault fault
+
+-- the condition on an index's entries beside its table's rows that a fault says is broken
 abbrev pub AreBrokenEntries : Pages → TableData → IndexData → Fault → Type 0
 AreBrokenEntries pages table index (IndexDiffers name) =
-    (string_bytes name ≡ index.name) × IsDifferentIndex pages table (places_of index) index.root
-AreBrokenEntries pages table index (NotUnique name) =
-    (string_bytes name ≡ index.name) × (index.is_unique ≡ true) × HasRepeats pages index.root (length (places_of index))
+    (string_bytes name ≡ index.name) × IsDifferentIndex pages table (places_of index) index.condition index.root
 AreBrokenEntries pages table index _ = ⊥
 
--- the index has exactly the entries that the rows of its table want, no two of which agree where it is unique
-pub record AreItsEntries (pages : Pages) (table : TableData) (index : IndexData) : Type 0 where
-  pub same : IsIndexOf pages table (places_of index) index.root
-  pub unique : index.is_unique ≡ true → IsUniqueIndex pages index.root (length (places_of index))
-
--- the index has an entry for each row of its table: it isn't a partial one
-abbrev pub IsWhole : IndexData → Type 0
-IsWhole index = index.condition ≡ None
+-- the index has exactly the entries that the rows of its table want which its condition keeps
+abbrev pub AreItsEntries : Pages → TableData → IndexData → Type 0
+AreItsEntries pages table index = IsIndexOf pages table (places_of index) index.condition index.root

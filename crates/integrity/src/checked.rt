@@ -4,11 +4,11 @@ ghost use Rattle.pager.specs.Calls.{ReadsPages};
 ghost use Rattle.catalog.specs.CatalogView.{catalog_data};
 ghost use Rattle.indexes.specs.IndexView.{index_data};
 ghost use Rattle.integrity.specs.CheckedView.{checked_data};
-ghost use Rattle.integrity.specs.Indexes.{IsWhole};
 ghost use Rattle.integrity.specs.Checked.{HasCheckedImage, IsCheckFailure};
+ghost use Rattle.schema.specs.TableData.{HasRowids};
 
 use crate::entries::check_entries;
-use crate::index_trees::check_indexes;
+use crate::index_trees::{IndexCounts, check_indexes};
 use crate::trees::{check_tables, read_schema};
 use catalog::Catalog;
 use indexes::Index;
@@ -24,7 +24,7 @@ use values::Fault;
 pub struct Checked {
     catalog: Catalog,
     trees: Vec<TreeCounts>,
-    index_trees: Vec<TreeCounts>,
+    index_counts: Vec<IndexCounts>,
 }
 
 impl Checked {
@@ -49,26 +49,19 @@ impl Checked {
         self.catalog.indexes()
     }
 
-    /// What the tree of each index has, in the same order.
-    pub fn index_trees(&self) -> &[TreeCounts]
-        ensures { result.now ≡ (checked_data self.now).index_trees }
+    /// What the check counts of each index, in the same order.
+    pub fn index_counts(&self) -> &[IndexCounts]
+        ensures { result.now ≡ (checked_data self.now).index_counts }
     {
-        self.index_trees.as_slice()
+        self.index_counts.as_slice()
     }
 }
 
-/// Whether an index has entries for all rows of its table.
-fn is_whole(index: &Index) -> bool
-    ensures { IsTrue result ↔ IsWhole (index_data index.now) }
+/// Whether each of the tables has rowids: how the rows of others are stored isn't told yet.
+fn have_rowids(tables: &[Table]) -> bool
+    ensures { IsTrue result ↔ All HasRowids tables.now }
 {
-    index.condition().is_none()
-}
-
-/// Whether no index is partial: which rows such a one leaves out isn't told yet.
-fn are_whole(indexes: &[Index]) -> bool
-    ensures { IsTrue result ↔ All IsWhole (map index_data indexes.now) }
-{
-    indexes.iter().all(|index| is_whole(index))
+    tables.iter().all(|table| table.has_rowids())
 }
 
 /// Checks an image: its schema, the tree and the rows of each of its tables, the tree and the entries of each of its indexes,
@@ -79,8 +72,8 @@ fn are_whole(indexes: &[Index]) -> bool
 /// `BadPage`, `BadChain`, `BadOrder`, `BadDepth`, `BadRecord`, `FloatValue`, `BadText` and `ValueBreaksColumn` where a table
 /// or an index has that condition; `PageUse` of a page that isn't used once, and `BadFreelist`; `SchemaRow`, `SchemaText` and
 /// `UnsupportedObject` where a row of the schema has that condition; `IndexDiffers` of an index that hasn't just the entries
-/// of its table's rows, and `NotUnique` of a unique one in whose columns two of them agree; `NotYet` where a row of the schema
-/// is that of a table that isn't served yet, or of a partial index; `ReadFailed` and `NoMemory`.
+/// that its table's rows want, and `NotUnique` of a unique one in whose columns two of them agree; `NotYet` where a row of the
+/// schema is that of a table without rowids; `ReadFailed` and `NoMemory`.
 pub fn check<S: Source>(alloc: Global, pager: &mut Pager<S>) -> Result<Checked, Fault>
     ensures outcome { MatchResult result (λ c. HasCheckedImage pager.old.state (checked_data c)) (IsCheckFailure pager.old.state) }
     ensures reads { ReadsPages result pager.old.state pager.new.state }
@@ -93,18 +86,17 @@ pub fn check<S: Source>(alloc: Global, pager: &mut Pager<S>) -> Result<Checked, 
     let catalog = Catalog::read(alloc, rows.as_slice(), pages)?;
     let tables = catalog.tables();
     let indexes = catalog.indexes();
-    if !are_whole(indexes) {
+    if !have_rowids(tables) {
         return Err(Fault::NotYet);
     }
     let trees = check_tables(alloc, pager, tables, used)?;
-    let index_trees = check_indexes(alloc, pager, indexes, used)?;
+    let index_counts = check_indexes(alloc, pager, indexes, used)?;
     check_rest(pager, used)?;
-    let table_counts = trees.as_slice();
-    let index_counts = index_trees.as_slice();
-    check_entries(alloc, pager, tables, table_counts, indexes, index_counts)?;
+    let counted = index_counts.as_slice();
+    check_entries(alloc, pager, tables, indexes, counted)?;
     Ok(Checked {
         catalog,
         trees,
-        index_trees,
+        index_counts,
     })
 }

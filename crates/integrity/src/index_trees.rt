@@ -1,24 +1,36 @@
-//! The trees of an image's indexes.
-ghost use Rattle.std.specs.Prelude.{◌≡◌, ◌⊎◌, All, Contains, IfErr, IfOk, OnOk, ◌<◌, length, map};
+//! The indexes of an image, each alone: its tree, and its entries beside one another.
+ghost use Rattle.std.specs.Prelude.{◌≡◌, ◌⊎◌, true, All, Contains, IfErr, IfOk, MatchResult, OnOk, ◌<◌, length, map};
 ghost use Rattle.std.specs.List.{AllZip};
 ghost use Rattle.pager.specs.Calls.{IsReadFault, ReadsPages};
 ghost use Rattle.pager.specs.PagerState.{IsPageNumber};
-ghost use Rattle.image.specs.Pages.{WhereSteady};
+ghost use Rattle.image.specs.Pages.{IsNumber, WhereSteady};
 ghost use Rattle.indexes.specs.IndexData.{IndexData};
 ghost use Rattle.indexes.specs.IndexView.{index_data};
 ghost use Rattle.tree_walk.specs.Used.{IsTreeTwice, MarksTree};
+ghost use Rattle.tree_walk.specs.declared.counts.TreeCounts.{TreeCounts};
 ghost use Rattle.index_walk.specs.Checked.{IsIndexWalkFault};
+ghost use Rattle.entry_prefixes.specs.Repeats.{IsUniqueIndex};
 ghost use Rattle.integrity.specs.Indexes as spec;
-ghost use Rattle.integrity.specs.Indexes.{IsBrokenIndexTree, IsCheckedIndexOf, descends_of};
+ghost use Rattle.integrity.specs.Indexes.{HasDistinct, IsBrokenIndexTree, IsCheckedIndexOf, IsCheckedIndexTree, IsIndexCheckFault, descends_of};
 ghost use Rattle.integrity.specs.Used.{AreTreesTwice, MarksTrees, index_tree_of};
 
 use create_trees::KeyOrder;
+use entry_prefixes::read_prefixes;
 use index_walk::{IndexTree, check_index};
 use indexes::Index;
 use pager::{Pager, Source};
 use std::alloc::{AllocError, Global};
 use tree_walk::TreeCounts;
 use values::Fault;
+
+/// What the check counts of an index.
+#[derive(Debug, Drop)]
+pub struct IndexCounts {
+    /// What its tree has.
+    pub tree: TreeCounts,
+    /// How many different values its first columns have, for each number of columns from one on.
+    pub distinct: Vec<u64>,
+}
 
 /// The places of an index's columns in its table.
 pub(crate) fn places_of(alloc: Global, index: &Index) -> Result<Vec<usize>, AllocError>
@@ -58,7 +70,7 @@ fn check_tree<S: Source>(
 ) -> Result<TreeCounts, Fault>
     requires number { IsPageNumber pager.old.state (index_data index.now).root }
     requires long { pager.old.state.header.pages < length used.old }
-    ensures checked { WhereSteady pager.old.state (λ pages. IfOk result (IsCheckedIndexOf pages (index_data index.now))) }
+    ensures checked { WhereSteady pager.old.state (λ pages. IfOk result (IsCheckedIndexTree pages (index_data index.now))) }
     ensures marks { WhereSteady pager.old.state (λ pages. OnOk result
         (MarksTree pages (index_tree_of (index_data index.now)) used.old used.new)) }
     ensures fault { WhereSteady pager.old.state (λ pages. IfErr result (λ e. IsReadFault e
@@ -75,29 +87,74 @@ fn check_tree<S: Source>(
     check_index(alloc, pager, &tree, used)
 }
 
-/// Checks the tree of each index, and gives their pages and chains their marks.
+/// How many different values the first columns of an index have, for each number of columns, where its tree was checked. The
+/// fault is `NotUnique` where it is unique and two of its entries agree in all of its columns, none of which is NULL; or one of
+/// reading.
+fn count_distinct<S: Source>(
+    alloc: Global,
+    pager: &mut Pager<S>,
+    index: &Index,
+) -> Result<Vec<u64>, Fault>
+    ensures counts { WhereSteady pager.old.state (λ pages. (counts : TreeCounts) → IsNumber pages (index_data index.now).root
+        → IsCheckedIndexTree pages (index_data index.now) counts → MatchResult result
+        (λ distinct. HasDistinct pages (index_data index.now) distinct.items × ((index_data index.now).is_unique ≡ true
+        → IsUniqueIndex pages (index_data index.now).root (length (spec.places_of (index_data index.now)))))
+        (λ e. IsReadFault e ⊎ IsBrokenIndexTree pages (index_data index.now) e)) }
+    ensures only { IfErr result IsIndexCheckFault }
+    ensures reads { ReadsPages result pager.old.state pager.new.state }
+{
+    let prefixes = read_prefixes(alloc, pager, index.root(), index.columns().len())?;
+    if index.is_unique() && prefixes.repeats {
+        return Err(Fault::NotUnique(String::from_str(alloc, index.name())?));
+    }
+    Ok(prefixes.distinct)
+}
+
+/// Checks an index alone: its tree, whose pages and chains get their marks, and its entries beside one another.
+fn check_alone<S: Source>(
+    alloc: Global,
+    pager: &mut Pager<S>,
+    index: &Index,
+    used: &mut [bool],
+) -> Result<IndexCounts, Fault>
+    requires number { IsPageNumber pager.old.state (index_data index.now).root }
+    requires long { pager.old.state.header.pages < length used.old }
+    ensures checked { WhereSteady pager.old.state (λ pages. IfOk result (IsCheckedIndexOf pages (index_data index.now))) }
+    ensures marks { WhereSteady pager.old.state (λ pages. OnOk result
+        (MarksTree pages (index_tree_of (index_data index.now)) used.old used.new)) }
+    ensures fault { WhereSteady pager.old.state (λ pages. IfErr result (λ e. IsReadFault e
+        ⊎ IsBrokenIndexTree pages (index_data index.now) e ⊎ IsTreeTwice pages (index_tree_of (index_data index.now)) used.old e)) }
+    ensures only { IfErr result IsIndexCheckFault }
+    ensures reads { ReadsPages result pager.old.state pager.new.state }
+{
+    let tree = check_tree(alloc, pager, index, used)?;
+    let distinct = count_distinct(alloc, pager, index)?;
+    Ok(IndexCounts { tree, distinct })
+}
+
+/// Checks each index alone, and gives the pages and chains of their trees their marks.
 pub(crate) fn check_indexes<S: Source>(
     alloc: Global,
     pager: &mut Pager<S>,
     indexes: &[Index],
     used: &mut [bool],
-) -> Result<Vec<TreeCounts>, Fault>
+) -> Result<Vec<IndexCounts>, Fault>
     requires roots { All (λ index. IsPageNumber pager.old.state index.root) (map index_data indexes.now) }
     requires long { pager.old.state.header.pages < length used.old }
-    ensures checked { WhereSteady pager.old.state (λ pages. IfOk result (λ trees.
-        AllZip (IsCheckedIndexOf pages) (map index_data indexes.now) trees.items)) }
+    ensures checked { WhereSteady pager.old.state (λ pages. IfOk result (λ counted.
+        AllZip (IsCheckedIndexOf pages) (map index_data indexes.now) counted.items)) }
     ensures marks { WhereSteady pager.old.state (λ pages. OnOk result
         (MarksTrees pages (map index_tree_of (map index_data indexes.now)) used.old used.new)) }
     ensures fault { WhereSteady pager.old.state (λ pages. IfErr result (λ e. IsReadFault e
         ⊎ ((index : IndexData) × Contains (map index_data indexes.now) index × IsBrokenIndexTree pages index e)
         ⊎ AreTreesTwice pages (map index_tree_of (map index_data indexes.now)) used.old e)) }
-    ensures only { IfErr result IsIndexWalkFault }
+    ensures only { IfErr result IsIndexCheckFault }
     ensures reads { ReadsPages result pager.old.state pager.new.state }
 {
-    let mut trees = Vec::with_capacity(alloc, indexes.len())?;
+    let mut counted = Vec::with_capacity(alloc, indexes.len())?;
     for index in indexes {
-        let counts = check_tree(alloc, pager, index, used)?;
-        trees.push(counts)?;
+        let counts = check_alone(alloc, pager, index, used)?;
+        counted.push(counts)?;
     }
-    Ok(trees)
+    Ok(counted)
 }

@@ -2,10 +2,10 @@
 //! depth, of each chain of overflow pages, of each record, of each value, of the freelist, of the schema's rows, and of the
 //! entries of each index), gives the tables that the image denotes with their rows, and its indexes, and counts exactly what
 //! their trees have; and that a fault's condition is broken. `NotYet` comes exactly where the schema says what isn't served
-//! yet: a table that `catalog` doesn't serve, or a partial index.
+//! yet: a table without rowids.
 //!
 //! The modules, in the order in which data passes them: `trees` (those of all tables, and the schema's rows), `index_trees`
-//! (those of all indexes), `entries` (of each index, beside the rows of its table) and `checked` (the whole image).
+//! (each index alone), `entries` (of each index, beside the rows of its table) and `checked` (the whole image).
 #![tactic(auto)]
 
 mod checked;
@@ -14,5 +14,6 @@ mod index_trees;
 mod trees;
 
 pub use checked::{Checked, check};
+pub use index_trees::IndexCounts;
 pub use stored_rows::RowReader;
 pub use tree_walk::TreeCounts;

@@ -1,6 +1,7 @@
 //! Prints what the check of an image finds of each table, `table_counts IMAGE`, so that it can be compared with what
 //! another program that reads SQLite's format says of the file: a line `name rows pages levels` for each table, in the
-//! order of the schema. The levels are those below the root.
+//! order of the schema, and then one for each index, with its entries and, behind its levels, how many different values its
+//! first columns have, for each number of columns. The levels are those below the root.
 #![tactic(auto)]
 
 use anyhow::{Context, Result};
@@ -30,10 +31,14 @@ where
         let (name, rows, pages, levels) = (table.name(), counts.cells, counts.pages, counts.levels);
         println!(rt; "{name} {rows} {pages} {levels}")?;
     }
-    for (index, counts) in checked.indexes().iter().zip(checked.index_trees()) {
-        let (name, entries) = (index.name(), counts.cells);
-        let (pages, levels) = (counts.pages, counts.levels);
-        println!(rt; "{name} {entries} {pages} {levels}")?;
+    for (index, counts) in checked.indexes().iter().zip(checked.index_counts()) {
+        let (name, tree) = (index.name(), counts.tree);
+        let (entries, pages, levels) = (tree.cells, tree.pages, tree.levels);
+        print!(rt; "{name} {entries} {pages} {levels}")?;
+        for distinct in counts.distinct.as_slice() {
+            print!(rt; " {distinct}")?;
+        }
+        println!(rt)?;
     }
     Ok(())
 }

@@ -18,11 +18,11 @@ module _ {X : Type 0} where
   cons_cases x y xs (zero, l, e) = inl e
   cons_cases x y xs (suc k, l, e) = inr (k, omega arith, e)
 
-  once_tail : (x : X) (xs : List X) → IsOnce (x ∷ xs) → IsOnce xs
+  pub once_tail : (x : X) (xs : List X) → IsOnce (x ∷ xs) → IsOnce xs
   once_tail x xs once i j y at_i at_j = let e : suc i ≡ suc j = once (suc i) (suc j) y at_i at_j in omega (arith, e)
 
   -- the first element isn't among the others
-  once_head : (x : X) (xs : List X) → IsOnce (x ∷ xs) → ¬ Contains xs x
+  pub once_head : (x : X) (xs : List X) → IsOnce (x ∷ xs) → ¬ Contains xs x
   once_head x xs once h =
       let at_k : slice_get xs h.0 ≡ Some x = slice_get_read xs (length xs) h.0 x refl h.1 (sym h.2) in
       let e : 0 ≡ suc h.0 = once 0 (suc h.0) x refl at_k in

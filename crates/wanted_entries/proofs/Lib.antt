@@ -1,3 +1,4 @@
 pub mod BagLemmas
 pub mod OrderLemmas
 pub mod NeighbourLemmas
+pub mod KeptLemmas

@@ -16,7 +16,7 @@ from_map f y (x ∷ xs) h = ⊎_elim
     (cons_cases (f x) y (map f xs) h)
 
 -- a list with one element more in front
-once_cons : {X : Type 0} (x : X) (xs : List X) → IsOnce xs → ¬ Contains xs x → IsOnce (x ∷ xs)
+pub once_cons : {X : Type 0} (x : X) (xs : List X) → IsOnce xs → ¬ Contains xs x → IsOnce (x ∷ xs)
 once_cons x xs once new zero zero y at_i at_j = refl
 once_cons x xs once new zero (suc j) y at_i at_j = let e : x ≡ y = cc in absurd (new (subst (λ (z : _). Contains xs z) (sym e) (found j y at_j)))
   where

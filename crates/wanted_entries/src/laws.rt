@@ -1,12 +1,12 @@
 //! When an index has exactly the entries of its table's rows.
-ghost use Rattle.std.specs.Prelude.{◌≡◌, ◌≢◌, ◌≤◌, ◌++◌, Bool, true, ℕ, ℤ, [], ◌∷◌, IsPermutation, IsTrue, List, length, None, Some, Option};
+ghost use Rattle.std.specs.Prelude.{◌≡◌, ◌≢◌, ◌≤◌, ◌++◌, Bool, true, ℕ, ℤ, [], ◌∷◌, IsPermutation, IsTrue, List, length, map, None, Some, Option};
 ghost use Rattle.std.specs.Ordering.{is_lt};
 ghost use Rattle.values.specs.Row.{Row};
 ghost use Rattle.key_ranges.specs.Ranges.{key_cmp};
 ghost use Rattle.wanted_entries.specs.Bags.{AreIn, ArePlaced, Coded, IsBatchOf, IsOnce, IsStray};
 ghost use Rattle.wanted_entries.specs.Examples.{by_qty, first_entry, has_qty, items, second_entry};
 ghost use Rattle.wanted_entries.specs.Unique.{AreApart, AreTogether, IsNotUnique, IsPrefixCount, IsRunCount, StandInOrder};
-ghost use Rattle.wanted_entries.specs.Wanted.{wanted};
+ghost use Rattle.wanted_entries.specs.Wanted.{IndexedPlaces, KeyedRow, entry_of, wanted};
 
 /// Different entries, each of which is wanted, are the wanted ones where they are as many: no look-up of a wanted entry
 /// in the index is needed.
@@ -51,4 +51,9 @@ pub fn neighbours()
 pub fn example_index()
     ensures wanted { wanted by_qty has_qty items ≡ first_entry ∷ second_entry ∷ [] }
     ensures order { IsTrue (is_lt (key_cmp (true ∷ []) first_entry second_entry)) }
+{}
+
+/// Different entries stay different where a condition leaves some out.
+pub fn kept_entries()
+    ensures once { (index : IndexedPlaces) (keeps : Row → Bool) (rows : List KeyedRow) → IsOnce (map (entry_of index) rows) → IsOnce (wanted index keeps rows) }
 {}

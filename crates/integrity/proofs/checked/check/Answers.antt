@@ -13,13 +13,14 @@ use Rattle.catalog.specs.CatalogView.{catalog_data}
 use Rattle.indexes.specs.IndexData.{IndexData}
 use Rattle.indexes.specs.IndexView.{index_data}
 use Rattle.schema.specs.Names.{IsSameName}
-use Rattle.schema.specs.TableData.{TableData}
-use Rattle.tree_walk.specs.declared.counts.TreeCounts.{TreeCounts}
+use Rattle.schema.specs.TableData.{HasRowids, TableData}
+use Rattle.integrity.specs.declared.index_trees.IndexCounts.{IndexCounts}
 use Rattle.table_walk.specs.Checked.{IsCheckedTree, tree_of}
-use Rattle.integrity.specs.Indexes.{AreBrokenEntries, AreItsEntries, IsBrokenIndexTree, IsCheckedIndexOf, IsWhole}
+use Rattle.integrity.specs.Indexes.{AreBrokenEntries, AreItsEntries, IsBrokenIndexTree, IsCheckedIndexOf}
 use Rattle.integrity.specs.Used.{AreTreesTwice, MarksTrees, index_tree_of}
 use Rattle.stored_rows.specs.RowFaults.{IsBrokenTable}
-use Rattle.integrity.proofs.CheckedLemmas.{broken_table, has_partial, has_tables, refused_here, refused_only, refused_rows, use_only, walk_only}
+use Rattle.integrity.proofs.CheckedLemmas.{broken_table, has_rowless, has_tables, refused_here, refused_only, refused_rows, use_only, walk_only}
+use Rattle.integrity.proofs.EntryLemmas.{tables_now}
 use Rattle.integrity.proofs.IndexLemmas.{broken_entries, broken_index_tree, index_only, index_roots, its_entries, unbroken_indexes}
 use Rattle.integrity.proofs.OneLemmas.{all_served, sound_rows}
 use Rattle.integrity.proofs.TreesLemmas.{IsRestFault, IsRestOnce, indexes_twice, no_misuse, rest_broken, rest_once, schema_twice, tables_twice}
@@ -77,12 +78,12 @@ returns-in_err-trees-clause-outcome g c =
           (c.in_err-trees.ensures.fault now));
     })
 
-pub returns-in_err-index_trees-clause-outcome : goal.returns-in_err-index_trees-clause-outcome
-returns-in_err-index_trees-clause-outcome g c =
-    let p = err_from_is_err_and c.from_residual-in_err-index_trees.result c.from_residual-in_err-index_trees.ensures.1 in
+pub returns-in_err-index_counts-clause-outcome : goal.returns-in_err-index_counts-clause-outcome
+returns-in_err-index_counts-clause-outcome g c =
+    let p = err_from_is_err_and c.from_residual-in_err-index_counts.result c.from_residual-in_err-index_counts.ensures.1 in
     rw (p.1, p.2)
     (record {
-      only = index_only _ c.in_err-index_trees.ensures.only;
+      only = index_only _ c.in_err-index_counts.ensures.only;
       cause = λ steady.
           let pages = pages_seen c.args.pager.now.state in
           let stays = c.read_schema.ensures.reads.image in
@@ -91,7 +92,7 @@ returns-in_err-index_trees-clause-outcome g c =
           let count : c.header-pages.result.pages ≡ pages.count = ap (λ (h : Header). h.pages) c.header-pages.ensures.is in
           let first = c.in_ok-rows.ensures.checked steady in
           let found = catalog_data c.in_ok-catalog.catalog in
-          let fault = c.in_err-index_trees.field-0.0 in
+          let fault = c.in_err-index_counts.field-0.0 in
           let catalog = catalog_here pages _ c.in_ok-rows.rows.items _ first.0 found first.1
           (c.in_ok-rows.ensures.rows steady) count c.as_slice.ensures.value c.in_ok-catalog.ensures.said in
           let tables = subst (λ (ts : List TableData). MarksTrees pages (map tree_of ts) c.read_schema.new.used c.check_tables.new.used) c.tables-tables.ensures
@@ -108,7 +109,7 @@ returns-in_err-index_trees-clause-outcome g c =
           (subst (λ (q : Pages). AreTreesTwice q (map index_tree_of found.indexes) c.check_tables.new.used fault) (same_pages _ _ both)
           (subst (λ (is : List IndexData). AreTreesTwice (pages_seen c.check_tables.new.pager.state) (map index_tree_of is) c.check_tables.new.used fault) c.indexes-indexes.ensures twice)))))))
           cause)
-          (c.in_err-index_trees.ensures.fault (still_steady _ _ both steady)));
+          (c.in_err-index_counts.ensures.fault (still_steady _ _ both steady)));
     })
 
 pub returns-in_err-check_rest-clause-outcome : goal.returns-in_err-check_rest-clause-outcome
@@ -136,7 +137,7 @@ returns-in_err-check_rest-clause-outcome g c =
           (subst (λ (q : Pages). MarksTrees q (map tree_of c.tables-tables.result.now) c.read_schema.new.used c.check_tables.new.used) (same_pages _ _ stays) (c.in_ok-trees.ensures.marks now)) in
           let indexes = subst (λ (is : List IndexData). MarksTrees pages (map index_tree_of is) c.check_tables.new.used c.check_indexes.new.used) c.indexes-indexes.ensures
           (subst (λ (q : Pages). MarksTrees q (map index_tree_of (map index_data c.indexes-indexes.result.now)) c.check_tables.new.used c.check_indexes.new.used) (same_pages _ _ both)
-          (c.in_ok-index_trees.ensures.marks (still_steady _ _ both steady))) in
+          (c.in_ok-index_counts.ensures.marks (still_steady _ _ both steady))) in
           (⊎_elim inl
           (λ (broken : IsRestFault (pages_seen c.check_indexes.new.pager.state) c.check_indexes.new.pager.state.header c.check_indexes.new.used c.in_err-check_rest.field-0.0).
           inr (inl (inr (inl (rest_broken pages found c.in_ok-rows.rows.items catalog (c.header-pages.result.pages + 1)
@@ -166,11 +167,12 @@ returns-in_err-check_entries-clause-outcome g c =
           let fault = c.in_err-check_entries.field-0.0 in
           let catalog = catalog_here pages _ c.in_ok-rows.rows.items _ first.0 found first.1
           (c.in_ok-rows.ensures.rows steady) count c.as_slice.ensures.value c.in_ok-catalog.ensures.said in
-          let trees = subst (λ (l : List TreeCounts). AllZip (IsCheckedTree (pages_seen c.check_rest.new.pager.state)) c.tables-tables.result.now l) (sym c.as_slice-table_counts.ensures.value)
-          (subst (λ (q : Pages). AllZip (IsCheckedTree q) c.tables-tables.result.now c.in_ok-trees.trees.items) (same_pages _ _ stays ∙ sym (same_pages _ _ four)) (c.in_ok-trees.ensures.checked now)) in
-          let index_trees = subst (λ (l : List TreeCounts). AllZip (IsCheckedIndexOf (pages_seen c.check_rest.new.pager.state)) (map index_data c.indexes-indexes.result.now) l) (sym c.as_slice-index_counts.ensures.value)
-          (subst (λ (q : Pages). AllZip (IsCheckedIndexOf q) (map index_data c.indexes-indexes.result.now) c.in_ok-index_trees.index_trees.items) (same_pages _ _ both ∙ sym (same_pages _ _ four))
-          (c.in_ok-index_trees.ensures.checked (still_steady _ _ both steady))) in
+          let numbers : All (λ table. IsPageNumber c.args.pager.now.state table.root) found.tables = search rules in
+          let trees = tables_now pages (pages_seen c.check_rest.new.pager.state) found.tables c.tables-tables.result.now c.in_ok-trees.trees.items (same_pages _ _ four) c.tables-tables.ensures numbers
+          (subst (λ (q : Pages). AllZip (IsCheckedTree q) c.tables-tables.result.now c.in_ok-trees.trees.items) (same_pages _ _ stays) (c.in_ok-trees.ensures.checked now)) in
+          let index_trees = subst (λ (l : List IndexCounts). AllZip (IsCheckedIndexOf (pages_seen c.check_rest.new.pager.state)) (map index_data c.indexes-indexes.result.now) l) (sym c.as_slice-counted.ensures.value)
+          (subst (λ (q : Pages). AllZip (IsCheckedIndexOf q) (map index_data c.indexes-indexes.result.now) c.in_ok-index_counts.index_counts.items) (same_pages _ _ both ∙ sym (same_pages _ _ four))
+          (c.in_ok-index_counts.ensures.checked (still_steady _ _ both steady))) in
           (⊎_elim inl
           (λ (broken : (table : TableData) × (index : IndexData) × Contains c.tables-tables.result.now table × Contains (map index_data c.indexes-indexes.result.now) index
           × IsSameName index.table table.name × AreBrokenEntries (pages_seen c.check_rest.new.pager.state) table index fault).
@@ -182,8 +184,8 @@ returns-in_err-check_entries-clause-outcome g c =
           (c.in_err-check_entries.ensures.fault (still_steady _ _ four steady) trees index_trees));
     })
 
-pub returns-then-not-are_whole-clause-outcome : goal.returns-then-not-are_whole-clause-outcome
-returns-then-not-are_whole-clause-outcome g c = record {
+pub returns-then-not-have_rowids-clause-outcome : goal.returns-then-not-have_rowids-clause-outcome
+returns-then-not-have_rowids-clause-outcome g c = record {
   only = tt;
   cause = λ steady.
       let pages = pages_seen c.args.pager.now.state in
@@ -191,8 +193,8 @@ returns-then-not-are_whole-clause-outcome g c = record {
       let first = c.in_ok-rows.ensures.checked steady in
       let catalog = catalog_here pages _ c.in_ok-rows.rows.items _ first.0 (catalog_data c.in_ok-catalog.catalog) first.1
       (c.in_ok-rows.ensures.rows steady) count c.as_slice.ensures.value c.in_ok-catalog.ensures.said in
-      has_partial pages c.in_ok-rows.rows.items (catalog_data c.in_ok-catalog.catalog) catalog
-      (λ whole. let h : c.are_whole.result ≡ true = c.are_whole.ensures.1 (subst (λ (all : List IndexData). All IsWhole all) (sym c.indexes-indexes.ensures) whole) in let other = c.if-not-are_whole.true in cc);
+      has_rowless pages c.in_ok-rows.rows.items (catalog_data c.in_ok-catalog.catalog) catalog
+      (λ rowids. let h : c.have_rowids.result ≡ true = c.have_rowids.ensures.1 (subst (λ (all : List TableData). All HasRowids all) (sym c.tables-tables.ensures) rowids) in let other = c.if-not-have_rowids.true in cc);
 }
 
 pub check_indexes-requires-clause-roots : goal.check_indexes-requires-clause-roots
@@ -203,8 +205,8 @@ check_indexes-requires-clause-roots g c =
     (index_roots c.check_tables.new.pager.state c.header-pages.result.pages _ (catalog_data c.in_ok-catalog.catalog)
     (ap (λ (h : Header). h.pages) (is ∙ sym both.header)) c.in_ok-catalog.ensures.said)
 
-pub check_entries-requires-clause-index_roots : goal.check_entries-requires-clause-index_roots
-check_entries-requires-clause-index_roots g c =
+pub check_entries-requires : goal.check_entries-requires
+check_entries-requires g c =
     let both = SameImage-trans _ _ _ c.read_schema.ensures.reads.image c.check_tables.ensures.reads.image in
     let four = SameImage-trans _ _ _ (SameImage-trans _ _ _ both c.check_indexes.ensures.reads.image) c.check_rest.ensures.reads.chains.image in
     let is = c.header-pages.ensures.is in
@@ -235,20 +237,21 @@ returns-clause-outcome g c =
           has_tables pages rows found c.in_ok-trees.trees.items catalog
           (subst (λ (ts : List TableData). AllZip (IsCheckedTree pages) ts c.in_ok-trees.trees.items) c.tables-tables.ensures trees);
       trees = search rules;
-      index_trees = λ steady.
-          let trees = subst (λ (q : Pages). AllZip (IsCheckedIndexOf q) (map index_data c.indexes-indexes.result.now) c.in_ok-index_trees.index_trees.items) (same_pages _ _ both)
-          (c.in_ok-index_trees.ensures.checked (still_steady _ _ both steady)) in
-          subst (λ (all : List IndexData). AllZip (IsCheckedIndexOf pages) all c.in_ok-index_trees.index_trees.items) c.indexes-indexes.ensures trees;
+      index_counts = λ steady.
+          let trees = subst (λ (q : Pages). AllZip (IsCheckedIndexOf q) (map index_data c.indexes-indexes.result.now) c.in_ok-index_counts.index_counts.items) (same_pages _ _ both)
+          (c.in_ok-index_counts.ensures.checked (still_steady _ _ both steady)) in
+          subst (λ (all : List IndexData). AllZip (IsCheckedIndexOf pages) all c.in_ok-index_counts.index_counts.items) c.indexes-indexes.ensures trees;
       entries = λ steady.
           let now = still_steady _ _ stays steady in
           let first = c.in_ok-rows.ensures.checked steady in
           let catalog = catalog_here pages _ rows _ first.0 found first.1
           (c.in_ok-rows.ensures.rows steady) count c.as_slice.ensures.value c.in_ok-catalog.ensures.said in
-          let trees = subst (λ (l : List TreeCounts). AllZip (IsCheckedTree (pages_seen c.check_rest.new.pager.state)) c.tables-tables.result.now l) (sym c.as_slice-table_counts.ensures.value)
-          (subst (λ (q : Pages). AllZip (IsCheckedTree q) c.tables-tables.result.now c.in_ok-trees.trees.items) (same_pages _ _ stays ∙ sym (same_pages _ _ four)) (c.in_ok-trees.ensures.checked now)) in
-          let index_trees = subst (λ (l : List TreeCounts). AllZip (IsCheckedIndexOf (pages_seen c.check_rest.new.pager.state)) (map index_data c.indexes-indexes.result.now) l) (sym c.as_slice-index_counts.ensures.value)
-          (subst (λ (q : Pages). AllZip (IsCheckedIndexOf q) (map index_data c.indexes-indexes.result.now) c.in_ok-index_trees.index_trees.items) (same_pages _ _ both ∙ sym (same_pages _ _ four))
-          (c.in_ok-index_trees.ensures.checked (still_steady _ _ both steady))) in
+          let numbers : All (λ table. IsPageNumber c.args.pager.now.state table.root) found.tables = search rules in
+          let trees = tables_now pages (pages_seen c.check_rest.new.pager.state) found.tables c.tables-tables.result.now c.in_ok-trees.trees.items (same_pages _ _ four) c.tables-tables.ensures numbers
+          (subst (λ (q : Pages). AllZip (IsCheckedTree q) c.tables-tables.result.now c.in_ok-trees.trees.items) (same_pages _ _ stays) (c.in_ok-trees.ensures.checked now)) in
+          let index_trees = subst (λ (l : List IndexCounts). AllZip (IsCheckedIndexOf (pages_seen c.check_rest.new.pager.state)) (map index_data c.indexes-indexes.result.now) l) (sym c.as_slice-counted.ensures.value)
+          (subst (λ (q : Pages). AllZip (IsCheckedIndexOf q) (map index_data c.indexes-indexes.result.now) c.in_ok-index_counts.index_counts.items) (same_pages _ _ both ∙ sym (same_pages _ _ four))
+          (c.in_ok-index_counts.ensures.checked (still_steady _ _ both steady))) in
           its_entries pages rows found catalog
           (λ table index among_tables among owner.
           subst (λ (q : Pages). AreItsEntries q table index) (same_pages _ _ four)
@@ -260,8 +263,8 @@ returns-clause-outcome g c =
           let front = front_is state (subst (λ (h : Header). IsSoundHeader h) is c.header-pages.ensures.sound) (sym is ∙ c.header-pages.ensures.steady steady) in
           let header : c.check_indexes.new.pager.state.header ≡ header_on pages = three.header ∙ sym front in
           let trees = subst (λ (q : Pages). AllZip (IsCheckedTree q) c.tables-tables.result.now c.in_ok-trees.trees.items) (same_pages _ _ stays) (c.in_ok-trees.ensures.checked now) in
-          let index_trees = subst (λ (q : Pages). AllZip (IsCheckedIndexOf q) (map index_data c.indexes-indexes.result.now) c.in_ok-index_trees.index_trees.items) (same_pages _ _ both)
-          (c.in_ok-index_trees.ensures.checked (still_steady _ _ both steady)) in
+          let index_trees = subst (λ (q : Pages). AllZip (IsCheckedIndexOf q) (map index_data c.indexes-indexes.result.now) c.in_ok-index_counts.index_counts.items) (same_pages _ _ both)
+          (c.in_ok-index_counts.ensures.checked (still_steady _ _ both steady)) in
           let first = c.in_ok-rows.ensures.checked steady in
           let catalog = catalog_here pages _ rows _ first.0 found first.1
           (c.in_ok-rows.ensures.rows steady) count c.as_slice.ensures.value c.in_ok-catalog.ensures.said in
@@ -269,11 +272,12 @@ returns-clause-outcome g c =
           (subst (λ (q : Pages). MarksTrees q (map tree_of c.tables-tables.result.now) c.read_schema.new.used c.check_tables.new.used) (same_pages _ _ stays) (c.in_ok-trees.ensures.marks now)) in
           let indexes = subst (λ (all : List IndexData). MarksTrees pages (map index_tree_of all) c.check_tables.new.used c.check_indexes.new.used) c.indexes-indexes.ensures
           (subst (λ (q : Pages). MarksTrees q (map index_tree_of (map index_data c.indexes-indexes.result.now)) c.check_tables.new.used c.check_indexes.new.used) (same_pages _ _ both)
-          (c.in_ok-index_trees.ensures.marks (still_steady _ _ both steady))) in
-          let four_trees = subst (λ (l : List TreeCounts). AllZip (IsCheckedTree (pages_seen c.check_rest.new.pager.state)) c.tables-tables.result.now l) (sym c.as_slice-table_counts.ensures.value)
-          (subst (λ (q : Pages). AllZip (IsCheckedTree q) c.tables-tables.result.now c.in_ok-trees.trees.items) (sym (same_pages _ _ four)) trees) in
-          let four_index_trees = subst (λ (l : List TreeCounts). AllZip (IsCheckedIndexOf (pages_seen c.check_rest.new.pager.state)) (map index_data c.indexes-indexes.result.now) l) (sym c.as_slice-index_counts.ensures.value)
-          (subst (λ (q : Pages). AllZip (IsCheckedIndexOf q) (map index_data c.indexes-indexes.result.now) c.in_ok-index_trees.index_trees.items) (sym (same_pages _ _ four)) index_trees) in
+          (c.in_ok-index_counts.ensures.marks (still_steady _ _ both steady))) in
+          let numbers : All (λ table. IsPageNumber c.args.pager.now.state table.root) found.tables = search rules in
+          let four_trees = tables_now pages (pages_seen c.check_rest.new.pager.state) found.tables c.tables-tables.result.now c.in_ok-trees.trees.items (same_pages _ _ four) c.tables-tables.ensures numbers
+          trees in
+          let four_index_trees = subst (λ (l : List IndexCounts). AllZip (IsCheckedIndexOf (pages_seen c.check_rest.new.pager.state)) (map index_data c.indexes-indexes.result.now) l) (sym c.as_slice-counted.ensures.value)
+          (subst (λ (q : Pages). AllZip (IsCheckedIndexOf q) (map index_data c.indexes-indexes.result.now) c.in_ok-index_counts.index_counts.items) (sym (same_pages _ _ four)) index_trees) in
           unbroken_image pages rows found c.in_ok-trees.trees.items first.0 first.1 catalog
           (subst (λ (ts : List TableData). AllZip (IsCheckedTree pages) ts c.in_ok-trees.trees.items) c.tables-tables.ensures trees)
           (no_misuse pages found rows catalog
@@ -286,8 +290,8 @@ returns-clause-outcome g c =
           (subst (λ (q : Pages). IsRestOnce q c.check_indexes.new.pager.state.header c.check_indexes.new.used) (same_pages _ _ three)
           (c.in_ok-check_rest.ensures.once (still_steady _ _ three steady))))))
           (sound_rows pages rows found catalog)
-          (unbroken_indexes pages rows found catalog c.in_ok-index_trees.index_trees.items
-          (subst (λ (all : List IndexData). AllZip (IsCheckedIndexOf pages) all c.in_ok-index_trees.index_trees.items) c.indexes-indexes.ensures index_trees)
+          (unbroken_indexes pages rows found catalog c.in_ok-index_counts.index_counts.items
+          (subst (λ (all : List IndexData). AllZip (IsCheckedIndexOf pages) all c.in_ok-index_counts.index_counts.items) c.indexes-indexes.ensures index_trees)
           (its_entries pages rows found catalog
           (λ table index among_tables among owner.
           subst (λ (q : Pages). AreItsEntries q table index) (same_pages _ _ four)
@@ -299,5 +303,6 @@ returns-clause-outcome g c =
           let first = c.in_ok-rows.ensures.checked steady in
           let catalog = catalog_here pages _ rows _ first.0 found first.1
           (c.in_ok-rows.ensures.rows steady) count c.as_slice.ensures.value c.in_ok-catalog.ensures.said in
-          all_served pages rows found catalog (subst (λ (all : List IndexData). All IsWhole all) c.indexes-indexes.ensures (c.are_whole.ensures.0 c.if-not-are_whole.false));
+          all_served pages rows found catalog
+          (subst (λ (all : List TableData). All HasRowids all) c.tables-tables.ensures (c.have_rowids.ensures.0 c.if-not-have_rowids.false));
     }

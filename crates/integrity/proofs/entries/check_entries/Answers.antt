@@ -1,4 +1,4 @@
-use Rattle.std.proofs.Common.{rules, ◌∙◌, Contains, map, refl, sym, subst, inl, inr, ⊎_elim}
+use Rattle.std.proofs.Common.{rules, ◌∙◌, All, Contains, map, refl, sym, subst, inl, inr, ⊎_elim}
 use Rattle.std.proofs.lemmas.Result.{err_from_is_err_and}
 use Rattle.pager.proofs.CallLemmas.{SameImage-trans}
 use Rattle.pager.specs.PagerState.{IsPageNumber}
@@ -8,8 +8,7 @@ use Rattle.indexes.specs.IndexData.{IndexData}
 use Rattle.indexes.specs.IndexView.{index_data}
 use Rattle.schema.specs.Names.{IsSameName}
 use Rattle.schema.specs.TableData.{TableData}
-use Rattle.std.specs.List.{AllZip}
-use Rattle.table_walk.specs.Checked.{IsCheckedTree}
+use Rattle.index_rows.specs.Checked.{IsCheckedTable}
 use Rattle.integrity.specs.Indexes.{AreBrokenEntries, AreItsEntries, IsCheckedIndexOf}
 use Rattle.integrity.proofs.EntryLemmas.{all_in, index_with}
 use Rattle.integrity.proofs.ZipLemmas.{all_viewed, beside_among, beside_end, beside_here, beside_next, beside_start, each_viewed, viewed}
@@ -19,8 +18,8 @@ pub loop-index-init : goal.loop-index-init
 loop-index-init g c = record {
   stays = search rules;
   failures = search rules;
-  beside = λ steady trees indexes. beside_start _ _ _ _ _ _ (search rules) (search rules)
-      (all_viewed (IsCheckedIndexOf (pages_seen c.args.pager.now.state)) index_data c.args.indexes.now c.args.index_trees.now indexes);
+  beside = λ steady checked indexes. beside_start _ _ _ _ _ _ (search rules) (search rules)
+      (all_viewed (IsCheckedIndexOf (pages_seen c.args.pager.now.state)) index_data c.args.indexes.now c.args.counted.now indexes);
 }
 
 pub loop-index-preserved : goal.loop-index-preserved
@@ -30,33 +29,33 @@ loop-index-preserved g c =
     record {
       stays = SameImage-trans _ _ _ inv.stays c.compare_with_table.ensures.reads.image;
       failures = c.in_ok-compare_with_table.ensures.reads.failures ∙ inv.failures;
-      beside = λ steady trees indexes.
-          let beside = inv.beside steady trees indexes in
+      beside = λ steady checked indexes.
+          let beside = inv.beside steady checked indexes in
           let among = beside_among _ _ _ _ _ _ _ _ _ beside steps.0 steps.1 in
           let number : IsPageNumber c.args.pager.now.state c.in-Some.index.now.root =
-          all_in (λ (index : IndexData). IsPageNumber c.args.pager.now.state index.root) (map index_data c.args.indexes.now) (index_data c.in-Some.index.now) c.requires.index_roots
+          all_in (λ (index : IndexData). IsPageNumber c.args.pager.now.state index.root) (map index_data c.args.indexes.now) (index_data c.in-Some.index.now) c.requires
           (viewed index_data c.args.indexes.now c.in-Some.index.now among) in
           beside_next _ _ _ _ _ _ _ _ _ beside steps.0 steps.1
           (λ table among_tables owner.
           subst (λ (q : Pages). AreItsEntries q table (index_data c.in-Some.index.now)) (same_pages _ _ inv.stays)
           (c.in_ok-compare_with_table.ensures.entries (still_steady _ _ inv.stays steady)
-          (subst (λ (q : Pages). AllZip (IsCheckedTree q) c.args.tables.now c.args.trees.now) (sym (same_pages _ _ inv.stays)) trees)
-          (index_with (pages_seen c.args.pager.now.state) _ (index_data c.in-Some.index.now) c.in-Some.counts.now _ (sym (same_pages _ _ inv.stays)) refl number
-          (beside_here _ _ _ _ _ _ _ _ _ beside steps.0 steps.1))
+          (subst (λ (q : Pages). All (IsCheckedTable q) c.args.tables.now) (sym (same_pages _ _ inv.stays)) checked)
+          (index_with (pages_seen c.args.pager.now.state) _ (index_data c.in-Some.index.now) c.in-Some.counts.now.tree _ (sym (same_pages _ _ inv.stays)) refl number
+          (beside_here _ _ _ _ _ _ _ _ _ beside steps.0 steps.1).tree)
           table among_tables owner));
     }
 
 pub returns-in_err-compare_with_table-clause-fault : goal.returns-in_err-compare_with_table-clause-fault
-returns-in_err-compare_with_table-clause-fault g c = λ steady trees indexes.
+returns-in_err-compare_with_table-clause-fault g c = λ steady checked indexes.
     let inv = c.loop-index.invariant in
     let steps = c.in-Some.ensures.steps in
-    let beside = inv.beside steady trees indexes in
+    let beside = inv.beside steady checked indexes in
     let among = beside_among _ _ _ _ _ _ _ _ _ beside steps.0 steps.1 in
     let fault = c.in_err-compare_with_table.field-0.0 in
     let one = index_data c.in-Some.index.now in
     let there = viewed index_data c.args.indexes.now c.in-Some.index.now among in
     let number : IsPageNumber c.args.pager.now.state c.in-Some.index.now.root =
-    all_in (λ (index : IndexData). IsPageNumber c.args.pager.now.state index.root) (map index_data c.args.indexes.now) one c.requires.index_roots there in
+    all_in (λ (index : IndexData). IsPageNumber c.args.pager.now.state index.root) (map index_data c.args.indexes.now) one c.requires there in
     let p = err_from_is_err_and c.from_residual.result c.from_residual.ensures.1 in
     rw (p.1, p.2)
     (⊎_elim inl
@@ -71,12 +70,12 @@ returns-in_err-compare_with_table-clause-fault g c = λ steady trees indexes.
       subst (λ (q : Pages). AreBrokenEntries q found.0 one fault) (same_pages _ _ inv.stays) found.3,
     ))
     (c.in_err-compare_with_table.ensures.fault (still_steady _ _ inv.stays steady)
-    (subst (λ (q : Pages). AllZip (IsCheckedTree q) c.args.tables.now c.args.trees.now) (sym (same_pages _ _ inv.stays)) trees)
-    (index_with (pages_seen c.args.pager.now.state) _ one c.in-Some.counts.now _ (sym (same_pages _ _ inv.stays)) refl number
-    (beside_here _ _ _ _ _ _ _ _ _ beside steps.0 steps.1))))
+    (subst (λ (q : Pages). All (IsCheckedTable q) c.args.tables.now) (sym (same_pages _ _ inv.stays)) checked)
+    (index_with (pages_seen c.args.pager.now.state) _ one c.in-Some.counts.now.tree _ (sym (same_pages _ _ inv.stays)) refl number
+    (beside_here _ _ _ _ _ _ _ _ _ beside steps.0 steps.1).tree)))
 
 pub returns-clause-entries : goal.returns-clause-entries
-returns-clause-entries g c = λ steady trees indexes table index among_tables among owner.
+returns-clause-entries g c = λ steady checked indexes table index among_tables among owner.
     each_viewed (λ (i : IndexData). IsSameName i.table table.name → AreItsEntries (pages_seen c.args.pager.now.state) table i) index_data c.args.indexes.now
-    (λ i h same. beside_end _ _ _ _ _ (c.loop-index.invariant.beside steady trees indexes) (⊎_elim (λ e. inl e.1.0) (λ e. inr e.1.0) c.in-None.ensures.steps)
+    (λ i h same. beside_end _ _ _ _ _ (c.loop-index.invariant.beside steady checked indexes) (⊎_elim (λ e. inl e.1.0) (λ e. inr e.1.0) c.in-None.ensures.steps)
     i h table among_tables same) index among owner

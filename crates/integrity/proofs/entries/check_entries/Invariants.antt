@@ -1,11 +1,11 @@
-use Rattle.std.proofs.Common.{◌≡◌, IsTrue, Contains, map}
+use Rattle.std.proofs.Common.{◌≡◌, All, IsTrue, Contains, map}
 use Rattle.std.specs.List.{AllZip}
 use Rattle.pager.specs.Calls.{SameImage}
 use Rattle.image.specs.Pages.{pages_seen}
 use Rattle.indexes.specs.IndexView.{index_data}
 use Rattle.schema.specs.Names.{IsSameName}
 use Rattle.schema.specs.TableData.{TableData}
-use Rattle.table_walk.specs.Checked.{IsCheckedTree}
+use Rattle.index_rows.specs.Checked.{IsCheckedTable}
 use Rattle.integrity.specs.Indexes.{AreItsEntries, IsCheckedIndexOf}
 use Rattle.integrity.proofs.ZipLemmas.{AreBeside}
 use Rattle.integrity.proofs.entries.check_entries.Given as goal
@@ -14,8 +14,8 @@ abbrev pub invariant-loop-index : goal.invariant-loop-index
 invariant-loop-index g l = record {
   stays : SameImage l.fn.pager.state l.pager.state;
   failures : l.pager.state.source.failures ≡ l.fn.pager.state.source.failures;
-  beside : IsTrue l.fn.pager.state.source.steady → AllZip (IsCheckedTree (pages_seen l.fn.pager.state)) l.fn.tables l.fn.trees
-      → AllZip (IsCheckedIndexOf (pages_seen l.fn.pager.state)) (map index_data l.fn.indexes) l.fn.index_trees
+  beside : IsTrue l.fn.pager.state.source.steady → All (IsCheckedTable (pages_seen l.fn.pager.state)) l.fn.tables
+      → AllZip (IsCheckedIndexOf (pages_seen l.fn.pager.state)) (map index_data l.fn.indexes) l.fn.counted
       → AreBeside (λ index. IsCheckedIndexOf (pages_seen l.fn.pager.state) (index_data index))
       (λ index. (table : TableData) → Contains l.fn.tables table → IsSameName (index_data index).table table.name
       → AreItsEntries (pages_seen l.fn.pager.state) table (index_data index))

@@ -1,58 +1,28 @@
-use Rattle.std.proofs.Common.{◌∙◌, sym, subst, inl, inr}
+use Rattle.std.proofs.Common.{◌∙◌, inl, inr}
 use Rattle.std.proofs.lemmas.Result.{err_from_is_err_and}
-use Rattle.btree.proofs.SeenLemmas.{still_steady, same_pages}
-use Rattle.image.specs.Pages.{pages_seen, Pages}
-use Rattle.index_rows.specs.Checked.{IsCheckedTableIndex}
+use Rattle.image.specs.Pages.{pages_seen}
 use Rattle.indexes.specs.IndexView.{index_data}
-use Rattle.integrity.proofs.EntryLemmas.{different_index, its_columns, its_index, repeated_index, unique_index}
+use Rattle.integrity.proofs.EntryLemmas.{different_index, its_columns, its_index}
 use Rattle.integrity.proofs.entries.compare.Goals as goal
 
 pub returns-in_err-is_index_of-clause-fault : goal.returns-in_err-is_index_of-clause-fault
 returns-in_err-is_index_of-clause-fault g c = λ steady checked.
     let p = err_from_is_err_and c.from_residual-in_err-is_index_of.result c.from_residual-in_err-is_index_of.ensures.1 in
     rw (p.1, p.2) (inl (c.in_err-is_index_of.ensures.same steady checked.table_is
-    (its_columns (pages_seen c.args.pager.now.state) (index_data c.args.index.now) (record { root = c.root.result; places = c.as_slice.result; descends = c.as_slice-2.result }) c.args.entries c.root.ensures (c.as_slice.ensures.value ∙ c.in_ok-places.ensures) (c.as_slice-2.ensures.value ∙ c.in_ok-descends.ensures) checked.index_is)))
+    (its_columns (pages_seen c.args.pager.now.state) (index_data c.args.index.now) (record { root = c.root.result; places = c.as_slice.result; descends = c.as_slice-2.result; condition = c.condition.result }) c.args.entries c.root.ensures (c.as_slice.ensures.value ∙ c.in_ok-places.ensures) (c.as_slice-2.ensures.value ∙ c.in_ok-descends.ensures) checked.index_is)))
 
 pub returns-then-not-branch-clause-fault : goal.returns-then-not-branch-clause-fault
 returns-then-not-branch-clause-fault g c = λ steady checked.
     let told = c.in_ok-is_index_of.ensures.same steady checked.table_is
-    (its_columns (pages_seen c.args.pager.now.state) (index_data c.args.index.now) (record { root = c.root.result; places = c.as_slice.result; descends = c.as_slice-2.result }) c.args.entries c.root.ensures (c.as_slice.ensures.value ∙ c.in_ok-places.ensures) (c.as_slice-2.ensures.value ∙ c.in_ok-descends.ensures) checked.index_is) in
+    (its_columns (pages_seen c.args.pager.now.state) (index_data c.args.index.now) (record { root = c.root.result; places = c.as_slice.result; descends = c.as_slice-2.result; condition = c.condition.result }) c.args.entries c.root.ensures (c.as_slice.ensures.value ∙ c.in_ok-places.ensures) (c.as_slice-2.ensures.value ∙ c.in_ok-descends.ensures) checked.index_is) in
     inr (
       c.in_ok-from_str.ensures.ok ∙ c.name.ensures,
-      different_index (pages_seen c.args.pager.now.state) (index_data c.args.index.now) (record { root = c.root.result; places = c.as_slice.result; descends = c.as_slice-2.result }) c.args.table.now c.root.ensures (c.as_slice.ensures.value ∙ c.in_ok-places.ensures)
+      different_index (pages_seen c.args.pager.now.state) (index_data c.args.index.now) (record { root = c.root.result; places = c.as_slice.result; descends = c.as_slice-2.result; condition = c.condition.result }) c.args.table.now c.root.ensures (c.as_slice.ensures.value ∙ c.in_ok-places.ensures) c.condition.ensures
           (told.1 (λ h. let other = c.if-not-branch.true in cc)),
-    )
-
-pub returns-in_err-repeats_itself-clause-fault : goal.returns-in_err-repeats_itself-clause-fault
-returns-in_err-repeats_itself-clause-fault g c = λ steady checked.
-    let stays = c.is_index_of.ensures.reads.image in
-    let p = err_from_is_err_and c.from_residual-in_err-repeats_itself.result c.from_residual-in_err-repeats_itself.ensures.1 in
-    let its = its_columns (pages_seen c.args.pager.now.state) (index_data c.args.index.now) (record { root = c.root.result; places = c.as_slice.result; descends = c.as_slice-2.result }) c.args.entries c.root.ensures (c.as_slice.ensures.value ∙ c.in_ok-places.ensures) (c.as_slice-2.ensures.value ∙ c.in_ok-descends.ensures) checked.index_is in
-    rw (p.1, p.2) (inl (c.in_err-repeats_itself.ensures.repeats (still_steady _ _ stays steady) c.args.entries
-    (subst (λ (q : Pages). IsCheckedTableIndex q (record { root = c.root.result; places = c.as_slice.result; descends = c.as_slice-2.result }) c.args.entries) (sym (same_pages _ _ stays)) its)))
-
-pub returns-then-branch-clause-fault : goal.returns-then-branch-clause-fault
-returns-then-branch-clause-fault g c = λ steady checked.
-    let stays = c.is_index_of.ensures.reads.image in
-    let its = its_columns (pages_seen c.args.pager.now.state) (index_data c.args.index.now) (record { root = c.root.result; places = c.as_slice.result; descends = c.as_slice-2.result }) c.args.entries c.root.ensures (c.as_slice.ensures.value ∙ c.in_ok-places.ensures) (c.as_slice-2.ensures.value ∙ c.in_ok-descends.ensures) checked.index_is in
-    let told = c.in_ok-repeats_itself.ensures.repeats (still_steady _ _ stays steady) c.args.entries
-    (subst (λ (q : Pages). IsCheckedTableIndex q (record { root = c.root.result; places = c.as_slice.result; descends = c.as_slice-2.result }) c.args.entries) (sym (same_pages _ _ stays)) its) in
-    let found = told.0 c.if-branch.true in
-    inr (
-      c.in_ok-from_str-2.ensures.ok ∙ c.name-then-branch.ensures,
-      found.0,
-      repeated_index (pages_seen c.args.pager.now.state) (index_data c.args.index.now) (record { root = c.root.result; places = c.as_slice.result; descends = c.as_slice-2.result }) (pages_seen c.is_index_of.new.pager.state) (same_pages _ _ stays) c.root.ensures (c.as_slice.ensures.value ∙ c.in_ok-places.ensures) found.1,
     )
 
 pub returns-clause-entries : goal.returns-clause-entries
 returns-clause-entries g c = λ steady checked.
-    let stays = c.is_index_of.ensures.reads.image in
-    let its = its_columns (pages_seen c.args.pager.now.state) (index_data c.args.index.now) (record { root = c.root.result; places = c.as_slice.result; descends = c.as_slice-2.result }) c.args.entries c.root.ensures (c.as_slice.ensures.value ∙ c.in_ok-places.ensures) (c.as_slice-2.ensures.value ∙ c.in_ok-descends.ensures) checked.index_is in
+    let its = its_columns (pages_seen c.args.pager.now.state) (index_data c.args.index.now) (record { root = c.root.result; places = c.as_slice.result; descends = c.as_slice-2.result; condition = c.condition.result }) c.args.entries c.root.ensures (c.as_slice.ensures.value ∙ c.in_ok-places.ensures) (c.as_slice-2.ensures.value ∙ c.in_ok-descends.ensures) checked.index_is in
     let same = c.in_ok-is_index_of.ensures.same steady checked.table_is its in
-    let told = c.in_ok-repeats_itself.ensures.repeats (still_steady _ _ stays steady) c.args.entries
-    (subst (λ (q : Pages). IsCheckedTableIndex q (record { root = c.root.result; places = c.as_slice.result; descends = c.as_slice-2.result }) c.args.entries) (sym (same_pages _ _ stays)) its) in
-    record {
-      same = its_index (pages_seen c.args.pager.now.state) (index_data c.args.index.now) (record { root = c.root.result; places = c.as_slice.result; descends = c.as_slice-2.result }) c.args.table.now c.root.ensures (c.as_slice.ensures.value ∙ c.in_ok-places.ensures) (same.0 c.if-not-branch.false);
-      unique = λ is_unique. unique_index (pages_seen c.args.pager.now.state) (index_data c.args.index.now) (record { root = c.root.result; places = c.as_slice.result; descends = c.as_slice-2.result }) (pages_seen c.is_index_of.new.pager.state) (same_pages _ _ stays) c.root.ensures (c.as_slice.ensures.value ∙ c.in_ok-places.ensures)
-          (told.1 (λ h. let other = c.if-branch.false in cc) is_unique);
-    }
+    its_index (pages_seen c.args.pager.now.state) (index_data c.args.index.now) (record { root = c.root.result; places = c.as_slice.result; descends = c.as_slice-2.result; condition = c.condition.result }) c.args.table.now c.root.ensures (c.as_slice.ensures.value ∙ c.in_ok-places.ensures) c.condition.ensures (same.0 c.if-not-branch.false)

@@ -54,20 +54,20 @@ loop-index-preserved g c =
     let one = index_data c.index-item.result in
     let here : slice_get all c.loop-index.index-index ≡ Some one = slice_get-map index_data c.args.indexes.now c.loop-index.index-index ∙ ap (option_map index_data) at in
     record {
-      stays = SameImage-trans _ _ _ inv.stays c.check_tree.ensures.reads.image;
+      stays = SameImage-trans _ _ _ inv.stays c.check_alone.ensures.reads.image;
       failures = c.in_ok-counts.ensures.reads.failures ∙ inv.failures;
       checked = λ steady.
           let now = still_steady _ _ inv.stays steady in
           let tree : IsCheckedIndexOf (pages_seen c.loop-index.pager.state) one c.in_ok-counts.counts =
           c.in_ok-counts.ensures.checked now in
           let found = subst (λ (q : Pages). IsCheckedIndexOf q one c.in_ok-counts.counts) (same_pages _ _ inv.stays) tree in
-          all_next (IsCheckedIndexOf (pages_seen c.args.pager.now.state)) all c.loop-index.trees.items c.push.new.self.items c.loop-index.index-index
+          all_next (IsCheckedIndexOf (pages_seen c.args.pager.now.state)) all c.loop-index.counted.items c.push.new.self.items c.loop-index.index-index
           one c.in_ok-counts.counts here c.in_ok-push.ensures.items (inv.checked steady) found;
       marks = λ steady.
           let now = still_steady _ _ inv.stays steady in
           trees_more (pages_seen c.args.pager.now.state) (map index_tree_of all) c.loop-index.index-index (index_tree_of one) (tree_here all c.loop-index.index-index one here) c.args.used.now c.loop-index.used (inv.marks steady)
-          c.check_tree.new.used
-          (subst (λ (q : Pages). MarksTree q (index_tree_of one) c.loop-index.used c.check_tree.new.used) (same_pages _ _ inv.stays) (c.in_ok-counts.ensures.marks now));
+          c.check_alone.new.used
+          (subst (λ (q : Pages). MarksTree q (index_tree_of one) c.loop-index.used c.check_alone.new.used) (same_pages _ _ inv.stays) (c.in_ok-counts.ensures.marks now));
     }
 
 pub loop-index-init : goal.loop-index-init
@@ -78,8 +78,8 @@ loop-index-init g c = record {
   marks = λ steady. trees_none (pages_seen c.args.pager.now.state) (map index_tree_of (map index_data c.args.indexes.now)) c.args.used.now;
 }
 
-pub check_tree-requires-clause-number : goal.check_tree-requires-clause-number
-check_tree-requires-clause-number g c =
+pub check_alone-requires-clause-number : goal.check_alone-requires-clause-number
+check_alone-requires-clause-number g c =
     let within : c.loop-index.index-index < length c.args.indexes.now = search rules in
     let at = get_at c.args.indexes.now c.loop-index.index-index c.index-item.result within (search rules) in
     let all = map index_data c.args.indexes.now in
