@@ -1,0 +1,17 @@
+//! Plans that are run row by row. It promises that the rows that an operator gives are exactly those that its plan stands
+//! for, in their order, whatever stands for results out of range; that `Overflow` comes only where the plan reaches one;
+//! that no more pages are asked for than the plan's work, and none of overflow chains where no cell has one; and that over
+//! any source it returns, falls by a measure and tells of a failed read.
+//!
+//! The modules, in the order in which data passes them: `conditions` (conditions on a row, in their order), `nest` (a table
+//! behind the rows before it), `tree` (a plan's tables and conditions) and `laws` of the definitions.
+#![tactic(auto)]
+
+mod conditions;
+pub mod laws;
+mod nest;
+mod tree;
+
+pub use conditions::copies;
+pub use nest::Nest;
+pub use tree::Op;

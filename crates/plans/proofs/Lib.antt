@@ -1,0 +1,5 @@
+pub mod StandLemmas
+pub mod RowLemmas
+pub mod WhereLemmas
+pub mod HitLemmas
+pub mod ExampleLemmas

@@ -1,0 +1,4 @@
+pub mod Plan
+pub mod PlanView
+pub mod Stands
+pub mod Examples

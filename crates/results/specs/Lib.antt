@@ -1,0 +1,3 @@
+pub mod Slices
+pub mod Coming
+pub mod Permitted

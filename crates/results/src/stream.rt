@@ -1,0 +1,102 @@
+//! The rows of a SELECT.
+ghost use Rattle.std.specs.Prelude.{◌≡◌, ◌<◌, ℕ, All, IfErr, IfOk, IsTrue, List, MatchResult, Some, map};
+ghost use Rattle.values.specs.Datum.{datum_of};
+ghost use Rattle.values.specs.Row.{Row};
+ghost use Rattle.pager.specs.Calls.{ReadsPages};
+ghost use Rattle.pager.specs.PagerState.{IsPageNumber};
+ghost use Rattle.image.specs.Pages.{Pages, WhereSteady};
+ghost use Rattle.schema.specs.TableData.{TableData};
+ghost use Rattle.expr.specs.View.{term};
+ghost use Rattle.plans.specs.Plan.{work};
+ghost use Rattle.plans.specs.PlanView.{plan_data};
+ghost use Rattle.operators.specs.Basis.{AreStored, Basis, Gives, IsOperatorFault};
+ghost use Rattle.operators.specs.Left.{IsPlanOf, plan_of, steps};
+ghost use Rattle.results.specs.Coming.{IsComing, IsResultCause, answer_of, selection_data};
+
+use crate::columns::push_results;
+use crate::limits::Slice;
+use expr::Expr;
+use operators::{Op, copies};
+use pager::{Pager, Source};
+use plans::Plan;
+use schema::Table;
+use std::alloc::{AllocError, Global};
+use values::{Fault, Value};
+
+/// What a SELECT in no order computes of the rows of a plan. (SELECT)
+#[derive(Drop)]
+pub struct Selection {
+    pub plan: Plan,
+    /// The result columns, over the rows of the plan.
+    pub columns: Vec<Expr>,
+    pub limit: Option<i64>,
+    pub offset: i64,
+}
+
+/// The rows of a SELECT that is run.
+#[derive(Drop)]
+pub struct Results {
+    op: Op,
+    columns: Vec<Expr>,
+    slice: Slice,
+    /// The row of the plan that was given last.
+    row: Vec<Value>,
+}
+
+impl Results {
+    /// The rows of a SELECT before the first. It reads no page.
+    pub fn open(alloc: Global, selection: &Selection) -> Result<Results, AllocError>
+        ensures plan { IfOk result (λ results. plan_of results.op ≡ plan_data selection.now.plan) }
+        ensures columns { IfOk result (λ results. map term results.columns.items ≡ map term selection.now.columns.items) }
+        ensures rows { IfOk result (λ results. (pages : Pages) (tables : List TableData) (on : Basis) → on.plan ≡ plan_data selection.now.plan
+            → IsComing pages tables on results (answer_of on.w on.db (selection_data selection.now)) (work on.w on.db on.sizes on.plan)) }
+    {
+        let op = Op::open(alloc, &selection.plan)?;
+        let columns = copies(alloc, selection.columns.as_slice())?;
+        let slice = Slice::new(selection.limit, selection.offset);
+        let row = Vec::new(alloc);
+        Ok(Results {
+            op,
+            columns,
+            slice,
+            row,
+        })
+    }
+
+    /// Puts the next row into `out`, or tells that there is none; behind the last row that LIMIT leaves no page is asked for.
+    /// It isn't called again after a fault, or after `false` where that wasn't by LIMIT. Its faults are those of an operator.
+    pub fn next<S: Source>(
+        &mut self,
+        alloc: Global,
+        pager: &mut Pager<S>,
+        tables: &[Table],
+        out: &mut Vec<Value>,
+    ) -> Result<bool, Fault>
+        requires roots { All (λ table. IsPageNumber pager.old.state table.root) tables.now }
+        requires planned { IsPlanOf tables.now (plan_of self.old.op) }
+        ensures rows { WhereSteady pager.old.state (λ pages. (on : Basis) (rest : List Row) (ahead : ℕ) → AreStored pages tables.now on
+            → IsComing pages tables.now on self.old rest ahead
+            → MatchResult result
+            (λ found. Gives found on.local pager.old.state ahead pager.new.state rest (map datum_of out.new.items)
+            (IsComing pages tables.now on self.new))
+            (IsResultCause on (map term self.old.columns.items))) }
+        ensures done { self.old.slice.left ≡ Some 0 → pager.new.state ≡ pager.old.state }
+        ensures plan { plan_of self.new.op ≡ plan_of self.old.op }
+        ensures columns { map term self.new.columns.items ≡ map term self.old.columns.items }
+        ensures left { IfOk result (λ found. IsTrue found → steps self.new.op < steps self.old.op) }
+        ensures only { IfErr result IsOperatorFault }
+        ensures reads { ReadsPages result pager.old.state pager.new.state }
+    {
+        'rows: while !self.slice.is_done() {
+            if !self.op.next(alloc, pager, tables, &mut self.row)? {
+                return Ok(false);
+            }
+            if self.slice.gives() {
+                out.clear();
+                push_results(alloc, self.columns.as_slice(), self.row.as_slice(), out)?;
+                return Ok(true);
+            }
+        }
+        Ok(false)
+    }
+}

@@ -1,0 +1,85 @@
+//! The columns of a cell that are read, put behind other values.
+ghost use Rattle.std.specs.Prelude.{◌≡◌, ◌⊎◌, ◌<◌, ◌++◌, ℕ, All, IfErr, IfOk, List, MatchResult, None, length, map};
+ghost use Rattle.std.specs.Cow.{cow_slice_items};
+ghost use Rattle.values.specs.Datum.{datum_of};
+ghost use Rattle.values.specs.Row.{Row};
+ghost use Rattle.pager.specs.Calls.{IsReadFault, ReadsChainPages};
+ghost use Rattle.image.specs.Chain.{HasBytes};
+ghost use Rattle.image.specs.Pages.{WhereSteady};
+ghost use Rattle.btree.specs.Views.{cell_data, payload_data};
+ghost use Rattle.meaning.specs.OneTable.{shown};
+ghost use Rattle.stored_rows.specs.Stored.{IsRowOf, IsRowRecord};
+ghost use Rattle.scan.specs.Coming.{Grows, IsScanFault};
+
+use btree::{Cell, payload};
+use pager::{Pager, Source};
+use schema::Table;
+use std::alloc::Global;
+use std::borrow::CowSlice;
+use stored_rows::RowReader;
+use values::{Fault, Value};
+
+/// The payload of a cell. Its faults are `ReadFailed`, `NoMemory`, and `Changed` where its overflow pages are no chain.
+fn payload_of<'p, S: Source>(
+    alloc: Global,
+    pager: &mut Pager<S>,
+    cell: &Cell<'p>,
+) -> Result<CowSlice<'p, u8>, Fault>
+    ensures bytes { WhereSteady pager.old.state (λ pages. (bytes : List ℕ)
+        → HasBytes pages (payload_data cell.now.payload) bytes
+        → MatchResult result (λ found. cow_slice_items found ≡ bytes) IsReadFault) }
+    ensures only { IfErr result IsScanFault }
+    ensures reads { ReadsChainPages result pager.old.state pager.new.state }
+    ensures unread { cell.now.payload.overflow ≡ None → pager.new.state ≡ pager.old.state }
+{
+    payload(alloc, pager, cell)?.ok_or(Fault::Changed)
+}
+
+/// Puts the values of these columns of the row that the bytes of a payload are behind others. Its faults are `NoMemory`,
+/// and `Changed` where they are none.
+fn push_values(
+    alloc: Global,
+    table: &Table,
+    rowid: Option<i64>,
+    payload: &[u8],
+    columns: &[usize],
+    row: &mut Vec<Value>,
+) -> Result<(), Fault>
+    requires { All (λ at. at < length table.now.columns) columns.now }
+    ensures shown { (whole : Row) → IsRowRecord table.now rowid payload.now whole
+        → MatchResult result (λ _. map datum_of row.new.items ≡ map datum_of row.old.items ++ shown columns.now whole) (λ e. e ≡ Fault.NoMemory) }
+    ensures front { IfOk result (λ _. Grows (map datum_of row.old.items) (map datum_of row.new.items)) }
+    ensures only { IfErr result (λ e. (e ≡ Fault.NoMemory) ⊎ (e ≡ Fault.Changed)) }
+{
+    let Some(mut reader) = RowReader::new(table, rowid, payload) else {
+        return Err(Fault::Changed);
+    };
+    for column in columns {
+        let Some(value) = reader.value(*column) else {
+            return Err(Fault::Changed);
+        };
+        row.push(value.to_value(alloc)?)?;
+    }
+    Ok(())
+}
+
+/// Puts these columns of the row that a cell is behind other values.
+pub(crate) fn push_cell<S: Source>(
+    alloc: Global,
+    pager: &mut Pager<S>,
+    table: &Table,
+    cell: &Cell<'_>,
+    columns: &[usize],
+    row: &mut Vec<Value>,
+) -> Result<(), Fault>
+    requires { All (λ at. at < length table.now.columns) columns.now }
+    ensures shown { WhereSteady pager.old.state (λ pages. (whole : Row) → IsRowOf pages table.now (cell_data cell.now) whole
+        → MatchResult result (λ _. map datum_of row.new.items ≡ map datum_of row.old.items ++ shown columns.now whole) IsReadFault) }
+    ensures front { IfOk result (λ _. Grows (map datum_of row.old.items) (map datum_of row.new.items)) }
+    ensures only { IfErr result IsScanFault }
+    ensures reads { ReadsChainPages result pager.old.state pager.new.state }
+    ensures unread { cell.now.payload.overflow ≡ None → pager.new.state ≡ pager.old.state }
+{
+    let bytes = payload_of(alloc, pager, cell)?;
+    push_values(alloc, table, cell.rowid, bytes.as_slice(), columns, row)
+}

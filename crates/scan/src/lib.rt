@@ -1,0 +1,13 @@
+//! The rows of a table, one by one. It promises that a cursor over a table that is stored gives exactly its rows, by
+//! ascending rowid, of each the columns that are read; that it asks for no more pages than the table's tree has, whatever
+//! asks for pages in between, and for none of overflow chains where no cell has one; that over any source it returns, falls
+//! by a measure and tells of a failed read; and that over a steady source the table hasn't changed.
+//!
+//! The modules, in the order in which data passes them: `cells` (a cell's columns, behind others) and `rows` (from one row
+//! to the next).
+#![tactic(auto)]
+
+mod cells;
+mod rows;
+
+pub use rows::{first_row, take_row};

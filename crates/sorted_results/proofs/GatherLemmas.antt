@@ -1,0 +1,143 @@
+-- The outputs of the rows that an operator has to give.
+use Rattle.std.proofs.Common.{◌≡◌, ◌∙◌, ◌⊎◌, inl, inr, ◌<◌, Bool, true, false, All, Contains, IsTrue, ℕ, zero, suc, List, [], ◌∷◌, ◌++◌, get_or, length, map, append-nil, append_assoc, refl, sym, ap, subst, arith}
+use Rattle.std.proofs.lemmas.List.Elements.{All-head, All-tail, Contains-append_left, Contains-append_right}
+use Rattle.values.specs.Row.{Row}
+use Rattle.values.specs.declared.fault.Fault.{Fault}
+use Rattle.values.specs.declared.fault.Fault.TheVariants.{NoMemory, Overflow}
+use Rattle.pager.specs.Calls.{SameImage}
+use Rattle.pager.specs.PagerState.{PagerState}
+use Rattle.image.specs.Pages.{WhereSteady, pages_seen}
+use Rattle.schema.specs.TableData.{TableData}
+use Rattle.expr.specs.Meaning.{Overflows, eval}
+use Rattle.expr.specs.Term.{Term}
+use Rattle.meaning.specs.Body.{Output, output}
+use Rattle.meaning.specs.Hits.{key_terms, order_terms}
+use Rattle.meaning.specs.Query.{Key}
+use Rattle.meaning.specs.Valuation.{term_values}
+use Rattle.plans.specs.Plan.{Reaches, rows_of}
+use Rattle.plans.proofs.HitLemmas.{any_held, any_here}
+use Rattle.scan.specs.Coming.{Asks}
+use Rattle.scan.proofs.ComingLemmas.{Asks-none, Asks-then}
+use Rattle.operators.specs.declared.tree.Op.{Op}
+use Rattle.operators.specs.Basis.{AreStored, Basis, GivesNext}
+use Rattle.operators.specs.Left.{IsLeft}
+use Rattle.operators.proofs.RowLemmas.{at_start}
+use Rattle.operators.proofs.StepLemmas.{Called}
+use Rattle.results.specs.declared.limits.Slice.{Slice}
+use Rattle.results.specs.Coming.{IsResultCause}
+use Rattle.results.specs.Slices.{sliced}
+use Rattle.results.proofs.SliceLemmas.{none_sliced}
+use Rattle.results.proofs.StreamLemmas.{GivesFirst, PassesFirst}
+use Rattle.sorted_results.specs.declared.keys.Key.{Key as SKey}
+use Rattle.sorted_results.specs.KeyView.{key_data, key_term}
+use Rattle.sorted_results.specs.Sorted.{outputs_over}
+
+-- ---- terms of ORDER BY
+
+-- what some terms reach, they reach among others
+pub left_reaches : (some more : List Term) (row : Row) → Reaches some row → Reaches (some ++ more) row
+left_reaches some more row reach =
+    let held = any_held (λ t. Overflows t row) some reach in
+    any_here (λ t. Overflows t row) (some ++ more) held.0 (Contains-append_left some more held.0 held.1) held.2
+
+pub right_reaches : (some more : List Term) (row : Row) → Reaches more row → Reaches (some ++ more) row
+right_reaches some more row reach =
+    let held = any_held (λ t. Overflows t row) more reach in
+    any_here (λ t. Overflows t row) (some ++ more) held.0 (Contains-append_right some more held.0 held.1) held.2
+
+-- what a term of ORDER BY reaches, ORDER BY reaches
+pub order_reaches : (order : List SKey) (i : ℕ) (d : SKey) (row : Row) → i < length order → Reaches (key_terms (key_term (get_or order i d).by)) row
+    → Reaches (order_terms (map key_data order)) row
+order_reaches [] i d row within reach = absurd (omega (arith, within))
+order_reaches (key ∷ order) zero d row within reach = left_reaches (key_terms (key_term key.by)) (order_terms (map key_data order)) row reach
+order_reaches (key ∷ order) (suc i) d row within reach =
+    right_reaches (key_terms (key_term key.by)) (order_terms (map key_data order)) row (order_reaches order i d row (omega (arith, within)) reach)
+
+-- ---- LIMIT and OFFSET along outputs
+
+pub slice_gives : (first old new : Slice) (done given : List Row) (row : Row) → ((rest : List Row) → sliced first (done ++ rest) ≡ given ++ sliced old rest)
+    → GivesFirst old new → (rest : List Row) → sliced first ((done ++ row ∷ []) ++ rest) ≡ (given ++ row ∷ []) ++ sliced new rest
+slice_gives first old new done given row before gives rest =
+    ap (sliced first) (append_assoc done (row ∷ []) rest) ∙ before (row ∷ rest) ∙ ap (λ t. given ++ t) (gives row rest)
+    ∙ sym (append_assoc given (row ∷ []) (sliced new rest))
+
+pub slice_passes : (first old new : Slice) (done given : List Row) (row : Row) → ((rest : List Row) → sliced first (done ++ rest) ≡ given ++ sliced old rest)
+    → PassesFirst old new → (rest : List Row) → sliced first ((done ++ row ∷ []) ++ rest) ≡ given ++ sliced new rest
+slice_passes first old new done given row before passes rest =
+    ap (sliced first) (append_assoc done (row ∷ []) rest) ∙ before (row ∷ rest) ∙ ap (λ t. given ++ t) (passes row rest)
+
+pub slice_whole : (first last : Slice) (done given : List Row) → ((rest : List Row) → sliced first (done ++ rest) ≡ given ++ sliced last rest)
+    → given ≡ sliced first done
+slice_whole first last done given all =
+    sym (append-nil given) ∙ ap (λ t. given ++ t) (sym (none_sliced last [] refl)) ∙ sym (all []) ∙ ap (sliced first) (append-nil done)
+
+-- ---- rows that are gathered
+
+-- of the rows to come these outputs were made, and the others are still to come
+abbrev pub Gathering : PagerState → List TableData → Op → Op → Row → List Term → List Key → List Output → PagerState → Type 0
+Gathering start tables first op row columns order outputs now =
+    WhereSteady start (λ pages. (on : Basis) (rows : List Row) (ahead : ℕ) → AreStored pages tables on → IsLeft pages tables on first [] rows ahead
+    → All (Contains (rows_of on.w on.db on.plan)) rows
+    → (rest : List Row) × (left : ℕ) × IsLeft pages tables on op row rest left × (outputs_over on.w columns order rows ≡ outputs ++ outputs_over on.w columns order rest)
+    × All (Contains (rows_of on.w on.db on.plan)) rest × Asks on.local start ahead now left)
+
+pub Gathering-start : (start : PagerState) (tables : List TableData) (op : Op) (columns : List Term) (order : List Key) → Gathering start tables op op [] columns order [] start
+Gathering-start start tables op columns order steady on rows ahead has left among = (rows, ahead, left, refl, among, Asks-none on.local start ahead)
+
+module _ (start now : PagerState) (image : SameImage start now) (tables : List TableData) (first op : Op) (row : Row) (columns : List Term) (order : List Key) (outputs : List Output)
+    (keeps : Gathering start tables first op row columns order outputs now)
+    (steady : IsTrue start.source.steady) (on : Basis) (rows : List Row) (ahead : ℕ) (has : AreStored (pages_seen start) tables on)
+    (left : IsLeft (pages_seen start) tables on first [] rows ahead) (among : All (Contains (rows_of on.w on.db on.plan)) rows) where
+  here : (rest : List Row) × (left : ℕ) × IsLeft (pages_seen start) tables on op row rest left
+      × (outputs_over on.w columns order rows ≡ outputs ++ outputs_over on.w columns order rest)
+      × All (Contains (rows_of on.w on.db on.plan)) rest × Asks on.local start ahead now left
+  here = keeps steady on rows ahead has left among
+
+  -- what is said of the rows that the operator has to give
+  pub gather_says : (Then : Basis → Type 0)
+      → WhereSteady now (λ pages. (on : Basis) (rows : List Row) (more : ℕ) → AreStored pages tables on → IsLeft pages tables on op row rows more → Then on)
+      → Then on
+  gather_says Then says =
+      at_start start now image (λ pages. (on : Basis) (rows : List Row) (more : ℕ) → AreStored pages tables on → IsLeft pages tables on op row rows more → Then on) says steady
+      on here.0 here.1 has here.2
+
+  module _ (new : Op) (after : Row) (then : PagerState) where
+    abbrev pub CallsOp : Bool → Type 0
+    CallsOp found = WhereSteady now (Called tables op new found row after now then)
+
+    -- all were gathered
+    pub gathered_all : CallsOp false → (outputs ≡ outputs_over on.w columns order rows) × Asks on.local start ahead then 0
+    gathered_all called =
+        let none = at_start start now image (Called tables op new false row after now then) called steady on here.0 here.1 has here.2 in (
+          sym (append-nil outputs) ∙ ap (λ rest. outputs ++ outputs_over on.w columns order rest) (sym none.rest_is) ∙ sym here.3,
+          Asks-then on.local start ahead now here.1 then 0 here.5 none.asks,
+        )
+
+    module _ (called : CallsOp true) where
+      given : GivesNext on.local now here.1 then here.0 after (IsLeft (pages_seen start) tables on new after)
+      given = at_start start now image (Called tables op new true row after now then) called steady on here.0 here.1 has here.2
+
+      all_among : All (Contains (rows_of on.w on.db on.plan)) (after ∷ given.later)
+      all_among = subst (λ (rows : List Row). All (Contains (rows_of on.w on.db on.plan)) rows) given.rest_is here.4
+
+      -- an expression on the row has no value
+      pub output_cause : (terms : List Term) (e : Fault) → (e ≡ Overflow) ⊎ (e ≡ NoMemory) → (e ≡ Overflow → Reaches terms after) → IsResultCause on terms e
+      output_cause terms e (inl is) reaches =
+          inr (is, inr (any_here (Reaches terms) (rows_of on.w on.db on.plan) after (All-head (Contains (rows_of on.w on.db on.plan)) after given.later all_among) (reaches is)))
+      output_cause terms e (inr is) reaches = inl (inr is)
+
+      -- an output more
+      pub gathered_more : (more : Output) → more ≡ output (eval on.w) order (term_values (eval on.w) columns after) after
+          → (rest : List Row) × (left : ℕ) × IsLeft (pages_seen start) tables on new after rest left
+          × (outputs_over on.w columns order rows ≡ (outputs ++ more ∷ []) ++ outputs_over on.w columns order rest)
+          × All (Contains (rows_of on.w on.db on.plan)) rest × Asks on.local start ahead then left
+      gathered_more more is = (
+        given.later,
+        given.left,
+        given.is_left,
+        here.3 ∙ ap (λ rest. outputs ++ outputs_over on.w columns order rest) given.rest_is
+            ∙ ap (λ one. outputs ++ (one ∷ outputs_over on.w columns order given.later)) (sym is)
+            ∙ sym (append_assoc outputs (more ∷ []) (outputs_over on.w columns order given.later)),
+        All-tail (Contains (rows_of on.w on.db on.plan)) after given.later all_among,
+        Asks-then on.local start ahead now here.1 then given.left here.5 given.asks,
+      )

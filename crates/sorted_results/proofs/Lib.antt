@@ -1,0 +1,4 @@
+pub mod OrderLemmas
+pub mod PermittedLemmas
+pub mod GatherLemmas
+pub mod AnswerLemmas

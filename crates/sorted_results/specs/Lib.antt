@@ -1,0 +1,3 @@
+pub mod KeyView
+pub mod Sorted
+pub mod Permitted

@@ -1,0 +1,36 @@
+-- The answer of a sorted selection of one table. (SELECT)
+use Rattle.std.specs.Prelude.{◌≡◌, ℕ, List}
+use Rattle.std.specs.List.{AllZip}
+use Rattle.values.specs.Database.{Database}
+use Rattle.values.specs.Datum.{Datum}
+use Rattle.values.specs.Row.{Row}
+use Rattle.expr.specs.Filled.{filled}
+use Rattle.meaning.specs.Answer.{Permits}
+use Rattle.meaning.specs.Body.{answers_in}
+use Rattle.meaning.specs.Query.{Key, KeyTerm, QueryData, Select, only, table}
+use Rattle.plans.specs.Stands.{StandsFor}
+use Rattle.results.specs.Permitted.{IsPlain, ReadsTable}
+use Rattle.sorted_results.specs.Sorted.{IsSortedAnswer, SortedData}
+
+-- a term of ORDER BY over the columns that are read
+abbrev pub KeyStandsFor : List ℕ → List (List Datum) → KeyTerm → KeyTerm → Type 0
+KeyStandsFor read answers (KeyTerm.result at) (KeyTerm.result n) = at ≡ n
+KeyStandsFor read answers (KeyTerm.result at) (KeyTerm.term t) = ⊥
+KeyStandsFor read answers (KeyTerm.term t) (KeyTerm.result n) = ⊥
+KeyStandsFor read answers (KeyTerm.term t) (KeyTerm.term whole) = StandsFor read t (filled answers whole)
+
+pub record IsKeyOf (read : List ℕ) (answers : List (List Datum)) (key whole : Key) : Type 0 where
+  pub by : KeyStandsFor read answers key.by whole.by
+  pub direction : key.direction ≡ whole.direction
+
+-- a selection of this table, with the query's ORDER BY, LIMIT and OFFSET
+pub record IsSelectionOf (w : Datum) (db : Database) (query : QueryData) (at width : ℕ) (s : Select) (selection : SortedData) : Type 0 where
+  pub reads : ReadsTable w db at width s selection.plan selection.columns
+  pub order : AllZip (IsKeyOf reads.read (answers_in w db (only (table at width)))) selection.order query.order
+  pub limit : selection.limit ≡ query.limit
+  pub offset : selection.offset ≡ query.offset
+
+-- its answers are lists that the query permits
+abbrev pub OneTableIsPermitted : Type 0
+OneTableIsPermitted = (w : Datum) (db : Database) (query : QueryData) (at width : ℕ) (s : Select) (selection : SortedData) (rows : List Row)
+    → IsPlain query at width s → IsSelectionOf w db query at width s selection → IsSortedAnswer w db selection rows → Permits w db query rows

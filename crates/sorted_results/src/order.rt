@@ -1,0 +1,70 @@
+//! Rows in order.
+ghost use Rattle.std.specs.Prelude.{◌≡◌, IsPermutation, OnOk, map};
+ghost use Rattle.std.specs.List.Sorted.{IsSortedByKey};
+ghost use Rattle.values.specs.Datum.{datum_of};
+ghost use Rattle.meaning.specs.Answer.{key_directions};
+ghost use Rattle.meaning.specs.Sequence.{directed_cmp, keys_cmp, null_rank, value_at};
+ghost use Rattle.query_trees.specs.SelectView.{direction_of};
+ghost use Rattle.sorted_results.specs.KeyView.{key_data};
+
+use crate::keys::{Key, Output};
+use std::alloc::AllocError;
+use std::cmp::Ordering;
+use syntax::Direction;
+use values::{Value, compare};
+
+/// Where NULL stands beside other values.
+#[tactic(auto, unfolding(expr::specs::Operations::is_null))]
+fn rank(nulls_first: bool, value: &Value) -> u8
+    ensures { result ≡ null_rank nulls_first (datum_of value.now) }
+{
+    match value {
+        Value::Null if nulls_first => 0,
+        Value::Null => 2,
+        _ => 1,
+    }
+}
+
+/// Two values by a direction: NULLs first or last, and the others ascending or descending. (SELECT, "The ORDER BY clause")
+fn compare_by(direction: Direction, a: &Value, b: &Value) -> Ordering
+    ensures { result ≡ directed_cmp (direction_of direction) (datum_of a.now) (datum_of b.now) }
+{
+    match rank(direction.nulls_first, a).cmp(&rank(direction.nulls_first, b)) {
+        Ordering::Equal if direction.descending => compare(b, a),
+        Ordering::Equal => compare(a, b),
+        order => order,
+    }
+}
+
+/// The values at a place of two rows by a direction; past its end a row has NULLs.
+fn compare_at(direction: Direction, a: &[Value], b: &[Value], at: usize) -> Ordering
+    ensures { result ≡ directed_cmp (direction_of direction) (value_at (map datum_of a.now) at) (value_at (map datum_of b.now) at) }
+{
+    let null = Value::Null;
+    compare_by(
+        direction,
+        a.get(at).unwrap_or(&null),
+        b.get(at).unwrap_or(&null),
+    )
+}
+
+/// Rows of keys by the first value in which they differ, each by its direction.
+fn compare_keys(order: &[Key], a: &[Value], b: &[Value]) -> Ordering
+    ensures { result ≡ keys_cmp (key_directions (map key_data order.now)) (map datum_of a.now) (map datum_of b.now) }
+{
+    for at in 0..order.len() {
+        let ordering = compare_at(order[at].direction, a, b, at);
+        if ordering != Ordering::Equal {
+            return ordering;
+        }
+    }
+    Ordering::Equal
+}
+
+/// Puts rows in order; those that ORDER BY leaves equal stay as they were.
+pub(crate) fn sort(order: &[Key], outputs: &mut Vec<Output>) -> Result<(), AllocError>
+    ensures same { IsPermutation outputs.old.items outputs.new.items }
+    ensures sorted { OnOk result (IsSortedByKey (λ (o : Output). map datum_of o.keys.items) (keys_cmp (key_directions (map key_data order.now))) outputs.new.items) }
+{
+    outputs.sort_by(|a, b| compare_keys(order, a.keys.as_slice(), b.keys.as_slice()))
+}
