@@ -27,8 +27,9 @@ fn boxed_body(alloc: Global, body: &Body) -> Result<Box<Body>, AllocError>
     Ok(Box::new(alloc, body)?)
 }
 
+/// A copy of what a query computes. (SELECT)
 #[cycle(copies)]
-fn copy_body(alloc: Global, body: &Body) -> Result<Body, AllocError>
+pub fn copy_body(alloc: Global, body: &Body) -> Result<Body, AllocError>
     ensures { IfOk result (λ copy. body_of copy ≡ body_of body.now) }
 {
     match body {
@@ -51,8 +52,9 @@ fn copy_single(alloc: Global, single: &Single) -> Result<Single, AllocError>
     })
 }
 
+/// A copy of what a SELECT stands on. (SELECT, "Determination of input data")
 #[cycle(copies)]
-fn copy_tables(alloc: Global, tables: &Tables) -> Result<Tables, AllocError>
+pub fn copy_tables(alloc: Global, tables: &Tables) -> Result<Tables, AllocError>
     ensures { IfOk result (λ copy. tables_of copy ≡ tables_of tables.now) }
 {
     let sources = copy_sources(alloc, tables.sources.as_slice())?;

@@ -71,7 +71,11 @@ fn copy_calls(alloc: Global, calls: &[WindowCall]) -> Result<Vec<WindowCall>, Al
     Ok(copies)
 }
 
-fn copy_grouping(alloc: Global, grouping: &Option<Grouping>) -> Result<Option<Grouping>, AllocError>
+/// A copy of GROUP BY and HAVING, where there are groups. (SELECT, "Generation of the set of result rows")
+pub fn copy_grouping(
+    alloc: Global,
+    grouping: &Option<Grouping>,
+) -> Result<Option<Grouping>, AllocError>
     ensures { IfOk result (λ copy. option_map grouping_of copy ≡ option_map grouping_of grouping.now) }
 {
     match grouping {

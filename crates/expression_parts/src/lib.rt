@@ -7,5 +7,5 @@
 mod clauses;
 mod expressions;
 
-pub use clauses::parts_behind_groups;
+pub use clauses::{core_parts, parts_behind_groups};
 pub use expressions::parts;

@@ -4,8 +4,6 @@ use Rattle.std.proofs.Math.Dec.{eqb-suc-zero}
 use Rattle.std.proofs.lemmas.List.{at_drop_all, at_drop_more}
 use Rattle.expr.specs.Term as t
 use Rattle.expr.specs.View.{terms}
-use Rattle.query_trees.specs.SelectView.{sort_of}
-use Rattle.query_trees.specs.declared.selects.SortTerm.{SortTerm}
 use Rattle.query_trees.specs.declared.terms.Arm.{Arm}
 use Rattle.query_trees.specs.declared.terms.Term.{Term}
 use Rattle.same_terms.specs.Lists.{arm_trees, trees}
@@ -27,9 +25,9 @@ pub arms_end : (a b rest : List Arm) (i : ℕ) (r : Bool) → length a ≤ i →
 arms_end = ends arm_trees (λ x xs h. cc)
 
 -- both lists go on with the same
-step : {A B : Type 0} (f : A → B) (a b rest later : List A) (i : ℕ) (x y : A) → i < length a → x ≡ get_or a i x → rest ≡ y ∷ later
+pub list_step : {A B : Type 0} (f : A → B) (a b rest later : List A) (i : ℕ) (x y : A) → i < length a → x ≡ get_or a i x → rest ≡ y ∷ later
     → f x ≡ f y → ((map f (drop i a) ≡ map f rest) ↔ (map f a ≡ map f b)) → ((map f (drop (i + 1) a) ≡ map f later) ↔ (map f a ≡ map f b))
-step f a b rest later i x y lt at is same inv =
+list_step f a b rest later i x y lt at is same inv =
     let here : map f (drop i a) ≡ f x ∷ map f (drop (i + 1) a)
     = at_drop_more (map f) a i x lt ∙ ap (λ z. f z ∷ map f (drop (i + 1) a)) (sym at) in
     let there : map f rest ≡ f y ∷ map f later = ap (map f) is in (
@@ -37,13 +35,10 @@ step f a b rest later i x y lt at is same inv =
       (λ e. let whole : f x ∷ map f (drop (i + 1) a) ≡ f y ∷ map f later = sym here ∙ inv.1 e ∙ there in cc),
     )
 
-pub order_step : (a b rest later : List SortTerm) (i : ℕ) (x y : SortTerm) → i < length a → x ≡ get_or a i x → rest ≡ y ∷ later
-    → sort_of x ≡ sort_of y → ((map sort_of (drop i a) ≡ map sort_of rest) ↔ (map sort_of a ≡ map sort_of b))
-    → ((map sort_of (drop (i + 1) a) ≡ map sort_of later) ↔ (map sort_of a ≡ map sort_of b))
-order_step = step sort_of
-
-pub order_end : (a b rest : List SortTerm) (i : ℕ) (r : Bool) → length a ≤ i → r ≡ (length rest == 0) → ((map sort_of (drop i a) ≡ map sort_of rest) ↔ (map sort_of a ≡ map sort_of b)) → IsTrue r ↔ (map sort_of a ≡ map sort_of b)
-order_end = ends (map sort_of) (λ x xs h. cc)
+-- the one is at its end
+pub list_end : {A B : Type 0} (f : A → B) (a b rest : List A) (i : ℕ) (r : Bool) → length a ≤ i → r ≡ (length rest == 0)
+    → ((map f (drop i a) ≡ map f rest) ↔ (map f a ≡ map f b)) → IsTrue r ↔ (map f a ≡ map f b)
+list_end f = ends (map f) (λ x xs h. cc)
 
 -- ---- members of an IN
 

@@ -3,7 +3,7 @@ ghost use Rattle.std.specs.Prelude.{◌≡◌, ◌↔◌, IsTrue, map};
 ghost use Rattle.query_trees.specs.SelectView.{call_of, edge_of, exclusion_of, frame_of, function_of, sort_of, unit_of, window_of};
 
 use crate::aggregates::same_aggregate;
-use crate::equality::{same_term, same_terms};
+use crate::equality::{same_term, same_term_lists};
 use query_trees::{
     Edge, Exclusion, Frame, FrameUnit, SortTerm, Window, WindowCall, WindowFunction,
 };
@@ -57,7 +57,7 @@ fn same_frame(a: Frame, b: Frame) -> bool
 fn same_window(a: &Window, b: &Window) -> bool
     ensures { IsTrue result ↔ window_of a.now ≡ window_of b.now }
 {
-    same_terms(a.partition.as_slice(), b.partition.as_slice())
+    same_term_lists(a.partition.as_slice(), b.partition.as_slice())
         && same_order(a.order.as_slice(), b.order.as_slice())
         && same_frame(a.frame, b.frame)
 }

@@ -80,7 +80,7 @@ fn same_arms(a: &[Arm], b: &[Arm]) -> bool
 }
 
 /// Whether two lists of terms are the same.
-pub(crate) fn same_terms(a: &[Term], b: &[Term]) -> bool
+pub fn same_term_lists(a: &[Term], b: &[Term]) -> bool
     ensures { IsTrue result ↔ map term a.now ≡ map term b.now }
 {
     same_all(a, b)

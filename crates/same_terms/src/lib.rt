@@ -10,4 +10,4 @@ mod equality;
 
 pub use aggregates::same_aggregate;
 pub use calls::same_call;
-pub use equality::same_term;
+pub use equality::{same_term, same_term_lists};

@@ -16,3 +16,4 @@ mod using;
 
 pub use given::{Given, Known, Queried, derived, named};
 pub use joins::{Sources, first, join};
+pub use names::copy_names;

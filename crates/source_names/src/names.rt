@@ -14,7 +14,7 @@ pub(crate) fn copy_name(alloc: Global, name: &Option<String>) -> Result<Option<S
 }
 
 /// Copies of names, in their order.
-pub(crate) fn copy_names(alloc: Global, names: &[String]) -> Result<Vec<String>, AllocError>
+pub fn copy_names(alloc: Global, names: &[String]) -> Result<Vec<String>, AllocError>
     ensures { IfOk result (λ v. map (λ n. string_bytes n) v.items ≡ map (λ n. string_bytes n) names.now) }
 {
     let mut copies = Vec::new(alloc);

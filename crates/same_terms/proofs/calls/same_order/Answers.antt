@@ -1,11 +1,12 @@
 use Rattle.std.proofs.Common.{rules}
-use Rattle.same_terms.proofs.SameLemmas.{order_end, order_step}
+use Rattle.query_trees.specs.SelectView.{sort_of}
+use Rattle.same_terms.proofs.SameLemmas.{list_end, list_step}
 use Rattle.same_terms.proofs.calls.same_order.Goals as goal
 
 pub returns : goal.returns
-returns c = order_end c.args.a.now c.args.b.now c.loop-x.rest.now c.loop-x.x-index _ (search rules) c.is_empty.ensures c.loop-x.invariant
+returns c = list_end sort_of c.args.a.now c.args.b.now c.loop-x.rest.now c.loop-x.x-index _ (search rules) c.is_empty.ensures c.loop-x.invariant
 
 pub loop-x-preserved : goal.loop-x-preserved
 loop-x-preserved c =
-    order_step c.args.a.now c.args.b.now c.loop-x.rest.now c.in-Some.later.now c.loop-x.x-index c.x-item.result c.in-Some.y.now
+    list_step sort_of c.args.a.now c.args.b.now c.loop-x.rest.now c.in-Some.later.now c.loop-x.x-index c.x-item.result c.in-Some.y.now
     c.loop-x-test.true c.x-item.is (search rules) (c.same_sort.ensures.0 c.if-same_sort.true) c.loop-x.invariant

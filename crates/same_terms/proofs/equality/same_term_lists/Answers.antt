@@ -2,7 +2,7 @@ use Rattle.std.proofs.Common.{map, ap}
 use Rattle.expr.specs.View.{terms}
 use Rattle.query_trees.specs.TermView.{term}
 use Rattle.same_terms.proofs.SameLemmas.{terms_alone}
-use Rattle.same_terms.proofs.equality.same_terms.Goals as goal
+use Rattle.same_terms.proofs.equality.same_term_lists.Goals as goal
 
 pub returns : goal.returns
 returns c = (

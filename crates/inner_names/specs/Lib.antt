@@ -1,0 +1,2 @@
+pub mod InnerView
+pub mod InnerNames

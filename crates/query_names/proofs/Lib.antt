@@ -1,0 +1,3 @@
+mod SingleLemmas
+mod CompoundLemmas
+pub mod DepthLemmas

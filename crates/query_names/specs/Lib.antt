@@ -1,0 +1,4 @@
+pub mod SingleView
+pub mod Singles
+pub mod Compounds
+pub mod Nested

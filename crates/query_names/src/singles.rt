@@ -1,0 +1,100 @@
+//! One SELECT with its FROM.
+ghost use Rattle.std.specs.Prelude.{◌≡◌, IfOk, map};
+ghost use Rattle.body_trees.specs.BodyView.{body_of, inner_of};
+ghost use Rattle.grammar.specs.Reading.{terms_of};
+ghost use Rattle.naming.specs.Statement as spec;
+ghost use Rattle.query_names.specs.SingleView.{single_data};
+ghost use Rattle.query_names.specs.Singles.{behind_inner, single_over};
+ghost use Rattle.query_trees.specs.Outcome.{Gives};
+ghost use Rattle.select_names.specs.NamedView.{core_data};
+ghost use Rattle.source_names.specs.GivenView.{known_of, sources_of};
+ghost use Rattle.statement_trees.specs.TreeView.{core_of, term_of};
+
+use crate::windows::with_windows;
+use body_trees::{Body, InnerQuery, Tables};
+use from_names::{Queries, from};
+use inner_names::{Inners, inner_queries, split};
+use select_names::{NamedSelect, select};
+use source_names::{Known, Sources};
+use statement_trees::{Core, Term};
+use std::alloc::{AllocError, Global};
+use values::Fault;
+
+/// A SELECT with its FROM, by its names. (SELECT, "Simple Select Processing")
+#[derive(Drop)]
+pub(crate) struct NamedSingle {
+    pub(crate) tables: Tables,
+    pub(crate) named: NamedSelect,
+    /// What else is written in it and has to be typed by itself.
+    pub(crate) beside: Vec<Body>,
+}
+
+// A SELECT over these sources and inner queries, and beside it what has to be typed by itself.
+fn over(
+    alloc: Global,
+    inner: Vec<InnerQuery>,
+    written: Vec<Body>,
+    sources: Sources,
+    named: NamedSelect,
+) -> Result<NamedSingle, AllocError>
+    ensures { IfOk result (λ s. single_data s
+        ≡ single_over (map inner_of inner.items) (map body_of written.items) (sources_of sources) (core_data named)) }
+{
+    let Sources {
+        joined,
+        names: _,
+        scope: _,
+        beside: mut in_sources,
+    } = sources;
+    let tables = Tables {
+        sources: joined,
+        inner,
+    };
+    let windows = with_windows(alloc, &tables, &named.select, named.defined.as_slice())?;
+    let mut beside = written;
+    beside.append(&mut in_sources)?;
+    beside.push(Body::Select(windows))?;
+    Ok(NamedSingle {
+        tables,
+        named,
+        beside,
+    })
+}
+
+// A SELECT, where these are the queries in its expressions. The fault is one of `from` and of `select`.
+fn behind_inner<Q: Queries>(
+    alloc: Global,
+    queries: &Q,
+    known: &[Known],
+    core: &Core,
+    order: &[Term],
+    inner: Vec<InnerQuery>,
+    written: Vec<Body>,
+) -> Result<NamedSingle, Fault>
+    requires { Q.resolves queries.now }
+    ensures { Gives single_data result
+        (behind_inner (map known_of known.now) (Q.meaning queries.now) (core_of core.now) (terms_of (map term_of order.now))
+        (map inner_of inner.items) (map body_of written.items)) }
+{
+    let inners = Inners::new(queries, inner.as_slice());
+    let sources = from(alloc, &inners, queries, known, &core.sources)?;
+    let named = select(alloc, &inners, &sources.scope, core, order)?;
+    Ok(over(alloc, inner, written, sources, named)?)
+}
+
+/// One SELECT with its FROM. The fault is one of `inner_queries`, of `from` and of `select`. (SELECT, "Simple Select Processing")
+pub(crate) fn single<Q: Queries>(
+    alloc: Global,
+    queries: &Q,
+    known: &[Known],
+    core: &Core,
+    order: &[Term],
+) -> Result<NamedSingle, Fault>
+    requires { Q.resolves queries.now }
+    ensures { Gives single_data result
+        (spec.single_of (map known_of known.now) (Q.meaning queries.now) (core_of core.now) (terms_of (map term_of order.now))) }
+{
+    let inner = inner_queries(alloc, queries, core, order)?;
+    let (inner, written) = split(alloc, inner)?;
+    behind_inner(alloc, queries, known, core, order, inner, written)
+}
