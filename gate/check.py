@@ -40,6 +40,8 @@ PROGRAMS = {
     "table_rows": ["data/item.db", "2"],
     "text_trees": [],
 }
+# The kit's command.
+RT = ["python3", "-B", str(TOP / "gate" / "command.py")]
 COUNTS = re.compile(r"(\d+) passed, (\d+) failed")
 
 
@@ -96,7 +98,7 @@ def scripts(folder: Path, more: dict[str, str], rounds: list[str]) -> list[Part]
     """The comparisons, over programs that are built."""
     more = {**more, "BUILT": "1"}
     shells = [Part(name, ["sh", f"compare/{name}.sh"], folder, more) for name in ("counts", "tables", "answers")]
-    ours = [Part(name, ["python3", f"compare/{name}.py"], folder, more) for name in ("worked", "interrupted", "catalogs")]
+    ours = [Part(name, ["python3", f"compare/{name}.py"], folder, more) for name in ("worked", "interrupted", "catalogs", "statements")]
     return [Part("outside", ["python3", "compare/outside.py", "--built", *rounds], folder, more), *ours, *shells]
 
 
@@ -114,7 +116,7 @@ def check_whole(is_all: bool, total: Sum) -> None:
         shutil.copytree(TOP, copy, ignore=shutil.ignore_patterns(*MADE))
         for edits in copy.glob("crates/*/must-fail"):
             shutil.rmtree(edits)
-        proved = Part("rt ci", ["rt", "ci"], copy)
+        proved = Part("rt ci", [*RT, "ci"], copy)
         lines, status = proved.run(is_shown=True)
         total.add(proved, lines, status)
         for edits in TOP.glob("crates/*/must-fail"):
@@ -144,9 +146,9 @@ def check_quick(total: Sum) -> None:
     print(f"differing crates: {' '.join(sorted(names)) or 'none'}", flush=True)
     laid_out = [rt.rtlib.fmt(it.folder, "--check", sys.stdout) == 0 for it in crates]
     total.add_one("the layout", all(laid_out))
-    is_proved = passes(["rt", "all", "check", "--jobs", str(rt.processors())], TOP)
+    is_proved = passes([*RT, "all", "check", "--jobs", str(rt.processors())], TOP)
     total.add_one("the proofs", is_proved)
-    built = is_proved and all(passes(["rt", "run", "--", *words], TOP / "crates" / name) for name, words in PROGRAMS.items())
+    built = is_proved and all(passes([*RT, "run", "--", *words], TOP / "crates" / name) for name, words in PROGRAMS.items())
     total.add_one("the programs", built)
     if not built:
         return
@@ -170,7 +172,7 @@ def has_worked_texts(crate: Path) -> bool:
 def test_crates(crates: list, total: Sum) -> None:
     """Proves and runs the tests of crates, one after the other, since each of them may build the libraries below."""
     for crate in crates:
-        total.add_one(f"the tests of {crate.name}", passes(["rt", "test", "--jobs", "1"], Path(crate.folder)))
+        total.add_one(f"the tests of {crate.name}", passes([*RT, "test", "--jobs", "1"], Path(crate.folder)))
 
 
 def passes(words: list[str], folder: Path) -> bool:

@@ -67,9 +67,9 @@ class Outcome:
     line: str
 
     @staticmethod
-    def judged(verdict: str, line: str) -> Outcome:
-        """The kit's own verdict, which is a word."""
-        return Outcome(verdict in (rt.REFUSED, rt.AT_LIMIT), line)
+    def judged(verdict: str | bool, line: str) -> Outcome:
+        """The kit's own verdict, which is a word, or of some kits whether the edit is refused."""
+        return Outcome(verdict in [getattr(rt, word, True) for word in ("REFUSED", "AT_LIMIT")], line)
 
 
 class Room:

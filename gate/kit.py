@@ -7,6 +7,7 @@ import importlib.util
 import os
 import shutil
 import sys
+import threading
 from types import ModuleType
 
 
@@ -21,7 +22,28 @@ def load() -> ModuleType:
     loader.exec_module(module)
     # Its first call sets a signal's handler, which only the main thread may.
     module.rtlib.guarded()
+    sum_once(module.rtlib.Crate)
     return module
+
+
+def sum_once(crates: type) -> None:
+    """Has one sum of a crate's sources take that of each crate below it once. By itself the command makes it anew on each way down
+    to that crate, and with each crate of a chain there are twice as many ways."""
+    whole, held = crates.stamp, threading.local()
+
+    def stamp(crate) -> str:
+        sums = getattr(held, "sums", None)
+        if sums is not None:
+            if crate.folder not in sums:
+                sums[crate.folder] = whole(crate)
+            return sums[crate.folder]
+        held.sums = {}
+        try:
+            return whole(crate)
+        finally:
+            held.sums = None
+
+    crates.stamp = stamp
 
 
 rt = load()

@@ -1,8 +1,9 @@
 """Which must-fail edits are tried by turns.
 
 Always those that `always.txt` names, and those of each crate that differs from the commit in the file `passed`, which is
-one on which the whole gate passed, and of the crates above it. Of the others a third, which the word of the turn chooses:
-the hash of the commit that is tried. Where git or that commit isn't there, all are tried.
+one on which the whole gate passed, and of the crates above it. Of the others those of a third of the crates, which the word of the
+turn chooses: the hash of the commit that is tried. Whole crates are chosen, since the first edit of a crate costs the most. Where
+git or that commit isn't there, all are tried.
 """
 
 from __future__ import annotations
@@ -42,5 +43,5 @@ class Turn:
         name = os.path.basename(edit).removesuffix(".edit")
         if name in self.always or self.changed & {crate.name, *(it.name for it in crate.below())}:
             return True
-        chosen = hashlib.sha256(f"{self.word} {crate.name}/{name}".encode()).digest()
+        chosen = hashlib.sha256(f"{self.word} {crate.name}".encode()).digest()
         return chosen[0] % 3 == 0
