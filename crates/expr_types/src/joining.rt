@@ -5,8 +5,8 @@ ghost use Rattle.expr.specs.TermType as spec;
 use expr::Function;
 use values::Ty;
 
-/// The one type that both may stand for.
-fn one_type(a: Ty, b: Ty) -> Option<Ty>
+/// The one type that both may stand for. (STRICT Tables)
+pub fn one_type(a: Ty, b: Ty) -> Option<Ty>
     ensures { result ≡ spec.one_type a b }
 {
     match (a, b) {
@@ -20,7 +20,7 @@ fn one_type(a: Ty, b: Ty) -> Option<Ty>
 }
 
 /// The same of what may have no type.
-pub(crate) fn one_of(a: Option<Ty>, b: Option<Ty>) -> Option<Ty>
+pub fn one_of(a: Option<Ty>, b: Option<Ty>) -> Option<Ty>
     ensures { result ≡ spec.one_of a b }
 {
     match (a, b) {
@@ -30,14 +30,14 @@ pub(crate) fn one_of(a: Option<Ty>, b: Option<Ty>) -> Option<Ty>
 }
 
 /// A type, where what was found may stand for it.
-pub(crate) fn wanted(ty: Ty, found: Option<Ty>) -> Option<Ty>
+pub fn wanted(ty: Ty, found: Option<Ty>) -> Option<Ty>
     ensures { result ≡ spec.wanted ty found }
 {
     one_of(Some(ty), found)
 }
 
 /// A type, where any was found.
-pub(crate) fn giving(ty: Ty, found: Option<Ty>) -> Option<Ty>
+pub fn giving(ty: Ty, found: Option<Ty>) -> Option<Ty>
     ensures { result ≡ spec.giving ty found }
 {
     match found {
@@ -57,7 +57,7 @@ fn of_bytes(ty: Ty, found: Option<Ty>) -> Option<Ty>
 }
 
 /// The second type, where the first was found.
-pub(crate) fn behind(first: Option<Ty>, ty: Option<Ty>) -> Option<Ty>
+pub fn behind(first: Option<Ty>, ty: Option<Ty>) -> Option<Ty>
     ensures { result ≡ spec.behind first ty }
 {
     match first {
@@ -67,7 +67,7 @@ pub(crate) fn behind(first: Option<Ty>, ty: Option<Ty>) -> Option<Ty>
 }
 
 /// The type that a function gives for an operand of this type.
-pub(crate) fn type_of_call(function: Function, found: Option<Ty>) -> Option<Ty>
+pub fn type_of_call(function: Function, found: Option<Ty>) -> Option<Ty>
     ensures { result ≡ spec.type_of_call function found }
 {
     match function {

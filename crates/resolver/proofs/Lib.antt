@@ -1,6 +1,3 @@
-pub mod LookupLemmas
-pub mod ColumnLemmas
-pub mod AloneLemmas
-pub mod PlainLemmas
-pub mod ResolvedLemmas
-pub mod LawLemmas
+mod LaterLemmas
+mod KnownLemmas
+mod ResolvedLemmas

@@ -1,5 +1,2 @@
-pub mod Named
-pub mod Plain
-pub mod PlainView
+pub mod Later
 pub mod Resolved
-pub mod Lookups

@@ -1,18 +1,14 @@
-//! Statements whose names are resolved to places: of a table of a catalog, and of its columns. It promises that `resolve`
-//! answers Ok only with the query that a statement is over these tables, of which there is one at most; that such a query
-//! is typed; and that a fault comes only where its condition stands.
-//! Today a statement that is served is one SELECT from one table, with no clause but FROM, and gives all columns of the
-//! table or those that it names, without an alias.
+//! Names and types of a statement over the tables of a catalog. It promises that `resolve` answers Ok only with the query that a
+//! statement is over these tables, of which there is one at most, and which is typed; and that a fault comes only where its
+//! condition stands: the names or the types of the statement give it, or the statement isn't one that is served yet.
 //!
-//! The modules, in the order in which data passes them: `plain` (the statements that are served), `lookup` (the place of a
-//! name), `tables` and `columns` (what a SELECT names), `resolved` (what is handed out), and `laws`.
+//! The modules, in the order in which data passes them: `later` (statements that aren't served yet), `known` (what a statement may
+//! mention), `resolved` (the query of a statement) and `laws`.
 #![tactic(auto)]
 
-mod columns;
+mod known;
+mod later;
 pub mod laws;
-mod lookup;
-mod plain;
 mod resolved;
-mod tables;
 
-pub use resolved::{Query, resolve};
+pub use resolved::resolve;

@@ -1,86 +1,66 @@
-//! SELECTs whose names are resolved.
-ghost use Rattle.std.specs.Prelude.{◌≡◌, IfErr, IfOk, map, string_bytes};
+//! The query of a statement.
+ghost use Rattle.std.specs.Prelude.{IfErr, IfOk, map};
 ghost use Rattle.meaning.specs.Typed.{IsTyped};
+ghost use Rattle.naming.specs.Typed as naming;
+ghost use Rattle.query_trees.specs.Outcome.{Gives};
 ghost use Rattle.schema.specs.ColumnTypes.{column_types};
+ghost use Rattle.statement_names.specs.NamedView.{named_data, query_data};
 ghost use Rattle.statement_trees.specs.StatementView.{statement_of};
-ghost use Rattle.resolver.specs.Resolved.{IsRefused, Resolves, query_of};
+ghost use Rattle.resolver.specs.Resolved.{IsRefused, Resolves, tables_of};
 
-use crate::columns::{names_at, places_given};
-use crate::plain::plain_statement;
-use crate::tables::place_of_table;
+use crate::known::{column_types, known_tables};
+use crate::later::waits;
+use naming::laws::typed_as_meaning;
+use query_types::check_types;
 use schema::Table;
+use statement_names::{NamedStatement, named_statement};
 use statement_trees::Statement;
 use std::alloc::Global;
-use std::marker::Model;
-use values::Fault;
+use values::{Fault, Ty};
 
-/// A SELECT whose names are resolved.
-#[derive(Debug, Drop)]
-pub struct Query {
-    source: usize,
-    width: usize,
-    columns: Vec<usize>,
-    names: Vec<String>,
+// A statement by its names, where it is typed. The fault is one of `check_types`.
+fn typed(alloc: Global, tables: &[Vec<Ty>], named: NamedStatement) -> Result<NamedStatement, Fault>
+    ensures { Gives named_data result (naming.with_types (map (λ types. types.items) tables.now) (named_data named)) }
+{
+    let query = &named.query;
+    check_types(
+        alloc,
+        tables,
+        named.beside.as_slice(),
+        &query.body,
+        query.order.as_slice(),
+    )?;
+    Ok(named)
 }
 
-impl Model for Query {
-    ghost use Rattle.std.specs.Prelude.{map, string_bytes};
-    ghost use Rattle.resolver.specs.Resolved.{ResolvedData};
-
-    ghost Value = { ResolvedData };
-
-    ghost view = { λ q. record {
-      table = q.source;
-      width = q.width;
-      columns = q.columns.items;
-      names = map (λ name. string_bytes name) q.names.items;
-    } };
+// The query of a statement over the tables of a catalog. The fault is one of its names or of its types, or `NoMemory`.
+fn typed_statement(
+    alloc: Global,
+    tables: &[Table],
+    statement: &Statement,
+) -> Result<NamedStatement, Fault>
+    ensures { Gives named_data result (naming.typed_query (tables_of tables.now) (statement_of statement.now)) }
+{
+    let known = known_tables(alloc, tables)?;
+    let named = named_statement(alloc, known, statement)?;
+    let types = column_types(alloc, tables)?;
+    typed(alloc, types.as_slice(), named)
 }
 
-impl Query {
-    /// The place of the table whose rows are read, among the tables of the catalog.
-    pub fn source(&self) -> usize
-        ensures { self.now.table ≡ result }
-    {
-        self.source
-    }
-
-    /// The places of the result columns, among the columns of that table.
-    pub fn columns(&self) -> &[usize]
-        ensures { self.now.columns ≡ result.now }
-    {
-        self.columns.as_slice()
-    }
-
-    /// The names of the result columns, as they were declared.
-    pub fn names(&self) -> &[String]
-        ensures { self.now.names ≡ map (λ name. string_bytes name) result.now }
-    {
-        self.names.as_slice()
-    }
-}
-
-/// The query that a statement is over the tables of a catalog. (SELECT) The fault is `UnknownTable` or `UnknownColumn`
-/// where a name stands for nothing, `Ambiguous` where it stands for two tables or columns, `Limit` where more than 100
-/// columns are given, `NotYet` where the statement isn't one that is served, or names the table of the schema's rows, or
-/// `NoMemory`.
-pub fn resolve(alloc: Global, tables: &[Table], statement: &Statement) -> Result<Query, Fault>
-    ensures means { IfOk result (λ resolved.
-        Resolves tables.now (statement_of statement.now) (query_of resolved) resolved.names) }
-    ensures typed { IfOk result (λ resolved. IsTyped (column_types tables.now) (query_of resolved)) }
+/// The query that a statement is over the tables of a catalog. The fault is `NotYet` where EXPLAIN QUERY PLAN is written, or a query
+/// inside an expression; one of the statement's names; one of its types; or `NoMemory`. (SELECT)
+pub fn resolve(
+    alloc: Global,
+    tables: &[Table],
+    statement: &Statement,
+) -> Result<NamedStatement, Fault>
+    ensures means { IfOk result (λ named. Resolves tables.now (statement_of statement.now) (named_data named)) }
+    ensures typed { IfOk result (λ named. IsTyped (column_types tables.now) (query_data named.query)) }
     ensures refused { IfErr result (IsRefused tables.now (statement_of statement.now)) }
 {
-    let Some(plain) = plain_statement(alloc, statement)? else {
+    if waits(alloc, statement)? {
         return Err(Fault::NotYet);
-    };
-    let source = place_of_table(tables, plain.table)?;
-    let declared = tables[source].columns();
-    let columns = places_given(alloc, declared, &plain.columns)?;
-    let names = names_at(alloc, declared, columns.as_slice())?;
-    Ok(Query {
-        source,
-        width: declared.len(),
-        columns,
-        names,
-    })
+    }
+    typed_as_meaning();
+    typed_statement(alloc, tables, statement)
 }

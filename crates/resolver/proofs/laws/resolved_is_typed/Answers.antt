@@ -1,5 +1,9 @@
-use Rattle.resolver.proofs.ResolvedLemmas.{resolved_is_typed}
+use Rattle.std.proofs.Common.{subst}
+use Rattle.meaning.specs.Typed.{IsTyped}
+use Rattle.resolver.specs.Resolved.{tables_of}
+use Rattle.resolver.proofs.KnownLemmas.{same_types}
 use Rattle.resolver.proofs.laws.resolved_is_typed.Goals as goal
 
 pub returns : goal.returns
-returns c tables tree query names resolved = resolved_is_typed tables tree query names resolved
+returns c tables tree named resolved =
+    subst (λ types. IsTyped types named.query) (same_types tables) (c.typed_as_meaning.ensures (tables_of tables) tree named resolved.types)

@@ -1,0 +1,3 @@
+mod ColumnLemmas
+mod FromLemmas
+pub mod BodyLemmas

@@ -1,0 +1,4 @@
+pub mod Groups
+pub mod Tables
+pub mod Rows
+pub mod RowView

@@ -1,0 +1,5 @@
+mod CountLemmas
+mod NameLemmas
+mod ItemLemmas
+mod StatementLemmas
+mod LevelLemmas

@@ -1,0 +1,4 @@
+pub mod NamedView
+pub mod Counted
+pub mod WithView
+pub mod Whole
