@@ -2,10 +2,10 @@
 //! from what SQLite itself answers. They stand apart from the crates that they try, so that none of these is proved a second
 //! time for them. It holds no other code.
 //!
-//! The modules: `catalogs` (the schema's rows) and `places` (names and SELECTs over a catalog).
+//! The modules: `catalogs` (the schema's rows) and `schema_names` (names and SELECTs over the table of the schema).
 #![tactic(auto)]
 
 #[cfg(test)]
 mod catalogs;
 #[cfg(test)]
-mod places;
+mod schema_names;

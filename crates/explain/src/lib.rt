@@ -9,4 +9,4 @@ pub mod laws;
 mod lines;
 mod shown;
 
-pub use lines::{row_text, rows_text};
+pub use lines::{row_text, rows_text, values_text};

@@ -1,13 +1,13 @@
 //! Rows as lines.
 ghost use Rattle.std.specs.Prelude.{◌≡◌, IfErr, map};
 ghost use Rattle.std.specs.List.{flat_map, join_with_byte};
-ghost use Rattle.values.specs.Datum.{datum_of_ref};
+ghost use Rattle.values.specs.Datum.{datum_of, datum_of_ref};
 ghost use Rattle.values.specs.Literal.{literal};
 ghost use Rattle.values.specs.Sink.{Writes};
 ghost use Rattle.explain.specs.Text.{after_comma, row_text, rows_text};
 
 use crate::shown::Shown;
-use values::{Fault, Row, Sink, ValueRef, write_all};
+use values::{Fault, Row, Sink, Value, ValueRef, write_all};
 
 fn write_after_comma<V: Shown, S: Sink>(value: &V, out: &mut S) -> Result<(), Fault>
     ensures only { IfErr result (λ e. e ≡ Fault.WriteFailed) }
@@ -55,6 +55,14 @@ pub fn row_text<S: Sink>(values: &[ValueRef<'_>], out: &mut S) -> Result<(), Fau
     ensures writes { Writes (row_text (map datum_of_ref values.now)) result (S.facts out.old) (S.facts out.new) }
 {
     write_row(values, out)
+}
+
+/// Writes a row of values that hold their memory, as `row_text` does.
+pub fn values_text<S: Sink>(row: &[Value], out: &mut S) -> Result<(), Fault>
+    ensures only { IfErr result (λ e. e ≡ Fault.WriteFailed) }
+    ensures writes { Writes (row_text (map datum_of row.now)) result (S.facts out.old) (S.facts out.new) }
+{
+    write_row(row, out)
 }
 
 /// Writes rows, each as one line. Its one fault is `WriteFailed`, after a beginning of the rows' text; it takes no

@@ -1,15 +1,52 @@
--- The answer of a selection of one table. (SELECT)
-use Rattle.std.specs.Prelude.{◌≡◌, false, ℕ, List, [], map, None}
+-- The answer of a selection without groups, windows and DISTINCT. (SELECT)
+use Rattle.std.specs.Prelude.{◌≡◌, Contains, false, ℕ, List, [], map, None, Option}
+use Rattle.std.specs.List.{AllZip}
 use Rattle.values.specs.Database.{Database}
 use Rattle.values.specs.Datum.{Datum}
+use Rattle.values.specs.Row.{Row}
 use Rattle.expr.specs.Filled.{filled}
+use Rattle.expr.specs.Meaning.{run}
 use Rattle.expr.specs.Term.{Term}
 use Rattle.meaning.specs.Answer.{Permits}
 use Rattle.meaning.specs.Body.{answers_in}
-use Rattle.meaning.specs.Query.{QueryData, Select, only, select, table}
-use Rattle.plans.specs.Plan.{PlanData}
+use Rattle.meaning.specs.Hits.{where_rows}
+use Rattle.meaning.specs.Query.{From, QueryData, Select, only, select, table}
+use Rattle.plans.specs.Plan.{PlanData, rows_of}
 use Rattle.plans.specs.Stands.{AreTestsOf, IsSplit, condition_of, one_table}
 use Rattle.results.specs.Coming.{SelectionData, answer_of}
+
+-- ---- over any plan of FROM and WHERE
+
+-- a SELECT without groups, windows and DISTINCT
+pub record IsPlainSelect (query : QueryData) (from : From) (s : Select) : Type 0 where
+  pub body : query.body ≡ select from s
+  pub ungrouped : s.grouping ≡ None
+  pub windowless : s.windows ≡ []
+  pub all : s.distinct ≡ false
+
+-- an expression says of what is seen of each of these rows what a term says of the row
+abbrev pub SaysOf : (Row → Row) → List Row → Term → Term → Type 0
+SaysOf seen rows e t = (o : Option Datum) (row : Row) → Contains rows row → run o (seen row) e ≡ run o row t
+
+-- The rows of a plan are what is seen of those of FROM that WHERE keeps, and its result columns say of them what those of the
+-- SELECT say.
+pub record SeesRows (w : Datum) (db : Database) (from : From) (s : Select) (plan : PlanData) (columns : List Term) : Type 0 where
+  pub seen : Row → Row
+  pub rows_are : rows_of w db plan ≡ map seen (where_rows w db from s)
+  pub columns_are : AllZip (SaysOf seen (where_rows w db from s)) columns (map (filled (answers_in w db from)) s.columns)
+
+-- a selection over such a plan, with the query's LIMIT and OFFSET
+pub record IsSelectionOver (w : Datum) (db : Database) (query : QueryData) (from : From) (s : Select) (selection : SelectionData) : Type 0 where
+  pub sees : SeesRows w db from s selection.plan selection.columns
+  pub limit : selection.limit ≡ query.limit
+  pub offset : selection.offset ≡ query.offset
+
+-- its answer is a list that the query permits, where that has no ORDER BY
+abbrev pub PlainIsPermitted : Type 0
+PlainIsPermitted = (w : Datum) (db : Database) (query : QueryData) (from : From) (s : Select) (selection : SelectionData)
+    → IsPlainSelect query from s → query.order ≡ [] → IsSelectionOver w db query from s selection → Permits w db query (answer_of w db selection)
+
+-- ---- one table
 
 -- a SELECT of one table without groups, windows and DISTINCT
 pub record IsPlain (query : QueryData) (at width : ℕ) (s : Select) : Type 0 where

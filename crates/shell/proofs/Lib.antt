@@ -1,5 +1,4 @@
-pub mod RowLemmas
-pub mod StreamLemmas
 pub mod RunLemmas
 pub mod NameLemmas
+pub mod PreparedLemmas
 pub mod ServedLemmas

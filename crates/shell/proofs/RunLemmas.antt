@@ -1,64 +1,45 @@
--- From the rows of one table to the answer of a query over the image.
-use Rattle.std.proofs.Common.{◌≡◌, ◌≢◌, ◌∙◌, inl, inr, ◌-◌, ◌<◌, arith, ℕ, zero, suc, IsTrue, All, List, [], ◌∷◌, length, map, get_or, slice_get, slice_index_or, Some, sym, ap, subst}
+-- From what the run of a plan writes to the answer of a query over the image.
+use Rattle.std.proofs.Common.{◌≡◌, ◌≢◌, ◌∙◌, inl, inr, ◌+◌, ◌-◌, ◌≤◌, arith, false, ℕ, zero, suc, IsTrue, All, List, [], ◌∷◌, map, slice_get, Some, sym, refl, ap, subst}
 use Rattle.std.specs.List.{AllZip}
-use Rattle.std.specs.Option.{option_map}
-use Rattle.std.proofs.lemmas.List.{length-map, map-append}
 use Rattle.std.proofs.lemmas.List.Elements.{All-weaker}
-use Rattle.std.proofs.lemmas.Option.{slice_get-map, slice_get_within}
 use Rattle.values.specs.Database.{Database}
 use Rattle.values.specs.Datum.{Datum, null, int, text, blob}
+use Rattle.values.specs.Row.{Row}
 use Rattle.values.specs.Sink.{SinkFacts}
 use Rattle.values.specs.declared.fault.Fault.{Fault}
 use Rattle.values.specs.declared.fault.Fault.TheVariants.{Changed, Overflow}
 use Rattle.pager.specs.declared.header.Header.{Header}
+use Rattle.pager.specs.Calls.{IsOpenFault, IsReadFault}
 use Rattle.pager.specs.Header.{header_of}
 use Rattle.pager.specs.PagerState.{PagerState, opened}
 use Rattle.pager.specs.Source.{SourceFacts}
 use Rattle.image.specs.Pages.{pages_seen, Pages, WhereSteady, pages_in, pages_of}
 use Rattle.expr.specs.Types.{IsOfType}
-use Rattle.meaning.specs.Typed.{FitTypes, IsTyped}
+use Rattle.meaning.specs.Typed.{FitTypes}
 use Rattle.meaning.specs.Typed as meant
-use Rattle.values.specs.Row.{Row}
-use Rattle.meaning.proofs.OneTableLemmas.{scan_begins, scan_is_permitted, scan_names_columns}
 use Rattle.meaning.proofs.TypedLemmas.{Permits-typed}
+use Rattle.plans.specs.Plan.{once}
 use Rattle.schema.specs.ColumnTypes.{column_types, types_of}
 use Rattle.schema.specs.TableData.{ColumnData, TableData, schema_table}
-use Rattle.integrity.specs.Denotes.{Denotes}
+use Rattle.stored_rows.specs.Stored.{Fits, FitsColumn}
 use Rattle.table_walk.specs.Checked.{IsStoredTable}
-use Rattle.stored_rows.specs.Stored.{Fits, FitsColumn, IsStored}
-use Rattle.integrity.proofs.DenotesLemmas.{HasDatabase, IsStoredAs, database_of}
-use Rattle.resolver.specs.Resolved.{ResolvedData, query_of}
-use Rattle.shell.specs.Answer.{IsOutsideFault, IsRunFault, PrintsAnswer, PrintsBeginning}
 use Rattle.integrity.specs.Checked.{IsCheckFault}
-use Rattle.pager.specs.Calls.{IsOpenFault, IsReadFault}
-use Rattle.shell.specs.State.{EngineState, IsOpeningFault, IsReady}
+use Rattle.integrity.specs.Denotes.{Denotes}
+use Rattle.integrity.proofs.DenotesLemmas.{HasDatabase, IsStoredAs, database_of}
+use Rattle.scan.specs.Coming.{Asks, size_of}
+use Rattle.operators.specs.Basis.{AreStored, Basis, IsTableAt}
+use Rattle.query_plans.specs.Answers.{HitsOf, PlannedData, work_of}
+use Rattle.runs.specs.Faults.{IsOutsideFault, IsRunCause, IsRunFault}
+use Rattle.runs.specs.Runs.{WritesAnswer, WritesBeginning}
+use Rattle.shell.specs.Answer.{PrintsAnswer, PrintsBeginning}
+use Rattle.shell.specs.Prepared.{IsPreparedFor}
+use Rattle.shell.specs.PreparedView.{PreparedData}
 use Rattle.shell.specs.Run.{HasRun, HasStopped, TookFew}
-use Rattle.shell.specs.Stream.{AsksFew, Streams, StreamsUntil, shown}
+use Rattle.shell.specs.State.{EngineState, IsOpeningFault, IsReady}
 use Rattle.shell.specs.declared.engine.Report.{Report}
 
 pub some_one : {X : Type 0} (x y : X) → Some x ≡ Some y → x ≡ y
 some_one x y e = cc
-
--- what holds of the items of two lists at each place
-at_place : {X Y : Type 0} (R : X → Y → Type 0) (xs : List X) (ys : List Y) (i : ℕ) (x : X) (e : Y) → AllZip R xs ys
-    → slice_get xs i ≡ Some x → R x (get_or ys i e)
-at_place R [] ys i x e all at = absurd cc
-at_place R (first ∷ xs) [] i x e all at = absurd all
-at_place {X} {Y} R (first ∷ xs) (y ∷ ys) zero x e all at = subst (λ (z : X). R z y) (some_one first x at) all.0
-at_place R (first ∷ xs) (y ∷ ys) (suc i) x e all at = at_place R xs ys i x e all.1 at
-
--- the table of a typed query is one of the catalog, and the columns are the table's
-pub source_within : (tables : List TableData) (query : ResolvedData) → IsTyped (column_types tables) (query_of query) → query.table < length tables
-source_within tables query (types, typed) =
-    let long : length (column_types tables) ≡ length tables = length-map tables types_of in
-    let within = slice_get_within (column_types tables) query.table typed.body.3.1 typed.body.3.3.0 in omega (arith, long, within)
-
-pub columns_within : (tables : List TableData) (query : ResolvedData) (table : TableData) → IsTyped (column_types tables) (query_of query)
-    → slice_get tables query.table ≡ Some table → All (λ place. place < length table.columns) query.columns
-columns_within tables query table typed at =
-    let row : slice_get (column_types tables) query.table ≡ Some (types_of table) = slice_get-map types_of tables query.table ∙ ap (option_map types_of) at in
-    let named = scan_names_columns (column_types tables) query.table query.width (types_of table) query.columns typed row in
-    subst (λ n. All (λ place. place < n) query.columns) (length-map table.columns (λ c. c.ty)) named.1
 
 -- ---- the values of the tables have the types of their columns
 
@@ -100,119 +81,140 @@ not_changed e (inl (inl is)) same = cc
 not_changed e (inl (inr is)) same = cc
 not_changed e (inr is) same = cc
 
-module _ (pager : PagerState) (tables : List TableData) (query : ResolvedData) (table : TableData) (ready : IsReady pager tables)
-    (at : slice_get tables query.table ≡ Some table) (steady : IsTrue pager.source.steady) where
+cause_unchanged : (on : Basis) (planned : PlannedData) (e : Fault) → IsRunCause on planned e → ¬ (e ≡ Changed)
+cause_unchanged on planned e (inl outside) changed = not_changed e outside changed
+cause_unchanged on planned e (inr over) changed = absurd (let is = over.0 in cc)
+
+cause_hits : (on : Basis) (planned : PlannedData) (e : Fault) → e ≡ Overflow → IsRunCause on planned e → HitsOf on.w on.db planned
+cause_hits on planned e over (inl outside) = absurd (not_overflow e outside over)
+cause_hits on planned e over (inr hits) = hits.1
+
+-- ---- what is said of the tables that the image denotes
+
+module _ (pages : Pages) where
+  sizes_of : (tables : List TableData) (rows : List (List Row)) → AllZip (IsStoredAs pages) tables rows → List ℕ
+  sizes_of [] [] all = []
+  sizes_of [] (first ∷ rows) all = absurd all
+  sizes_of (table ∷ tables) [] all = absurd all
+  sizes_of (table ∷ tables) (first ∷ rows) all = size_of pages table all.0.levels ∷ sizes_of tables rows all.1
+
+  abbrev basis : Datum → List Row → List (List Row) → List ℕ → Basis
+  basis w schema rows sizes = record { w = w; db = record { schema = schema; tables = rows }; sizes = sizes; local = false; plan = once }
+
+  stored_at : (w : Datum) (schema : List Row) (tables : List TableData) (rows : List (List Row)) (all : AllZip (IsStoredAs pages) tables rows)
+      → AreStored pages tables (basis w schema rows (sizes_of tables rows all))
+  unfolding sizes_of
+  stored_at w schema [] rows all at table found = absurd cc
+  stored_at w schema (here ∷ tables) [] all at table found = absurd all
+  stored_at w schema (here ∷ tables) (first ∷ rows) all zero table found =
+      subst (λ (t : TableData). IsTableAt pages (basis w schema (first ∷ rows) (sizes_of (here ∷ tables) (first ∷ rows) all)) 0 t) (some_one here table found)
+      (record {
+        stored = record { levels = all.0.levels; rows = first; few = all.0.few; stored = all.0.stored };
+        rows_are = refl;
+        size_is = refl;
+        unchained = λ local. absurd cc;
+      })
+  stored_at w schema (here ∷ tables) (first ∷ rows) all (suc at) table found =
+      let rest = stored_at w schema tables rows all.1 at table found in
+      record { stored = rest.stored; rows_are = rest.rows_are; size_is = rest.size_is; unchained = rest.unchained }
+
+module _ (pager : PagerState) (tables : List TableData) (prepared : PreparedData) (ready : IsReady pager tables) (is : IsPreparedFor tables prepared)
+    (steady : IsTrue pager.source.steady) where
   has : HasDatabase pager.source.bytes tables
   has = database_of pager.source.bytes tables (ready.stored steady)
-
-  abbrev rows : List Row
-  rows = slice_index_or has.db.tables query.table []
 
   same_pages : pages_of pager.source.bytes ≡ pages_seen pager
   same_pages = λ k. pages_in (sym (ready.header steady) k) pager.source.bytes
 
-  as_stored : IsStoredAs (pages_of pager.source.bytes) table rows
-  as_stored = at_place (IsStoredAs (pages_of pager.source.bytes)) tables has.db.tables query.table table [] has.stored at
+  on : Datum → Basis
+  on w = basis (pages_of pager.source.bytes) w has.db.schema has.db.tables (sizes_of (pages_of pager.source.bytes) tables has.db.tables has.stored)
 
-  pub stored : IsStoredTable (pages_seen pager) table
-  stored = record {
-    levels = as_stored.levels;
-    rows = rows;
-    few = as_stored.few;
-    stored = subst (λ (p : Pages). IsStored p table as_stored.levels rows) same_pages as_stored.stored;
-  }
+  stored_on : (w : Datum) → AreStored (pages_seen pager) tables (on w)
+  unfolding on
+  stored_on w =
+      subst (λ (p : Pages). AreStored p tables (on w)) same_pages (stored_at (pages_of pager.source.bytes) w has.db.schema tables has.db.tables has.stored)
 
-  -- a scan that writes all rows answers the query
-  pub answers : (n : ℕ) (old new : SinkFacts)
-      → ((is : IsStoredTable (pages_seen pager) table) → Streams query.columns is.rows n old new)
-      → PrintsAnswer pager.source.bytes tables (query_of query) n old new
-  unfolding stored
-  answers n old new streams = record {
-    rows = map (shown query.columns) rows;
-    answer = λ w is. record {
-      database = has.db;
-      denotes = has.denotes;
-      says = record {
-        permits = scan_is_permitted w has.db query.table query.width query.columns;
-        typed = λ types typed. Permits-typed w has.db (column_types tables) (query_of query) types (map (shown query.columns) rows) is
-            (denoted_fits pager.source.bytes tables has.db has.denotes) typed (scan_is_permitted w has.db query.table query.width query.columns);
-      };
-    };
-    prints = streams stored;
-  }
-
-  -- one that stops has written what an answer begins with, and its fault came from outside
-  pub stops : (e told : Fault) (old new : SinkFacts)
-      → ((is : IsStoredTable (pages_seen pager) table) → StreamsUntil e query.columns is.rows old new)
-      → (IsOutsideFault e → told ≡ e) → PrintsBeginning told pager.source.bytes tables (query_of query) old new
-  unfolding stored
-  stops e told old new streams same =
-      let until = streams stored in
-      let is_told = same until.outside in
-      let outside = subst IsOutsideFault (sym is_told) until.outside in
-      record {
-        given = map (shown query.columns) until.given;
-        begins = λ w is. record {
+  -- what the plan answers, the query permits
+  pub prints_answer : (n : ℕ) (old new : SinkFacts) → WritesAnswer (pages_seen pager) tables prepared.planned old new n
+      → PrintsAnswer pager.source.bytes tables prepared.query n old new
+  unfolding on
+  prints_answer n old new wrote = record {
+    rows = wrote.given;
+    answer = λ w stand.
+        let permits = is.plan.permits w has.db wrote.given (wrote.answer (on w) (stored_on w)) in
+        record {
           database = has.db;
           denotes = has.denotes;
-          says = scan_begins w has.db query.table query.width query.columns (map (shown query.columns) until.given) (map (shown query.columns) until.rest)
-              (ap (map (shown query.columns)) (sym until.whole) ∙ map-append (shown query.columns) until.given until.rest);
+          says = record {
+            permits = permits;
+            typed = λ types typed.
+                Permits-typed w has.db (column_types tables) prepared.query types wrote.given stand (denoted_fits pager.source.bytes tables has.db has.denotes) typed permits;
+          };
         };
-        prints = rw is_told until.prints;
-        same_image = not_changed told outside;
-        hits = λ over w is. absurd (not_overflow told outside over);
+    prints = wrote.prints;
+  }
+
+  -- what an answer of the plan begins with, one of the query begins with
+  pub prints_beginning : (e : Fault) (old new : SinkFacts) → WritesBeginning (pages_seen pager) tables prepared.planned old new e
+      → PrintsBeginning e pager.source.bytes tables prepared.query old new
+  unfolding on
+  prints_beginning e old new wrote = record {
+    given = wrote.given;
+    begins = λ w stand.
+        let begins = wrote.begins (on w) (stored_on w) in
+        record {
+          database = has.db;
+          denotes = has.denotes;
+          says = record { rest = begins.0; permitted = is.plan.permits w has.db _ begins.1 };
+        };
+    prints = wrote.prints;
+    same_image = cause_unchanged (on null) prepared.planned e (wrote.cause (on null) (stored_on null));
+    hits = λ over w stand. record {
+      database = has.db;
+      denotes = has.denotes;
+      says = is.plan.hits w has.db (cause_hits (on w) prepared.planned e over (wrote.cause (on w) (stored_on w)));
+    };
+  }
+
+  pub took_few : (new : PagerState) (report : Report)
+      → ((on : Basis) → AreStored (pages_seen pager) tables on → Asks on.local pager (work_of on.w on.db on.sizes prepared.planned) new 0)
+      → report.asked ≡ new.asked - pager.asked → report.chained ≡ new.chained - pager.chained
+      → (on : Basis) → AreStored (pages_of pager.source.bytes) tables on → TookFew on prepared.planned report
+  took_few new report few asked chained on are_stored =
+      let asks = few on (subst (λ (p : Pages). AreStored p tables on) same_pages are_stored) in
+      record {
+        asked = let most = asks.pages in omega (arith, most, asked);
+        unchained = λ local. let kept = asks.chains local in omega (arith, kept, chained);
       }
 
-  -- what a scan asks for, as the report counts it
-  took_few : (is : IsStoredTable (pages_of pager.source.bytes) table) → (new : PagerState) → (report : Report)
-      → ((seen : IsStoredTable (pages_seen pager) table) → AsksFew (pages_seen pager) table seen.levels pager new)
-      → report.asked ≡ new.asked - pager.asked → report.chained ≡ new.chained - pager.chained
-      → TookFew (pages_of pager.source.bytes) table is.levels report
-  took_few is new report few asked chained =
-      let here = few (record {
-        levels = is.levels;
-        rows = is.rows;
-        few = is.few;
-        stored = subst (λ (p : Pages). IsStored p table is.levels is.rows) same_pages is.stored;
-      }) in
-      subst (λ (p : Pages). TookFew p table is.levels report) (sym same_pages) (record {
-        asked = let most = here.asked in omega (arith, most, asked);
-        unchained = λ every. let kept = here.unchained every in omega (arith, kept, chained);
-      })
-
-  pub reports_few : (found : TableData) → slice_get tables query.table ≡ Some found
-      → (is : IsStoredTable (pages_of pager.source.bytes) found) → (new : PagerState) → (report : Report)
-      → ((seen : IsStoredTable (pages_seen pager) table) → AsksFew (pages_seen pager) table seen.levels pager new)
-      → report.asked ≡ new.asked - pager.asked → report.chained ≡ new.chained - pager.chained
-      → TookFew (pages_of pager.source.bytes) found is.levels report
-  reports_few found there is new report few asked chained =
-      subst (λ (t : TableData). (is : IsStoredTable (pages_of pager.source.bytes) t) → TookFew (pages_of pager.source.bytes) t is.levels report)
-      (some_one table found (sym at ∙ there)) (λ here. took_few here new report few asked chained) is
-
--- From what a scan promises to what a run does.
-module _ (pager : PagerState) (tables : List TableData) (query : ResolvedData) (table : TableData) (ready : IsReady pager tables)
-    (at : slice_get tables query.table ≡ Some table) where
+-- From what the run of a plan promises to what a run does.
+module _ (pager : PagerState) (tables : List TableData) (prepared : PreparedData) (ready : IsReady pager tables) (is : IsPreparedFor tables prepared) where
   abbrev engine : EngineState
   engine = record { pager = pager; tables = tables }
 
+  stored : IsTrue pager.source.steady → All (IsStoredTable (pages_seen pager)) tables
+  stored steady =
+      subst (λ (p : Pages). All (IsStoredTable p) tables) (λ k. pages_in (sym (ready.header steady) k) pager.source.bytes) (ready.stored steady).stored
+
   pub has_run : (new : EngineState) (report : Report) (before after : SinkFacts)
-      → WhereSteady pager (λ pages. (is : IsStoredTable pages table) → Streams query.columns is.rows report.rows before after)
-      → WhereSteady pager (λ pages. (is : IsStoredTable pages table) → AsksFew pages table is.levels pager new.pager)
+      → WhereSteady pager (λ pages. All (IsStoredTable pages) tables → WritesAnswer pages tables prepared.planned before after report.rows)
+      → WhereSteady pager (λ pages. (on : Basis) → AreStored pages tables on
+      → Asks on.local pager (work_of on.w on.db on.sizes prepared.planned) new.pager 0)
       → report.asked ≡ new.pager.asked - pager.asked → report.chained ≡ new.pager.chained - pager.chained
-      → HasRun engine new query before after report
-  has_run new report before after streams few asked chained = record {
-    answer = λ steady. answers pager tables query table ready at steady report.rows before after (streams steady);
-    few = λ steady found there is. reports_few pager tables query table ready at steady found there is new.pager report (few steady) asked chained;
+      → HasRun engine new prepared before after report
+  has_run new report before after wrote few asked chained = record {
+    answer = λ steady. prints_answer pager tables prepared ready is steady report.rows before after (wrote steady (stored steady));
+    few = λ steady. took_few pager tables prepared ready is steady new.pager report (few steady) asked chained;
     asked = asked;
     chained = chained;
   }
 
-  pub has_stopped : (e told : Fault) (before after : SinkFacts)
-      → WhereSteady pager (λ pages. (is : IsStoredTable pages table) → StreamsUntil e query.columns is.rows before after)
-      → IsRunFault told → (IsOutsideFault e → told ≡ e) → HasStopped engine query before after told
-  has_stopped e told before after streams only same = record {
+  pub has_stopped : (e : Fault) (before after : SinkFacts)
+      → WhereSteady pager (λ pages. All (IsStoredTable pages) tables → WritesBeginning pages tables prepared.planned before after e)
+      → IsRunFault e → HasStopped engine prepared before after e
+  has_stopped e before after wrote only = record {
     only = only;
-    begins = λ steady. stops pager tables query table ready at steady e told before after (streams steady) same;
+    begins = λ steady. prints_beginning pager tables prepared ready is steady e before after (wrote steady (stored steady));
   }
 
 -- the pages of a pager that was opened are those of its source's image

@@ -5,10 +5,10 @@ use Rattle.values.specs.Gathered.{Gathering, gathered_facts}
 use Rattle.values.specs.Sink.{SinkFacts, Writes}
 use Rattle.values.proofs.SinkLemmas.{Appends-then}
 use Rattle.schema.specs.TableData.{TableData}
-use Rattle.resolver.specs.Resolved.{ResolvedData, query_of}
+use Rattle.shell.specs.PreparedView.{PreparedData}
 use Rattle.shell.specs.Served.{HasLines, header_text}
 
-module _ (image : List ℕ) (tables : List TableData) (prepared : ResolvedData) (header : Bool) where
+module _ (image : List ℕ) (tables : List TableData) (prepared : PreparedData) (header : Bool) where
   handed_on : (a b c : Option (List ℕ)) (held text : List ℕ) → Appends (option_map (λ bytes. bytes ++ []) a) (option_map (λ bytes. bytes ++ held) b) text
       → Appends b c held → Appends a c text
   handed_on None b c held text wrote handed = tt

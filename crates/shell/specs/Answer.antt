@@ -1,11 +1,10 @@
 -- What a run answers, of a query over the tables that an image denotes. (SELECT)
-use Rattle.std.specs.Prelude.{◌≡◌, ◌⊎◌, ℕ, List}
+use Rattle.std.specs.Prelude.{◌≡◌, ℕ, List}
 use Rattle.values.specs.Datum.{Datum}
 use Rattle.values.specs.Sink.{SinkFacts}
 use Rattle.values.specs.declared.value.Ty.{Ty}
 use Rattle.values.specs.declared.fault.Fault.{Fault}
-use Rattle.values.specs.declared.fault.Fault.TheVariants.{Changed, Overflow, WriteFailed}
-use Rattle.pager.specs.Calls.{IsReadFault}
+use Rattle.values.specs.declared.fault.Fault.TheVariants.{Changed, Overflow}
 use Rattle.meaning.specs.Query.{QueryData}
 use Rattle.values.specs.Row.{Row}
 use Rattle.values.specs.Database.{Database}
@@ -15,15 +14,7 @@ use Rattle.meaning.specs.Typed.{FitTypes, HasTypes}
 use Rattle.schema.specs.ColumnTypes.{column_types}
 use Rattle.schema.specs.TableData.{TableData}
 use Rattle.integrity.specs.Denotes.{Denotes}
-use Rattle.shell.specs.Printed.{Prints, PrintsUntil}
-
--- the faults that come from outside: those of reading, and a failed write
-abbrev pub IsOutsideFault : Fault → Type 0
-IsOutsideFault fault = IsReadFault fault ⊎ (fault ≡ WriteFailed)
-
--- the faults of a run: these, and a changed image
-abbrev pub IsRunFault : Fault → Type 0
-IsRunFault fault = IsOutsideFault fault ⊎ (fault ≡ Changed)
+use Rattle.runs.specs.Printed.{Prints, PrintsUntil}
 
 -- over the tables that the image denotes, this holds of their rows
 pub record OverTables (image : List ℕ) (tables : List TableData) (Says : Database → Type 0) : Type 0 where
@@ -47,7 +38,7 @@ pub record PrintsAnswer (image : List ℕ) (tables : List TableData) (query : Qu
   pub prints : Prints rows counted old new
 
 -- The same of the rows that were given before a fault, which an answer may begin with. The image hasn't changed, and where
--- it was an overflow, the query has to compute what leaves 64 bits.
+-- it was an overflow, the query can reach what leaves 64 bits.
 pub record PrintsBeginning (fault : Fault) (image : List ℕ) (tables : List TableData) (query : QueryData) (old new : SinkFacts) : Type 0 where
   pub given : List Row
   pub begins : (w : Datum) → IsStandIn w → OverTables image tables (λ database. Begins w database query given)

@@ -1,6 +1,5 @@
-pub mod Printed
 pub mod Answer
-pub mod Stream
+pub mod PreparedView
 pub mod State
 pub mod Run
 pub mod Prepared

@@ -1,25 +1,55 @@
 -- What preparing a text answers, over the tables of an engine. (SELECT; EXPLAIN QUERY PLAN)
-use Rattle.std.specs.Prelude.{◌⊎◌, ℕ, List}
+use Rattle.std.specs.Prelude.{◌≡◌, ◌⊎◌, ℕ, List}
 use Rattle.values.specs.declared.fault.Fault.{Fault}
-use Rattle.resolver.specs.Resolved.{IsRefused, ResolvedData, Resolves, query_of}
+use Rattle.values.specs.declared.fault.Fault.TheVariants.{NotYet}
+use Rattle.meaning.specs.Typed.{IsTyped}
+use Rattle.naming.specs.Statement.{Named}
+use Rattle.query_plans.specs.Answers.{IsPlanFor, IsPlannedOver}
+use Rattle.query_plans.specs.Served.{IsServed}
+use Rattle.resolver.specs.Resolved.{IsRefused, Resolves}
+use Rattle.schema.specs.ColumnTypes.{column_types}
 use Rattle.schema.specs.TableData.{TableData}
 use Rattle.statement_texts.specs.StatementTexts.{IsAllowed, IsRefusedStatement, SpellsStatement}
 use Rattle.syntax.specs.StatementTree.{StatementTree}
+use Rattle.shell.specs.PreparedView.{PreparedData}
 
--- the text spells a statement within the limits, which is this query over these tables
-pub record Means (tables : List TableData) (text : List ℕ) (prepared : ResolvedData) : Type 0 where
+-- The query is typed over the columns of these tables; each answer of what is run for it is one that it permits, and what
+-- that reaches the query can reach; and it reads some of these tables.
+pub record IsPreparedFor (tables : List TableData) (prepared : PreparedData) : Type 0 where
+  pub typed : IsTyped (column_types tables) prepared.query
+  pub plan : IsPlanFor prepared.query prepared.planned
+  pub over : IsPlannedOver tables prepared.planned
+
+-- the text spells a statement within the limits, which is this over these tables
+pub record Spells (tables : List TableData) (text : List ℕ) (named : Named) : Type 0 where
   pub tree : StatementTree
   pub spelt : SpellsStatement text tree
   pub within : IsAllowed text tree
-  pub resolves : Resolves tables tree (query_of prepared) prepared.names
+  pub resolves : Resolves tables tree named
 
--- the text spells a statement within the limits whose names give this fault, or which isn't served yet
+-- the text spells a statement that is this query, with these names
+pub record Means (tables : List TableData) (text : List ℕ) (prepared : PreparedData) : Type 0 where
+  pub named : Named
+  pub spells : Spells tables text named
+  pub query_is : named.query ≡ prepared.query
+  pub names_are : named.names ≡ prepared.names
+
+-- the text spells a statement within the limits whose names or types give this fault, or which isn't served yet whatever
+-- its names are
 pub record IsUnresolved (tables : List TableData) (text : List ℕ) (fault : Fault) : Type 0 where
   pub tree : StatementTree
   pub spelt : SpellsStatement text tree
   pub within : IsAllowed text tree
   pub refused : IsRefused tables tree fault
 
--- why a text was refused: it spells no statement, or one that is too large, or what it spells is no query
+-- it spells a statement whose query isn't served yet
+pub record IsUnserved (tables : List TableData) (text : List ℕ) (fault : Fault) : Type 0 where
+  pub named : Named
+  pub spells : Spells tables text named
+  pub unserved : ¬ IsServed named.query
+  pub fault_is : fault ≡ NotYet
+
+-- why a text was refused: it spells no statement, or one that is too large, or what it spells is no query, or one that isn't
+-- served yet
 abbrev pub Refuses : List TableData → List ℕ → Fault → Type 0
-Refuses tables text fault = IsRefusedStatement text fault ⊎ IsUnresolved tables text fault
+Refuses tables text fault = IsRefusedStatement text fault ⊎ (IsUnresolved tables text fault ⊎ IsUnserved tables text fault)

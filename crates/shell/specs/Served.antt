@@ -8,24 +8,24 @@ use Rattle.values.specs.Row.{Row}
 use Rattle.explain.specs.Text.{row_text, rows_text}
 use Rattle.schema.specs.TableData.{TableData}
 use Rattle.integrity.specs.Denotes.{HasTables}
-use Rattle.resolver.specs.Resolved.{ResolvedData, query_of}
 use Rattle.shell.specs.Answer.{IsAnswerOver}
 use Rattle.shell.specs.Prepared.{Means}
+use Rattle.shell.specs.PreparedView.{PreparedData}
 
 -- the line of the column names, where it is wanted
 abbrev pub header_text : Bool → List (List ℕ) → List ℕ
 header_text wanted names = if wanted then row_text (map text names) else []
 
 -- the exact answer behind the line of names
-pub record HasLines (image : List ℕ) (tables : List TableData) (prepared : ResolvedData) (header : Bool) (old new : SinkFacts) : Type 0 where
+pub record HasLines (image : List ℕ) (tables : List TableData) (prepared : PreparedData) (header : Bool) (old new : SinkFacts) : Type 0 where
   pub rows : List Row
-  pub answer : IsAnswerOver image tables (query_of prepared) rows
+  pub answer : IsAnswerOver image tables prepared.query rows
   pub written : Appends old.written new.written (header_text header prepared.names ++ rows_text rows)
 
 -- the image has these tables, the text is this query over them, and its whole answer was written
 pub record IsServed (image sql : List ℕ) (header : Bool) (old new : SinkFacts) : Type 0 where
   pub tables : List TableData
-  pub prepared : ResolvedData
+  pub prepared : PreparedData
   pub has : HasTables (pages_of image) tables
   pub means : Means tables sql prepared
   pub lines : HasLines image tables prepared header old new

@@ -6,12 +6,9 @@ use Rattle.pager.specs.Header.{IsHeaderFault, IsLeastBroken, KeepsAll, header_of
 use Rattle.pager.specs.PagerState.{IsPageNumber, PagerState}
 use Rattle.pager.specs.Source.{SourceFacts}
 use Rattle.image.specs.Pages.{pages_of}
-use Rattle.meaning.specs.Typed.{IsTyped}
-use Rattle.schema.specs.ColumnTypes.{column_types}
 use Rattle.schema.specs.TableData.{TableData}
 use Rattle.integrity.specs.Checked.{IsBrokenImage, IsCheckCause, IsExamined, IsCheckFault}
 use Rattle.integrity.specs.Denotes.{HasTables}
-use Rattle.resolver.specs.Resolved.{ResolvedData, query_of}
 
 pub record EngineState : Type 0 where
   pub pager : PagerState
@@ -47,7 +44,3 @@ pub record IsOpeningFault (source : SourceFacts) (fault : Fault) : Type 0 where
 pub record ReadsTables {T : Type 0} (result : Result T Fault) (old new : EngineState) : Type 0 where
   pub pages : ReadsPages result old.pager new.pager
   pub tables : new.tables ≡ old.tables
-
--- the query is typed over the columns of these tables
-abbrev pub IsPreparedFor : List TableData → ResolvedData → Type 0
-IsPreparedFor tables prepared = IsTyped (column_types tables) (query_of prepared)

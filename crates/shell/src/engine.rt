@@ -1,19 +1,18 @@
 //! An engine, which answers queries over one image.
-ghost use Rattle.std.specs.Prelude.{◌≡◌, ◌<◌, IfErr, IfOk, MatchResult, Some, length, slice_get};
+ghost use Rattle.std.specs.Prelude.{IfErr, MatchResult};
 ghost use Rattle.std.specs.NonZero.{non_zero_usize_get};
 ghost use Rattle.pager.specs.Calls.{HandsBack};
-ghost use Rattle.shell.specs.Prepared.{Means, Refuses};
 ghost use Rattle.values.specs.Fault.{Counts};
-ghost use Rattle.shell.specs.Answer.{IsOutsideFault, IsRunFault};
+ghost use Rattle.shell.specs.Prepared.{IsPreparedFor, Means, Refuses};
+ghost use Rattle.shell.specs.PreparedView.{prepared_data};
 ghost use Rattle.shell.specs.Run.{HasRun, HasStopped};
-ghost use Rattle.shell.specs.State.{IsOpenedOver, IsOpeningFault, IsPreparedFor, ReadsTables};
+ghost use Rattle.shell.specs.State.{IsOpenedOver, IsOpeningFault, ReadsTables};
 
 use crate::Prepared;
-use crate::stream::write_rows;
 use integrity::{Checked, check};
 use pager::{Pager, Source};
 use resolver::resolve;
-use schema::Table;
+use runs::write_answer;
 use statement_texts::read_select;
 use std::alloc::Global;
 use std::marker::Model;
@@ -51,28 +50,6 @@ pub struct Report {
     pub chained: u64,
 }
 
-/// The table at a place of the catalog.
-fn table_of(tables: &[Table], source: usize) -> &Table
-    requires { source < length tables.now }
-    ensures { slice_get tables.now source ≡ Some result.now }
-{
-    &tables[source]
-}
-
-/// A fault as a run answers it: a table that was sound and is not has changed.
-fn run_fault(fault: Fault) -> Fault
-    ensures only { IsRunFault result }
-    ensures outside { IsOutsideFault fault → result ≡ fault }
-    ensures inside { IsOutsideFault result → result ≡ fault }
-{
-    match fault {
-        Fault::ReadFailed => Fault::ReadFailed,
-        Fault::NoMemory => Fault::NoMemory,
-        Fault::WriteFailed => Fault::WriteFailed,
-        _ => Fault::Changed,
-    }
-}
-
 impl<S: Source> Engine<S> {
     /// Opens an image and checks it whole; the cache keeps so many of its pages.
     ///
@@ -95,43 +72,44 @@ impl<S: Source> Engine<S> {
         }
     }
 
-    /// Reads a statement and resolves its names; no page is read. (SELECT; EXPLAIN QUERY PLAN)
+    /// Reads a statement, resolves its names and plans its run; no page is read. (SELECT; EXPLAIN QUERY PLAN)
     ///
     /// # Errors
     ///
-    /// `Syntax` where the text spells no statement, with the place of a byte where it stopped being one; `Limit`; `NotYet` for
-    /// a statement that isn't served; `UnknownTable`, `UnknownColumn`, `Ambiguous`, and `NoMemory`.
+    /// `Syntax` where the text spells no statement, with the place of a byte where it stopped being one; `Limit`; the faults of
+    /// its names and its types, as `UnknownTable`, `Ambiguous` and `TypeMismatch`; `NotYet` for a statement that isn't served;
+    /// and `NoMemory`.
     pub fn prepare(&self, text: &str) -> Result<Prepared, Fault>
-        ensures { MatchResult result (λ prepared. IsPreparedFor self.now.tables prepared × Means self.now.tables text.now prepared)
+        ensures { MatchResult result
+            (λ p. IsPreparedFor self.now.tables (prepared_data p) × Means self.now.tables text.now (prepared_data p))
             (Refuses self.now.tables text.now) }
     {
         let statement = read_select(self.alloc, text)?;
-        let query = resolve(self.alloc, self.checked.tables(), &statement)?;
-        let prepared = Prepared::new(self.alloc, query)?;
+        let named = resolve(self.alloc, self.checked.tables(), &statement)?;
+        let prepared = Prepared::new(self.alloc, named)?;
         Ok(prepared)
     }
 
-    /// Writes the answer of a query over this engine's tables, a line for each row, as it is read. At an error what was
-    /// written is a beginning of such an answer; the engine stays as it was, and may run again.
+    /// Writes the answer of a query over this engine's tables, a line for each row, as it is computed; rows in order once
+    /// all are. At an error what was written is a beginning of such an answer; the engine stays as it was, and may run
+    /// again. (SELECT)
     ///
     /// # Errors
     ///
-    /// `ReadFailed` where the source failed, `WriteFailed` where the sink failed, `NoMemory`, and `Changed`, which comes
-    /// only where the source no longer has the bytes that were checked.
+    /// `ReadFailed` where the source failed, `WriteFailed` where the sink failed, `NoMemory`, `Overflow` where the query
+    /// computes what leaves 64 bits, and `Changed`, which comes only where the source no longer has the bytes that were
+    /// checked.
     pub fn run<W: Sink>(&mut self, prepared: &Prepared, out: &mut W) -> Result<Report, Fault>
-        requires { IsPreparedFor self.old.tables prepared.now }
-        ensures outcome { MatchResult result (HasRun self.old self.new prepared.now (W.facts out.old) (W.facts out.new))
-            (HasStopped self.old prepared.now (W.facts out.old) (W.facts out.new)) }
+        requires { IsPreparedFor self.old.tables (prepared_data prepared.now) }
+        ensures outcome { MatchResult result
+            (HasRun self.old self.new (prepared_data prepared.now) (W.facts out.old) (W.facts out.new))
+            (HasStopped self.old (prepared_data prepared.now) (W.facts out.old) (W.facts out.new)) }
         ensures reads { ReadsTables result self.old self.new }
         ensures writes { Counts Fault.WriteFailed result (W.facts out.old).failures (W.facts out.new).failures }
     {
         let (asked, chained) = (self.pager.asked(), self.pager.chained());
-        let query = &prepared.query;
-        let table = table_of(self.checked.tables(), query.source());
-        let rows = match write_rows(self.alloc, &mut self.pager, table, query.columns(), out) {
-            Ok(rows) => rows,
-            Err(fault) => return Err(run_fault(fault)),
-        };
+        let tables = self.checked.tables();
+        let rows = write_answer(self.alloc, &mut self.pager, tables, &prepared.planned, out)?;
         Ok(Report {
             rows,
             asked: self.pager.asked() - asked,

@@ -4,15 +4,14 @@
 //! of one before a fault whose cause is there.
 //!
 //! The modules, in the order in which data passes them: `args` (the command line), `prepared` (a query whose names are
-//! resolved), `engine` (an image that was checked, its statements and its runs), `stream` (the rows of a table, written as
-//! they are read) and `program` (`serve` and `fail`).
+//! resolved, and what is run for it), `engine` (an image that was checked, its statements and its runs) and `program` (`serve`
+//! and `fail`).
 #![tactic(auto)]
 
 mod args;
 mod engine;
 mod prepared;
 mod program;
-mod stream;
 
 pub use args::{Args, MAX_CACHE};
 pub use engine::{Engine, Report};

@@ -1,33 +1,41 @@
-//! Queries whose names are resolved.
-ghost use Rattle.std.specs.Prelude.{◌≡◌, IfErr, IfOk, map, string_bytes};
+//! Queries whose names are resolved, and what is run for them.
+ghost use Rattle.std.specs.Prelude.{◌≡◌, ◌⊎◌, IfErr, IfOk, List, map, string_bytes};
 ghost use Rattle.values.specs.Datum.{text};
 ghost use Rattle.values.specs.Sink.{Writes};
 ghost use Rattle.explain.specs.Text.{row_text};
+ghost use Rattle.meaning.specs.Typed.{IsTyped};
+ghost use Rattle.schema.specs.ColumnTypes.{column_types};
+ghost use Rattle.schema.specs.TableData.{TableData};
+ghost use Rattle.statement_names.specs.NamedView.{named_data, query_data};
+ghost use Rattle.query_plans.specs.Answers.{IsPlanFor, IsPlannedOver};
+ghost use Rattle.query_plans.specs.Served.{IsServed};
+ghost use Rattle.shell.specs.PreparedView.{prepared_data};
 
 use explain::rows_text;
-use resolver::Query;
+use query_plans::{Planned, plan};
+use statement_names::{NamedStatement, Query};
 use std::alloc::Global;
 use std::marker::Model;
 use std::slice;
 use values::{Fault, Row, Sink, Value};
 
-/// A query over an engine's tables, whose names are resolved.
+/// The names of result columns, with the row that they are written as.
 #[derive(Debug, Drop)]
-pub struct Prepared {
-    pub(crate) query: Query,
-    header: Row,
+struct Header {
+    names: Vec<String>,
+    row: Row,
 }
 
-impl Model for Prepared {
-    ghost use Rattle.std.specs.Prelude.{◌≡◌, map};
+impl Model for Header {
+    ghost use Rattle.std.specs.Prelude.{◌≡◌, List, map, string_bytes};
+    ghost use Rattle.syntax.specs.Tree.{Name};
     ghost use Rattle.values.specs.Datum.{text};
-    ghost use Rattle.resolver.specs.Resolved.{ResolvedData};
 
-    ghost Value = { ResolvedData };
+    ghost Value = { List Name };
 
-    ghost view = { λ p. p.query };
+    ghost view = { λ h. map (λ name. string_bytes name) h.names.items };
 
-    ghost invariant = { λ p. p.header ≡ map text p.query.names };
+    ghost invariant = { λ h. h.row ≡ map text (map (λ name. string_bytes name) h.names.items) };
 }
 
 /// The names of columns as a row of texts.
@@ -43,22 +51,62 @@ fn header_row(alloc: Global, names: &[String]) -> Result<Row, Fault>
     Ok(row)
 }
 
-impl Prepared {
-    /// A query with the texts of its columns' names.
-    pub(crate) fn new(alloc: Global, query: Query) -> Result<Prepared, Fault>
-        ensures query { IfOk result (λ prepared. prepared ≡ query) }
+impl Header {
+    /// These names, with their row.
+    fn new(alloc: Global, names: Vec<String>) -> Result<Header, Fault>
+        ensures names { IfOk result (λ header. header ≡ map (λ name. string_bytes name) names.items) }
         ensures only { IfErr result (λ e. e ≡ Fault.NoMemory) }
     {
-        let header = header_row(alloc, query.names())?;
-        Ok(Prepared { query, header })
+        let row = header_row(alloc, names.as_slice())?;
+        Ok(Header { names, row })
+    }
+
+    /// Writes the names as a line of texts.
+    fn write<W: Sink>(&self, out: &mut W) -> Result<(), Fault>
+        ensures only { IfErr result (λ e. e ≡ Fault.WriteFailed) }
+        ensures writes { Writes (row_text (map text self.now)) result (W.facts out.old) (W.facts out.new) }
+    {
+        rows_text(slice::from_ref(&self.row), out)
+    }
+}
+
+/// A query over an engine's tables, whose names are resolved, and what is run for it.
+#[derive(Drop)]
+pub struct Prepared {
+    query: Query,
+    pub(crate) planned: Planned,
+    header: Header,
+}
+
+impl Prepared {
+    /// A statement whose names are resolved, with what is run for it. Its faults are `NotYet`, where its query isn't served,
+    /// and `NoMemory`.
+    pub(crate) fn new(alloc: Global, statement: NamedStatement) -> Result<Prepared, Fault>
+        ensures query { IfOk result (λ p. (prepared_data p).query ≡ query_data statement.query) }
+        ensures names { IfOk result (λ p. (prepared_data p).names ≡ (named_data statement).names) }
+        ensures plan { IfOk result (λ p. IsPlanFor (query_data statement.query) (prepared_data p).planned) }
+        ensures over { IfOk result (λ p. (tables : List TableData) → IsTyped (column_types tables) (query_data statement.query)
+            → IsPlannedOver tables (prepared_data p).planned) }
+        ensures refused { IfErr result (λ e. (e ≡ Fault.NoMemory) ⊎ ((e ≡ Fault.NotYet) × (¬ IsServed (query_data statement.query)))) }
+    {
+        let NamedStatement { query, names, .. } = statement;
+        let Some(planned) = plan(alloc, &query)? else {
+            return Err(Fault::NotYet);
+        };
+        let header = Header::new(alloc, names)?;
+        Ok(Prepared {
+            query,
+            planned,
+            header,
+        })
     }
 
     /// Writes the names of the result columns, as they were declared, as a line of texts. Its one fault is `WriteFailed`,
     /// after a beginning of the line.
     pub fn header<W: Sink>(&self, out: &mut W) -> Result<(), Fault>
         ensures only { IfErr result (λ e. e ≡ Fault.WriteFailed) }
-        ensures writes { Writes (row_text (map text self.now.names)) result (W.facts out.old) (W.facts out.new) }
+        ensures writes { Writes (row_text (map text (prepared_data self.now).names)) result (W.facts out.old) (W.facts out.new) }
     {
-        rows_text(slice::from_ref(&self.header), out)
+        self.header.write(out)
     }
 }

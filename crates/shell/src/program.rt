@@ -5,7 +5,8 @@ ghost use Rattle.values.specs.Sink.{Writes};
 ghost use Rattle.image.specs.Pages.{pages_of};
 ghost use Rattle.integrity.specs.Denotes.{HasTables};
 ghost use Rattle.shell.specs.Served.{HasLines, IsServed, header_text};
-ghost use Rattle.shell.specs.State.{IsPreparedFor};
+ghost use Rattle.shell.specs.Prepared.{IsPreparedFor};
+ghost use Rattle.shell.specs.PreparedView.{prepared_data};
 
 use crate::{Args, Engine, Prepared};
 use pager::Source;
@@ -75,7 +76,7 @@ fn open<S: Source + Drop>(alloc: Global, source: S, cache: NonZeroUsize) -> Resu
 /// Writes the line of the column names, where it is wanted.
 fn write_header<W: Sink>(prepared: &Prepared, header: bool, out: &mut W) -> Result<(), Fault>
     ensures only { IfErr result (λ e. e ≡ Fault.WriteFailed) }
-    ensures writes { Writes (header_text header prepared.now.names) result (W.facts out.old) (W.facts out.new) }
+    ensures writes { Writes (header_text header (prepared_data prepared.now).names) result (W.facts out.old) (W.facts out.new) }
 {
     if !header {
         return Ok(());
@@ -90,9 +91,9 @@ fn write_lines<S: Source, W: Sink>(
     header: bool,
     out: &mut W,
 ) -> Result<(), Fault>
-    requires { IsPreparedFor engine.old.tables prepared.now }
+    requires { IsPreparedFor engine.old.tables (prepared_data prepared.now) }
     ensures lines { IsTrue engine.old.pager.source.steady → OnOk result
-        (HasLines engine.old.pager.source.bytes engine.old.tables prepared.now header (W.facts out.old) (W.facts out.new)) }
+        (HasLines engine.old.pager.source.bytes engine.old.tables (prepared_data prepared.now) header (W.facts out.old) (W.facts out.new)) }
     ensures unfailed { OnOk result ((W.facts out.new).failures ≡ (W.facts out.old).failures) }
 {
     write_header(prepared, header, out)?;

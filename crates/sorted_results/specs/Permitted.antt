@@ -1,4 +1,4 @@
--- The answer of a sorted selection of one table. (SELECT)
+-- The answers of a sorted selection without groups, windows and DISTINCT. (SELECT)
 use Rattle.std.specs.Prelude.{◌≡◌, ℕ, List}
 use Rattle.std.specs.List.{AllZip}
 use Rattle.values.specs.Database.{Database}
@@ -7,10 +7,38 @@ use Rattle.values.specs.Row.{Row}
 use Rattle.expr.specs.Filled.{filled}
 use Rattle.meaning.specs.Answer.{Permits}
 use Rattle.meaning.specs.Body.{answers_in}
-use Rattle.meaning.specs.Query.{Key, KeyTerm, QueryData, Select, only, table}
+use Rattle.meaning.specs.Hits.{where_rows}
+use Rattle.meaning.specs.Query.{From, Key, KeyTerm, QueryData, Select, only, table}
 use Rattle.plans.specs.Stands.{StandsFor}
-use Rattle.results.specs.Permitted.{IsPlain, ReadsTable}
+use Rattle.results.specs.Permitted.{IsPlain, IsPlainSelect, ReadsTable, SaysOf, SeesRows}
 use Rattle.sorted_results.specs.Sorted.{IsSortedAnswer, SortedData}
+
+-- ---- over any plan of FROM and WHERE
+
+-- a term of ORDER BY says of what is seen of each of these rows what the SELECT's says of the row
+abbrev pub KeySaysOf : (Row → Row) → List Row → List (List Datum) → KeyTerm → KeyTerm → Type 0
+KeySaysOf seen rows answers (KeyTerm.result at) (KeyTerm.result n) = at ≡ n
+KeySaysOf seen rows answers (KeyTerm.result at) (KeyTerm.term t) = ⊥
+KeySaysOf seen rows answers (KeyTerm.term t) (KeyTerm.result n) = ⊥
+KeySaysOf seen rows answers (KeyTerm.term t) (KeyTerm.term whole) = SaysOf seen rows t (filled answers whole)
+
+pub record IsKeyOver (seen : Row → Row) (rows : List Row) (answers : List (List Datum)) (key whole : Key) : Type 0 where
+  pub by : KeySaysOf seen rows answers key.by whole.by
+  pub direction : key.direction ≡ whole.direction
+
+-- a selection over a plan of the SELECT's rows, with the query's ORDER BY, LIMIT and OFFSET
+pub record IsSelectionOver (w : Datum) (db : Database) (query : QueryData) (from : From) (s : Select) (selection : SortedData) : Type 0 where
+  pub sees : SeesRows w db from s selection.plan selection.columns
+  pub order : AllZip (IsKeyOver sees.seen (where_rows w db from s) (answers_in w db from)) selection.order query.order
+  pub limit : selection.limit ≡ query.limit
+  pub offset : selection.offset ≡ query.offset
+
+-- its answers are lists that the query permits
+abbrev pub PlainIsPermitted : Type 0
+PlainIsPermitted = (w : Datum) (db : Database) (query : QueryData) (from : From) (s : Select) (selection : SortedData) (rows : List Row)
+    → IsPlainSelect query from s → IsSelectionOver w db query from s selection → IsSortedAnswer w db selection rows → Permits w db query rows
+
+-- ---- one table
 
 -- a term of ORDER BY over the columns that are read
 abbrev pub KeyStandsFor : List ℕ → List (List Datum) → KeyTerm → KeyTerm → Type 0

@@ -1,4 +1,5 @@
 use Rattle.std.proofs.Common.{◌∙◌, IsTrue}
+use Rattle.shell.specs.PreparedView.{prepared_data}
 use Rattle.shell.proofs.ServedLemmas.{lines_handed}
 use Rattle.shell.proofs.program.answer.Goals as goal
 
@@ -8,7 +9,7 @@ returns-clause-served g c = λ steady.
     let lines = rw (c.in_ok-engine.ensures.source, c.in_ok-gathered.ensures) at (c.in_ok-written.ensures.lines now) in
     record {
       tables = c.in_ok-engine.engine.tables;
-      prepared = c.in_ok-prepared.prepared;
+      prepared = prepared_data c.in_ok-prepared.prepared;
       has = c.in_ok-engine.ensures.tables steady;
       means = c.in_ok-prepared.ensures.1;
       lines = lines_handed _ _ _ _ _ _ c.write_lines-written.new.out lines (rw c.in_ok-handed_on.was at c.finish-out.ensures.writes).written;

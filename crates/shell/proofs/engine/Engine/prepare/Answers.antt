@@ -1,20 +1,55 @@
-use Rattle.std.proofs.Common.{◌∙◌, List, ap, subst, inr}
+use Rattle.std.proofs.Common.{◌∙◌, List, ap, subst, sym, inl, inr, ⊎_elim}
 use Rattle.std.proofs.lemmas.Result.{err_from_is_err_and}
+use Rattle.schema.specs.ColumnTypes.{column_types}
 use Rattle.schema.specs.TableData.{TableData}
+use Rattle.meaning.specs.Query.{QueryData}
+use Rattle.meaning.specs.Typed.{IsTyped}
+use Rattle.query_plans.specs.Answers.{IsPlanFor}
+use Rattle.statement_names.specs.NamedView.{named_data}
 use Rattle.statement_trees.specs.StatementView.{statement_of}
-use Rattle.resolver.specs.Resolved.{IsRefused}
+use Rattle.resolver.specs.Resolved.{IsRefused, Resolves}
+use Rattle.shell.specs.PreparedView.{prepared_data}
 use Rattle.shell.specs.State.{EngineState}
+use Rattle.shell.proofs.PreparedLemmas.{prepared_for, unprepared}
 use Rattle.shell.proofs.engine.Engine.prepare.Goals as goal
 
-pub returns-in_err-query : goal.returns-in_err-query
-returns-in_err-query g c =
+pub returns-in_err-named : goal.returns-in_err-named
+returns-in_err-named g c =
     let tables = c.tables.ensures ∙ ap (λ (e : EngineState). e.tables) c.self.view_is in
-    let p = err_from_is_err_and c.from_residual-in_err-query.result c.from_residual-in_err-query.ensures.1 in
+    let p = err_from_is_err_and c.from_residual-in_err-named.result c.from_residual-in_err-named.ensures.1 in
     rw (p.1, p.2)
-    (inr (record {
+    (inr (inl (record {
       tree = statement_of c.in_ok-statement.statement;
       spelt = c.in_ok-statement.ensures.spelt;
       within = c.in_ok-statement.ensures.within;
-      refused = subst (λ (ts : List TableData). IsRefused ts (statement_of c.in_ok-statement.statement) c.in_err-query.field-0.0) tables
-          c.in_err-query.ensures.refused;
-    }))
+      refused = subst (λ (ts : List TableData). IsRefused ts (statement_of c.in_ok-statement.statement) c.in_err-named.field-0.0) tables
+          c.in_err-named.ensures.refused;
+    })))
+
+pub returns-in_err-prepared : goal.returns-in_err-prepared
+returns-in_err-prepared g c =
+    let tables = c.tables.ensures ∙ ap (λ (e : EngineState). e.tables) c.self.view_is in
+    let p = err_from_is_err_and c.from_residual-in_err-prepared.result c.from_residual-in_err-prepared.ensures.1 in
+    rw (p.1, p.2)
+    (unprepared _ _ (statement_of c.in_ok-statement.statement) (named_data c.in_ok-named.named) _ c.in_ok-statement.ensures.spelt c.in_ok-statement.ensures.within
+    (subst (λ (ts : List TableData). Resolves ts (statement_of c.in_ok-statement.statement) (named_data c.in_ok-named.named)) tables c.in_ok-named.ensures.means)
+    c.in_err-prepared.ensures.refused)
+
+pub returns : goal.returns
+returns g c =
+    let tables = c.tables.ensures ∙ ap (λ (e : EngineState). e.tables) c.self.view_is in (
+      prepared_for _ (prepared_data c.in_ok-prepared.prepared) (named_data c.in_ok-named.named)
+          (subst (λ (ts : List TableData). IsTyped (column_types ts) (named_data c.in_ok-named.named).query) tables c.in_ok-named.ensures.typed)
+          c.in_ok-prepared.ensures.query c.in_ok-prepared.ensures.plan c.in_ok-prepared.ensures.over,
+      record {
+        named = named_data c.in_ok-named.named;
+        spells = record {
+          tree = statement_of c.in_ok-statement.statement;
+          spelt = c.in_ok-statement.ensures.spelt;
+          within = c.in_ok-statement.ensures.within;
+          resolves = subst (λ (ts : List TableData). Resolves ts (statement_of c.in_ok-statement.statement) (named_data c.in_ok-named.named)) tables c.in_ok-named.ensures.means;
+        };
+        query_is = sym c.in_ok-prepared.ensures.query;
+        names_are = sym c.in_ok-prepared.ensures.names;
+      },
+    )

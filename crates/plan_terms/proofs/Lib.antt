@@ -1,0 +1,3 @@
+pub mod PlacedLemmas
+pub mod OverLemmas
+pub mod ConjunctLemmas

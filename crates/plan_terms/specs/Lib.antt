@@ -1,0 +1,4 @@
+pub mod Names
+pub mod Placed
+pub mod Over
+pub mod Parted

@@ -1,0 +1,143 @@
+-- What a plan answers the query permits, and what it reaches the query can reach.
+use Rattle.std.proofs.Common.{◌≡◌, ◌∙◌, ◌⊎◌, inl, inr, Any, Contains, ℕ, ℤ, pos, false, List, [], ◌∷◌, ◌++◌, append-nil, map, Option, None, refl, sym, ap, subst}
+use Rattle.std.specs.List.{AllZip}
+use Rattle.values.specs.Database.{Database}
+use Rattle.values.specs.Datum.{Datum}
+use Rattle.values.specs.Row.{Row}
+use Rattle.expr.specs.Filled.{filled}
+use Rattle.expr.specs.Term.{Term, column}
+use Rattle.meaning.specs.Answer.{Permits}
+use Rattle.meaning.specs.Body.{answers_in}
+use Rattle.meaning.specs.Hits as meaning
+use Rattle.meaning.specs.Hits.{SelectHits, order_terms, where_rows}
+use Rattle.meaning.specs.Query.{Key, KeyTerm, QueryData, Select, always, columns_of_table, only, select, table}
+use Rattle.meaning.proofs.OneTableLemmas.{scan_is_permitted}
+use Rattle.plan_terms.specs.Over.{StandsOver}
+use Rattle.plans.specs.Plan.{Hits, PlanData, Reaches, rows_of, table_rows}
+use Rattle.query_plans.specs.Answers.{HitsOf, IsAnswerOf, IsPlanFor, PlanReaches, PlannedData, columns, rows, sorted}
+use Rattle.query_plans.specs.Made.{HasRowsAlone, IsBare, IsMade, IsMadeOver, KeyStandsOver, KeyTermStandsOver}
+use Rattle.results.specs.Permitted.{SaysOf, SeesRows}
+use Rattle.results.proofs.PermittedLemmas as results
+use Rattle.sorted_results.specs.Permitted.{IsKeyOver, KeySaysOf}
+use Rattle.sorted_results.proofs.PermittedLemmas as ordered
+use Rattle.table_plans.specs.Input.{input_from, seen}
+use Rattle.table_plans.specs.declared.inputs.Input.{Input}
+use Rattle.table_plans.specs.declared.inputs.Input.TheVariants.{Nothing, Table}
+use Rattle.table_plans.proofs.HitLemmas.{columns_are_hit, plan_is_hit}
+use Rattle.table_plans.proofs.RowLemmas.{columns_say, plan_has_rows}
+
+zip_append : {A B : Type 0} (R : A → B → Type 0) (xs us : List A) (ys vs : List B) → AllZip R xs ys → AllZip R us vs → AllZip R (xs ++ us) (ys ++ vs)
+zip_append R [] us [] vs left right = right
+zip_append R [] us (y ∷ ys) vs left right = absurd left
+zip_append R (x ∷ xs) us [] vs left right = absurd left
+zip_append R (x ∷ xs) us (y ∷ ys) vs left right = (left.0, zip_append R xs us ys vs left.1 right)
+
+-- the expressions of ORDER BY stand for its terms
+order_stands : (read : List ℕ) (keys order : List Key) → AllZip (KeyStandsOver read) keys order → AllZip (StandsOver read 0) (order_terms keys) (order_terms order)
+order_stands read [] [] all = tt
+order_stands read [] (q ∷ order) all = absurd all
+order_stands read (k ∷ keys) [] all = absurd all
+order_stands read (k ∷ keys) (q ∷ order) all =
+    zip_append (StandsOver read 0) (meaning.key_terms k.by) (order_terms keys) (meaning.key_terms q.by) (order_terms order) (one k.by q.by all.0.by) (order_stands read keys order all.1)
+  where
+    one : (a b : KeyTerm) → KeyTermStandsOver read a b → AllZip (StandsOver read 0) (meaning.key_terms a) (meaning.key_terms b)
+    one (KeyTerm.result m) (KeyTerm.result n) is = tt
+    one (KeyTerm.result m) (KeyTerm.term t) is = absurd is
+    one (KeyTerm.term e) (KeyTerm.result n) is = absurd is
+    one (KeyTerm.term e) (KeyTerm.term t) is = (is, tt)
+
+module _ (w : Datum) (db : Database) (input : Input) (s : Select) (read : List ℕ) where
+  abbrev kept : List Row
+  kept = where_rows w db (input_from input) s
+
+  abbrev answers : List (List Datum)
+  answers = answers_in w db (input_from input)
+
+  say_all : (es ts : List Term) → AllZip (StandsOver read 0) es ts → AllZip (SaysOf (seen input read) kept) es (map (filled answers) ts)
+  say_all [] [] all = tt
+  say_all [] (t ∷ ts) all = absurd all
+  say_all (e ∷ es) [] all = absurd all
+  say_all (e ∷ es) (t ∷ ts) all = (columns_say w db s input read e t all.0, say_all es ts all.1)
+
+  key_says : (a b : KeyTerm) → KeyTermStandsOver read a b → KeySaysOf (seen input read) kept answers a b
+  key_says (KeyTerm.result m) (KeyTerm.result n) is = is
+  key_says (KeyTerm.result m) (KeyTerm.term t) is = is
+  key_says (KeyTerm.term e) (KeyTerm.result n) is = is
+  key_says (KeyTerm.term e) (KeyTerm.term t) is = columns_say w db s input read e t is
+
+  keys_say : (keys order : List Key) → AllZip (KeyStandsOver read) keys order → AllZip (IsKeyOver (seen input read) kept answers) keys order
+  keys_say [] [] all = tt
+  keys_say [] (q ∷ order) all = absurd all
+  keys_say (k ∷ keys) [] all = absurd all
+  keys_say (k ∷ keys) (q ∷ order) all = (record { by = key_says k.by q.by all.0.by; direction = all.0.direction }, keys_say keys order all.1)
+
+module _ (input : Input) (s : Select) (alone : HasRowsAlone s) (order : List Key) (limit : Option ℤ) (offset : ℤ) where
+  abbrev query : QueryData
+  query = record { body = select (input_from input) s; order = order; limit = limit; offset = offset }
+
+  sees : (w : Datum) (db : Database) (plan : PlanData) (es : List Term) → IsMadeOver input s order plan es → SeesRows w db (input_from input) s plan es
+  sees w db plan es made = record {
+    seen = seen input made.read;
+    rows_are = plan_has_rows w db s input made.read plan made.plan_is;
+    columns_are = say_all w db input s made.read es s.columns made.columns_are;
+  }
+
+  -- what the plan or these expressions on its rows reach
+  reaches : (w : Datum) (db : Database) (terms es us : List Term) (plan : PlanData) (made : IsMadeOver input s order plan es)
+      → AllZip (StandsOver made.read 0) us terms → PlanReaches w db plan (es ++ us) → SelectHits w db (input_from input) s terms
+  reaches w db terms es us plan made stand (inl hits) = plan_is_hit w db s terms input made.read plan made.plan_is hits
+  reaches w db terms es us plan made stand (inr hits) =
+      columns_are_hit w db s terms (es ++ us) input made.read plan alone.ungrouped alone.windowless made.plan_is
+      (zip_append (StandsOver made.read 0) es us s.columns terms made.columns_are stand) hits
+
+  scan_permits : (w : Datum) (db : Database) (at width : ℕ) (places : List ℕ) (answer : List Row) → input ≡ Table at width → IsBare s order limit offset
+      → s.columns ≡ map column places → IsAnswerOf w db (columns at places) answer → Permits w db query answer
+  scan_permits w db at width places answer input_is bare columns_are is =
+      let same : columns_of_table at width places ≡ query = λ i. record {
+        body = select (input_from (sym input_is i)) (record {
+          condition = sym bare.condition i;
+          grouping = sym alone.ungrouped i;
+          windows = sym alone.windowless i;
+          columns = sym columns_are i;
+          distinct = sym alone.all i;
+        });
+        order = sym bare.unordered i;
+        limit = sym bare.unlimited i;
+        offset = sym bare.first i;
+      } in
+      subst (λ (q : QueryData). Permits w db q answer) same
+      (subst (Permits w db (columns_of_table at width places)) (sym is) (scan_is_permitted w db at width places))
+
+  pub made_is_plan : (p : PlannedData) → IsMade input s order limit offset p → IsPlanFor query p
+  unfolding sees
+  made_is_plan (columns at places) made = record {
+    permits = λ w db answer is. scan_permits w db at made.width places answer made.input_is made.bare made.columns_are is;
+    hits = λ w db none. absurd none;
+  }
+  made_is_plan (rows selection) made = record {
+    permits = λ w db answer is.
+        subst (Permits w db query) (sym is)
+        (results.plain_is_permitted w db query (input_from input) s selection
+        (record { body = refl; ungrouped = alone.ungrouped; windowless = alone.windowless; all = alone.all })
+        made.unordered
+        (record { sees = sees w db selection.plan selection.columns made.made; limit = made.limit_is; offset = made.offset_is }));
+    hits = λ w db hits.
+        inr (subst (λ order. SelectHits w db (input_from input) s (order_terms order)) (sym made.unordered)
+        (reaches w db [] selection.columns [] selection.plan made.made tt
+        (subst (PlanReaches w db selection.plan) (sym (append-nil selection.columns)) hits)));
+  }
+  made_is_plan (sorted selection) made = record {
+    permits = λ w db answer is.
+        ordered.plain_is_permitted w db query (input_from input) s selection answer
+        (record { body = refl; ungrouped = alone.ungrouped; windowless = alone.windowless; all = alone.all })
+        (record {
+          sees = sees w db selection.plan selection.columns made.made;
+          order = keys_say w db input s made.made.read selection.order order made.order_is;
+          limit = made.limit_is;
+          offset = made.offset_is;
+        })
+        is;
+    hits = λ w db hits.
+        inr (reaches w db (order_terms order) selection.columns (order_terms selection.order) selection.plan made.made
+        (order_stands made.made.read selection.order order made.order_is) hits);
+  }

@@ -1,0 +1,52 @@
+-- What a query names is read, and nothing else.
+use Rattle.std.proofs.Common.{◌≡◌, ◌∙◌, ◌↔◌, ◌<◌, ◌≤◌, ◌++◌, append_assoc, All, Contains, ℕ, zero, suc, List, [], ◌∷◌, flat_map, length, slice_index_or, refl, sym, ap, subst, arith}
+use Rattle.std.proofs.lemmas.List.Concat.{flat_map-append}
+use Rattle.std.proofs.lemmas.List.Elements.{All-contains, All-contains_itself, All-weaker, Contains-append_left, Contains-append_right}
+use Rattle.expr.specs.Columns.{columns_of}
+use Rattle.expr.specs.Term.{Term}
+use Rattle.meaning.proofs.ElementLemmas.{All-flat_map}
+use Rattle.plan_terms.specs.Names.{answers_of}
+use Rattle.plan_terms.specs.Over.{IsOver}
+use Rattle.meaning.specs.Hits.{order_terms}
+use Rattle.meaning.specs.Query.{Key, Select}
+use Rattle.query_plans.specs.Read.{AreRead, terms_in}
+
+-- what one of the lists has that are joined
+pub contains_flat : {A B : Type 0} (f : A → List B) (xs : List A) (x : A) (y : B) → Contains xs x → Contains (f x) y → Contains (flat_map f xs) y
+contains_flat f [] x y held has = absurd (let within = held.1 in omega (arith, within))
+contains_flat f (z ∷ xs) x y (zero, within, same) has =
+    Contains-append_left (f z) (flat_map f xs) y (subst (λ x. Contains (f x) y) (sym same) has)
+contains_flat f (z ∷ xs) x y (suc k, within, same) has =
+    Contains-append_right (f z) (flat_map f xs) y (contains_flat f xs x y (k, omega (arith, within), same) has)
+
+-- each term that is computed stands over the columns that are read
+pub all_over : (read : List ℕ) (terms : List Term) → AreRead read terms → All (IsOver read 0) terms
+all_over read terms are =
+    All-weaker (Contains terms) (IsOver read 0)
+    (λ t held. record {
+      columns =
+          All-weaker (Contains (columns_of t)) (Contains read) (λ c named. (are c).1 (contains_flat columns_of terms t c held named)) (columns_of t) (All-contains_itself (columns_of t));
+      answers = All-weaker (Contains (answers_of t)) (λ at. 0 ≤ at) (λ at held. omega arith) (answers_of t) (All-contains_itself (answers_of t));
+    })
+    terms (All-contains_itself terms)
+
+-- what holds of each column that the terms name holds of those that are read
+pub all_read : (P : ℕ → Type 0) (read : List ℕ) (terms : List Term) → AreRead read terms → All (λ t. All P (columns_of t)) terms → All P read
+all_read P read terms are all =
+    All-weaker (Contains read) P
+    (λ c held. All-contains P (flat_map columns_of terms) c (All-flat_map P columns_of terms all) ((are c).0 held))
+    read (All-contains_itself read)
+
+-- ---- what the code names
+
+pub named_is : (n0 n1 n2 n3 xs ys zs : List ℕ) → n0 ≡ [] → n1 ≡ n0 ++ xs → n2 ≡ n1 ++ ys → n3 ≡ n2 ++ zs → n3 ≡ xs ++ (ys ++ zs)
+named_is n0 n1 n2 n3 xs ys zs none first second third =
+    third ∙ ap (λ n. n ++ zs) (second ∙ ap (λ n. n ++ ys) (first ∙ ap (λ n. n ++ xs) none)) ∙ append_assoc xs ys zs
+
+pub read_of : (s : Select) (order : List Key) (named read : List ℕ)
+    → named ≡ columns_of s.condition ++ (flat_map columns_of s.columns ++ flat_map columns_of (order_terms order))
+    → ((at : ℕ) → Contains read at ↔ Contains named at) → AreRead read (terms_in s order)
+read_of s order named read is same at =
+    let whole : named ≡ flat_map columns_of (terms_in s order) =
+    is ∙ ap (λ later. columns_of s.condition ++ later) (sym (flat_map-append columns_of s.columns (order_terms order))) in
+    subst (λ n. Contains read at ↔ Contains n at) whole (same at)

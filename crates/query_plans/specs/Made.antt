@@ -1,0 +1,71 @@
+-- How a plan is made of a SELECT that stands on one table or on none.
+use Rattle.std.specs.Prelude.{◌≡◌, ℕ, ℤ, pos, false, List, [], map, Option, None}
+use Rattle.std.specs.List.{AllZip}
+use Rattle.expr.specs.Term.{Term, column}
+use Rattle.meaning.specs.Query.{Key, KeyTerm, Select, always}
+use Rattle.plan_terms.specs.Over.{StandsOver}
+use Rattle.plans.specs.Plan.{PlanData}
+use Rattle.query_plans.specs.Answers.{PlannedData, columns, rows, sorted}
+use Rattle.query_plans.specs.Read.{AreRead, terms_in}
+use Rattle.results.specs.Coming.{SelectionData}
+use Rattle.sorted_results.specs.Sorted.{SortedData}
+use Rattle.table_plans.specs.declared.inputs.Input.{Input}
+use Rattle.table_plans.specs.declared.inputs.Input.TheVariants.{Nothing, Table}
+use Rattle.table_plans.specs.Planned.{IsPlanOver}
+
+-- a SELECT without groups, windows and DISTINCT
+pub record HasRowsAlone (s : Select) : Type 0 where
+  pub ungrouped : s.grouping ≡ None
+  pub windowless : s.windows ≡ []
+  pub all : s.distinct ≡ false
+
+-- a SELECT that keeps each row, in no order, without LIMIT and OFFSET
+pub record IsBare (s : Select) (order : List Key) (limit : Option ℤ) (offset : ℤ) : Type 0 where
+  pub condition : s.condition ≡ always
+  pub unordered : order ≡ []
+  pub unlimited : limit ≡ None
+  pub first : offset ≡ pos 0
+
+abbrev pub KeyTermStandsOver : List ℕ → KeyTerm → KeyTerm → Type 0
+KeyTermStandsOver read (KeyTerm.result at) (KeyTerm.result n) = at ≡ n
+KeyTermStandsOver read (KeyTerm.result at) (KeyTerm.term t) = ⊥
+KeyTermStandsOver read (KeyTerm.term e) (KeyTerm.result n) = ⊥
+KeyTermStandsOver read (KeyTerm.term e) (KeyTerm.term t) = StandsOver read 0 e t
+
+-- a term of ORDER BY over the columns that are read
+pub record KeyStandsOver (read : List ℕ) (key whole : Key) : Type 0 where
+  pub by : KeyTermStandsOver read key.by whole.by
+  pub direction : key.direction ≡ whole.direction
+
+-- a plan of FROM and WHERE, and result columns over it
+pub record IsMadeOver (input : Input) (s : Select) (order : List Key) (plan : PlanData) (es : List Term) : Type 0 where
+  pub read : List ℕ
+  pub are_read : AreRead read (terms_in s order)
+  pub plan_is : IsPlanOver input read s.condition plan
+  pub columns_are : AllZip (StandsOver read 0) es s.columns
+
+-- these columns of each row of the table
+pub record IsScanned (input : Input) (s : Select) (order : List Key) (limit : Option ℤ) (offset : ℤ) (at : ℕ) (places : List ℕ) : Type 0 where
+  pub width : ℕ
+  pub input_is : input ≡ Table at width
+  pub bare : IsBare s order limit offset
+  pub columns_are : s.columns ≡ map column places
+
+-- rows in no order
+pub record IsSelected (input : Input) (s : Select) (order : List Key) (limit : Option ℤ) (offset : ℤ) (selection : SelectionData) : Type 0 where
+  pub made : IsMadeOver input s order selection.plan selection.columns
+  pub unordered : order ≡ []
+  pub limit_is : selection.limit ≡ limit
+  pub offset_is : selection.offset ≡ offset
+
+-- rows in order
+pub record IsPutInOrder (input : Input) (s : Select) (order : List Key) (limit : Option ℤ) (offset : ℤ) (selection : SortedData) : Type 0 where
+  pub made : IsMadeOver input s order selection.plan selection.columns
+  pub order_is : AllZip (KeyStandsOver made.read) selection.order order
+  pub limit_is : selection.limit ≡ limit
+  pub offset_is : selection.offset ≡ offset
+
+abbrev pub IsMade : Input → Select → List Key → Option ℤ → ℤ → PlannedData → Type 0
+IsMade input s order limit offset (columns at places) = IsScanned input s order limit offset at places
+IsMade input s order limit offset (rows selection) = IsSelected input s order limit offset selection
+IsMade input s order limit offset (sorted selection) = IsPutInOrder input s order limit offset selection

@@ -1,0 +1,14 @@
+-- The columns that a query names.
+use Rattle.std.specs.Prelude.{◌↔◌, Contains, ℕ, List, ◌∷◌, ◌++◌, flat_map}
+use Rattle.expr.specs.Columns.{columns_of}
+use Rattle.expr.specs.Term.{Term}
+use Rattle.meaning.specs.Hits.{order_terms}
+use Rattle.meaning.specs.Query.{Key, Select}
+
+-- what is computed on the rows of FROM: WHERE, the result columns, and the terms of ORDER BY
+abbrev pub terms_in : Select → List Key → List Term
+terms_in s order = s.condition ∷ (s.columns ++ order_terms order)
+
+-- exactly the columns that these terms name are read
+abbrev pub AreRead : List ℕ → List Term → Type 0
+AreRead read terms = (at : ℕ) → Contains read at ↔ Contains (flat_map columns_of terms) at

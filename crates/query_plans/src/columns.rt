@@ -1,0 +1,47 @@
+//! The columns that a query names.
+ghost use Rattle.std.specs.Prelude.{◌≡◌, ◌++◌, IfOk, OnOk, flat_map, map};
+ghost use Rattle.expr.specs.Columns.{columns_of};
+ghost use Rattle.meaning.specs.Hits.{key_terms, order_terms};
+ghost use Rattle.order_keys.specs.KeyView.{key_of, key_term_of};
+ghost use Rattle.query_plans.specs.Read.{AreRead, terms_in};
+ghost use Rattle.query_trees.specs.SelectView.{select_of};
+
+use order_keys::{Key, KeyTerm};
+use plan_terms::{push_columns, push_columns_of_all, read_columns};
+use query_trees::Select;
+use std::alloc::{AllocError, Global};
+
+/// Puts the columns that a term of ORDER BY names at the end of a list.
+fn push_key(key: &KeyTerm, out: &mut Vec<usize>) -> Result<(), AllocError>
+    ensures { OnOk result (out.new.items ≡ out.old.items ++ flat_map columns_of (key_terms (key_term_of key.now))) }
+{
+    match key {
+        KeyTerm::Result(_) => Ok(()),
+        KeyTerm::Term(t) => push_columns(t, out),
+    }
+}
+
+/// Puts the columns that ORDER BY names at the end of a list.
+fn push_order(order: &[Key], out: &mut Vec<usize>) -> Result<(), AllocError>
+    ensures { OnOk result (out.new.items ≡ out.old.items ++ flat_map columns_of (order_terms (map key_of order.now))) }
+{
+    for key in order {
+        push_key(&key.by, out)?;
+    }
+    Ok(())
+}
+
+/// The columns that a SELECT and its ORDER BY name, each once and in their order.
+pub(crate) fn columns_read(
+    alloc: Global,
+    select: &Select,
+    order: &[Key],
+) -> Result<Vec<usize>, AllocError>
+    ensures { IfOk result (λ read. AreRead read.items (terms_in (select_of select.now) (map key_of order.now))) }
+{
+    let mut named = Vec::new(alloc);
+    push_columns(&select.condition, &mut named)?;
+    push_columns_of_all(select.columns.as_slice(), &mut named)?;
+    push_order(order, &mut named)?;
+    Ok(read_columns(named))
+}

@@ -1,0 +1,15 @@
+//! What is run for a query.
+
+use results::Selection;
+use sorted_results::SortedSelection;
+
+/// What is run for a query. (SELECT)
+#[derive(Drop)]
+pub enum Planned {
+    /// These columns of each row of the table at this place of the catalog.
+    Columns(usize, Vec<usize>),
+    /// Rows in no order.
+    Rows(Selection),
+    /// Rows in order.
+    Sorted(SortedSelection),
+}

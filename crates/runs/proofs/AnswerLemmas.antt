@@ -1,0 +1,169 @@
+-- From what was written to the answer of a plan.
+use Rattle.std.proofs.Common.{◌≡◌, ◌≢◌, ◌∙◌, ◌+◌, ◌^◌, ◌-◌, ◌≤◌, min, inl, inr, arith, ℕ, zero, suc, IsTrue, All, List, [], ◌∷◌, ◌++◌, length, map, slice_get, Some, Result, Ok, Err, refl, sym, ap, append-nil, subst}
+use Rattle.std.specs.List.{flat_map}
+use Rattle.std.proofs.lemmas.List.{length-map, map-append}
+use Rattle.std.proofs.lemmas.List.Elements.{All-head, All-tail}
+use Rattle.std.proofs.lemmas.List.Sorted.{ranks_by}
+use Rattle.values.specs.Database.{Database}
+use Rattle.values.specs.Datum.{Datum}
+use Rattle.values.specs.Row.{Row}
+use Rattle.values.specs.Sink.{SinkFacts, Writes}
+use Rattle.values.specs.declared.fault.Fault.{Fault}
+use Rattle.values.specs.declared.fault.Fault.TheVariants.{WriteFailed}
+use Rattle.pager.specs.PagerState.{PagerState}
+use Rattle.image.specs.Pages.{Pages, WhereSteady, pages_seen}
+use Rattle.image.specs.Shape.{places_under}
+use Rattle.image.specs.declared.kind.TreeKind.TheVariants.{Table}
+use Rattle.schema.specs.TableData.{TableData}
+use Rattle.stored_rows.specs.Stored.{HoldsRows}
+use Rattle.stored_rows.proofs.OneLemmas.{one_rows}
+use Rattle.table_walk.specs.Checked.{IsStoredTable}
+use Rattle.expr.specs.Term.{Term}
+use Rattle.meaning.specs.Answer.{key_directions, limited, skipped}
+use Rattle.meaning.specs.Body.{Output}
+use Rattle.meaning.specs.Hits.{order_terms}
+use Rattle.meaning.specs.OneTable.{shown}
+use Rattle.meaning.specs.Sequence.{ascending, keys_cmp}
+use Rattle.meaning.proofs.AnswerLemmas.{is_before}
+use Rattle.meaning.proofs.KeyLemmas.{keys_cmp_total}
+use Rattle.meaning.proofs.OrderLemmas.{IsSortedBy-ascending, ascending-same}
+use Rattle.plans.specs.Plan.{PlanData, rows_of, table_rows, table_size, work}
+use Rattle.scan.specs.Coming.{Asks}
+use Rattle.operators.specs.Basis.{AreStored, Basis, IsOperatorFault}
+use Rattle.operators.proofs.RowLemmas.{some_one}
+use Rattle.results.specs.Coming.{IsResultCause}
+use Rattle.sorted_results.specs.Sorted.{IsSortedAnswer, SortedData, outputs_over}
+use Rattle.query_plans.specs.Answers.{PlannedData}
+use Rattle.explain.specs.Text.{row_text, rows_text}
+use Rattle.runs.specs.Faults.{IsOutsideFault, IsRunCause}
+use Rattle.runs.specs.Printed.{PrintsUntil}
+use Rattle.runs.specs.Runs.{WritesAnswer, WritesBeginning}
+use Rattle.runs.specs.Stream.{AsksFew, Streams, StreamsUntil}
+use Rattle.runs.proofs.GivenLemmas.{not_operators, nothing_printed, stored_with, with_plan}
+
+-- ---- columns of one table
+
+all_at : {X : Type 0} (P : X → Type 0) (xs : List X) (i : ℕ) (x : X) → All P xs → slice_get xs i ≡ Some x → P x
+all_at P [] i x all at = absurd cc
+all_at {X} P (first ∷ xs) zero x all at = subst (λ (z : X). P z) (some_one first x at) (All-head P first xs all)
+all_at P (first ∷ xs) (suc i) x all at = all_at P xs i x (All-tail P first xs all) at
+
+holds : (pages : Pages) (table : TableData) (is : IsStoredTable pages table) → HoldsRows pages table is.rows
+holds pages table is = record { places = places_under pages Table is.levels table.root; cells = is.stored.cells; rows_are = is.stored.rows_are }
+
+module _ (pages : Pages) (tables : List TableData) (at : ℕ) (places : List ℕ) (table : TableData) (found : slice_get tables at ≡ Some table) where
+  -- its rows are those that are said of it
+  said : (stored : IsStoredTable pages table) (on : Basis) → AreStored pages tables on → stored.rows ≡ table_rows on.db at
+  said stored on has =
+      let is = has at table found in
+      one_rows pages table stored.rows is.stored.rows (holds pages table stored) (holds pages table is.stored) ∙ is.rows_are
+
+  module _ (all : All (IsStoredTable pages) tables) (old new : SinkFacts) where
+    stored : IsStoredTable pages table
+    stored = all_at (IsStoredTable pages) tables at table all found
+
+    pub columns_answer : (n : ℕ) → ((is : IsStoredTable pages table) → Streams places is.rows n old new)
+        → WritesAnswer pages tables (PlannedData.columns at places) old new n
+    columns_answer n streams = record {
+      given = map (shown places) stored.rows;
+      answer = λ on has. ap (map (shown places)) (said stored on has);
+      prints = streams stored;
+    }
+
+    pub columns_stopped : (e told : Fault) → ((is : IsStoredTable pages table) → StreamsUntil e places is.rows old new)
+        → (IsOutsideFault e → told ≡ e) → WritesBeginning pages tables (PlannedData.columns at places) old new told
+    columns_stopped e told streams same =
+        let until = streams stored in
+        let is_told = same until.outside in
+        record {
+          given = map (shown places) until.given;
+          begins = λ on has. (
+            map (shown places) until.rest,
+            sym (map-append (shown places) until.given until.rest) ∙ ap (map (shown places)) (until.whole ∙ said stored on has),
+          );
+          prints = subst (λ (f : Fault). PrintsUntil f (map (shown places) until.given) old new) (sym is_told) until.prints;
+          cause = λ on has. inl (subst IsOutsideFault (sym is_told) until.outside);
+        }
+
+  pub columns_few : (start now : PagerState) → ((is : IsStoredTable pages table) → AsksFew pages table is.levels start now)
+      → (on : Basis) → AreStored pages tables on → Asks on.local start (table_size on.sizes at) now 0
+  columns_few start now few on has =
+      let is = has at table found in
+      let here = few is.stored in
+      record {
+        pages = let most = here.asked in let size = is.size_is in omega (arith, most, size);
+        chains = λ local. here.unchained (is.unchained local);
+      }
+
+-- ---- rows in order
+
+pub rows_text-map : {X : Type 0} (f : X → Row) (xs : List X) → rows_text (map f xs) ≡ flat_map (λ x. row_text (f x)) xs
+rows_text-map f [] = refl
+rows_text-map f (x ∷ xs) = ap (λ t. row_text (f x) ++ t) (rows_text-map f xs)
+
+-- so many are counted that no count stops
+pub rows_counted : {X : Type 0} (f : X → Row) (xs : List X) (n : ℕ) → n ≡ length xs → n ≤ 2 ^ 64 - 1 → n ≡ min (length (map f xs)) (2 ^ 64 - 1)
+rows_counted f xs n is few = let long = length-map xs f in omega (arith, is, few, long)
+
+-- a selection has some answer
+some_sorted : (w : Datum) (db : Database) (selection : SortedData) → (rows : List Row) × IsSortedAnswer w db selection rows
+some_sorted w db selection =
+    let made = outputs_over w selection.columns selection.order (rows_of w db selection.plan) in
+    let ordered = ascending (is_before selection.order) made in (
+      map (λ o. o.row) (limited selection.limit (skipped selection.offset ordered)),
+      record {
+        ordered = ordered;
+        same = ascending-same (is_before selection.order) made;
+        ascends = IsSortedBy-ascending (is_before selection.order)
+            (ranks_by (keys_cmp_total (key_directions selection.order)) (λ (o : Output). o.keys)) made;
+        shown = refl;
+      },
+    )
+
+module _ (start now : PagerState) (tables : List TableData) (selection : SortedData) (steady : IsTrue start.source.steady) where
+  -- a fault before the first row
+  pub sorted_stopped : (e : Fault) (old : SinkFacts) → IsOperatorFault e
+      → WhereSteady start (λ pages. (on : Basis) → AreStored pages tables on → on.plan ≡ selection.plan
+      → IsResultCause on (selection.columns ++ order_terms selection.order) e)
+      → WritesBeginning (pages_seen start) tables (PlannedData.sorted selection) old old e
+  sorted_stopped e old only call = record {
+    given = [];
+    begins = λ on has. some_sorted on.w on.db selection;
+    prints = nothing_printed e old (not_operators e only);
+    cause = λ on has.
+        cause_of (with_plan on selection.plan)
+        (call steady (with_plan on selection.plan) (stored_with (pages_seen start) tables on selection.plan has) refl);
+  }
+    where
+      cause_of : (on : Basis) → IsResultCause (with_plan on selection.plan) (selection.columns ++ order_terms selection.order) e
+          → IsRunCause on (PlannedData.sorted selection) e
+      cause_of on (inl read) = inl (inl read)
+      cause_of on (inr over) = inr over
+
+  module _ (rows : List Row)
+      (call : WhereSteady start (λ pages. (on : Basis) → AreStored pages tables on → on.plan ≡ selection.plan
+      → IsSortedAnswer on.w on.db selection rows × Asks on.local start (work on.w on.db on.sizes on.plan) now 0)) where
+    said_of : (on : Basis) → AreStored (pages_seen start) tables on
+        → IsSortedAnswer on.w on.db selection rows × Asks on.local start (work on.w on.db on.sizes selection.plan) now 0
+    said_of on has = call steady (with_plan on selection.plan) (stored_with (pages_seen start) tables on selection.plan has) refl
+
+    pub sorted_answer : (old new : SinkFacts) (n : ℕ) → Writes {T = Unit {0}} (rows_text rows) (Ok tt) old new → n ≡ min (length rows) (2 ^ 64 - 1)
+        → WritesAnswer (pages_seen start) tables (PlannedData.sorted selection) old new n
+    sorted_answer old new n wrote counted = record {
+      given = rows;
+      answer = λ on has. (said_of on has).0;
+      prints = record { written = wrote.written; counted_is = counted };
+    }
+
+    -- a failed write of them
+    pub sorted_cut : (e : Fault) (old new : SinkFacts) → e ≡ WriteFailed → Writes {T = Unit {0}} (rows_text rows) (Err e) old new
+        → WritesBeginning (pages_seen start) tables (PlannedData.sorted selection) old new e
+    sorted_cut e old new is wrote = record {
+      given = rows;
+      begins = λ on has. ([], subst (IsSortedAnswer on.w on.db selection) (sym (append-nil rows)) (said_of on has).0);
+      prints = record { cut = λ _. wrote.written; whole = λ other. absurd (other is) };
+      cause = λ on has. inl (inr is);
+    }
+
+    pub sorted_few : (on : Basis) → AreStored (pages_seen start) tables on → Asks on.local start (work on.w on.db on.sizes selection.plan) now 0
+    sorted_few on has = (said_of on has).1

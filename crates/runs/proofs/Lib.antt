@@ -1,0 +1,4 @@
+pub mod RowLemmas
+pub mod StreamLemmas
+pub mod GivenLemmas
+pub mod AnswerLemmas

@@ -1,0 +1,92 @@
+//! Rows that are computed, written as lines.
+ghost use Rattle.std.specs.Prelude.{◌≡◌, All, IfErr, MatchResult, OnOk, map};
+ghost use Rattle.std.specs.List.{flat_map};
+ghost use Rattle.values.specs.Datum.{datum_of};
+ghost use Rattle.values.specs.Fault.{Counts};
+ghost use Rattle.values.specs.Sink.{Writes};
+ghost use Rattle.pager.specs.Calls.{ReadsPages};
+ghost use Rattle.pager.specs.PagerState.{IsPageNumber};
+ghost use Rattle.image.specs.Pages.{WhereSteady};
+ghost use Rattle.plans.specs.Plan.{work};
+ghost use Rattle.plans.specs.PlanView.{plan_data};
+ghost use Rattle.scan.specs.Coming.{Asks};
+ghost use Rattle.operators.specs.Basis.{AreStored, Basis};
+ghost use Rattle.operators.specs.Left.{IsPlanOf};
+ghost use Rattle.results.specs.Coming.{selection_data};
+ghost use Rattle.sorted_results.specs.Sorted.{sorted_data};
+ghost use Rattle.query_plans.specs.Answers.{PlannedData};
+ghost use Rattle.explain.specs.Text.{row_text};
+ghost use Rattle.runs.specs.Faults.{IsRunFault};
+ghost use Rattle.runs.specs.Runs.{WritesAnswer, WritesBeginning};
+
+use explain::values_text;
+use pager::{Pager, Source};
+use results::{Results, Selection};
+use schema::Table;
+use sorted_results::{SortedSelection, sorted_rows};
+use std::alloc::Global;
+use values::{Fault, Sink, Value};
+
+/// Writes the rows of a SELECT in no order as lines, each as it is computed, and counts them. Its faults are those of a run.
+pub(crate) fn write_selection<S: Source, W: Sink>(
+    alloc: Global,
+    pager: &mut Pager<S>,
+    tables: &[Table],
+    selection: &Selection,
+    out: &mut W,
+) -> Result<u64, Fault>
+    requires roots { All (λ table. IsPageNumber pager.old.state table.root) tables.now }
+    requires planned { IsPlanOf tables.now (plan_data selection.now.plan) }
+    ensures rows { WhereSteady pager.old.state (λ pages. MatchResult result
+        (WritesAnswer pages tables.now (PlannedData.rows (selection_data selection.now)) (W.facts out.old) (W.facts out.new))
+        (WritesBeginning pages tables.now (PlannedData.rows (selection_data selection.now)) (W.facts out.old) (W.facts out.new))) }
+    ensures pages { WhereSteady pager.old.state (λ pages. (on : Basis) → AreStored pages tables.now on
+        → OnOk result (Asks on.local pager.old.state (work on.w on.db on.sizes (plan_data selection.now.plan)) pager.new.state 0)) }
+    ensures only { IfErr result IsRunFault }
+    ensures reads { ReadsPages result pager.old.state pager.new.state }
+    ensures writes { Counts Fault.WriteFailed result (W.facts out.old).failures (W.facts out.new).failures }
+{
+    let mut results = Results::open(alloc, selection)?;
+    let mut row = Vec::new(alloc);
+    let mut count = 0u64;
+    'rows: while results.next(alloc, pager, tables, &mut row)? {
+        values_text(row.as_slice(), out)?;
+        count = count.saturating_add(1);
+    }
+    Ok(count)
+}
+
+/// Writes rows as lines. Its one fault is `WriteFailed`, after a beginning of the rows' text.
+fn write_lines<W: Sink>(rows: &[Vec<Value>], out: &mut W) -> Result<(), Fault>
+    ensures only { IfErr result (λ e. e ≡ Fault.WriteFailed) }
+    ensures writes { Writes (flat_map (λ row. row_text (map datum_of row.items)) rows.now) result (W.facts out.old) (W.facts out.new) }
+{
+    for row in rows {
+        values_text(row.as_slice(), out)?;
+    }
+    Ok(())
+}
+
+/// Writes the rows of a SELECT in order as lines, once all are computed, and counts them. Its faults are those of a run.
+pub(crate) fn write_sorted<S: Source, W: Sink>(
+    alloc: Global,
+    pager: &mut Pager<S>,
+    tables: &[Table],
+    selection: &SortedSelection,
+    out: &mut W,
+) -> Result<u64, Fault>
+    requires roots { All (λ table. IsPageNumber pager.old.state table.root) tables.now }
+    requires planned { IsPlanOf tables.now (plan_data selection.now.plan) }
+    ensures rows { WhereSteady pager.old.state (λ pages. MatchResult result
+        (WritesAnswer pages tables.now (PlannedData.sorted (sorted_data selection.now)) (W.facts out.old) (W.facts out.new))
+        (WritesBeginning pages tables.now (PlannedData.sorted (sorted_data selection.now)) (W.facts out.old) (W.facts out.new))) }
+    ensures pages { WhereSteady pager.old.state (λ pages. (on : Basis) → AreStored pages tables.now on
+        → OnOk result (Asks on.local pager.old.state (work on.w on.db on.sizes (plan_data selection.now.plan)) pager.new.state 0)) }
+    ensures only { IfErr result IsRunFault }
+    ensures reads { ReadsPages result pager.old.state pager.new.state }
+    ensures writes { Counts Fault.WriteFailed result (W.facts out.old).failures (W.facts out.new).failures }
+{
+    let rows = sorted_rows(alloc, pager, tables, selection)?;
+    write_lines(rows.as_slice(), out)?;
+    Ok(rows.len() as u64)
+}

@@ -1,0 +1,3 @@
+pub mod InputLemmas
+pub mod RowLemmas
+pub mod HitLemmas

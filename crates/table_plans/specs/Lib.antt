@@ -1,0 +1,4 @@
+pub mod Input
+pub mod Whole
+pub mod Planned
+pub mod Laws
