@@ -81,18 +81,16 @@ NONSENSE = (
     *("SELECT * FROM `item", "/* SELECT * FROM item", "\ufeffSELECT * FROM item", "SELECT\u00a0* FROM item"),
 )
 
-# Statements that aren't served yet, one of each clause, also of tables and columns that are none.
+# Statements that aren't served yet, one of each kind.
 STATEMENTS = (
-    *("SELECT 1", "EXPLAIN QUERY PLAN SELECT * FROM item", "WITH w AS (SELECT 1) SELECT * FROM w"),
-    *("SELECT DISTINCT name FROM item", "SELECT name FROM item WHERE id = 1", "SELECT name FROM item AS i"),
-    *("SELECT i.name FROM item i", "SELECT count(*) FROM item", "SELECT * FROM item, item"),
-    *("SELECT * FROM item LEFT JOIN item USING (id)", "SELECT * FROM (SELECT * FROM item)"),
-    *("SELECT name FROM item GROUP BY name HAVING sum(id) > 1", "SELECT rank() OVER (ORDER BY id) FROM item"),
+    *("EXPLAIN QUERY PLAN SELECT * FROM item", "WITH w AS (SELECT 1) SELECT * FROM w", "SELECT DISTINCT name FROM item"),
+    *("SELECT count(*) FROM item", "SELECT a.id FROM item AS a, item AS b", "SELECT * FROM (SELECT * FROM item)"),
+    *("SELECT a.name FROM item AS a LEFT JOIN item AS b USING (id)", "SELECT rank() OVER (ORDER BY id) FROM item"),
+    "SELECT name FROM item GROUP BY name HAVING sum(id) > 1",
     "SELECT sum(id) FILTER (WHERE id) OVER w FROM item WINDOW w AS (ROWS 1 PRECEDING)",
-    *("SELECT name FROM item ORDER BY id", "SELECT name FROM item UNION ALL SELECT name FROM item"),
-    *("SELECT name FROM item LIMIT 1 OFFSET 1", "SELECT name FROM item LIMIT -1"),
-    *("SELECT id IN (SELECT id FROM item) FROM item", "SELECT EXISTS (SELECT nothing FROM nowhere)"),
-    *("SELECT nothing + 1 FROM nowhere", "SELECT nothing FROM nowhere, item"),
+    *("SELECT name FROM item UNION ALL SELECT name FROM item", "SELECT id IN (SELECT id FROM item) FROM item"),
+    *("SELECT EXISTS (SELECT nothing FROM nowhere)", "SELECT * FROM (SELECT 1 IN (SELECT 1))", "SELECT * FROM sqlite_schema"),
+    "SELECT name FROM sqlite_master",
 )
 
 # Texts that take much to read, and are too deep or none.
@@ -219,11 +217,12 @@ def try_texts(tally: Tally, path: Path) -> None:
         (SELECT + " " * (65537 - len(SELECT)), 38),
         ("SELECT * FROM nowhere", 31),
         ("SELECT nothing FROM nowhere", 31),
+        ("SELECT nothing + 1 FROM nowhere", 31),
+        ("SELECT nothing FROM nowhere, item", 31),
+        ("SELECT * FROM item, item", 40),
         ("SELECT nothing FROM item", 32),
         ('SELECT id, "bolt" FROM item', 32),
         ("SELECT rowid FROM item", 32),
-        ("SELECT * FROM sqlite_schema", 29),
-        ("SELECT name FROM sqlite_master", 29),
     ):
         what = f"the text {text[:80]!r} of {len(text)} bytes"
         tally.add(what, refusal_problem(run(path, text), fault_line(number)))

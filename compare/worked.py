@@ -40,6 +40,42 @@ ANSWERS = {
     "SELECT qty, name, qty, id FROM item": "40,'bolt',40,1\nNULL,'nut',NULL,2\n7,'cap',7,3\n7,'nut',7,4\n",
     "SELECT n, item FROM sale": "5,1\n2,3\n9,3\n1,9\n",
     "SELECT item FROM gift": "",
+    # Conditions: each is a whole number, and a row stays where it is true.
+    "SELECT * FROM item WHERE 0": "",
+    "SELECT id FROM item WHERE qty": "1\n3\n4\n",
+    "SELECT id FROM item WHERE qty < 40 ORDER BY id": "3\n4\n",
+    "SELECT id FROM item WHERE qty = 7 AND name = 'nut'": "4\n",
+    "SELECT id FROM item WHERE NOT qty = 7": "1\n",
+    "SELECT id FROM item WHERE qty IS NULL OR name LIKE 'B%'": "1\n2\n",
+    "SELECT id FROM item WHERE id BETWEEN 2 AND 3 AND 1": "2\n3\n",
+    "SELECT id FROM item WHERE id < 3 AND id + 9223372036854775805 > 0": "1\n2\n",
+    "SELECT i.id, I.name FROM item AS i WHERE i.qty = 40": "1,'bolt'\n",
+    "SELECT item.*, name FROM item WHERE id = 3": "3,'cap',7,'cap'\n",
+    # Expressions, over rows and alone.
+    "SELECT qty + 1, -id, name || '!' FROM item": "41,-1,'bolt!'\nNULL,-2,'nut!'\n8,-3,'cap!'\n8,-4,'nut!'\n",
+    "SELECT 1 FROM item": "1\n1\n1\n1\n",
+    "SELECT 0 AND (9223372036854775807 + 1)": "0\n",
+    "SELECT -7/2, -7%2, 1/0, NULL IN ()": "-3,-1,NULL,0\n",
+    "SELECT (-9223372036854775807 - 1) % -1": "0\n",
+    "SELECT 1 IN (2, NULL), 1 IN (1, NULL), NOT NULL, NULL IS NULL": "NULL,1,NULL,1\n",
+    "SELECT CASE WHEN 1 THEN 'a' ELSE 'b' END, coalesce(NULL, 2), 'A' LIKE 'a', nullif(3, 3)": "'a',2,1,NULL\n",
+    "SELECT hex('abc'), length('a'), x'0aff', 'it''s'": "'616263',1,X'0AFF','it''s'\n",
+    "SELECT typeof(NULL), typeof(1), typeof(''), typeof(x''), 7 - 2 - 1": "'null','integer','text','blob',4\n",
+    "SELECT 1 WHERE 1 = 2": "",
+    "SELECT 'row' WHERE 2 LIMIT 1": "'row'\n",
+    # ORDER BY, LIMIT and OFFSET. NULL comes first where a term ascends, and last where it descends.
+    "SELECT id FROM item ORDER BY qty, id": "2\n3\n4\n1\n",
+    "SELECT id FROM item ORDER BY qty DESC, id DESC": "1\n4\n3\n2\n",
+    "SELECT id FROM item ORDER BY qty NULLS LAST, 1 DESC": "4\n3\n1\n2\n",
+    "SELECT id FROM item ORDER BY qty DESC NULLS FIRST, id": "2\n1\n3\n4\n",
+    "SELECT id AS k, name FROM item ORDER BY name, K DESC": "1,'bolt'\n3,'cap'\n4,'nut'\n2,'nut'\n",
+    "SELECT name FROM item ORDER BY length(name) DESC, -id LIMIT 2": "'bolt'\n'nut'\n",
+    "SELECT id FROM item LIMIT 2 OFFSET 1": "2\n3\n",
+    "SELECT id FROM item LIMIT -1 OFFSET 3": "4\n",
+    "SELECT id FROM item LIMIT -9223372036854775807 OFFSET -9": "1\n2\n3\n4\n",
+    "SELECT id FROM item LIMIT 0": "",
+    "SELECT id FROM item ORDER BY id DESC LIMIT 1 OFFSET 9223372036854775807": "",
+    "SELECT id FROM item ORDER BY id DESC LIMIT 2 OFFSET 1": "3\n2\n",
 }
 
 # The same with the names of the columns.
@@ -48,6 +84,9 @@ HEADED = {
     "SELECT * FROM item": "'id','name','qty'\n1,'bolt',40\n2,'nut',NULL\n3,'cap',7\n4,'nut',7\n",
     "SELECT (Id) FROM item": "'id'\n1\n2\n3\n4\n",
     "SELECT ITEM FROM gift": "'item'\n",
+    "SELECT id AS k FROM item WHERE id = 1": "'k'\n1\n",
+    "SELECT i.NAME, i.* FROM item i WHERE id = 3": "'name','id','name','qty'\n'cap',3,'cap',7\n",
+    "SELECT 1 +  2, /* x */ ( 'a' ) \"b c\"": "'1 +  2','b c'\n3,'a'\n",
 }
 
 # Statements that are refused, and the fault's number.
@@ -55,17 +94,50 @@ REFUSED = {
     "SELECT name FROM other": 31,
     "SELECT price FROM item": 32,
     "SELECT name, n FROM sale": 32,
+    "SELECT price AS p FROM other": 31,
+    "SELECT nme FROM item": 32,
+    "SELECT item.name FROM item AS i": 32,
+    "SELECT i.name FROM item": 32,
+    "SELECT other.* FROM item": 32,
+    "SELECT id AS k FROM item WHERE k = 1": 32,
+    "SELECT x.* ": 32,
+    "SELECT *": 36,
+    "SELECT name AS n, id AS n FROM item ORDER BY n": 33,
+    "SELECT name + 1 FROM item": 34,
+    "SELECT id FROM item WHERE name": 34,
+    "SELECT id FROM item WHERE name = 7": 34,
+    "SELECT id FROM item ORDER BY name + 1": 34,
+    "SELECT id || 'x' FROM item": 34,
+    "SELECT CASE id WHEN 'a' THEN 1 END FROM item": 34,
+    "SELECT id FROM item GROUP BY name": 35,
+    "SELECT id, count(*) FROM item": 35,
+    "SELECT 1 FROM item WHERE count(*) > 0": 36,
+    "SELECT id FROM item ORDER BY 2": 36,
+    "SELECT id FROM item ORDER BY 0": 36,
+    "SELECT id FROM item WHERE rank() OVER ()": 36,
+    "SELECT sum(id) OVER (ROWS BETWEEN CURRENT ROW AND 1 PRECEDING) FROM item": 37,
+    "SELECT 1 UNION SELECT 1, 2": 39,
+    "SELECT 1 FROM item, item": 40,
+    # What isn't served yet.
     "SELECT name FROM sqlite_schema": 29,
-    "SELECT price AS p FROM other": 29,
-    "SELECT 1": 29,
-    "SELECT 1 FROM item": 29,
-    "SELECT name AS id FROM item": 29,
-    "SELECT item.name FROM item": 29,
-    "SELECT item.* FROM item": 29,
-    "SELECT *, name FROM item": 29,
-    "SELECT qty + 1 FROM item": 29,
-    "SELECT qty FROM item WHERE qty = 7": 29,
     "SELECT name FROM item, sale": 29,
+    "SELECT DISTINCT name FROM item": 29,
+    "SELECT count(*) FROM item": 29,
+    "SELECT name FROM item GROUP BY name": 29,
+    "SELECT rank() OVER (ORDER BY id) FROM item": 29,
+    "SELECT id FROM item UNION SELECT n FROM sale": 29,
+    "SELECT id FROM item WHERE id IN (SELECT nothing FROM nowhere)": 29,
+    "EXPLAIN QUERY PLAN SELECT nothing FROM item": 29,
+}
+
+# Statements that stop where an operation leaves 64 bits, and the lines before it.
+STOPPED = {
+    "SELECT 9223372036854775807 + 1": "",
+    "SELECT (-9223372036854775807 - 1) / -1": "",
+    "SELECT id FROM item WHERE id + 9223372036854775807 > 0": "",
+    "SELECT id FROM item ORDER BY abs(-9223372036854775807 - id)": "",
+    "SELECT id + 9223372036854775805 FROM item": "9223372036854775806\n9223372036854775807\n",
+    "SELECT id FROM item WHERE id < 3 OR id * 9223372036854775807 > 0": "1\n2\n",
 }
 
 # Texts that are no statement, and the place at which they stop being one.
@@ -294,6 +366,9 @@ def try_answers(trial: Trial) -> None:
             for words in ([], ["--header"]):
                 answer = run(*words, trial.path, sql)
                 trial.tally.add(f"page size {size}, {words}, {sql!r}", refusal_problem(answer, fault_line(number)))
+        for sql, lines in STOPPED.items():
+            answer, wanted = run(trial.path, sql), Run(1, lines.encode(), fault_line(50))
+            trial.tally.add(f"page size {size}, {sql!r}", "" if answer == wanted else str(answer))
         for sql, place in NO_STATEMENTS.items():
             trial.tally.add(f"page size {size}, {sql!r}", refusal_problem(run(trial.path, sql), fault_line(30, place)))
     longest = "SELECT n FROM sale".ljust(65536)
