@@ -42,6 +42,8 @@ PROGRAMS = {
 }
 # The kit's command.
 RT = ["python3", "-B", str(TOP / "gate" / "command.py")]
+# How many minutes after its beginning the whole begins no further check of an edit of a turn, so that it ends on a slow machine too.
+MINUTES = 140
 COUNTS = re.compile(r"(\d+) passed, (\d+) failed")
 
 
@@ -98,7 +100,7 @@ def scripts(folder: Path, more: dict[str, str], rounds: list[str]) -> list[Part]
     """The comparisons, over programs that are built."""
     more = {**more, "BUILT": "1"}
     shells = [Part(name, ["sh", f"compare/{name}.sh"], folder, more) for name in ("counts", "tables", "answers")]
-    ours = [Part(name, ["python3", f"compare/{name}.py"], folder, more) for name in ("worked", "interrupted", "catalogs", "statements")]
+    ours = [Part(name, ["python3", f"compare/{name}.py"], folder, more) for name in ("worked", "interrupted", "catalogs", "searches", "statements")]
     return [Part("outside", ["python3", "compare/outside.py", "--built", *rounds], folder, more), *ours, *shells]
 
 
@@ -109,7 +111,7 @@ def run_beside(parts: list[Part], total: Sum) -> None:
             total.add(part, lines, status)
 
 
-def check_whole(is_all: bool, total: Sum) -> None:
+def check_whole(is_all: bool, total: Sum, began: float) -> None:
     """Runs `rt ci` on a copy without the edits, and then, over what it proved and built, these beside the comparisons."""
     with tempfile.TemporaryDirectory(prefix="check-") as room:
         copy = Path(room, "repository")
@@ -122,7 +124,8 @@ def check_whole(is_all: bool, total: Sum) -> None:
         for edits in TOP.glob("crates/*/must-fail"):
             shutil.copytree(edits, copy / edits.relative_to(TOP))
         if not status:
-            edits = Part("edits", ["python3", "gate/edits.py", *([] if is_all else turn())], copy, {"EDITS_ROOM": room})
+            chosen = [] if is_all else [*turn(), "--until", str(began + 60 * MINUTES)]
+            edits = Part("edits", ["python3", "gate/edits.py", *chosen], copy, {"EDITS_ROOM": room})
             run_beside([edits, *scripts(copy, {}, [])], total)
         # What was proved and tried is what stands here.
         without = [word for name in MADE for word in ("-x", name)]
@@ -197,7 +200,7 @@ def main() -> int:
     if words.how == "quick":
         check_quick(total)
     else:
-        check_whole(words.all, total)
+        check_whole(words.all, total, began)
     used = [resource.getrusage(who) for who in (resource.RUSAGE_CHILDREN, resource.RUSAGE_SELF)]
     minutes = sum(it.ru_utime + it.ru_stime for it in used) / 60
     print(f"{(time.time() - began) / 60:.0f} minutes, {minutes:.0f} minutes of processor time")

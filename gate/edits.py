@@ -13,6 +13,8 @@ check that ended in another way, are tried one at a time on a fresh copy by the 
 The first check of a crate leaves the work of its definitions and lemmas for the others. Its other functions are proved
 again only where an edit is tried alone, since that judgement is one of the whole crate; that it is proved as it stands
 is what `rt ci` has found before.
+
+Where a time is given, no check begins behind it: edits that were not tried by then neither pass nor fail.
 """
 
 from __future__ import annotations
@@ -61,10 +63,11 @@ class Edit:
 
 @dataclass(frozen=True)
 class Outcome:
-    """What came of an edit: whether it was refused, and the line that says so."""
+    """What came of an edit: whether it was refused, the line that says so, and whether it was tried at all."""
 
     refused: bool
     line: str
+    was_tried: bool = True
 
     @staticmethod
     def judged(verdict: str | bool, line: str) -> Outcome:
@@ -147,8 +150,8 @@ def function_at(room: Room, file: str, line: int) -> tuple[str, ...] | None:
 class Trial:
     """The edits of one crate, which take a slot for each check."""
 
-    def __init__(self, crate, edits: list[str], slots: threading.Semaphore, kept: Path | None) -> None:
-        self.crate, self.slots, self.began = crate, slots, time.time()
+    def __init__(self, crate, edits: list[str], slots: threading.Semaphore, kept: Path | None, until: float) -> None:
+        self.crate, self.slots, self.began, self.until = crate, slots, time.time(), until
         self.edits = [edit_of(file, crate.folder) for file in edits]
         # What the checks begin with, and whether it has the proofs of all functions.
         self.kept = kept or Path(tempfile.mkdtemp(prefix="kept-", dir=os.environ.get("EDITS_ROOM")))
@@ -168,6 +171,10 @@ class Trial:
 
     def told(self, edit: Edit, why: str) -> str:
         return f"must-fail {self.crate.name}/{edit.name}: refused, as it must be: {why[:160]}"
+
+    def is_late(self) -> bool:
+        """Whether no further check begins."""
+        return time.time() >= self.until
 
     def keep(self, room: Room) -> None:
         """Has the further checks begin with what this one kept."""
@@ -204,6 +211,8 @@ class Trial:
         if not batch:
             return {}
         with self.slots, Room(self.crate, self.kept) as room:
+            if self.is_late():
+                return {}
             changed = {}
             for edit in batch:
                 texts, why = rt.read_edit(edit.file, room.folder)
@@ -224,9 +233,11 @@ class Trial:
 
     def try_alone(self, edit: Edit) -> Outcome:
         """Tries one edit by the kit's own judgement: over kept work, and from nothing where it isn't refused so."""
-        if not self.prove_whole():
+        if not self.is_late() and not self.prove_whole():
             return Outcome(False, f"must-fail {self.crate.name}/{edit.name}: NOT TRIED: the crate itself isn't proved")
         with self.slots:
+            if self.is_late():
+                return Outcome(True, f"must-fail {self.crate.name}/{edit.name}: left, as the time was up", was_tried=False)
             with Room(self.crate, self.kept) as room:
                 outcome = Outcome.judged(*rt.must_fail(self.crate, edit.file, ["--jobs", "1"], str(room.kept)))
             return outcome if outcome.refused else Outcome.judged(*rt.must_fail(self.crate, edit.file, ["--jobs", "1"]))
@@ -259,6 +270,7 @@ def read_words() -> argparse.Namespace:
     parser.add_argument("--lanes", type=int, default=rt.processors(), help="how many checks run side by side")
     parser.add_argument("--kept", action="store_true", help="over what the crates' own checks kept: no verdict of the gate")
     parser.add_argument("--turn", help="not all: those that are always tried and a third of the others, which this word chooses")
+    parser.add_argument("--until", type=float, default=float("inf"), help="begin no check behind this time, in seconds of the epoch")
     parser.add_argument("--changed", default="", help="in a turn, the names of the crates that changed, joined by commas")
     return parser.parse_args()
 
@@ -272,19 +284,19 @@ def main() -> int:
         print(f"{file}: no edit, by its name or its place")
     turn = Turn(words.turn, set(words.changed.split(","))) if words.turn else None
     chosen = {crate: [it for it in good if turn is None or turn.takes(crate, it)] for crate, (good, _) in found.items()}
-    # A large crate takes the longest, so that it begins first.
-    order = sorted((it for it in crates if chosen[it]), key=lambda it: -it.count(rb"\n"))
+    # What changed comes first, since the time may end the turn; and a large crate takes the longest, so that it begins first.
+    order = sorted((it for it in crates if chosen[it]), key=lambda it: (bool(turn) and not turn.has_changed(it), -it.count(rb"\n")))
     slots = threading.Semaphore(words.lanes)
-    trials = [Trial(it, chosen[it], slots, kept_work(it) if words.kept else None) for it in order]
+    trials = [Trial(it, chosen[it], slots, kept_work(it) if words.kept else None, words.until) for it in order]
     with ThreadPoolExecutor(len(trials) or 1) as pool:
         outcomes = [it for tried in pool.map(Trial.run, trials) for it in tried]
     # What failed stands at the end, where it is seen first.
     for it in sorted(outcomes, key=lambda it: not it.refused):
         print(it.line)
-    passed = sum(it.refused for it in outcomes)
-    failed = len(outcomes) - passed + sum(len(bad) for _, bad in found.values())
-    tried, known = sum(map(len, chosen.values())), sum(len(good) for good, _ in found.values())
-    print(f"{tried} of {known} edits were tried")
+    tried, known = [it for it in outcomes if it.was_tried], sum(len(good) for good, _ in found.values())
+    passed = sum(it.refused for it in tried)
+    failed = len(tried) - passed + sum(len(bad) for _, bad in found.values())
+    print(f"{len(tried)} of {known} edits were tried")
     print(f"{passed} passed, {failed} failed")
     return 1 if failed else 0
 

@@ -23,6 +23,7 @@ def load() -> ModuleType:
     # Its first call sets a signal's handler, which only the main thread may.
     module.rtlib.guarded()
     sum_once(module.rtlib.Crate)
+    list_once(module.rtlib.Crate)
     return module
 
 
@@ -44,6 +45,20 @@ def sum_once(crates: type) -> None:
             held.sums = None
 
     crates.stamp = stamp
+
+
+def list_once(crates: type) -> None:
+    """Has a crate list those below it once. By itself the command lists them anew on each way down, of which there are as many as
+    above."""
+    whole = crates.below
+
+    def below(crate) -> list:
+        held = crate.__dict__.get("held_below")
+        if held is None or held[0] != len(crate.deps):
+            held = crate.held_below = (len(crate.deps), whole(crate))
+        return list(held[1])
+
+    crates.below = below
 
 
 rt = load()

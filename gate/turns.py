@@ -40,8 +40,11 @@ class Turn:
 
     def takes(self, crate, edit: str) -> bool:
         """Whether this turn tries the edit."""
-        name = os.path.basename(edit).removesuffix(".edit")
-        if name in self.always or self.changed & {crate.name, *(it.name for it in crate.below())}:
+        if os.path.basename(edit).removesuffix(".edit") in self.always or self.has_changed(crate):
             return True
         chosen = hashlib.sha256(f"{self.word} {crate.name}".encode()).digest()
         return chosen[0] % 3 == 0
+
+    def has_changed(self, crate) -> bool:
+        """Whether the crate or one below it differs."""
+        return bool(self.changed & {crate.name, *(it.name for it in crate.below())})
