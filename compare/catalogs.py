@@ -81,6 +81,13 @@ def quoted(name: str) -> str:
     return '"' + name.replace('"', '""') + '"'
 
 
+def missing(default: str | None) -> str:
+    """What rows that are older than a column have in it, by its DEFAULT as the pragma tells it, where that isn't NULL."""
+    if default is None:
+        return ""
+    return f" or {default}" if default.startswith("'") or default.lstrip("-").isdigit() else " or refused"
+
+
 def table_lines(database: sqlite3.Connection, name: str, root: int) -> str:
     """A table with its columns, as the pragmas tell them."""
     columns = database.execute(f"PRAGMA table_xinfo({quoted(name)})").fetchall()
@@ -90,7 +97,7 @@ def table_lines(database: sqlite3.Connection, name: str, root: int) -> str:
         key = " key" + "".join(f" {place}" for _, place in keys)
     elif len(keys) == 1 and columns[keys[0][1]][2].upper() == "INTEGER":
         key = f" rowid {keys[0][1]}"
-    lines = [f"    column {column[1]} {CLASSES[column[2].upper()]}{' not null' if column[3] else ''}\n" for column in columns]
+    lines = [f"    column {column[1]} {CLASSES[column[2].upper()]}{' not null' if column[3] else ''}{missing(column[4])}\n" for column in columns]
     return f"table {name} {root}{key}\n" + "".join(lines)
 
 

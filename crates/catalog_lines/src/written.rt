@@ -2,9 +2,9 @@
 use catalog::Catalog;
 use create_trees::KeyOrder;
 use indexes::Index;
-use schema::{Column, RowKey, Table};
+use schema::{Column, Missing, RowKey, Table};
 use std::alloc::{AllocError, Global};
-use values::Ty;
+use values::{Ty, Value};
 
 /// The word for a type.
 const fn word_of(ty: Ty) -> &'static str {
@@ -16,17 +16,34 @@ const fn word_of(ty: Ty) -> &'static str {
     }
 }
 
-/// Writes a column's name, its type, and whether none of its values is NULL.
-fn write_column(text: &mut String, column: &Column) -> Result<(), AllocError> {
+/// Writes what rows that are older than a column have in it, where that isn't NULL.
+fn write_missing(alloc: Global, text: &mut String, missing: &Missing) -> Result<(), AllocError> {
+    match missing {
+        Missing::Fill(Value::Null) => Ok(()),
+        Missing::Fill(Value::Int(number)) => {
+            text.push_str(format!(in alloc; " or {number}")?.as_str())
+        }
+        Missing::Fill(Value::Text(content)) => {
+            text.push_str(format!(in alloc; " or '{content}'")?.as_str())
+        }
+        Missing::Fill(Value::Blob(_)) => text.push_str(" or a blob"),
+        Missing::Refused => text.push_str(" or refused"),
+    }
+}
+
+/// Writes a column's name, its type, whether none of its values is NULL, and what older rows have in it.
+fn write_column(alloc: Global, text: &mut String, column: &Column) -> Result<(), AllocError> {
     text.push_str("    column ")?;
     text.push_str(column.name())?;
     text.push(' ')?;
     text.push_str(word_of(column.ty()))?;
     text.push_str(if column.is_not_null() {
-        " not null\n"
+        " not null"
     } else {
-        "\n"
-    })
+        ""
+    })?;
+    write_missing(alloc, text, column.missing())?;
+    text.push('\n')
 }
 
 /// Writes places of columns.
@@ -55,7 +72,7 @@ fn write_table(alloc: Global, text: &mut String, table: &Table) -> Result<(), Al
     write_key(alloc, text, table.key())?;
     text.push('\n')?;
     for column in table.columns() {
-        write_column(text, column)?;
+        write_column(alloc, text, column)?;
     }
     Ok(())
 }
