@@ -1,1 +1,1 @@
-mod EachLemmas
+mod NamedLemmas

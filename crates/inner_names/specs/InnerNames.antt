@@ -1,9 +1,10 @@
 -- Queries inside expressions, by their names. (SQL Language Expressions, "The IN and NOT IN Operators", "The EXISTS Operator")
-use Rattle.std.specs.Prelude.{List, [], Result}
+use Rattle.std.specs.Prelude.{◌≡◌, List, [], Ok, Result, map}
 use Rattle.values.specs.declared.fault.Fault.{Fault}
 use Rattle.from_names.specs.Resolved.{QueryNames}
 use Rattle.meaning.specs.Query.{InnerQuery}
 use Rattle.naming.specs.Expression.{Answers, InnerTree}
+use Rattle.naming.specs.Outcome.{also, each}
 use Rattle.naming.specs.Statement.{Inner, answers_of, inner_of}
 
 -- what FROM may mention is known to what resolves them
@@ -12,3 +13,7 @@ inner_by = inner_of []
 
 abbrev pub answers_by : QueryNames → List InnerQuery → Answers
 answers_by = answers_of []
+
+-- these are, one by one, what queries are by their names
+abbrev pub AreNamed : QueryNames → List InnerTree → List InnerQuery → Type 0
+AreNamed queries trees inner = also (map (λ i. i.query)) (each (inner_by queries) trees) ≡ Ok inner

@@ -1,15 +1,16 @@
 //! The answers of the queries inside the expressions of a SELECT, by their places.
-ghost use Rattle.std.specs.Prelude.{◌≡◌, map};
+ghost use Rattle.std.specs.Prelude.{◌≡◌, ◌<◌, Some, length, map, slice_get};
 ghost use Rattle.body_trees.specs.BodyView.{inner_of};
-ghost use Rattle.inner_names.specs.InnerNames.{answers_by};
+ghost use Rattle.inner_names.specs.InnerNames.{AreNamed, answers_by};
 ghost use Rattle.inner_names.specs.InnerView.{asked_of};
+ghost use Rattle.meaning.specs.Query as meaning;
 ghost use Rattle.naming.specs.Places.{place_of};
 ghost use Rattle.naming.specs.Same.{is_same_inner};
 ghost use Rattle.naming.specs.Statement.{answer_at};
 ghost use Rattle.query_trees.specs.Outcome.{Gives};
 
 use crate::resolved::resolved;
-use crate::written::Asked;
+use crate::written::{Asked, place_of_alike};
 use body_trees::InnerQuery;
 use expression_names::InnerQueries;
 use from_names::Queries;
@@ -33,33 +34,33 @@ fn query_place(queries: &[InnerQuery], query: &InnerQuery) -> Option<usize>
     None
 }
 
-// The place of a query. The fault is one of `resolved`.
-fn asked_place<Q: Queries>(
-    alloc: Global,
-    queries: &Q,
-    inner: &[InnerQuery],
-    asked: Asked<'_>,
-) -> Result<Option<usize>, Fault>
-    requires { Q.resolves queries.now }
-    ensures { Gives answer_at result (answers_by (Q.meaning queries.now) (map inner_of inner.now) (asked_of asked.entry)) }
+// The place of the first of these queries that is the same as the one at a place of them.
+fn place_of_same(queries: &[InnerQuery], at: usize) -> Option<usize>
+    requires { at < length queries.now }
+    ensures { (query : meaning.InnerQuery) → slice_get (map inner_of queries.now) at ≡ Some query
+        → result ≡ place_of is_same_inner query (map inner_of queries.now) }
 {
-    let found = resolved(alloc, queries, asked)?;
-    Ok(query_place(inner, &found.query))
+    query_place(queries, &queries[at])
 }
 
-/// The queries inside the expressions of a SELECT, each of which is told by the place of the first that is the same. (SQL Language
-/// Expressions, "The IN and NOT IN Operators", "The EXISTS Operator")
+/// The queries inside the expressions of a SELECT, each of which is told by the place of the first that is the same. One that is
+/// written like one of these isn't resolved again. (SQL Language Expressions, "The IN and NOT IN Operators", "The EXISTS Operator")
 #[derive(Drop)]
 pub struct Inners<'a, Q: Queries> {
     queries: &'a Q,
+    /// These as they are written, and by their names.
+    asked: &'a [Asked<'a>],
     inner: &'a [InnerQuery],
 }
 
 impl<'a, Q: Queries> Model for Inners<'a, Q> {
-    ghost use Rattle.std.specs.Prelude.{List};
+    ghost use Rattle.std.specs.Prelude.{List, map};
     ghost use Rattle.std.specs.Coded.{codes};
+    ghost use Rattle.body_trees.specs.BodyView.{inner_of};
     ghost use Rattle.body_trees.specs.contracts.bodies.InnerQuery as e;
     ghost use Rattle.body_trees.specs.declared.bodies.InnerQuery.{InnerQuery};
+    ghost use Rattle.inner_names.specs.InnerNames.{AreNamed};
+    ghost use Rattle.inner_names.specs.InnerView.{asked_of};
 
     ghost Value = { Q × List InnerQuery };
 
@@ -67,16 +68,32 @@ impl<'a, Q: Queries> Model for Inners<'a, Q> {
 
     ghost view = { λ i. (i.queries.now, i.inner.now) };
 
-    ghost invariant = { λ i. Q.resolves i.queries.now };
+    ghost invariant = { λ i. Q.resolves i.queries.now × AreNamed (Q.meaning i.queries.now) (map asked_of i.asked.now) (map inner_of i.inner.now) };
 }
 
 impl<'a, Q: Queries> Inners<'a, Q> {
-    /// These, in their order, which `queries` resolves.
-    pub fn new(queries: &'a Q, inner: &'a [InnerQuery]) -> Self
-        requires { Q.resolves queries.now }
+    /// These, as they are written and by their names, in their order, which `queries` resolves.
+    pub fn new(queries: &'a Q, asked: &'a [Asked<'a>], inner: &'a [InnerQuery]) -> Self
+        requires resolved { Q.resolves queries.now }
+        requires named { AreNamed (Q.meaning queries.now) (map asked_of asked.now) (map inner_of inner.now) }
         ensures { result ≡ (queries.now, inner.now) }
     {
-        Inners { queries, inner }
+        Inners {
+            queries,
+            asked,
+            inner,
+        }
+    }
+
+    // The place of a query. The fault is one of `resolved`.
+    fn place(&self, alloc: Global, asked: Asked<'_>) -> Result<Option<usize>, Fault>
+        ensures { Gives answer_at result (answers_by (Q.meaning self.now.0) (map inner_of self.now.1) (asked_of asked.entry)) }
+    {
+        if let Some(at) = place_of_alike(self.asked, asked) {
+            return Ok(place_of_same(self.inner, at));
+        }
+        let found = resolved(alloc, self.queries, asked)?;
+        Ok(query_place(self.inner, &found.query))
     }
 }
 
@@ -84,10 +101,10 @@ impl<'a, Q: Queries> InnerQueries for Inners<'a, Q> {
     ghost answers = { λ i. answers_by (Q.meaning i.0) (map inner_of i.1) };
 
     fn values(&self, alloc: Global, query: &Query) -> Result<Option<usize>, Fault> {
-        asked_place(alloc, self.queries, self.inner, Asked::Values(query))
+        self.place(alloc, Asked::Values(query))
     }
 
     fn exists(&self, alloc: Global, query: &Query) -> Result<Option<usize>, Fault> {
-        asked_place(alloc, self.queries, self.inner, Asked::Exists(query))
+        self.place(alloc, Asked::Exists(query))
     }
 }

@@ -11,6 +11,7 @@ mod answers;
 mod resolved;
 mod written;
 
-pub use all::{inner_queries, split};
+pub use all::{asked_queries, inner_queries, split};
 pub use answers::Inners;
 pub use resolved::Inner;
+pub use written::Asked;

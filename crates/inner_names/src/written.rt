@@ -1,14 +1,15 @@
 //! The queries that stand in expressions.
-ghost use Rattle.std.specs.Prelude.{◌≡◌, option_map};
+ghost use Rattle.std.specs.Prelude.{◌≡◌, IsTrue, IfSome, Some, map, option_map, slice_get};
 ghost use Rattle.inner_names.specs.InnerView.{asked_of};
 ghost use Rattle.naming.specs.Parts.{inner_tree};
 ghost use Rattle.statement_trees.specs.TreeView.{expr_of};
 
+use same_queries::same_query;
 use statement_trees::{Expr, Query};
 
 /// A query inside an expression, as it is written. (SQL Language Expressions)
 #[derive(Clone, Copy)]
-pub(crate) enum Asked<'a> {
+pub enum Asked<'a> {
     /// Whose values are the members of an IN.
     Values(&'a Query),
     /// Whose rows an EXISTS asks for.
@@ -24,4 +25,27 @@ pub(crate) fn inside(part: &Expr) -> Option<Asked<'_>>
         Expr::Exists(query) => Some(Asked::Exists(query)),
         _ => None,
     }
+}
+
+// Whether they are written alike.
+fn is_alike(a: Asked<'_>, b: Asked<'_>) -> bool
+    ensures { IsTrue result → asked_of a.entry ≡ asked_of b.entry }
+{
+    match (a, b) {
+        (Asked::Values(x), Asked::Values(y)) => same_query(x, y),
+        (Asked::Exists(x), Asked::Exists(y)) => same_query(x, y),
+        _ => false,
+    }
+}
+
+/// The place of one of these that is written alike.
+pub(crate) fn place_of_alike(written: &[Asked<'_>], asked: Asked<'_>) -> Option<usize>
+    ensures { IfSome result (λ at. slice_get (map asked_of written.now) at ≡ Some (asked_of asked.entry)) }
+{
+    for (at, other) in written.iter().enumerate() {
+        if is_alike(*other, asked) {
+            return Some(at);
+        }
+    }
+    None
 }

@@ -164,7 +164,7 @@ fn sort_keys<Q: Queries>(
     ensures { Gives (λ v. map key_of v.items) result
         (spec.keys_of (map (λ n. string_bytes n) names.now) spec.no_row (terms_of (map term_of order.now))) }
 {
-    let none = Inners::new(queries, &[]);
+    let none = Inners::new(queries, &[], &[]);
     let no_rows: Option<&Columns<'_>> = None;
     keys(alloc, &none, no_rows, names, order)
 }

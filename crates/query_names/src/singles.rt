@@ -2,6 +2,8 @@
 ghost use Rattle.std.specs.Prelude.{◌≡◌, IfOk, map};
 ghost use Rattle.body_trees.specs.BodyView.{body_of, inner_of};
 ghost use Rattle.grammar.specs.Reading.{terms_of};
+ghost use Rattle.inner_names.specs.InnerNames.{AreNamed};
+ghost use Rattle.inner_names.specs.InnerView.{asked_of};
 ghost use Rattle.naming.specs.Statement as spec;
 ghost use Rattle.query_names.specs.SingleView.{single_data};
 ghost use Rattle.query_names.specs.Singles.{behind_inner, single_over};
@@ -13,7 +15,7 @@ ghost use Rattle.statement_trees.specs.TreeView.{core_of, term_of};
 use crate::windows::with_windows;
 use body_trees::{Body, InnerQuery, Tables};
 use from_names::{Queries, from};
-use inner_names::{Inners, inner_queries, split};
+use inner_names::{Asked, Inners, asked_queries, inner_queries, split};
 use select_names::{NamedSelect, select};
 use source_names::{Known, Sources};
 use statement_trees::{Core, Term};
@@ -68,15 +70,17 @@ fn behind_inner<Q: Queries>(
     known: &[Known],
     core: &Core,
     order: &[Term],
+    asked: &[Asked<'_>],
     inner: Vec<InnerQuery>,
     written: Vec<Body>,
 ) -> Result<NamedSingle, Fault>
-    requires { Q.resolves queries.now }
+    requires resolved { Q.resolves queries.now }
+    requires named { AreNamed (Q.meaning queries.now) (map asked_of asked.now) (map inner_of inner.items) }
     ensures { Gives single_data result
         (behind_inner (map known_of known.now) (Q.meaning queries.now) (core_of core.now) (terms_of (map term_of order.now))
         (map inner_of inner.items) (map body_of written.items)) }
 {
-    let inners = Inners::new(queries, inner.as_slice());
+    let inners = Inners::new(queries, asked, inner.as_slice());
     let sources = from(alloc, &inners, queries, known, &core.sources)?;
     let named = select(alloc, &inners, &sources.scope, core, order)?;
     Ok(over(alloc, inner, written, sources, named)?)
@@ -94,7 +98,17 @@ pub(crate) fn single<Q: Queries>(
     ensures { Gives single_data result
         (spec.single_of (map known_of known.now) (Q.meaning queries.now) (core_of core.now) (terms_of (map term_of order.now))) }
 {
-    let inner = inner_queries(alloc, queries, core, order)?;
+    let asked = asked_queries(alloc, core, order)?;
+    let inner = inner_queries(alloc, queries, asked.as_slice())?;
     let (inner, written) = split(alloc, inner)?;
-    behind_inner(alloc, queries, known, core, order, inner, written)
+    behind_inner(
+        alloc,
+        queries,
+        known,
+        core,
+        order,
+        asked.as_slice(),
+        inner,
+        written,
+    )
 }

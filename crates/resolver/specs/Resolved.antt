@@ -1,12 +1,10 @@
 -- Which query a statement is over the tables of a catalog, and why it is none. (SELECT; STRICT Tables)
-use Rattle.std.specs.Prelude.{◌≡◌, ◌⊎◌, true, false, List, map}
+use Rattle.std.specs.Prelude.{List, map}
 use Rattle.values.specs.declared.fault.Fault.{Fault}
-use Rattle.values.specs.declared.fault.Fault.TheVariants.{NotYet}
 use Rattle.syntax.specs.StatementTree.{StatementTree}
 use Rattle.naming.specs.Statement.{Named}
 use Rattle.naming.specs.Typed as naming
 use Rattle.schema.specs.TableData.{ColumnData, TableData}
-use Rattle.resolver.specs.Later.{is_later}
 
 -- a table of the catalog by the names and types of its columns
 abbrev pub column_of : ColumnData → naming.Column
@@ -18,11 +16,10 @@ table_of t = record { name = t.name; columns = map column_of t.columns }
 abbrev pub tables_of : List TableData → List naming.Table
 tables_of tables = map table_of tables
 
--- the statement is this query over these tables, with these names, and it isn't one that waits
-pub record Resolves (tables : List TableData) (tree : StatementTree) (named : Named) : Type 0 where
-  pub types : naming.Types (tables_of tables) tree named
-  pub now : is_later tree ≡ false
+-- the statement is this query over these tables, with these names
+abbrev pub Resolves : List TableData → StatementTree → Named → Type 0
+Resolves tables tree named = naming.Types (tables_of tables) tree named
 
--- it isn't served yet, or its names or its types give this fault, or memory ran out
+-- its names or its types give this fault, or memory ran out
 abbrev pub IsRefused : List TableData → StatementTree → Fault → Type 0
-IsRefused tables tree fault = ((fault ≡ NotYet) × (is_later tree ≡ true)) ⊎ naming.IsRefused (tables_of tables) tree fault
+IsRefused tables tree fault = naming.IsRefused (tables_of tables) tree fault

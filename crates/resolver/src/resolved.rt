@@ -9,7 +9,6 @@ ghost use Rattle.statement_trees.specs.StatementView.{statement_of};
 ghost use Rattle.resolver.specs.Resolved.{IsRefused, Resolves, tables_of};
 
 use crate::known::{column_types, known_tables};
-use crate::later::waits;
 use naming::laws::typed_as_meaning;
 use query_types::check_types;
 use schema::Table;
@@ -47,8 +46,8 @@ fn typed_statement(
     typed(alloc, types.as_slice(), named)
 }
 
-/// The query that a statement is over the tables of a catalog. The fault is `NotYet` where EXPLAIN QUERY PLAN is written, or a query
-/// inside an expression; one of the statement's names; one of its types; or `NoMemory`. (SELECT)
+/// The query that a statement is over the tables of a catalog. The fault is one of the statement's names; one of its types; or
+/// `NoMemory`. (SELECT)
 pub fn resolve(
     alloc: Global,
     tables: &[Table],
@@ -58,9 +57,6 @@ pub fn resolve(
     ensures typed { IfOk result (λ named. IsTyped (column_types tables.now) (query_data named.query)) }
     ensures refused { IfErr result (IsRefused tables.now (statement_of statement.now)) }
 {
-    if waits(alloc, statement)? {
-        return Err(Fault::NotYet);
-    }
     typed_as_meaning();
     typed_statement(alloc, tables, statement)
 }

@@ -1,7 +1,10 @@
-use Rattle.std.proofs.Common.{map, subst, sym}
+use Rattle.std.proofs.Common.{◌≡◌, map, Ok, ap, subst, sym, ◌∙◌}
 use Rattle.body_trees.specs.BodyView.{body_of, inner_of}
 use Rattle.grammar.specs.Reading.{terms_of}
-use Rattle.inner_names.specs.InnerView.{inner_data}
+use Rattle.inner_names.specs.InnerNames.{inner_by}
+use Rattle.inner_names.specs.InnerView.{asked_of, inner_data}
+use Rattle.naming.specs.Outcome.{each}
+use Rattle.naming.specs.Parts.{inner_trees}
 use Rattle.query_names.proofs.SingleLemmas.{inner_taken}
 use Rattle.query_names.specs.SingleView.{single_data}
 use Rattle.query_trees.specs.Outcome.{Gives}
@@ -11,6 +14,12 @@ use Rattle.query_names.proofs.singles.single.Goals as goal
 
 pub returns : goal.returns
 returns g c =
-    subst (Gives single_data c.behind_inner.result) (sym (inner_taken (map known_of c.args.known.now) (g.Q.Queries.meaning c.args.queries.now)
+    let meaning = g.Q.Queries.meaning c.args.queries.now in
+    let trees : map asked_of c.as_slice.result.now ≡ inner_trees (core_of c.args.core.now) (terms_of (map term_of c.args.order.now)) =
+    ap (map asked_of) c.as_slice.ensures.value ∙ c.in_ok-asked.ensures in
+    let named : each (inner_by meaning) (inner_trees (core_of c.args.core.now) (terms_of (map term_of c.args.order.now)))
+    ≡ Ok (map inner_data c.in_ok-inner.inner.items) =
+    subst (λ ts. each (inner_by meaning) ts ≡ Ok (map inner_data c.in_ok-inner.inner.items)) trees c.in_ok-inner.ensures in
+    subst (Gives single_data c.behind_inner.result) (sym (inner_taken (map known_of c.args.known.now) meaning
     (core_of c.args.core.now) (terms_of (map term_of c.args.order.now)) (map inner_data c.in_ok-inner.inner.items) (map inner_of c.in_ok-inner-2.inner.items)
-    (map body_of c.in_ok-inner-2.written.items) c.in_ok-inner.ensures c.in_ok-inner-2.ensures.0 c.in_ok-inner-2.ensures.1)) c.behind_inner.ensures
+    (map body_of c.in_ok-inner-2.written.items) named c.in_ok-inner-2.ensures.0 c.in_ok-inner-2.ensures.1)) c.behind_inner.ensures

@@ -6,4 +6,4 @@ use Rattle.resolver.proofs.laws.resolved_is_typed.Goals as goal
 
 pub returns : goal.returns
 returns c tables tree named resolved =
-    subst (λ types. IsTyped types named.query) (same_types tables) (c.typed_as_meaning.ensures (tables_of tables) tree named resolved.types)
+    subst (λ types. IsTyped types named.query) (same_types tables) (c.typed_as_meaning.ensures (tables_of tables) tree named resolved)
