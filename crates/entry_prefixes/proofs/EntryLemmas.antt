@@ -1,5 +1,5 @@
 -- The entries of an index that was checked.
-use Rattle.std.proofs.Common.{◌≡◌, ℕ, Bool, Contains, IsPermutation, IsTrue, List, Some, length, map, slice_get, subst}
+use Rattle.std.proofs.Common.{◌≡◌, ◌≤◌, ℕ, Bool, Contains, IsPermutation, IsTrue, List, Some, length, map, slice_get, subst, arith}
 use Rattle.std.specs.Ordering.{is_lt}
 use Rattle.values.specs.Row.{Row}
 use Rattle.records.specs.Record.{IsRecord}
@@ -20,6 +20,7 @@ use Rattle.cursor.specs.Search.{IsSearchableIndex, entry_order}
 use Rattle.entry_rows.proofs.ListedLemmas.{strict}
 use Rattle.tree_walk.specs.declared.counts.TreeCounts.{TreeCounts}
 use Rattle.tree_walk.proofs.KindLemmas.{one_entry}
+use Rattle.index_walk.specs.Widths.{exactly}
 use Rattle.index_walk.specs.Checked.{HasEntryValues, IsCheckedIndex}
 use Rattle.index_walk.proofs.ValueLemmas.{has_values}
 use Rattle.entry_prefixes.specs.Entries.{HoldsEntries, StoresEntry}
@@ -38,9 +39,9 @@ module _ (pages : Pages) (place : Place) where
       one_record other.has.has.bytes a b (subst (λ (l : List ℕ). IsRecord l a) bytes has.record_is) other.has.has.record_is
 
 module _ (pages : Pages) (width : ℕ) (descends : List Bool) (root : ℕ) (counts : TreeCounts) (number : IsNumber pages root)
-    (checked : IsCheckedIndex pages width descends root counts) where
-  pub held : HasEntryValues pages width descends root
-  held = has_values pages width descends root counts checked
+    (checked : IsCheckedIndex pages (exactly width) descends root counts) where
+  pub held : HasEntryValues pages (exactly width) descends root
+  held = has_values pages (exactly width) descends root counts checked
 
   abbrev pub values : Place → Row
   values = held.values
@@ -77,7 +78,11 @@ module _ (pages : Pages) (width : ℕ) (descends : List Bool) (root : ℕ) (coun
 
   -- each has so many values
   pub long_entry : (place : Place) → Contains places place → length (values place) ≡ width
-  long_entry place h = held.long place (in_order.cells.sound place h)
+  long_entry place h =
+      let long = held.long place (in_order.cells.sound place h) in
+      let least : width ≤ length (values place) = long.least in
+      let most : length (values place) ≤ width = long.most in
+      omega (arith, least, most)
 
   pub stand : StandInOrder descends entries
   stand i j a b less at_a at_b =

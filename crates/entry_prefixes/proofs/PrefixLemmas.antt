@@ -16,6 +16,7 @@ use Rattle.wanted_entries.specs.Unique.{AreApart, IsNotUnique}
 use Rattle.wanted_entries.proofs.NeighbourLemmas.{count_of, unique_of}
 use Rattle.wanted_entries.proofs.OrderLemmas.{together}
 use Rattle.tree_walk.specs.declared.counts.TreeCounts.{TreeCounts}
+use Rattle.index_walk.specs.Widths.{exactly}
 use Rattle.index_walk.specs.Checked.{IsCheckedIndex}
 use Rattle.cursor.specs.declared.cursor.Cursor.{Cursor}
 use Rattle.cursor.specs.Calls.{IsStepFault}
@@ -37,7 +38,7 @@ pub record Following (start now : PagerState) (root width : ℕ) (cursor : Curso
   pub ends : EndsWith rows last
   pub long : length prefixes.distinct.items ≡ width
   pub counted : WhereSteady start (λ pages. (many : ℕ) (descends : List Bool) (counts : TreeCounts) → width ≤ many → IsNumber pages root
-      → IsCheckedIndex pages many descends root counts → IsCounted rows prefixes)
+      → IsCheckedIndex pages (exactly many) descends root counts → IsCounted rows prefixes)
 
 -- the fault of a step of a cursor that hasn't ended
 pub step_fault : (cursor : Cursor) (fault : Fault) → 0 < steps_left cursor → IsStepFault cursor fault → IsIndexFault cursor.root fault
@@ -52,7 +53,7 @@ step_fault cursor fault left is = absurd is
 module _ (start now : PagerState) (root width : ℕ) (cursor : Cursor) (last : Option Row) (prefixes : Prefixes)
     (f : Following start now root width cursor last prefixes) (steady : IsTrue start.source.steady)
     (many : ℕ) (descends : List Bool) (counts : TreeCounts) (enough : width ≤ many) (number : IsNumber (pages_seen start) root)
-    (checked : IsCheckedIndex (pages_seen start) many descends root counts) where
+    (checked : IsCheckedIndex (pages_seen start) (exactly many) descends root counts) where
   abbrev pub seen_values : Place → Row
   seen_values = values (pages_seen start) many descends root counts number checked
 

@@ -3,6 +3,7 @@ ghost use Rattle.std.specs.Prelude.{◌≡◌, ◌≤◌, ℕ, Bool, IfErr, List
 ghost use Rattle.pager.specs.Calls.{IsReadFault, ReadsPages};
 ghost use Rattle.image.specs.Pages.{IsNumber, WhereSteady};
 ghost use Rattle.tree_walk.specs.declared.counts.TreeCounts.{TreeCounts};
+ghost use Rattle.index_walk.specs.Widths.{exactly};
 ghost use Rattle.index_walk.specs.Checked.{IsCheckedIndex};
 ghost use Rattle.cursor.specs.Search.{IsIndexFault};
 ghost use Rattle.entry_prefixes.specs.Prefixes.{HasPrefixes};
@@ -29,7 +30,7 @@ pub fn read_prefixes<S: Source>(
     width: usize,
 ) -> Result<Prefixes, Fault>
     ensures prefixes { WhereSteady pager.old.state (λ pages. (values : ℕ) (descends : List Bool) (counts : TreeCounts)
-        → width ≤ values → IsNumber pages root → IsCheckedIndex pages values descends root counts
+        → width ≤ values → IsNumber pages root → IsCheckedIndex pages (exactly values) descends root counts
         → MatchResult result (HasPrefixes pages root width) IsReadFault) }
     ensures only { IfErr result (IsIndexFault root) }
     ensures reads { ReadsPages result pager.old.state pager.new.state }

@@ -3,6 +3,7 @@
 use Rattle.std.specs.Prelude.{◌≡◌, ◌+◌, ℕ, length}
 use Rattle.image.specs.Pages.{IsNumber, Pages}
 use Rattle.tree_walk.specs.declared.counts.TreeCounts.{TreeCounts}
+use Rattle.index_walk.specs.Widths.{exactly}
 use Rattle.index_walk.specs.Checked.{IsCheckedIndex}
 use Rattle.schema.specs.TableData.{TableData}
 use Rattle.table_walk.specs.Checked.{IsCheckedTree}
@@ -12,7 +13,7 @@ use Rattle.index_rows.specs.declared.index.TableIndex.{TableIndex}
 pub record IsCheckedTableIndex (pages : Pages) (index : TableIndex) (entries : ℕ) : Type 0 where
   pub counts : TreeCounts
   pub number : IsNumber pages index.root
-  pub tree : IsCheckedIndex pages (length index.places.now + 1) index.descends.now index.root counts
+  pub tree : IsCheckedIndex pages (exactly (length index.places.now + 1)) index.descends.now index.root counts
   pub entries_are : entries ≡ counts.cells
 
 -- the tree of a table was checked

@@ -24,6 +24,7 @@ use Rattle.tree_walk.proofs.CountLemmas.{cells_all, cells_step, size_all, size_s
 use Rattle.tree_walk.proofs.LinkLemmas.{link_within}
 use Rattle.tree_walk.proofs.ShapeLemmas as shapes
 use Rattle.tree_walk.proofs.UsedLemmas as walks
+use Rattle.index_walk.specs.declared.tree.EntryWidths.{EntryWidths}
 use Rattle.index_walk.specs.Broken.{BreaksIndexEntry, IsBrokenIndex, IsBrokenTree}
 use Rattle.index_walk.specs.Checked.{index_tree}
 use Rattle.index_walk.specs.Last.{IsFrom, IsIndexOrder, IsLastAt, IsLastUnder, LastData, blamed_at}
@@ -65,10 +66,10 @@ root_interior pages root top interior = interior
 root_interior pages root (below i stands c) interior = root_interior pages root stands c.interior
 
 -- a page of the tree isn't in order
-bad_order : (pages : Pages) (width : ℕ) (descends : List Bool) (root n : ℕ) (fault : Fault) → Reaches pages Index root n → fault ≡ BadOrder n
-    → (¬ IsIndexOrder pages descends root n) → IsBrokenIndex pages width descends root fault
-bad_order pages width descends root n fault reaches is not =
-    subst (λ (f : Fault). IsBrokenIndex pages width descends root f) (sym is) (inr (inr (reaches, not)))
+bad_order : (pages : Pages) (widths : EntryWidths) (descends : List Bool) (root n : ℕ) (fault : Fault) → Reaches pages Index root n → fault ≡ BadOrder n
+    → (¬ IsIndexOrder pages widths descends root n) → IsBrokenIndex pages widths descends root fault
+bad_order pages widths descends root n fault reaches is not =
+    subst (λ (f : Fault). IsBrokenIndex pages widths descends root f) (sym is) (inr (inr (reaches, not)))
 
 -- what a walk found under a page is a branch below an interior page: a leaf there isn't the root, and is filled
 branch_of : (pages : Pages) (root levels m : ℕ) → IsPageOf pages Index Interior root → IsNumber pages m → HasShape pages Index levels m
@@ -78,12 +79,12 @@ branch_of pages root zero m interior number shape filled =
 branch_of pages root (suc levels) m interior number shape filled = (number, shape, tt)
 
 -- Of an interior page n the children before child i were walked, each with the entry behind it, and this was counted.
-pub record AreBranches (pages : Pages) (width : ℕ) (descends : List Bool) (root n i : ℕ) (counts : TreeCounts) (old now : List Bool) (from last : LastData) : Type 0 where
+pub record AreBranches (pages : Pages) (widths : EntryWidths) (descends : List Bool) (root n i : ℕ) (counts : TreeCounts) (old now : List Bool) (from last : LastData) : Type 0 where
   pub branches : (k : ℕ) → k < i → IsBranch pages Index counts.levels (child_at pages n k)
-  pub run : IsEntryRunFrom pages width descends (flat_map (places_at_child pages Index counts.levels n) (range_with_len 0 i)) from last
+  pub run : IsEntryRunFrom pages widths descends (flat_map (places_at_child pages Index counts.levels n) (range_with_len 0 i)) from last
   pub none : i ≡ 0 → last ≡ from
-  pub own : (k : ℕ) → i ≡ suc k → i ≤ count_at pages n → IsLastAt pages width last Interior n k
-  pub ends : count_at pages n < i → IsLastUnder pages width last n
+  pub own : (k : ℕ) → i ≡ suc k → i ≤ count_at pages n → IsLastAt pages widths last Interior n k
+  pub ends : count_at pages n < i → IsLastUnder pages widths last n
   pub cells_is : counts.cells ≡ counted (cells_before pages Index counts.levels n i)
   pub size_is : counts.pages ≡ counted (size_before pages counts.levels n i)
   pub marks : walks.IsPartWalked pages (index_tree root) Interior n i (min i (count_at pages n)) counts.levels old now
@@ -93,11 +94,11 @@ abbrev MarksPage : Pages → ℕ → List Bool → List Bool → Type 0
 MarksPage pages n old marked = (users : Users) (done : List Use) (place : Use) → AreTreeMarks pages users done old → IsNewPlace pages users done place n
     → AreTreeMarks pages users (done ++ place ∷ []) marked
 
-module _ (pages : Pages) (width : ℕ) (descends : List Bool) (root n : ℕ) (old marked : List Bool) (blank : is_marked old n ≡ false) (marks : MarksPage pages n old marked) where
-  pub none_branched : (counts : TreeCounts) (from : LastData) → counts.cells ≡ 0 → counts.pages ≡ 1 → AreBranches pages width descends root n 0 counts old marked from from
+module _ (pages : Pages) (widths : EntryWidths) (descends : List Bool) (root n : ℕ) (old marked : List Bool) (blank : is_marked old n ≡ false) (marks : MarksPage pages n old marked) where
+  pub none_branched : (counts : TreeCounts) (from : LastData) → counts.cells ≡ 0 → counts.pages ≡ 1 → AreBranches pages widths descends root n 0 counts old marked from from
   none_branched counts from no_cells one_page = record {
     branches = λ k less. absurd (omega (arith, less));
-    run = no_run pages width descends from;
+    run = no_run pages widths descends from;
     none = λ e. refl;
     own = λ k e. absurd (omega (arith, e));
     ends = λ less. absurd (omega (arith, less));
@@ -113,8 +114,8 @@ module _ (pages : Pages) (width : ℕ) (descends : List Bool) (root n : ℕ) (ol
     opened = record { marked = marked; blank = blank; marks = marks; part = walks.part_none pages (index_tree root) Leaf n 0 marked }
 
     pub leaf_walked : (count : ℕ) → count ≡ count_at pages n → count ≤ 65535 → (n ≢ root → 0 < count_at pages n) → (from last : LastData)
-        → IsLeafWalked pages width descends n from last → (new : List Bool) → MarksCells pages (index_tree root) Leaf n marked new
-        → IsWalked pages width descends root n (record { levels = 0; cells = count; pages = 1 }) old new from last
+        → IsLeafWalked pages widths descends n from last → (new : List Bool) → MarksCells pages (index_tree root) Leaf n marked new
+        → IsWalked pages widths descends root n (record { levels = 0; cells = count; pages = 1 }) old new from last
     leaf_walked count is few filled from last leaf new cells = record {
       shape = page;
       filled = filled;
@@ -126,31 +127,31 @@ module _ (pages : Pages) (width : ℕ) (descends : List Bool) (root n : ℕ) (ol
       marks = walks.cells_walked pages (index_tree root) Leaf n 0 0 0 old marked opened page (depth, stands) refl new cells;
     }
 
-    pub leaf_cause : (fault : Fault) → IsLeafCause pages width descends root n marked fault → IsWalkCause pages width descends root n old fault
+    pub leaf_cause : (fault : Fault) → IsLeafCause pages widths descends root n marked fault → IsWalkCause pages widths descends root n old fault
     leaf_cause fault cause = ⊎_elim inl
         (λ why. inr (⊎_elim
-        (λ (broken : BreaksIndexEntry pages width Leaf n fault). inl (inr (inl (record { level = Leaf; n = n; reaches = (depth, stands); page = page; broken = broken }))))
+        (λ (broken : BreaksIndexEntry pages widths Leaf n fault). inl (inr (inl (record { level = Leaf; n = n; reaches = (depth, stands); page = page; broken = broken }))))
         (λ other. ⊎_elim
         (λ (twice : IsTwiceOn pages (index_tree root) Leaf n marked fault).
         inr (walks.twice_under pages (index_tree root) Leaf n 0 0 0 old marked opened page (depth, stands) fault twice))
-        (λ (order : (fault ≡ BadOrder n) × (¬ IsIndexOrder pages descends root n)). inl (bad_order pages width descends root n fault (depth, stands) order.0 order.1))
+        (λ (order : (fault ≡ BadOrder n) × (¬ IsIndexOrder pages widths descends root n)). inl (bad_order pages widths descends root n fault (depth, stands) order.0 order.1))
         other)
         why))
         cause
 
 -- a step at child i of an interior page
-module _ (pages : Pages) (width : ℕ) (descends : List Bool) (root depth n : ℕ) (stands : StandsAt pages Index root depth n) (page : IsPageOf pages Index Interior n)
-    (i : ℕ) (counts : TreeCounts) (old now : List Bool) (from last : LastData) (befores : AreBranches pages width descends root n i counts old now from last) where
+module _ (pages : Pages) (widths : EntryWidths) (descends : List Bool) (root depth n : ℕ) (stands : StandsAt pages Index root depth n) (page : IsPageOf pages Index Interior n)
+    (i : ℕ) (counts : TreeCounts) (old now : List Bool) (from last : LastData) (befores : AreBranches pages widths descends root n i counts old now from last) where
   -- all children were walked
   pub all_walked : i ≡ count_at pages n + 1
-      → IsWalked pages width descends root n (record { levels = counts.levels + 1; cells = counts.cells; pages = counts.pages }) old now from last
+      → IsWalked pages widths descends root n (record { levels = counts.levels + 1; cells = counts.cells; pages = counts.pages }) old now from last
   all_walked end =
       let e : counts.levels + 1 ≡ suc counts.levels = add-one counts.levels in
-      subst (λ (l : ℕ). IsWalked pages width descends root n (record { levels = l; cells = counts.cells; pages = counts.pages }) old now from last) (sym e)
+      subst (λ (l : ℕ). IsWalked pages widths descends root n (record { levels = l; cells = counts.cells; pages = counts.pages }) old now from last) (sym e)
       (record {
         shape = shapes.inner_shape pages Index n i counts.levels page end befores.branches;
         filled = λ other. tt;
-        run = subst (λ (k : ℕ). IsEntryRunFrom pages width descends (flat_map (places_at_child pages Index counts.levels n) (range_with_len 0 k)) from last)
+        run = subst (λ (k : ℕ). IsEntryRunFrom pages widths descends (flat_map (places_at_child pages Index counts.levels n) (range_with_len 0 k)) from last)
             (end ∙ add-one (count_at pages n)) befores.run;
         ends = λ filled. befores.ends (omega (arith, end));
         counts_are = record {
@@ -166,9 +167,9 @@ module _ (pages : Pages) (width : ℕ) (descends : List Bool) (root depth n : �
     child_here k e = subst (λ (x : ℕ). IsChild pages Index n x m) e (record { interior = page; within = within; is = sym m_is; number = number })
 
     -- where the walk of child i comes from
-    pub child_from : IsFrom pages width root from n → IsFrom pages width root last m
+    pub child_from : IsFrom pages widths root from n → IsFrom pages widths root last m
     child_from from_is = ⊎_elim
-        (λ (first : i ≡ 0). subst (λ (l : LastData). IsFrom pages width root l m) (sym (befores.none first)) (first_from from_is))
+        (λ (first : i ≡ 0). subst (λ (l : LastData). IsFrom pages widths root l m) (sym (befores.none first)) (first_from from_is))
         (λ (later : (k : ℕ) × (i ≡ suc k)).
         let k = later.0 in
         inr (n, k, befores.own k later.1 within, (depth, stands), record { head = m; is = child_here (k + 1) (later.1 ∙ sym (add-one k)); reaches = (1, top) }))
@@ -178,21 +179,21 @@ module _ (pages : Pages) (width : ℕ) (descends : List Bool) (root depth n : �
         zero_or zero = inl refl
         zero_or (suc k) = inr (k, refl)
 
-        first_from : IsFrom pages width root from n → IsFrom pages width root from m
+        first_from : IsFrom pages widths root from n → IsFrom pages widths root from m
         first_from (inl none) = inl none
         first_from (inr (a, k, at, reaches, under)) =
             inr (a, k, at, reaches, record { head = under.head; is = under.is; reaches = (suc under.reaches.0, below i under.reaches.1 (child_here i refl)) })
 
-    pub child_cause : (fault : Fault) → IsWalkCause pages width descends root m now fault → IsWalkCause pages width descends root n old fault
+    pub child_cause : (fault : Fault) → IsWalkCause pages widths descends root m now fault → IsWalkCause pages widths descends root n old fault
     child_cause fault cause = ⊎_elim inl
         (λ why. inr (⊎_elim
-        (λ (broken : IsBrokenIndex pages width descends root fault). inl broken)
+        (λ (broken : IsBrokenIndex pages widths descends root fault). inl broken)
         (λ (twice : IsUnderTwice pages (index_tree root) m now fault).
         inr (walks.child_twice pages (index_tree root) Interior n i (min i (count_at pages n)) counts.levels old now befores.marks page (depth, stands) refl m m_is within number fault twice))
         why))
         cause
 
-    module _ (under : TreeCounts) (mid : List Bool) (then : LastData) (walked : IsWalked pages width descends root m under now mid last then) where
+    module _ (under : TreeCounts) (mid : List Bool) (then : LastData) (walked : IsWalked pages widths descends root m under now mid last then) where
       branch_here : IsBranch pages Index under.levels (child_at pages n i)
       branch_here = subst (λ (x : ℕ). IsBranch pages Index under.levels x) m_is
           (branch_of pages root under.levels m (root_interior pages root stands page) number walked.shape walked.filled)
@@ -201,7 +202,7 @@ module _ (pages : Pages) (width : ℕ) (descends : List Bool) (root depth n : �
       uneven_here some differ = (refl, inl (shapes.uneven pages Index root depth n i counts.levels under.levels stands page within (befores.branches 0 some) branch_here differ))
 
       -- the last entry is under child i
-      last_there : IsLastUnder pages width then m
+      last_there : IsLastUnder pages widths then m
       last_there = walked.ends (subst (λ (x : ℕ). IsFilled pages under.levels x) (sym m_is) branch_here.2)
 
       reaches_here : Reaches pages Index n last_there.m
@@ -217,32 +218,32 @@ module _ (pages : Pages) (width : ℕ) (descends : List Bool) (root depth n : �
             page (depth, stands) refl m m_is within number mid under.levels same walked.marks
 
         -- an entry that doesn't come behind the last one under its child: that one isn't in order
-        order_cause : i < count_at pages n → (fault : Fault) → fault ≡ BadOrder (blamed_at Interior n then.page) → IsDisordered pages width descends Interior n i then
-            → IsBrokenIndex pages width descends root fault
+        order_cause : i < count_at pages n → (fault : Fault) → fault ≡ BadOrder (blamed_at Interior n then.page) → IsDisordered pages widths descends Interior n i then
+            → IsBrokenIndex pages widths descends root fault
         order_cause less fault is stop =
             let end = last_there in
             let blamed : blamed_at Interior n then.page ≡ end.m = ap (λ (p : Option ℕ). blamed_at Interior n p) end.at.page_is in
-            bad_order pages width descends root end.m fault (joined pages Index root stands reaches_here.1) (is ∙ ap BadOrder blamed)
-            (λ (order : IsIndexOrder pages descends root end.m).
-            disordered pages width descends Interior n i then stop end.level end.m end.j end.at
+            bad_order pages widths descends root end.m fault (joined pages Index root stands reaches_here.1) (is ∙ ap BadOrder blamed)
+            (λ (order : IsIndexOrder pages widths descends root end.m).
+            disordered pages widths descends Interior n i then stop end.level end.m end.j end.at
             (order.most end.level n i end.j stop.values end.at.values (depth, stands) (record { head = m; is = child_here i refl; reaches = end.reaches }) less end.at.page end.at.within stop.has end.at.has))
 
-        pub own_cause : i < count_at pages n → (fault : Fault) → IsEntryStop pages width descends Interior n i then mid fault → IsWalkCause pages width descends root n old fault
+        pub own_cause : i < count_at pages n → (fault : Fault) → IsEntryStop pages widths descends Interior n i then mid fault → IsWalkCause pages widths descends root n old fault
         own_cause less fault stop = ⊎_elim
-            (λ (cause : IsEntryCause pages width Interior n i mid fault). ⊎_elim inl
+            (λ (cause : IsEntryCause pages widths Interior n i mid fault). ⊎_elim inl
             (λ why. inr (⊎_elim
-            (λ (broken : BreaksIndexEntry pages width Interior n fault).
+            (λ (broken : BreaksIndexEntry pages widths Interior n fault).
             inl (inr (inl (record { level = Interior; n = n; reaches = (depth, stands); page = page; broken = broken }))))
             (λ (twice : IsEntryTwice pages Interior n i mid fault).
             inr (walks.cell_twice pages (index_tree root) Interior n (i + 1) i under.levels old mid child_marks page (depth, stands) twice.cell
             (entry_at_place pages Interior n i twice.cell page twice.is) tt less fault twice.twice))
             why))
             cause)
-            (λ (order : (fault ≡ BadOrder (blamed_at Interior n then.page)) × IsDisordered pages width descends Interior n i then).
+            (λ (order : (fault ≡ BadOrder (blamed_at Interior n then.page)) × IsDisordered pages widths descends Interior n i then).
             inr (inl (order_cause less fault order.0 order.1)))
             stop
 
-        module _ (own : ℕ) (new : List Bool) (next : LastData) (owns : AreOwnWalked pages width descends Interior n i own mid new then next) where
+        module _ (own : ℕ) (new : List Bool) (next : LastData) (owns : AreOwnWalked pages widths descends Interior n i own mid new then next) where
           own_marks : walks.IsPartWalked pages (index_tree root) Interior n (i + 1) (min (i + 1) (count_at pages n)) under.levels old new
           own_marks = ⊎_elim
               (λ (less : i < count_at pages n).
@@ -255,50 +256,50 @@ module _ (pages : Pages) (width : ℕ) (descends : List Bool) (root depth n : �
               (subst (λ (x : ℕ). walks.IsPartWalked pages (index_tree root) Interior n (i + 1) x under.levels old mid) (omega (arith, past, within)) child_marks))
               (cases_lt i (count_at pages n))
 
-          own_run : IsEntryRunFrom pages width descends (own_places pages n i) then next
+          own_run : IsEntryRunFrom pages widths descends (own_places pages n i) then next
           own_run = ⊎_elim
-              (λ (less : i < count_at pages n). subst (λ (l : List Place). IsEntryRunFrom pages width descends l then next) (sym (own_is pages n i less))
-              (one_run pages width descends Interior n i mid new then next (owns.some less) page))
-              (λ (past : count_at pages n ≤ i). subst (λ (l : List Place). IsEntryRunFrom pages width descends l then next) (sym (own_none pages n i past))
-              (subst (λ (l : LastData). IsEntryRunFrom pages width descends [] then l) (sym (owns.none past).1) (no_run pages width descends then)))
+              (λ (less : i < count_at pages n). subst (λ (l : List Place). IsEntryRunFrom pages widths descends l then next) (sym (own_is pages n i less))
+              (one_run pages widths descends Interior n i mid new then next (owns.some less) page))
+              (λ (past : count_at pages n ≤ i). subst (λ (l : List Place). IsEntryRunFrom pages widths descends l then next) (sym (own_none pages n i past))
+              (subst (λ (l : LastData). IsEntryRunFrom pages widths descends [] then l) (sym (owns.none past).1) (no_run pages widths descends then)))
               (cases_lt i (count_at pages n))
 
-          at_child : IsEntryRunFrom pages width descends (places_at_child pages Index under.levels n i) last next
-          at_child = run_after pages width descends (places_under pages Index under.levels (child_at pages n i)) (own_places pages n i) last then next
-              (subst (λ (x : ℕ). IsEntryRunFrom pages width descends (places_under pages Index under.levels x) last then) m_is walked.run) own_run
+          at_child : IsEntryRunFrom pages widths descends (places_at_child pages Index under.levels n i) last next
+          at_child = run_after pages widths descends (places_under pages Index under.levels (child_at pages n i)) (own_places pages n i) last then next
+              (subst (λ (x : ℕ). IsEntryRunFrom pages widths descends (places_under pages Index under.levels x) last then) m_is walked.run) own_run
 
           -- before the first child no levels matter
-          run_before : IsEntryRunFrom pages width descends (flat_map (places_at_child pages Index under.levels n) (range_with_len 0 i)) from last
+          run_before : IsEntryRunFrom pages widths descends (flat_map (places_at_child pages Index under.levels n) (range_with_len 0 i)) from last
           run_before = go i same befores.run
             where
               go : (j : ℕ) → (0 < j → counts.levels ≡ under.levels)
-                  → IsEntryRunFrom pages width descends (flat_map (places_at_child pages Index counts.levels n) (range_with_len 0 j)) from last
-                  → IsEntryRunFrom pages width descends (flat_map (places_at_child pages Index under.levels n) (range_with_len 0 j)) from last
+                  → IsEntryRunFrom pages widths descends (flat_map (places_at_child pages Index counts.levels n) (range_with_len 0 j)) from last
+                  → IsEntryRunFrom pages widths descends (flat_map (places_at_child pages Index under.levels n) (range_with_len 0 j)) from last
               go zero even run = run
-              go (suc j) even run = subst (λ (l : ℕ). IsEntryRunFrom pages width descends (flat_map (places_at_child pages Index l n) (range_with_len 0 (suc j))) from last)
+              go (suc j) even run = subst (λ (l : ℕ). IsEntryRunFrom pages widths descends (flat_map (places_at_child pages Index l n) (range_with_len 0 (suc j))) from last)
                   (even (omega arith)) run
 
-          run_more : IsEntryRunFrom pages width descends (flat_map (places_at_child pages Index under.levels n) (range_with_len 0 (i + 1))) from next
+          run_more : IsEntryRunFrom pages widths descends (flat_map (places_at_child pages Index under.levels n) (range_with_len 0 (i + 1))) from next
           run_more =
               let f = places_at_child pages Index under.levels n in
               let all : flat_map f (range_with_len 0 (i + 1)) ≡ flat_map f (range_with_len 0 i) ++ f i =
               ap (λ (k : ℕ). flat_map f (range_with_len 0 k)) (add-one i) ∙ fan_more f i 0 ∙ ap (λ (k : ℕ). flat_map f (range_with_len 0 i) ++ f k) (omega arith) in
-              subst (λ (l : List Place). IsEntryRunFrom pages width descends l from next) (sym all)
-              (run_after pages width descends (flat_map f (range_with_len 0 i)) (f i) from last next run_before at_child)
+              subst (λ (l : List Place). IsEntryRunFrom pages widths descends l from next) (sym all)
+              (run_after pages widths descends (flat_map f (range_with_len 0 i)) (f i) from last next run_before at_child)
 
-          ends_more : count_at pages n < i + 1 → IsLastUnder pages width next n
+          ends_more : count_at pages n < i + 1 → IsLastUnder pages widths next n
           ends_more past =
               let end = last_there in
               let done : count_at pages n ≤ i = omega (arith, past) in
-              subst (λ (l : LastData). IsLastUnder pages width l n) (sym (owns.none done).1)
+              subst (λ (l : LastData). IsLastUnder pages widths l n) (sym (owns.none done).1)
               (record { level = end.level; m = end.m; j = end.j; at = end.at; reaches = reaches_here })
 
-          own_more : (k : ℕ) → i + 1 ≡ suc k → i + 1 ≤ count_at pages n → IsLastAt pages width next Interior n k
+          own_more : (k : ℕ) → i + 1 ≡ suc k → i + 1 ≤ count_at pages n → IsLastAt pages widths next Interior n k
           own_more k e less =
               let here : i < count_at pages n = omega (arith, less) in
               let is : i ≡ k = omega (arith, e) in
-              subst (λ (x : ℕ). IsLastAt pages width next Interior n x) is
-              (last_here pages width descends Interior n i mid new then next (owns.some here) page here)
+              subst (λ (x : ℕ). IsLastAt pages widths next Interior n x) is
+              (last_here pages widths descends Interior n i mid new then next (owns.some here) page here)
 
           counts_here : AreCounts pages Index under.levels (child_at pages n i) under.cells under.pages
           counts_here = subst (λ (x : ℕ). AreCounts pages Index under.levels x under.cells under.pages) m_is walked.counts_are
@@ -311,7 +312,7 @@ module _ (pages : Pages) (width : ℕ) (descends : List Bool) (root depth n : �
               omega (arith, a, b, l)
 
           pub branches_more : (cells size : ℕ) → cells ≡ counted (counts.cells + counted (under.cells + own)) → size ≡ counted (counts.pages + under.pages)
-              → AreBranches pages width descends root n (i + 1) (record { levels = under.levels; cells = cells; pages = size }) old new from next
+              → AreBranches pages widths descends root n (i + 1) (record { levels = under.levels; cells = cells; pages = size }) old new from next
           branches_more cells size cells_sum size_sum = record {
             branches = shapes.more_branches pages Index n i counts.levels under.levels same befores.branches branch_here;
             run = run_more;

@@ -1,5 +1,5 @@
 -- Nothing is broken of the tree of an index that was checked.
-use Rattle.std.proofs.Common.{◌≡◌, ℕ, Bool, List, length, ◌∙◌, ap, subst, inl, inr, ⊎_elim}
+use Rattle.std.proofs.Common.{◌≡◌, ℕ, Bool, List, sym, subst, inl, inr, ⊎_elim}
 use Rattle.values.specs.Datum.{Datum}
 use Rattle.values.specs.declared.fault.Fault.{Fault}
 use Rattle.values.specs.declared.fault.Fault.TheVariants.{BadPage, BadChain, BadOrder, BadDepth, BadRecord, FloatValue, BadText}
@@ -19,6 +19,8 @@ use Rattle.image.proofs.PlaceLemmas.{complete}
 use Rattle.index_entries.specs.Entries.{BreaksEntry, HasBrokenChain, HasBrokenRecord, HasEntryThat, HasRecord}
 use Rattle.tree_walk.specs.declared.counts.TreeCounts.{TreeCounts}
 use Rattle.tree_walk.proofs.KindLemmas.{one_entry}
+use Rattle.index_walk.specs.declared.tree.EntryWidths.{EntryWidths}
+use Rattle.index_walk.specs.Widths.{IsOfWidth}
 use Rattle.index_walk.specs.Broken.{HasBrokenEntry, HasOtherWidth, IsBrokenIndex, IsBrokenOrder, IsBrokenTree}
 use Rattle.index_walk.specs.Checked.{HoldsEntry, IsCheckedIndex}
 use Rattle.index_walk.specs.Last.{IsIndexOrder}
@@ -40,24 +42,25 @@ unbroken_tree pages kind root sound (BadDepth n) (e, inr deep) = sound.shallow d
 unbroken_tree pages kind root sound fault broken = absurd broken
 
 -- a cell whose payload is a record of so many values
-module _ (pages : Pages) (width : ℕ) (cell : CellData) (values : List Datum) (has : HasRecord pages cell values) (width_is : length values ≡ width) where
+module _ (pages : Pages) (widths : EntryWidths) (cell : CellData) (values : List Datum) (has : HasRecord pages cell values) (width_is : IsOfWidth widths values) where
   no_record_fault : (fault : RecordFault) → HasBrokenRecord pages fault cell → fault ≡ r.NoMemory
   no_record_fault fault (bytes, whole, breaks) =
       not_broken fault has.bytes values (subst (λ (b : List ℕ). Breaks fault b) (one_payload pages cell.payload bytes has.bytes whole has.whole) breaks) has.record_is
 
-  no_other_width : HasOtherWidth pages width cell → ⊥
+  no_other_width : HasOtherWidth pages widths cell → ⊥
   no_other_width (others, other, differ) =
       let same = one_payload pages cell.payload other.bytes has.bytes other.whole has.whole in
-      differ (ap length (one_record has.bytes others values (subst (λ (b : List ℕ). IsRecord b others) same other.record_is) has.record_is) ∙ width_is)
+      let one = one_record has.bytes others values (subst (λ (b : List ℕ). IsRecord b others) same other.record_is) has.record_is in
+      differ (subst (λ (v : List Datum). IsOfWidth widths v) (sym one) width_is)
 
-module _ (pages : Pages) (width : ℕ) (descends : List Bool) (root : ℕ) (counts : TreeCounts) (checked : IsCheckedIndex pages width descends root counts) (fault : Fault) (broken : HasBrokenEntry pages width root fault) where
+module _ (pages : Pages) (widths : EntryWidths) (descends : List Bool) (root : ℕ) (counts : TreeCounts) (checked : IsCheckedIndex pages widths descends root counts) (fault : Fault) (broken : HasBrokenEntry pages widths root fault) where
   -- an entry that is such and such is one of those that were checked
-  no_entry : (IsSuch : CellData → Type 0) → ((cell : CellData) (values : List Datum) → HasRecord pages cell values → length values ≡ width → IsSuch cell → ⊥)
+  no_entry : (IsSuch : CellData → Type 0) → ((cell : CellData) (values : List Datum) → HasRecord pages cell values → IsOfWidth widths values → IsSuch cell → ⊥)
       → HasEntryThat pages broken.level broken.n IsSuch → ⊥
   no_entry IsSuch never entry =
       let at = complete pages Index counts.levels root checked.shape (place_at broken.n entry.i)
       (record { level = broken.level; entries = tt; reaches = broken.reaches; page = broken.page; within = entry.within }) in
-      let found = subst (λ (p : Place). HoldsEntry pages width p) at.2 (checked.entries at.0 (place_at broken.n entry.i) at.1) in
+      let found = subst (λ (p : Place). HoldsEntry pages widths p) at.2 (checked.entries at.0 (place_at broken.n entry.i) at.1) in
       let held = found.1 in
       let same = one_entry pages Index (place_at broken.n entry.i) held.has.cell entry.cell
       (entry_at_place pages held.level broken.n entry.i held.has.cell held.page held.has.is)
@@ -68,26 +71,26 @@ module _ (pages : Pages) (width : ℕ) (descends : List Bool) (root : ℕ) (coun
   no_break (BadPage m) (is, not) = not broken.page
   no_break (BadChain m) (is, entry) = no_entry (HasBrokenChain pages) (λ cell values has width_is none. none has.bytes has.whole) entry
   no_break (BadRecord m) (is, entry) = no_entry (HasBrokenRecord pages r.Bad)
-      (λ cell values has width_is breaks. bad_memory (no_record_fault pages width cell values has width_is r.Bad breaks)) entry
+      (λ cell values has width_is breaks. bad_memory (no_record_fault pages widths cell values has width_is r.Bad breaks)) entry
   no_break FloatValue entry = no_entry (HasBrokenRecord pages r.Float)
-      (λ cell values has width_is breaks. float_memory (no_record_fault pages width cell values has width_is r.Float breaks)) entry
+      (λ cell values has width_is breaks. float_memory (no_record_fault pages widths cell values has width_is r.Float breaks)) entry
   no_break BadText entry = no_entry (HasBrokenRecord pages r.Text)
-      (λ cell values has width_is breaks. text_memory (no_record_fault pages width cell values has width_is r.Text breaks)) entry
+      (λ cell values has width_is breaks. text_memory (no_record_fault pages widths cell values has width_is r.Text breaks)) entry
   no_break other breaks = absurd breaks
 
   no_broken_entry : ⊥
   no_broken_entry = ⊎_elim (no_break fault)
-      (λ (other : (fault ≡ BadRecord broken.n) × HasEntryThat pages broken.level broken.n (HasOtherWidth pages width)).
-      no_entry (HasOtherWidth pages width) (λ cell values has width_is differs. no_other_width pages width cell values has width_is differs) other.1)
+      (λ (other : (fault ≡ BadRecord broken.n) × HasEntryThat pages broken.level broken.n (HasOtherWidth pages widths)).
+      no_entry (HasOtherWidth pages widths) (λ cell values has width_is differs. no_other_width pages widths cell values has width_is differs) other.1)
       broken.broken
 
-unbroken_order : (pages : Pages) (descends : List Bool) (root : ℕ) → ((n : ℕ) → Reaches pages Index root n → IsIndexOrder pages descends root n) → (fault : Fault)
-    → IsBrokenOrder pages descends root fault → ⊥
-unbroken_order pages descends root order (BadOrder n) (reaches, not) = not (order n reaches)
-unbroken_order pages descends root order fault broken = absurd broken
+unbroken_order : (pages : Pages) (widths : EntryWidths) (descends : List Bool) (root : ℕ) → ((n : ℕ) → Reaches pages Index root n → IsIndexOrder pages widths descends root n) → (fault : Fault)
+    → IsBrokenOrder pages widths descends root fault → ⊥
+unbroken_order pages widths descends root order (BadOrder n) (reaches, not) = not (order n reaches)
+unbroken_order pages widths descends root order fault broken = absurd broken
 
-pub unbroken_index : (pages : Pages) (width : ℕ) (descends : List Bool) (root : ℕ) (counts : TreeCounts) → IsCheckedIndex pages width descends root counts → (fault : Fault)
-    → IsBrokenIndex pages width descends root fault → ⊥
-unbroken_index pages width descends root counts checked fault (inl broken) = unbroken_tree pages Index root checked.sound fault broken
-unbroken_index pages width descends root counts checked fault (inr (inl broken)) = no_broken_entry pages width descends root counts checked fault broken
-unbroken_index pages width descends root counts checked fault (inr (inr broken)) = unbroken_order pages descends root checked.order fault broken
+pub unbroken_index : (pages : Pages) (widths : EntryWidths) (descends : List Bool) (root : ℕ) (counts : TreeCounts) → IsCheckedIndex pages widths descends root counts → (fault : Fault)
+    → IsBrokenIndex pages widths descends root fault → ⊥
+unbroken_index pages widths descends root counts checked fault (inl broken) = unbroken_tree pages Index root checked.sound fault broken
+unbroken_index pages widths descends root counts checked fault (inr (inl broken)) = no_broken_entry pages widths descends root counts checked fault broken
+unbroken_index pages widths descends root counts checked fault (inr (inr broken)) = unbroken_order pages widths descends root checked.order fault broken

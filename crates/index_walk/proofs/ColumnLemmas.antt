@@ -1,5 +1,5 @@
 -- How two records stand, column by column.
-use Rattle.std.proofs.Common.{◌≡◌, ◌≢◌, ◌+◌, ◌<◌, ℕ, zero, suc, Bool, true, false, List, [], ◌∷◌, drop, length, refl, sym, ◌∙◌, ap, subst, arith}
+use Rattle.std.proofs.Common.{◌≡◌, ◌≢◌, ◌+◌, ◌<◌, ◌≤◌, ℕ, zero, suc, Bool, true, false, List, [], ◌∷◌, drop, length, take, refl, sym, ◌∙◌, ap, subst, arith}
 use Rattle.std.specs.Ordering.{is_ne, ordering_then}
 use Rattle.std.specs.declared.cmp.Ordering.{Ordering}
 use Rattle.std.specs.declared.cmp.Ordering.TheVariants.{Less, Equal, Greater}
@@ -32,103 +32,113 @@ next_column [] (suc at) x y xs ys = refl
 next_column (d ∷ descends) zero x y xs ys = refl
 next_column (d ∷ descends) (suc at) x y xs ys = next_column descends at x y xs ys
 
--- the columns before this one agree: how the records stand is how their other columns stand
-pub record IsPassed (descends : List Bool) (width at : ℕ) (one other : Unread) (x y : List Datum) : Type 0 where
+-- The columns before this one agree, of so many that are compared: how the records stand is how their next columns stand.
+pub record IsPassed (descends : List Bool) (columns at : ℕ) (one other : Unread) (x y : List Datum) : Type 0 where
   pub xs : List Datum
   pub ys : List Datum
+  pub left : ℕ
+  pub left_is : at + left ≡ columns
   pub one_is : AreUnread one xs
   pub other_is : AreUnread other ys
-  pub one_long : at + length xs ≡ width
-  pub other_long : at + length ys ≡ width
-  pub same : key_cmp descends x y ≡ key_cmp (drop at descends) xs ys
+  pub one_long : left ≤ length xs
+  pub other_long : left ≤ length ys
+  pub same : key_cmp descends (take columns x) (take columns y) ≡ key_cmp (drop at descends) (take left xs) (take left ys)
 
 -- of each two lists of values that the records may have
 abbrev pub ArePassed : List Bool → ℕ → ℕ → List ℕ → List ℕ → Unread → Unread → Type 0
-ArePassed descends width at a b one other = (x y : List Datum) → IsRecord a x → length x ≡ width → IsRecord b y → length y ≡ width
-    → IsPassed descends width at one other x y
+ArePassed descends columns at a b one other = (x y : List Datum) → IsRecord a x → columns ≤ length x → IsRecord b y → columns ≤ length y
+    → IsPassed descends columns at one other x y
 
 -- the next column of both
-record HasNext (descends : List Bool) (at : ℕ) (one other : Unread) (p q : List Datum) : Type 0 where
+record HasNext (descends : List Bool) (at left : ℕ) (one other : Unread) (p q : List Datum) : Type 0 where
   x : Datum
   y : Datum
   xs : List Datum
   ys : List Datum
+  more : ℕ
+  left_is : left ≡ suc more
   one_is : AreUnread one (x ∷ xs)
   other_is : AreUnread other (y ∷ ys)
-  one_cons : p ≡ x ∷ xs
-  other_cons : q ≡ y ∷ ys
+  one_long : more ≤ length xs
+  other_long : more ≤ length ys
+  same : key_cmp (drop at descends) (take left p) (take left q)
+      ≡ ordering_then (directed (direction descends at) (datum_cmp x y)) (key_cmp (drop (suc at) descends) (take more xs) (take more ys))
 
-has_next : (descends : List Bool) (width at : ℕ) (one other : Unread) (p q : List Datum) → AreUnread one p → AreUnread other q
-    → at + length p ≡ width → at + length q ≡ width → at < width → HasNext descends at one other p q
-has_next descends width at one other [] q one_is other_is one_long other_long within = absurd (omega (arith, one_long, within))
-has_next descends width at one other (x ∷ xs) [] one_is other_is one_long other_long within = absurd (omega (arith, other_long, within))
-has_next descends width at one other (x ∷ xs) (y ∷ ys) one_is other_is one_long other_long within = record {
+has_next : (descends : List Bool) (at left : ℕ) (one other : Unread) (p q : List Datum) → AreUnread one p → AreUnread other q
+    → left ≤ length p → left ≤ length q → 0 < left → HasNext descends at left one other p q
+has_next descends at zero one other p q one_is other_is one_long other_long some = absurd (omega (arith, some))
+has_next descends at (suc more) one other [] q one_is other_is one_long other_long some = absurd (omega (arith, one_long))
+has_next descends at (suc more) one other (x ∷ xs) [] one_is other_is one_long other_long some = absurd (omega (arith, other_long))
+has_next descends at (suc more) one other (x ∷ xs) (y ∷ ys) one_is other_is one_long other_long some = record {
   x = x;
   y = y;
   xs = xs;
   ys = ys;
+  more = more;
+  left_is = refl;
   one_is = one_is;
   other_is = other_is;
-  one_cons = refl;
-  other_cons = refl;
+  one_long = omega (arith, one_long);
+  other_long = omega (arith, other_long);
+  same = next_column descends at x y (take more xs) (take more ys);
 }
 
-module _ (descends : List Bool) (width at : ℕ) (a b : List ℕ) (one other : Unread) (passed : ArePassed descends width at a b one other) where
-  module _ (within : at < width) (x y : List Datum) (one_is : IsRecord a x) (one_long : length x ≡ width) (other_is : IsRecord b y) (other_long : length y ≡ width) where
-    abbrev p : IsPassed descends width at one other x y
+module _ (descends : List Bool) (columns at : ℕ) (a b : List ℕ) (one other : Unread) (passed : ArePassed descends columns at a b one other) where
+  module _ (within : at < columns) (x y : List Datum) (one_is : IsRecord a x) (one_long : columns ≤ length x) (other_is : IsRecord b y) (other_long : columns ≤ length y) where
+    abbrev p : IsPassed descends columns at one other x y
     p = passed x y one_is one_long other_is other_long
 
-    next : HasNext descends at one other p.xs p.ys
-    next = has_next descends width at one other p.xs p.ys p.one_is p.other_is p.one_long p.other_long within
+    next : HasNext descends at p.left one other p.xs p.ys
+    next =
+        let l = p.left_is in
+        has_next descends at p.left one other p.xs p.ys p.one_is p.other_is p.one_long p.other_long (omega (arith, l, within))
 
     -- there is a column
     pub some_column : ((x y : Datum) (xs ys : List Datum) → AreUnread one (x ∷ xs) → ¬ AreUnread other (y ∷ ys)) → ⊥
     some_column none = none next.x next.y next.xs next.ys next.one_is next.other_is
 
-    here : key_cmp descends x y ≡ ordering_then (directed (direction descends at) (datum_cmp next.x next.y)) (key_cmp (drop (suc at) descends) next.xs next.ys)
-    here = p.same ∙ ap (λ (k : List Datum). key_cmp (drop at descends) k p.ys) next.one_cons ∙ ap (λ (k : List Datum). key_cmp (drop at descends) (next.x ∷ next.xs) k) next.other_cons
-        ∙ next_column descends at next.x next.y next.xs next.ys
+    here : key_cmp descends (take columns x) (take columns y)
+        ≡ ordering_then (directed (direction descends at) (datum_cmp next.x next.y)) (key_cmp (drop (suc at) descends) (take next.more next.xs) (take next.more next.ys))
+    here = p.same ∙ next.same
 
     -- a column in which they differ decides
     pub decided : (order : Ordering) → order ≢ Equal → (one_new other_new : Unread)
         → ((x y : Datum) (xs ys : List Datum) → AreUnread one (x ∷ xs) → AreUnread other (y ∷ ys)
         → (order ≡ directed (direction descends at) (datum_cmp x y)) × AreUnread one_new xs × AreUnread other_new ys)
-        → key_cmp descends x y ≡ order
+        → key_cmp descends (take columns x) (take columns y) ≡ order
     decided order differ one_new other_new found =
         let told = found next.x next.y next.xs next.ys next.one_is next.other_is in
         let e : directed (direction descends at) (datum_cmp next.x next.y) ≡ order = sym told.0 in
-        here ∙ ap (λ (o : Ordering). ordering_then o (key_cmp (drop (suc at) descends) next.xs next.ys)) e ∙ then_other order _ differ
+        here ∙ ap (λ (o : Ordering). ordering_then o (key_cmp (drop (suc at) descends) (take next.more next.xs) (take next.more next.ys))) e ∙ then_other order _ differ
 
     -- else those behind it do
     pub agreed : (order : Ordering) → order ≡ Equal → (one_new other_new : Unread)
         → ((x y : Datum) (xs ys : List Datum) → AreUnread one (x ∷ xs) → AreUnread other (y ∷ ys)
         → (order ≡ directed (direction descends at) (datum_cmp x y)) × AreUnread one_new xs × AreUnread other_new ys)
-        → IsPassed descends width (at + 1) one_new other_new x y
+        → IsPassed descends columns (at + 1) one_new other_new x y
     agreed order equal one_new other_new found =
         let told = found next.x next.y next.xs next.ys next.one_is next.other_is in
         let e : directed (direction descends at) (datum_cmp next.x next.y) ≡ Equal = sym told.0 ∙ equal in
         let i : suc at ≡ at + 1 = omega arith in
-        let l : length p.xs ≡ suc (length next.xs) = ap length next.one_cons in
-        let m : length p.ys ≡ suc (length next.ys) = ap length next.other_cons in
-        let a = p.one_long in
-        let b = p.other_long in
+        let l = p.left_is in
+        let m = next.left_is in
         record {
           xs = next.xs;
           ys = next.ys;
+          left = next.more;
+          left_is = omega (arith, l, m);
           one_is = told.1;
           other_is = told.2;
-          one_long = omega (arith, l, a);
-          other_long = omega (arith, m, b);
-          same = here ∙ then_equal _ _ e ∙ ap (λ (k : ℕ). key_cmp (drop k descends) next.xs next.ys) i;
+          one_long = next.one_long;
+          other_long = next.other_long;
+          same = here ∙ then_equal _ _ e ∙ ap (λ (k : ℕ). key_cmp (drop k descends) (take next.more next.xs) (take next.more next.ys)) i;
         }
 
   -- none is left
-  pub all_agreed : at ≡ width → (x y : List Datum) → IsRecord a x → length x ≡ width → IsRecord b y → length y ≡ width → key_cmp descends x y ≡ Equal
+  pub all_agreed : at ≡ columns → (x y : List Datum) → IsRecord a x → columns ≤ length x → IsRecord b y → columns ≤ length y
+      → key_cmp descends (take columns x) (take columns y) ≡ Equal
   all_agreed end x y one_is one_long other_is other_long =
       let p = passed x y one_is one_long other_is other_long in
-      let l = p.one_long in
-      p.same ∙ ap (λ (k : List Datum). key_cmp (drop at descends) k p.ys) (nil p.xs (omega (arith, l, end)))
-    where
-      nil : (xs : List Datum) → length xs ≡ 0 → xs ≡ []
-      nil [] e = refl
-      nil (x ∷ xs) e = absurd (omega (arith, e))
+      let l = p.left_is in
+      let none : p.left ≡ 0 = omega (arith, l, end) in
+      p.same ∙ ap (λ (k : ℕ). key_cmp (drop at descends) (take k p.xs) (take k p.ys)) none

@@ -22,6 +22,7 @@ use Rattle.index_entries.proofs.EntryLemmas.{entry_on, record_broken}
 use Rattle.page_use.specs.Links.{MarksPayload}
 use Rattle.tree_walk.specs.Cells.{IsTwiceOn}
 use Rattle.tree_walk.proofs.UsedLemmas.{MarksPart, part_cell, payload_twice}
+use Rattle.index_walk.specs.declared.tree.EntryWidths.{EntryWidths}
 use Rattle.index_walk.specs.Checked.{HoldsValues, index_tree}
 use Rattle.index_walk.specs.Last.{AscendFrom, ComesAfter, FollowsNot, HasLast, IsBefore, IsFrom, IsIndexOrder, IsLastAt, IsLastUnder, LastData, blamed_at, last_of}
 use Rattle.index_walk.specs.Walked.{BreaksWidth, IsDisordered, IsEntryCause, IsEntryRead, IsEntryStop, IsEntryTwice, IsEntryWalked, IsLeafCause, IsLeafWalked, IsRecordOf, IsEntryRunFrom}
@@ -35,9 +36,9 @@ all_entries : (level : Level) → HasEntries Index level
 all_entries level = tt
 
 module _ (pages : Pages) (n : ℕ) (view : ViewData) (of : IsViewIn pages n view) (most i : ℕ) (size : pages.size ≡ most) (cell : CellData)
-    (entry : IsEntryCell view.at most view.level view.page i cell) (width : ℕ) where
-  pub entry_read : (bytes found : List ℕ) → HasBytes pages cell.payload bytes → found ≡ bytes → IsRecordOf width found
-      → (old new : List Bool) → MarksPayload pages cell.payload old new → IsEntryRead pages width view.level n i bytes old new
+    (entry : IsEntryCell view.at most view.level view.page i cell) (widths : EntryWidths) where
+  pub entry_read : (bytes found : List ℕ) → HasBytes pages cell.payload bytes → found ≡ bytes → IsRecordOf widths found
+      → (old new : List Bool) → MarksPayload pages cell.payload old new → IsEntryRead pages widths view.level n i bytes old new
   entry_read bytes found whole same is old new marks = record {
     cell = cell;
     is = entry_on pages n view of most i size cell entry;
@@ -48,8 +49,8 @@ module _ (pages : Pages) (n : ℕ) (view : ViewData) (of : IsViewIn pages n view
     marks = marks;
   }
 
-  pub entry_broken : i < count_at pages n → (bytes found : List ℕ) → HasBytes pages cell.payload bytes → found ≡ bytes → (e : Fault) → BreaksWidth width found n e
-      → (marks : List Bool) → IsEntryCause pages width view.level n i marks e
+  pub entry_broken : i < count_at pages n → (bytes found : List ℕ) → HasBytes pages cell.payload bytes → found ≡ bytes → (e : Fault) → BreaksWidth widths found n e
+      → (marks : List Bool) → IsEntryCause pages widths view.level n i marks e
   entry_broken within bytes found whole same e (inl broken) marks = ⊎_elim
       (λ (read : IsReadFault e). inl read)
       (λ (breaks : BreaksEntry pages view.level n e). inr (inl (inl breaks)))
@@ -70,16 +71,16 @@ module _ (pages : Pages) (n : ℕ) (view : ViewData) (of : IsViewIn pages n view
   )))
 
 -- an entry that was read has its values
-module _ (pages : Pages) (width : ℕ) (level : Level) (n i : ℕ) (bytes : List ℕ) (old new : List Bool) (read : IsEntryRead pages width level n i bytes old new) where
+module _ (pages : Pages) (widths : EntryWidths) (level : Level) (n i : ℕ) (bytes : List ℕ) (old new : List Bool) (read : IsEntryRead pages widths level n i bytes old new) where
   pub values_of : HasValues pages level n i read.values
   values_of = record { cell = read.cell; is = read.is; has = record { bytes = bytes; whole = read.whole; record_is = read.record_is } }
 
-  pub held_of : IsPageOf pages Index level n → HoldsValues pages width (place_at n i) read.values
+  pub held_of : IsPageOf pages Index level n → HoldsValues pages widths (place_at n i) read.values
   held_of page = record { level = level; page = page; has = values_of; width_is = read.width_is }
 
   -- why it doesn't come behind the last one
-  pub stop_of : (descends : List Bool) (last : LastData) (fault : Fault) (marks : List Bool) → FollowsNot descends width last bytes (blamed_at level n last.page) fault
-      → IsEntryStop pages width descends level n i last marks fault
+  pub stop_of : (descends : List Bool) (last : LastData) (fault : Fault) (marks : List Bool) → FollowsNot widths descends last bytes (blamed_at level n last.page) fault
+      → IsEntryStop pages widths descends level n i last marks fault
   stop_of descends last fault marks (inl memory) = inl (inl (inr memory))
   stop_of descends last fault marks (inr (is, some, not)) = inr (
     is,
@@ -87,40 +88,40 @@ module _ (pages : Pages) (width : ℕ) (level : Level) (n i : ℕ) (bytes : List
   )
 
 -- an entry that was walked is the last one
-module _ (pages : Pages) (width : ℕ) (descends : List Bool) (level : Level) (n i : ℕ) (old new : List Bool) (last next : LastData)
-    (walked : IsEntryWalked pages width descends level n i old new last next) where
+module _ (pages : Pages) (widths : EntryWidths) (descends : List Bool) (level : Level) (n i : ℕ) (old new : List Bool) (last next : LastData)
+    (walked : IsEntryWalked pages widths descends level n i old new last next) where
   some_page : next.page ≢ None
   some_page e = let f : Some n ≡ None = sym (ap (λ (l : LastData). l.page) walked.follows.is) ∙ e in cc
 
   bytes_here : IsRecord next.bytes walked.read.values
   bytes_here = subst (λ (l : LastData). IsRecord l.bytes walked.read.values) (sym walked.follows.is) walked.read.record_is
 
-  pub last_here : IsPageOf pages Index level n → i < count_at pages n → IsLastAt pages width next level n i
+  pub last_here : IsPageOf pages Index level n → i < count_at pages n → IsLastAt pages widths next level n i
   last_here page within = record {
     page_is = ap (λ (l : LastData). l.page) walked.follows.is;
     values = walked.read.values;
     record_is = bytes_here;
     width_is = walked.read.width_is;
-    has = values_of pages width level n i walked.bytes old new walked.read;
+    has = values_of pages widths level n i walked.bytes old new walked.read;
     page = page;
     within = within;
   }
 
-  comes_after : (values : Option (List Datum)) → HasLast width last values → ComesAfter descends values walked.read.values
+  comes_after : (values : Option (List Datum)) → HasLast widths last values → ComesAfter widths descends values walked.read.values
   comes_after None has = tt
   comes_after (Some x) has = walked.follows.after x walked.read.values has.0 has.1 has.2 walked.read.record_is walked.read.width_is
 
   -- so that its place alone is a run
-  pub one_run : IsPageOf pages Index level n → IsEntryRunFrom pages width descends (place_at n i ∷ []) last next
+  pub one_run : IsPageOf pages Index level n → IsEntryRunFrom pages widths descends (place_at n i ∷ []) last next
   one_run page values has = record {
     rows = walked.read.values ∷ [];
-    each = (held_of pages width level n i walked.bytes old new walked.read page, tt);
+    each = (held_of pages widths level n i walked.bytes old new walked.read page, tt);
     ascend = (comes_after values has, tt);
     ends = (some_page, bytes_here, walked.read.width_is);
   }
 
 -- one run after another
-module _ (pages : Pages) (width : ℕ) (descends : List Bool) where
+module _ (pages : Pages) (widths : EntryWidths) (descends : List Bool) where
   zip_append : (P : Place → List Datum → Type 0) (ps qs : List Place) (xs ys : List (List Datum)) → AllZip P ps xs → AllZip P qs ys → AllZip P (ps ++ qs) (xs ++ ys)
   zip_append P [] qs [] ys a b = b
   zip_append P [] qs (x ∷ xs) ys a b = absurd a
@@ -131,32 +132,32 @@ module _ (pages : Pages) (width : ℕ) (descends : List Bool) where
   last_append v [] ys = refl
   last_append v (x ∷ xs) ys = last_append (Some x) xs ys
 
-  ascend_append : (v : Option (List Datum)) (xs ys : List (List Datum)) → AscendFrom descends v xs → AscendFrom descends (last_of v xs) ys → AscendFrom descends v (xs ++ ys)
+  ascend_append : (v : Option (List Datum)) (xs ys : List (List Datum)) → AscendFrom widths descends v xs → AscendFrom widths descends (last_of v xs) ys → AscendFrom widths descends v (xs ++ ys)
   ascend_append v [] ys a b = b
   ascend_append v (x ∷ xs) ys a b = (a.0, ascend_append (Some x) xs ys a.1 b)
 
-  pub no_run : (last : LastData) → IsEntryRunFrom pages width descends [] last last
+  pub no_run : (last : LastData) → IsEntryRunFrom pages widths descends [] last last
   no_run last values has = record { rows = []; each = tt; ascend = tt; ends = has }
 
-  pub run_after : (ps qs : List Place) (last mid next : LastData) → IsEntryRunFrom pages width descends ps last mid → IsEntryRunFrom pages width descends qs mid next
-      → IsEntryRunFrom pages width descends (ps ++ qs) last next
+  pub run_after : (ps qs : List Place) (last mid next : LastData) → IsEntryRunFrom pages widths descends ps last mid → IsEntryRunFrom pages widths descends qs mid next
+      → IsEntryRunFrom pages widths descends (ps ++ qs) last next
   run_after ps qs last mid next one other values has =
       let first = one values has in
       let second = other (last_of values first.rows) first.ends in
       record {
         rows = first.rows ++ second.rows;
-        each = zip_append (HoldsValues pages width) ps qs first.rows second.rows first.each second.each;
+        each = zip_append (HoldsValues pages widths) ps qs first.rows second.rows first.each second.each;
         ascend = ascend_append values first.rows second.rows first.ascend second.ascend;
-        ends = subst (λ (v : Option (List Datum)). HasLast width next v) (sym (last_append values first.rows second.rows)) second.ends;
+        ends = subst (λ (v : Option (List Datum)). HasLast widths next v) (sym (last_append values first.rows second.rows)) second.ends;
       }
 
 -- one entry more of a leaf
-pub leaf_more : (pages : Pages) (width : ℕ) (descends : List Bool) (n i : ℕ) (last mid next : LastData)
-    → IsEntryRunFrom pages width descends (map (place_at n) (range_with_len 0 i)) last mid → IsEntryRunFrom pages width descends (place_at n i ∷ []) mid next
-    → IsEntryRunFrom pages width descends (map (place_at n) (range_with_len 0 (i + 1))) last next
-leaf_more pages width descends n i last mid next before here =
-    subst (λ (ps : List Place). IsEntryRunFrom pages width descends ps last next) (sym (map-range_with_len_more (place_at n) 0 i i (omega arith)))
-    (run_after pages width descends (map (place_at n) (range_with_len 0 i)) (place_at n i ∷ []) last mid next before here)
+pub leaf_more : (pages : Pages) (widths : EntryWidths) (descends : List Bool) (n i : ℕ) (last mid next : LastData)
+    → IsEntryRunFrom pages widths descends (map (place_at n) (range_with_len 0 i)) last mid → IsEntryRunFrom pages widths descends (place_at n i ∷ []) mid next
+    → IsEntryRunFrom pages widths descends (map (place_at n) (range_with_len 0 (i + 1))) last next
+leaf_more pages widths descends n i last mid next before here =
+    subst (λ (ps : List Place). IsEntryRunFrom pages widths descends ps last next) (sym (map-range_with_len_more (place_at n) 0 i i (omega arith)))
+    (run_after pages widths descends (map (place_at n) (range_with_len 0 i)) (place_at n i ∷ []) last mid next before here)
 
 -- the page that a fault of an entry names is used twice by its page, where the entries before it were gone through
 pub entry_twice : (pages : Pages) (root : ℕ) (level : Level) (n i : ℕ) (marked now : List Bool) → IsPageOf pages Index level n → i < count_at pages n
@@ -166,58 +167,58 @@ entry_twice pages root level n i marked now page within part fault twice =
     payload_twice pages (index_tree root) level n 0 i 0 marked now part twice.cell (entry_at_place pages level n i twice.cell page twice.is) (all_entries level) within fault twice.twice
 
 -- one entry more
-pub part_more : (pages : Pages) (width root : ℕ) (level : Level) (n i : ℕ) (bytes : List ℕ) (marked now later : List Bool) → IsPageOf pages Index level n → i < count_at pages n
-    → MarksPart pages (index_tree root) level n 0 i 0 marked now → IsEntryRead pages width level n i bytes now later
+pub part_more : (pages : Pages) (widths : EntryWidths) (root : ℕ) (level : Level) (n i : ℕ) (bytes : List ℕ) (marked now later : List Bool) → IsPageOf pages Index level n → i < count_at pages n
+    → MarksPart pages (index_tree root) level n 0 i 0 marked now → IsEntryRead pages widths level n i bytes now later
     → MarksPart pages (index_tree root) level n 0 (i + 1) 0 marked later
-part_more pages width root level n i bytes marked now later page within part read =
+part_more pages widths root level n i bytes marked now later page within part read =
     part_cell pages (index_tree root) level n 0 i 0 marked now part read.cell (entry_at_place pages level n i read.cell page read.is) (all_entries level) within later read.marks
 
 -- what a last entry that bounds another one says of the order of a page
-module _ (pages : Pages) (width : ℕ) (descends : List Bool) (level : Level) (n i : ℕ) (last : LastData) (stop : IsDisordered pages width descends level n i last) where
-  pub disordered : (other : Level) (m j : ℕ) (at : IsLastAt pages width last other m j) → (IsBefore descends at.values stop.values) → ⊥
+module _ (pages : Pages) (widths : EntryWidths) (descends : List Bool) (level : Level) (n i : ℕ) (last : LastData) (stop : IsDisordered pages widths descends level n i last) where
+  pub disordered : (other : Level) (m j : ℕ) (at : IsLastAt pages widths last other m j) → (IsBefore widths descends at.values stop.values) → ⊥
   disordered other m j at before = stop.not at.values at.record_is at.width_is before
 
 -- what the walk of a leaf knows of the last entry before entry i
-abbrev pub IsLastBefore : Pages → ℕ → ℕ → ℕ → LastData → LastData → Type 0
-IsLastBefore pages width n zero from last = last ≡ from
-IsLastBefore pages width n (suc i) from last = IsLastAt pages width last Leaf n i
+abbrev pub IsLastBefore : Pages → EntryWidths → ℕ → ℕ → LastData → LastData → Type 0
+IsLastBefore pages widths n zero from last = last ≡ from
+IsLastBefore pages widths n (suc i) from last = IsLastAt pages widths last Leaf n i
 
 -- a leaf's entry that doesn't come behind the last one isn't in order
-pub leaf_disordered : (pages : Pages) (width : ℕ) (descends : List Bool) (root n i : ℕ) (from last : LastData) → IsPageOf pages Index Leaf n → i < count_at pages n
-    → IsFrom pages width root from n → IsLastBefore pages width n i from last → IsDisordered pages width descends Leaf n i last
-    → ¬ IsIndexOrder pages descends root n
-leaf_disordered pages width descends root n zero from last page within (inl none) before stop order =
+pub leaf_disordered : (pages : Pages) (widths : EntryWidths) (descends : List Bool) (root n i : ℕ) (from last : LastData) → IsPageOf pages Index Leaf n → i < count_at pages n
+    → IsFrom pages widths root from n → IsLastBefore pages widths n i from last → IsDisordered pages widths descends Leaf n i last
+    → ¬ IsIndexOrder pages widths descends root n
+leaf_disordered pages widths descends root n zero from last page within (inl none) before stop order =
     stop.some (subst (λ (l : LastData). l.page ≡ None) (sym before) none)
-leaf_disordered pages width descends root n zero from last page within (inr (a, k, at, reaches, under)) before stop order =
-    let here = subst (λ (l : LastData). IsDisordered pages width descends Leaf n 0 l) before stop in
-    disordered pages width descends Leaf n 0 from here Interior a k at
+leaf_disordered pages widths descends root n zero from last page within (inr (a, k, at, reaches, under)) before stop order =
+    let here = subst (λ (l : LastData). IsDisordered pages widths descends Leaf n 0 l) before stop in
+    disordered pages widths descends Leaf n 0 from here Interior a k at
     (order.above Leaf a k 0 at.values here.values reaches under page within at.has here.has)
-leaf_disordered pages width descends root n (suc i) from last page within from_is at stop order =
-    disordered pages width descends Leaf n (suc i) last stop Leaf n i at (order.ascends Leaf i (suc i) at.values stop.values page (omega arith) within at.has stop.has)
+leaf_disordered pages widths descends root n (suc i) from last page within from_is at stop order =
+    disordered pages widths descends Leaf n (suc i) last stop Leaf n i at (order.ascends Leaf i (suc i) at.values stop.values page (omega arith) within at.has stop.has)
 
 -- why the walk of a leaf stops at an entry
-pub leaf_stop : (pages : Pages) (width : ℕ) (descends : List Bool) (root n i : ℕ) (from last : LastData) (marked now : List Bool) → IsPageOf pages Index Leaf n → i < count_at pages n
-    → IsFrom pages width root from n → IsLastBefore pages width n i from last → MarksPart pages (index_tree root) Leaf n 0 i 0 marked now
-    → (fault : Fault) → IsEntryStop pages width descends Leaf n i last now fault → IsLeafCause pages width descends root n marked fault
-leaf_stop pages width descends root n i from last marked now page within from_is before part fault stop = ⊎_elim
-    (λ (cause : IsEntryCause pages width Leaf n i now fault). ⊎_elim inl
+pub leaf_stop : (pages : Pages) (widths : EntryWidths) (descends : List Bool) (root n i : ℕ) (from last : LastData) (marked now : List Bool) → IsPageOf pages Index Leaf n → i < count_at pages n
+    → IsFrom pages widths root from n → IsLastBefore pages widths n i from last → MarksPart pages (index_tree root) Leaf n 0 i 0 marked now
+    → (fault : Fault) → IsEntryStop pages widths descends Leaf n i last now fault → IsLeafCause pages widths descends root n marked fault
+leaf_stop pages widths descends root n i from last marked now page within from_is before part fault stop = ⊎_elim
+    (λ (cause : IsEntryCause pages widths Leaf n i now fault). ⊎_elim inl
     (λ why. inr (⊎_elim inl
     (λ (twice : IsEntryTwice pages Leaf n i now fault). inr (inl (entry_twice pages root Leaf n i marked now page within part fault twice)))
     why))
     cause)
-    (λ (other : (fault ≡ BadOrder n) × IsDisordered pages width descends Leaf n i last).
-    inr (inr (inr (other.0, leaf_disordered pages width descends root n i from last page within from_is before other.1))))
+    (λ (other : (fault ≡ BadOrder n) × IsDisordered pages widths descends Leaf n i last).
+    inr (inr (inr (other.0, leaf_disordered pages widths descends root n i from last page within from_is before other.1))))
     stop
 
 -- all entries of a leaf were walked
-pub leaf_ends : (pages : Pages) (width : ℕ) (descends : List Bool) (n i : ℕ) (from last : LastData) → i ≡ count_at pages n
-    → IsEntryRunFrom pages width descends (map (place_at n) (range_with_len 0 i)) from last → IsLastBefore pages width n i from last
-    → IsLeafWalked pages width descends n from last
-leaf_ends pages width descends n i from last end run before = record {
-  run = subst (λ (k : ℕ). IsEntryRunFrom pages width descends (map (place_at n) (range_with_len 0 k)) from last) end run;
+pub leaf_ends : (pages : Pages) (widths : EntryWidths) (descends : List Bool) (n i : ℕ) (from last : LastData) → i ≡ count_at pages n
+    → IsEntryRunFrom pages widths descends (map (place_at n) (range_with_len 0 i)) from last → IsLastBefore pages widths n i from last
+    → IsLeafWalked pages widths descends n from last
+leaf_ends pages widths descends n i from last end run before = record {
+  run = subst (λ (k : ℕ). IsEntryRunFrom pages widths descends (map (place_at n) (range_with_len 0 k)) from last) end run;
   ends = λ some. last_under i (omega (arith, some, end)) before;
 }
   where
-    last_under : (i : ℕ) → 0 < i → IsLastBefore pages width n i from last → IsLastUnder pages width last n
+    last_under : (i : ℕ) → 0 < i → IsLastBefore pages widths n i from last → IsLastUnder pages widths last n
     last_under zero some at = absurd (omega (arith, some))
     last_under (suc j) some at = record { level = Leaf; m = n; j = j; at = at; reaches = (1, top) }

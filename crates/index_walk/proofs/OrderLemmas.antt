@@ -21,7 +21,9 @@ use Rattle.key_ranges.proofs.RunLemmas.{key_after}
 use Rattle.index_entries.specs.Entries.{HasRecord, HasValues}
 use Rattle.tree_walk.specs.Counts.{places_at_child}
 use Rattle.tree_walk.proofs.KindLemmas.{one_entry}
+use Rattle.index_walk.specs.declared.tree.EntryWidths.{EntryWidths}
 use Rattle.index_walk.specs.Checked.{HoldsEntry, HoldsValues}
+use Rattle.index_walk.specs.Widths.{key_of}
 use Rattle.index_walk.specs.Last.{AscendFrom, IsBefore, IsIndexOrder}
 use Rattle.index_walk.proofs.BranchLemmas.{own_is}
 use Rattle.index_walk.proofs.EntryLemmas.{entry_at_place}
@@ -72,9 +74,9 @@ module _ {X : Type 0} (R : X → X → Type 0) where
 
 -- ---- the values of places
 
-module _ (pages : Pages) (width : ℕ) where
+module _ (pages : Pages) (widths : EntryWidths) where
   -- a place has one list of values
-  same_values : (place : Place) (v a : List Datum) → HoldsValues pages width place v → (level : Level) → IsPageOf pages Index level place.page
+  same_values : (place : Place) (v a : List Datum) → HoldsValues pages widths place v → (level : Level) → IsPageOf pages Index level place.page
       → HasValues pages level place.page place.index a → v ≡ a
   same_values place v a held level page has =
       let same : held.has.cell ≡ has.cell = one_entry pages Index place held.has.cell has.cell
@@ -83,29 +85,29 @@ module _ (pages : Pages) (width : ℕ) where
       let bytes = one_payload pages has.cell.payload there.bytes has.has.bytes there.whole has.has.whole in
       one_record has.has.bytes v a (subst (λ (b : List ℕ). IsRecord b v) bytes there.record_is) has.has.record_is
 
-  pub all_held : (places : List Place) (rows : List (List Datum)) → AllZip (HoldsValues pages width) places rows → All (HoldsEntry pages width) places
-  all_held [] [] each = All-nil (HoldsEntry pages width)
+  pub all_held : (places : List Place) (rows : List (List Datum)) → AllZip (HoldsValues pages widths) places rows → All (HoldsEntry pages widths) places
+  all_held [] [] each = All-nil (HoldsEntry pages widths)
   all_held [] (r ∷ rows) each = absurd each
   all_held (p ∷ places) [] each = absurd each
-  all_held (p ∷ places) (r ∷ rows) each = All-cons (HoldsEntry pages width) p places (r, each.0) (all_held places rows each.1)
+  all_held (p ∷ places) (r ∷ rows) each = All-cons (HoldsEntry pages widths) p places (r, each.0) (all_held places rows each.1)
 
   module _ (descends : List Bool) where
     -- the entry at one place comes before that at another
     abbrev PlaceBefore : Place → Place → Type 0
     PlaceBefore x y = (level other : Level) (a b : List Datum) → IsPageOf pages Index level x.page → IsPageOf pages Index other y.page
-        → HasValues pages level x.page x.index a → HasValues pages other y.page y.index b → IsBefore descends a b
+        → HasValues pages level x.page x.index a → HasValues pages other y.page y.index b → IsBefore widths descends a b
 
-    each_after : (x : List Datum) (places : List Place) (rows : List (List Datum)) → AllZip (HoldsValues pages width) places rows → AscendFrom descends (Some x) rows
-        → (y : Place) → Contains places y → (b : List Datum) × HoldsValues pages width y b × IsBefore descends x b
+    each_after : (x : List Datum) (places : List Place) (rows : List (List Datum)) → AllZip (HoldsValues pages widths) places rows → AscendFrom widths descends (Some x) rows
+        → (y : Place) → Contains places y → (b : List Datum) × HoldsValues pages widths y b × IsBefore widths descends x b
     each_after x [] [] each ascend y h = absurd (omega (arith, h.1))
     each_after x [] (r ∷ rows) each ascend y h = absurd each
     each_after x (p ∷ places) [] each ascend y h = absurd each
     each_after x (p ∷ places) (r ∷ rows) each ascend y h = ⊎_elim
-        (λ (e : p ≡ y). (r, subst (λ (q : Place). HoldsValues pages width q r) e each.0, ascend.0))
-        (λ (later : Contains places y). let t = each_after r places rows each.1 ascend.1 y later in (t.0, t.1, key_after descends x r t.0 ascend.0 t.2))
+        (λ (e : p ≡ y). (r, subst (λ (q : Place). HoldsValues pages widths q r) e each.0, ascend.0))
+        (λ (later : Contains places y). let t = each_after r places rows each.1 ascend.1 y later in (t.0, t.1, key_after descends (key_of widths x) (key_of widths r) (key_of widths t.0) ascend.0 t.2))
         (cons_cases p y places h)
 
-    pub pairs_of_run : (last : Option (List Datum)) (places : List Place) (rows : List (List Datum)) → AllZip (HoldsValues pages width) places rows → AscendFrom descends last rows
+    pub pairs_of_run : (last : Option (List Datum)) (places : List Place) (rows : List (List Datum)) → AllZip (HoldsValues pages widths) places rows → AscendFrom widths descends last rows
         → Pairs PlaceBefore places
     pairs_of_run last [] [] each ascend = tt
     pairs_of_run last [] (r ∷ rows) each ascend = absurd each
@@ -113,8 +115,8 @@ module _ (pages : Pages) (width : ℕ) where
     pairs_of_run last (p ∷ places) (r ∷ rows) each ascend = (
       λ y h level other a b page_a page_b has_a has_b.
           let t = each_after r places rows each.1 ascend.1 y h in
-          subst (λ (v : List Datum). IsBefore descends v b) (same_values p r a each.0 level page_a has_a)
-          (subst (λ (v : List Datum). IsBefore descends r v) (same_values y t.0 b t.1 other page_b has_b) t.2),
+          subst (λ (v : List Datum). IsBefore widths descends v b) (same_values p r a each.0 level page_a has_a)
+          (subst (λ (v : List Datum). IsBefore widths descends r v) (same_values y t.0 b t.1 other page_b has_b) t.2),
       pairs_of_run (Some r) places rows each.1 ascend.1,
     )
 
@@ -186,7 +188,7 @@ module _ (pages : Pages) (width : ℕ) where
         (under_child height a (i + 1) n j level shape under page within))
 
     pub in_order : (levels root : ℕ) → HasShape pages Index levels root → Pairs PlaceBefore (places_under pages Index levels root)
-        → (n : ℕ) → Reaches pages Index root n → IsIndexOrder pages descends root n
+        → (n : ℕ) → Reaches pages Index root n → IsIndexOrder pages widths descends root n
     in_order levels root shape pairs n reaches = record {
       ascends = λ level i j x y page less within hx hy.
           let here = sorted_at levels root shape pairs reaches.1 in

@@ -1,28 +1,31 @@
 -- The values of the entries of an index that was checked, by their places.
-use Rattle.std.proofs.Common.{◌≡◌, ◌⊎◌, ◌<◌, ◌&&◌, ℕ, suc, All, Bool, true, false, Contains, IsTrue, List, [], ◌∷◌, map, slice_get, Some, refl, sym, ◌∙◌, ap, subst, inl, inr, ⊎_elim, arith}
+use Rattle.std.proofs.Common.{◌≡◌, ◌⊎◌, ◌<◌, ◌&&◌, ℕ, zero, suc, All, Bool, true, false, Contains, IsTrue, List, [], ◌∷◌, map, slice_get, take, Some, refl, sym, ◌∙◌, ap, subst, inl, inr, ⊎_elim, arith}
 use Rattle.std.specs.List.{list_all}
 use Rattle.std.proofs.lemmas.Bool.{cases_eq}
-use Rattle.std.specs.Ordering.{is_lt}
+use Rattle.std.specs.Ordering.{is_lt, ordering_then}
 use Rattle.std.specs.declared.cmp.Ordering.{Ordering}
 use Rattle.std.specs.declared.cmp.Ordering.TheVariants.{Less, Equal, Greater}
 use Rattle.values.specs.Datum.{Datum}
+use Rattle.values.specs.Order.{datum_cmp}
 use Rattle.image.specs.declared.kind.TreeKind.TheVariants.{Index}
 use Rattle.image.specs.declared.kind.Level.{Level}
 use Rattle.image.specs.declared.kind.Level.TheVariants.{Interior}
 use Rattle.image.specs.Entries.{IsEntryOrder, IsStrictOrder}
 use Rattle.image.specs.Pages.{Pages}
 use Rattle.image.specs.Shape.{HasShape, place_at, places_under}
-use Rattle.image.specs.Tree.{IsPageOf, IsPlaceOf, IsUnder, Place, Reaches, below, count_at}
+use Rattle.image.specs.Tree.{IsPageOf, IsPlaceOf, Place, Reaches, count_at}
 use Rattle.image.proofs.EntryLemmas.{entries_of}
 use Rattle.image.proofs.ListLemmas.{cons_cases, in_head, in_none, in_tail}
-use Rattle.image.proofs.OrderLemmas.{joined}
 use Rattle.image.proofs.PlaceLemmas.{complete}
 use Rattle.image.proofs.ShapeLemmas.{one_level}
-use Rattle.key_ranges.specs.Ranges.{key_cmp}
+use Rattle.key_ranges.specs.Ranges.{directed, key_cmp}
 use Rattle.key_ranges.specs.Runs.{Ascend}
 use Rattle.key_ranges.proofs.RunLemmas.{key_after, key_never}
 use Rattle.index_entries.specs.Entries.{HasValues}
 use Rattle.tree_walk.specs.declared.counts.TreeCounts.{TreeCounts}
+use Rattle.index_walk.specs.declared.tree.EntryWidths.{EntryWidths}
+use Rattle.index_walk.specs.Widths.{key_of}
+use Rattle.index_walk.specs.Last.{IsBefore}
 use Rattle.index_walk.specs.Checked.{HasEntryValues, HoldsEntry, HoldsValues, IsCheckedIndex}
 
 same_place : (a b : Place) → (a ≡ b) ⊎ (a ≡ b → ⊥)
@@ -50,6 +53,20 @@ less_of Less e = refl
 less_of Equal e = let f : false ≡ true = e in cc
 less_of Greater e = let f : false ≡ true = e in cc
 
+less_then : (o first whole : Ordering) → (first ≡ Less → whole ≡ Less) → ordering_then o first ≡ Less → ordering_then o whole ≡ Less
+less_then Less first whole step less = refl
+less_then Equal first whole step less = step less
+less_then Greater first whole step less = less
+
+-- entries stand as their keys do where these differ
+pub less_by_key : (descends : List Bool) (k : ℕ) (x y : List Datum) → key_cmp descends (take k x) (take k y) ≡ Less → key_cmp descends x y ≡ Less
+less_by_key descends zero x y less = cc
+less_by_key descends (suc k) [] y less = less
+less_by_key descends (suc k) (v ∷ x) [] less = less
+less_by_key [] (suc k) (v ∷ x) (w ∷ y) less = less_then (datum_cmp v w) (key_cmp [] (take k x) (take k y)) (key_cmp [] x y) (less_by_key [] k x y) less
+less_by_key (d ∷ descends) (suc k) (v ∷ x) (w ∷ y) less =
+    less_then (directed d (datum_cmp v w)) (key_cmp descends (take k x) (take k y)) (key_cmp descends x y) (less_by_key descends k x y) less
+
 -- where each of two places comes before a later one, so do their values
 module _ (descends : List Bool) (values : Place → List Datum) where
   all_later : (x : List Datum) (places : List Place) → ((j : ℕ) (y : Place) → slice_get places j ≡ Some y → IsTrue (is_lt (key_cmp descends x (values y))))
@@ -66,76 +83,88 @@ module _ (descends : List Bool) (values : Place → List Datum) where
     ascend_of places (λ i j x y less e f. each (suc i) (suc j) x y (omega (arith, less)) e f),
   )
 
-module _ (pages : Pages) (width : ℕ) (places : List Place) (held : All (HoldsEntry pages width) places) (p : Place) where
-  entry_at : Contains places p → HoldsEntry pages width p
-  entry_at h = subst (λ (q : Place). HoldsEntry pages width q) h.2 (held h.0 p h.1)
+module _ (pages : Pages) (widths : EntryWidths) (places : List Place) (held : All (HoldsEntry pages widths) places) (p : Place) where
+  entry_at : Contains places p → HoldsEntry pages widths p
+  entry_at h = subst (λ (q : Place). HoldsEntry pages widths q) h.2 (held h.0 p h.1)
 
   value_of : Contains places p ⊎ (Contains places p → ⊥) → List Datum
   value_of (inl h) = (entry_at h).0
   value_of (inr none) = []
 
-  value_held : (found : Contains places p ⊎ (Contains places p → ⊥)) → Contains places p → HoldsValues pages width p (value_of found)
+  value_held : (found : Contains places p ⊎ (Contains places p → ⊥)) → Contains places p → HoldsValues pages widths p (value_of found)
   unfolding value_of
   value_held (inl h) there = (entry_at h).1
   value_held (inr none) there = absurd (none there)
 
-module _ (pages : Pages) (width : ℕ) (descends : List Bool) (root : ℕ) (counts : TreeCounts) (checked : IsCheckedIndex pages width descends root counts) where
+module _ (pages : Pages) (widths : EntryWidths) (descends : List Bool) (root : ℕ) (counts : TreeCounts) (checked : IsCheckedIndex pages widths descends root counts) where
   abbrev all : List Place
   all = places_under pages Index counts.levels root
 
   abbrev values : Place → List Datum
-  values p = value_of pages width all checked.entries p (contains_or all p)
+  values p = value_of pages widths all checked.entries p (contains_or all p)
 
-  held_at : (p : Place) → IsPlaceOf pages Index root p → HoldsValues pages width p (values p)
-  held_at p place = value_held pages width all checked.entries p (contains_or all p) (complete pages Index counts.levels root checked.shape p place)
+  held_at : (p : Place) → IsPlaceOf pages Index root p → HoldsValues pages widths p (values p)
+  held_at p place = value_held pages widths all checked.entries p (contains_or all p) (complete pages Index counts.levels root checked.shape p place)
 
   has_at : (level : Level) (n i : ℕ) → Reaches pages Index root n → IsPageOf pages Index level n → i < count_at pages n → HasValues pages level n i (values (place_at n i))
   has_at level n i reaches page within =
       let held = held_at (place_at n i) (record { level = level; entries = tt; reaches = reaches; page = page; within = within }) in
       subst (λ (l : Level). HasValues pages l n i (values (place_at n i))) (one_level pages Index held.level level n held.page page) held.has
 
-  abbrev IsEarlier : Place → Place → Type 0
-  IsEarlier x y = IsTrue (is_lt (key_cmp descends (values x) (values y)))
+  -- how the entries stand where this part of each is compared: all of it, or its key alone
+  module _ (part : List Datum → List Datum) (less : (x y : List Datum) → IsBefore widths descends x y → key_cmp descends (part x) (part y) ≡ Less) where
+    abbrev comes : Place → Place → Bool
+    comes x y = is_lt (key_cmp descends (part (values x)) (part (values y)))
 
-  -- what is so of the places is so of those that they are
-  earlier : (x y p q : Place) → x ≡ p → y ≡ q → IsEarlier p q → IsEarlier x y
-  earlier x y p q e f h = subst (λ (z : Place). IsEarlier z y) (sym e) (subst (λ (z : Place). IsEarlier p z) (sym f) h)
+    abbrev IsEarlier : Place → Place → Type 0
+    IsEarlier x y = IsTrue (comes x y)
 
-  reaches_under : (a i n : ℕ) → Reaches pages Index root a → IsUnder pages Index a i n → Reaches pages Index root n
-  reaches_under a i n reaches under = joined pages Index root (below i reaches.1 under.is) under.reaches.1
+    -- what is so of the places is so of those that they are
+    earlier : (x y p q : Place) → x ≡ p → y ≡ q → IsEarlier p q → IsEarlier x y
+    earlier x y p q e f h = subst (λ (z : Place). IsEarlier z y) (sym e) (subst (λ (z : Place). IsEarlier p z) (sym f) h)
 
-  values_order : (n : ℕ) → Reaches pages Index root n → IsEntryOrder pages (λ x y. is_lt (key_cmp descends (values x) (values y))) root n
-  values_order n reaches =
-      let order = checked.order n reaches in
-      record {
-        ascends = λ level i j x y page less within hx hy. earlier x y (place_at n i) (place_at n j) hx hy
-            (ap is_lt (order.ascends level i j (values (place_at n i)) (values (place_at n j)) page less within
-            (has_at level n i reaches page (omega (arith, less, within))) (has_at level n j reaches page within)));
-        most = λ level a i j x y up under inside page within hx hy. earlier y x (place_at n j) (place_at a i) hy hx
-            (ap is_lt (order.most level a i j (values (place_at a i)) (values (place_at n j)) up under inside page within
-            (has_at Interior a i up under.is.interior inside) (has_at level n j reaches page within)));
-        above = λ level a i j x y up under page within hx hy. earlier x y (place_at a i) (place_at n j) hx hy
-            (ap is_lt (order.above level a i j (values (place_at a i)) (values (place_at n j)) up under page within
-            (has_at Interior a i up under.is.interior (let last = under.is.within in omega (arith, last))) (has_at level n j reaches page within)));
-      }
+    values_order : (n : ℕ) → Reaches pages Index root n → IsEntryOrder pages comes root n
+    values_order n reaches =
+        let order = checked.order n reaches in
+        record {
+          ascends = λ level i j x y page within_less within hx hy. earlier x y (place_at n i) (place_at n j) hx hy
+              (ap is_lt (less (values (place_at n i)) (values (place_at n j))
+              (order.ascends level i j (values (place_at n i)) (values (place_at n j)) page within_less within
+              (has_at level n i reaches page (omega (arith, within_less, within))) (has_at level n j reaches page within))));
+          most = λ level a i j x y up under inside page within hx hy. earlier y x (place_at n j) (place_at a i) hy hx
+              (ap is_lt (less (values (place_at n j)) (values (place_at a i))
+              (order.most level a i j (values (place_at a i)) (values (place_at n j)) up under inside page within
+              (has_at Interior a i up under.is.interior inside) (has_at level n j reaches page within))));
+          above = λ level a i j x y up under page within hx hy. earlier x y (place_at a i) (place_at n j) hx hy
+              (ap is_lt (less (values (place_at a i)) (values (place_at n j))
+              (order.above level a i j (values (place_at a i)) (values (place_at n j)) up under page within
+              (has_at Interior a i up under.is.interior (let last = under.is.within in omega (arith, last))) (has_at level n j reaches page within))));
+        }
 
-  strict : IsStrictOrder (λ x y. is_lt (key_cmp descends (values x) (values y)))
-  strict = record {
-    never = λ x less. key_never descends (values x) (less_of (key_cmp descends (values x) (values x)) less);
-    after = λ x y z first next. ap is_lt (key_after descends (values x) (values y) (values z)
-        (less_of (key_cmp descends (values x) (values y)) first) (less_of (key_cmp descends (values y) (values z)) next));
-  }
+    strict : IsStrictOrder comes
+    strict = record {
+      never = λ x less. key_never descends (part (values x)) (less_of (key_cmp descends (part (values x)) (part (values x))) less);
+      after = λ x y z first next. ap is_lt (key_after descends (part (values x)) (part (values y)) (part (values z))
+          (less_of (key_cmp descends (part (values x)) (part (values y))) first) (less_of (key_cmp descends (part (values y)) (part (values z))) next));
+    }
 
-  values_ascend : (levels : ℕ) → HasShape pages Index levels root → Ascend descends (map values (places_under pages Index levels root))
-  values_ascend levels shape =
-      let entries = entries_of pages (λ x y. is_lt (key_cmp descends (values x) (values y))) strict root levels shape values_order in
-      ascend_of descends values (places_under pages Index levels root) entries.ascend
+    values_ascend : (levels : ℕ) → HasShape pages Index levels root → Ascend descends (map (λ p. part (values p)) (places_under pages Index levels root))
+    values_ascend levels shape =
+        let entries = entries_of pages comes strict root levels shape values_order in
+        ascend_of descends (λ p. part (values p)) (places_under pages Index levels root) entries.ascend
 
-  pub has_values : HasEntryValues pages width descends root
+  abbrev whole : List Datum → List Datum
+  whole x = x
+
+  by_key : (x y : List Datum) → IsBefore widths descends x y → key_cmp descends (whole x) (whole y) ≡ Less
+  by_key x y less = less_by_key descends widths.key x y less
+
+  pub has_values : HasEntryValues pages widths descends root
   has_values = record {
     values = values;
     entries = λ level n reaches page. record { page = page; each = λ i within. has_at level n i reaches page within };
     long = λ p place. (held_at p place).width_is;
-    order = values_order;
-    ascend = values_ascend;
+    order = values_order whole by_key;
+    ascend = values_ascend whole by_key;
+    keys = values_ascend (key_of widths) (λ x y less. less);
   }

@@ -1,6 +1,6 @@
 -- What may be wrong with the tree of an index, and with its entries. (Database File Format, section 1.6 "B-tree Pages", and
 -- section 2.3 "Representation Of SQL Indices"; the faults of docs/FAULTS.md)
-use Rattle.std.specs.Prelude.{◌≡◌, ◌≢◌, ◌⊎◌, ℕ, Bool, List, length}
+use Rattle.std.specs.Prelude.{◌≡◌, ◌⊎◌, ℕ, Bool, List}
 use Rattle.values.specs.Datum.{Datum}
 use Rattle.values.specs.declared.fault.Fault.{Fault}
 use Rattle.values.specs.declared.fault.Fault.TheVariants.{BadPage, BadOrder, BadDepth, BadRecord}
@@ -12,6 +12,8 @@ use Rattle.image.specs.Cell.{CellData}
 use Rattle.image.specs.Pages.{Pages}
 use Rattle.image.specs.Tree.{IsPageOf, Reaches}
 use Rattle.index_entries.specs.Entries.{BreaksEntry, HasEntryThat, HasRecord}
+use Rattle.index_walk.specs.declared.tree.EntryWidths.{EntryWidths}
+use Rattle.index_walk.specs.Widths.{IsOfWidth}
 use Rattle.index_walk.specs.Last.{IsIndexOrder}
 
 -- The condition on the pages of a tree of either kind that a fault says is broken. Other faults say nothing of them.
@@ -20,29 +22,29 @@ IsBrokenTree pages kind root (BadPage n) = Reaches pages kind root n × (¬ IsSo
 IsBrokenTree pages kind root (BadDepth n) = (n ≡ root) × (HasUnevenLeaves pages kind root ⊎ IsTooDeep pages kind root)
 IsBrokenTree pages kind root _ = ⊥
 
--- the payload of a cell is a record of another number of values
-abbrev pub HasOtherWidth : Pages → ℕ → CellData → Type 0
-HasOtherWidth pages width cell = (values : List Datum) × HasRecord pages cell values × (length values ≢ width)
+-- the payload of a cell is a record of too few values, or of too many
+abbrev pub HasOtherWidth : Pages → EntryWidths → CellData → Type 0
+HasOtherWidth pages widths cell = (values : List Datum) × HasRecord pages cell values × (¬ IsOfWidth widths values)
 
--- the condition of an entry of page n that a fault says is broken, where each entry has so many values
-abbrev pub BreaksIndexEntry : Pages → ℕ → Level → ℕ → Fault → Type 0
-BreaksIndexEntry pages width level n fault =
-    BreaksEntry pages level n fault ⊎ ((fault ≡ BadRecord n) × HasEntryThat pages level n (HasOtherWidth pages width))
+-- the condition of an entry of page n that a fault says is broken, where entries have so many values
+abbrev pub BreaksIndexEntry : Pages → EntryWidths → Level → ℕ → Fault → Type 0
+BreaksIndexEntry pages widths level n fault =
+    BreaksEntry pages level n fault ⊎ ((fault ≡ BadRecord n) × HasEntryThat pages level n (HasOtherWidth pages widths))
 
 -- a page of the tree has such an entry
-pub record HasBrokenEntry (pages : Pages) (width root : ℕ) (fault : Fault) : Type 0 where
+pub record HasBrokenEntry (pages : Pages) (widths : EntryWidths) (root : ℕ) (fault : Fault) : Type 0 where
   pub level : Level
   pub n : ℕ
   pub reaches : Reaches pages Index root n
   pub page : IsPageOf pages Index level n
-  pub broken : BreaksIndexEntry pages width level n fault
+  pub broken : BreaksIndexEntry pages widths level n fault
 
 -- a page of the tree isn't in the order of entries
-abbrev pub IsBrokenOrder : Pages → List Bool → ℕ → Fault → Type 0
-IsBrokenOrder pages descends root (BadOrder n) = Reaches pages Index root n × (¬ IsIndexOrder pages descends root n)
-IsBrokenOrder pages descends root _ = ⊥
+abbrev pub IsBrokenOrder : Pages → EntryWidths → List Bool → ℕ → Fault → Type 0
+IsBrokenOrder pages widths descends root (BadOrder n) = Reaches pages Index root n × (¬ IsIndexOrder pages widths descends root n)
+IsBrokenOrder pages widths descends root _ = ⊥
 
--- the condition on the tree of an index, each entry of which has so many values, that a fault says is broken
-abbrev pub IsBrokenIndex : Pages → ℕ → List Bool → ℕ → Fault → Type 0
-IsBrokenIndex pages width descends root fault =
-    IsBrokenTree pages Index root fault ⊎ HasBrokenEntry pages width root fault ⊎ IsBrokenOrder pages descends root fault
+-- the condition on the tree of an index, whose entries have so many values, that a fault says is broken
+abbrev pub IsBrokenIndex : Pages → EntryWidths → List Bool → ℕ → Fault → Type 0
+IsBrokenIndex pages widths descends root fault =
+    IsBrokenTree pages Index root fault ⊎ HasBrokenEntry pages widths root fault ⊎ IsBrokenOrder pages widths descends root fault

@@ -1,6 +1,6 @@
 -- What the check of the tree of an index finds. (Database File Format, section 1.6 "B-tree Pages", and section 2.3
 -- "Representation Of SQL Indices")
-use Rattle.std.specs.Prelude.{◌≡◌, ◌⊎◌, ◌<◌, ℕ, All, Bool, List, length, map}
+use Rattle.std.specs.Prelude.{◌⊎◌, ◌<◌, ℕ, All, Bool, List, map}
 use Rattle.std.specs.Ordering.{is_lt}
 use Rattle.values.specs.Datum.{Datum}
 use Rattle.values.specs.declared.fault.Fault.{Fault}
@@ -21,6 +21,8 @@ use Rattle.key_ranges.specs.Runs.{Ascend}
 use Rattle.tree_walk.specs.declared.counts.TreeCounts.{TreeCounts}
 use Rattle.tree_walk.specs.Counts.{AreCounts}
 use Rattle.tree_walk.specs.Used.{IsTreeTwice}
+use Rattle.index_walk.specs.declared.tree.EntryWidths.{EntryWidths}
+use Rattle.index_walk.specs.Widths.{IsOfWidth, key_of}
 use Rattle.index_walk.specs.Last.{IsIndexOrder}
 use Rattle.index_walk.specs.Broken.{IsBrokenIndex}
 
@@ -28,35 +30,38 @@ use Rattle.index_walk.specs.Broken.{IsBrokenIndex}
 abbrev pub index_tree : ℕ → TreeData
 index_tree root = record { kind = Index; root = root }
 
--- the entry at a place of an index has these values, so many
-pub record HoldsValues (pages : Pages) (width : ℕ) (place : Place) (values : List Datum) : Type 0 where
+-- the entry at a place of an index has these values, as many as it may have
+pub record HoldsValues (pages : Pages) (widths : EntryWidths) (place : Place) (values : List Datum) : Type 0 where
   pub level : Level
   pub page : IsPageOf pages Index level place.page
   pub has : HasValues pages level place.page place.index values
-  pub width_is : length values ≡ width
+  pub width_is : IsOfWidth widths values
 
-abbrev pub HoldsEntry : Pages → ℕ → Place → Type 0
-HoldsEntry pages width place = (values : List Datum) × HoldsValues pages width place values
+abbrev pub HoldsEntry : Pages → EntryWidths → Place → Type 0
+HoldsEntry pages widths place = (values : List Datum) × HoldsValues pages widths place values
 
--- The tree of an index is sound and in order, and each of its entries has so many values; and these are its levels, entries and
--- pages.
-pub record IsCheckedIndex (pages : Pages) (width : ℕ) (descends : List Bool) (root : ℕ) (counts : TreeCounts) : Type 0 where
+-- The tree of an index is sound and in order, and each of its entries has as many values as it may have; and these are its
+-- levels, entries and pages.
+pub record IsCheckedIndex (pages : Pages) (widths : EntryWidths) (descends : List Bool) (root : ℕ) (counts : TreeCounts) : Type 0 where
   pub few : counts.levels < most_levels
   pub sound : IsSoundTree pages Index root
   pub shape : HasShape pages Index counts.levels root
-  pub entries : All (HoldsEntry pages width) (places_under pages Index counts.levels root)
-  pub order : (n : ℕ) → Reaches pages Index root n → IsIndexOrder pages descends root n
+  pub entries : All (HoldsEntry pages widths) (places_under pages Index counts.levels root)
+  pub order : (n : ℕ) → Reaches pages Index root n → IsIndexOrder pages widths descends root n
   pub counts_are : AreCounts pages Index counts.levels root counts.cells counts.pages
 
 -- The entries of an index have these values at their places. Each page is in the order of entries that these give, by which a
--- search goes; and from left to right each comes before all later ones, so that what lies between two cuts is one run.
-pub record HasEntryValues (pages : Pages) (width : ℕ) (descends : List Bool) (root : ℕ) : Type 0 where
+-- search goes; and from left to right each comes before all later ones, so that what lies between two cuts is one run. Their keys
+-- alone ascend as well, so that no two entries have one key.
+pub record HasEntryValues (pages : Pages) (widths : EntryWidths) (descends : List Bool) (root : ℕ) : Type 0 where
   pub values : Place → List Datum
   pub entries : (level : Level) (n : ℕ) → Reaches pages Index root n → IsPageOf pages Index level n → AreValuesOf pages values level n
-  pub long : (place : Place) → IsPlaceOf pages Index root place → length (values place) ≡ width
+  pub long : (place : Place) → IsPlaceOf pages Index root place → IsOfWidth widths (values place)
   pub order : (n : ℕ) → Reaches pages Index root n
       → IsEntryOrder pages (λ x y. is_lt (key_cmp descends (values x) (values y))) root n
   pub ascend : (levels : ℕ) → HasShape pages Index levels root → Ascend descends (map values (places_under pages Index levels root))
+  pub keys : (levels : ℕ) → HasShape pages Index levels root
+      → Ascend descends (map (λ place. key_of widths (values place)) (places_under pages Index levels root))
 
 -- the faults of the check
 abbrev pub IsIndexWalkFault : Fault → Type 0
@@ -73,13 +78,13 @@ IsIndexWalkFault BadText = Unit {0}
 IsIndexWalkFault _ = ⊥
 
 -- the tree of an index was checked
-pub record HasCheckedIndex (pager : PagerState) (width : ℕ) (descends : List Bool) (root : ℕ) (counts : TreeCounts) : Type 0 where
+pub record HasCheckedIndex (pager : PagerState) (widths : EntryWidths) (descends : List Bool) (root : ℕ) (counts : TreeCounts) : Type 0 where
   pub few : counts.levels < most_levels
-  pub tree : WhereSteady pager (λ pages. IsCheckedIndex pages width descends root counts)
+  pub tree : WhereSteady pager (λ pages. IsCheckedIndex pages widths descends root counts)
 
 -- why it was not, where these were the marks of pages that are used
-pub record IsIndexFailure (pager : PagerState) (width : ℕ) (descends : List Bool) (root : ℕ) (marks : List Bool)
+pub record IsIndexFailure (pager : PagerState) (widths : EntryWidths) (descends : List Bool) (root : ℕ) (marks : List Bool)
     (fault : Fault) : Type 0 where
   pub only : IsIndexWalkFault fault
-  pub cause : WhereSteady pager (λ pages. IsReadFault fault ⊎ IsBrokenIndex pages width descends root fault
+  pub cause : WhereSteady pager (λ pages. IsReadFault fault ⊎ IsBrokenIndex pages widths descends root fault
       ⊎ IsTreeTwice pages (index_tree root) marks fault)

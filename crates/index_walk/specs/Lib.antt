@@ -1,3 +1,4 @@
+pub mod Widths
 pub mod Last
 pub mod Broken
 pub mod Checked

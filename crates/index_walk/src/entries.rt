@@ -15,7 +15,7 @@ ghost use Rattle.index_walk.specs.Walked.{AreOwnWalked, BreaksWidth, IsEntryCaus
 
 use crate::last::LastEntry;
 use crate::page::is_leaf;
-use crate::tree::IndexTree;
+use crate::tree::{EntryWidths, IndexTree};
 use btree::PageView;
 use page_use::payload;
 use pager::{Pager, Source};
@@ -24,15 +24,15 @@ use std::alloc::Global;
 use std::borrow::CowSlice;
 use values::Fault;
 
-/// Tests that these bytes of page `n` are a record of so many values.
-fn check_record(alloc: Global, bytes: &[u8], width: usize, n: u32) -> Result<(), Fault>
-    ensures found { OnOk result (IsRecordOf width bytes.now) }
-    ensures fault { IfErr result (BreaksWidth width bytes.now n) }
+/// Tests that these bytes of page `n` are a record of as many values as an entry may have.
+fn check_record(alloc: Global, bytes: &[u8], widths: EntryWidths, n: u32) -> Result<(), Fault>
+    ensures found { OnOk result (IsRecordOf widths bytes.now) }
+    ensures fault { IfErr result (BreaksWidth widths bytes.now n) }
     ensures only { IfErr result IsIndexWalkFault }
 {
     match RecordView::read(alloc, bytes) {
         Ok(fields) => {
-            if fields.count() != width {
+            if !widths.allow(fields.count()) {
                 return Err(Fault::BadRecord(n));
             }
             Ok(())
@@ -51,15 +51,15 @@ fn entry_record<'p, S: Source>(
     view: &PageView<'p>,
     n: u32,
     i: u32,
-    width: usize,
+    widths: EntryWidths,
     used: &mut [bool],
 ) -> Result<CowSlice<'p, u8>, Fault>
     requires cell { TellsOfCell view.now Index view.now.level i }
     requires long { pager.old.state.header.pages < length used.old }
     ensures entry { WhereSteady pager.old.state (λ pages. IsViewIn pages n view.now
-        → IfOk result (λ bytes. IsEntryRead pages width view.now.level n i (cow_slice_items bytes) used.old used.new)) }
+        → IfOk result (λ bytes. IsEntryRead pages widths view.now.level n i (cow_slice_items bytes) used.old used.new)) }
     ensures fault { WhereSteady pager.old.state (λ pages. IsViewIn pages n view.now
-        → IfErr result (IsEntryCause pages width view.now.level n i used.old)) }
+        → IfErr result (IsEntryCause pages widths view.now.level n i used.old)) }
     ensures only { IfErr result IsIndexWalkFault }
     ensures reads { ReadsChainPages result pager.old.state pager.new.state }
 {
@@ -70,7 +70,7 @@ fn entry_record<'p, S: Source>(
     let Some(bytes) = payload(alloc, pager, &cell, used)? else {
         return Err(Fault::BadChain(n));
     };
-    check_record(alloc, bytes.as_slice(), width, n)?;
+    check_record(alloc, bytes.as_slice(), widths, n)?;
     Ok(bytes)
 }
 
@@ -99,13 +99,13 @@ fn check_entry<S: Source>(
     requires long { pager.old.state.header.pages < length used.old }
     ensures entry { WhereSteady pager.old.state (λ pages. IsViewIn pages n view.now
         → OnOk result
-        (IsEntryWalked pages tree.now.width tree.now.descends.now view.now.level n i used.old used.new last.old last.new)) }
+        (IsEntryWalked pages tree.now.widths tree.now.descends.now view.now.level n i used.old used.new last.old last.new)) }
     ensures fault { WhereSteady pager.old.state (λ pages. IsViewIn pages n view.now
-        → IfErr result (IsEntryStop pages tree.now.width tree.now.descends.now view.now.level n i last.old used.old)) }
+        → IfErr result (IsEntryStop pages tree.now.widths tree.now.descends.now view.now.level n i last.old used.old)) }
     ensures only { IfErr result IsIndexWalkFault }
     ensures reads { ReadsChainPages result pager.old.state pager.new.state }
 {
-    let bytes = entry_record(alloc, pager, view, n, i, tree.width, used)?;
+    let bytes = entry_record(alloc, pager, view, n, i, tree.widths, used)?;
     let blamed = blamed_page(view, n, last);
     last.follow(tree, bytes.as_slice(), n, blamed)?;
     Ok(())
@@ -125,12 +125,12 @@ pub(crate) fn check_leaf<S: Source>(
     requires leaf { view.now.level ≡ Leaf }
     requires long { pager.old.state.header.pages < length used.old }
     ensures entries { WhereSteady pager.old.state (λ pages. IsIndexPage pages tree.now.root n view.now
-        → OnOk result (IsLeafWalked pages tree.now.width tree.now.descends.now n last.old last.new)) }
+        → OnOk result (IsLeafWalked pages tree.now.widths tree.now.descends.now n last.old last.new)) }
     ensures marks { WhereSteady pager.old.state (λ pages. IsIndexPage pages tree.now.root n view.now
         → OnOk result (MarksCells pages (index_tree tree.now.root) Leaf n used.old used.new)) }
     ensures fault { WhereSteady pager.old.state (λ pages. IsIndexPage pages tree.now.root n view.now
-        → IsFrom pages tree.now.width tree.now.root last.old n
-        → IfErr result (IsLeafCause pages tree.now.width tree.now.descends.now tree.now.root n used.old)) }
+        → IsFrom pages tree.now.widths tree.now.root last.old n
+        → IfErr result (IsLeafCause pages tree.now.widths tree.now.descends.now tree.now.root n used.old)) }
     ensures only { IfErr result IsIndexWalkFault }
     ensures reads { ReadsChainPages result pager.old.state pager.new.state }
 {
@@ -156,9 +156,9 @@ pub(crate) fn check_own<S: Source>(
     requires long { pager.old.state.header.pages < length used.old }
     ensures some { IfErr result (λ e. i < cell_count view.now.at view.now.page) }
     ensures own { WhereSteady pager.old.state (λ pages. IsViewIn pages n view.now → IfOk result (λ own.
-        AreOwnWalked pages tree.now.width tree.now.descends.now view.now.level n i own used.old used.new last.old last.new)) }
+        AreOwnWalked pages tree.now.widths tree.now.descends.now view.now.level n i own used.old used.new last.old last.new)) }
     ensures fault { WhereSteady pager.old.state (λ pages. IsViewIn pages n view.now
-        → IfErr result (IsEntryStop pages tree.now.width tree.now.descends.now view.now.level n i last.old used.old)) }
+        → IfErr result (IsEntryStop pages tree.now.widths tree.now.descends.now view.now.level n i last.old used.old)) }
     ensures only { IfErr result IsIndexWalkFault }
     ensures reads { ReadsChainPages result pager.old.state pager.new.state }
 {

@@ -1,5 +1,5 @@
 //! The entry that a walk met last, and whether another comes behind it.
-ghost use Rattle.std.specs.Prelude.{◌≡◌, ◌≢◌, ◌∷◌, [], IfErr, IfNone, IfSome, IsFalse, IsTrue, List, None, OnOk, Some, length};
+ghost use Rattle.std.specs.Prelude.{◌≡◌, ◌≢◌, ◌≤◌, ◌∷◌, [], IfErr, IfNone, IfSome, IsFalse, IsTrue, List, None, OnOk, Some, length, take};
 ghost use Rattle.std.specs.Ordering.{is_lt};
 ghost use Rattle.values.specs.Datum.{Datum};
 ghost use Rattle.values.specs.Order.{datum_cmp};
@@ -7,6 +7,7 @@ ghost use Rattle.records.specs.Fields.{AreUnread};
 ghost use Rattle.records.specs.Record.{IsRecord};
 ghost use Rattle.key_ranges.specs.Ranges.{directed, key_cmp};
 ghost use Rattle.index_walk.specs.Checked.{IsIndexWalkFault};
+ghost use Rattle.index_walk.specs.Widths.{IsOfWidth};
 ghost use Rattle.index_walk.specs.Last.{Follows, FollowsNot, IsBefore};
 
 use crate::tree::IndexTree;
@@ -38,10 +39,10 @@ fn column_order(
     Some(order)
 }
 
-/// Whether a record of so many values comes before another one, column by column.
-fn is_before(descends: &[bool], width: usize, one: &[u8], other: &[u8]) -> bool
-    ensures { (x y : List Datum) → IsRecord one.now x → length x ≡ width → IsRecord other.now y → length y ≡ width
-        → result ≡ is_lt (key_cmp descends.now x y) }
+/// Whether the first values of a record, so many, come before those of another one, column by column.
+fn is_before(descends: &[bool], columns: usize, one: &[u8], other: &[u8]) -> bool
+    ensures { (x y : List Datum) → IsRecord one.now x → columns ≤ length x → IsRecord other.now y → columns ≤ length y
+        → result ≡ is_lt (key_cmp descends.now (take columns x) (take columns y)) }
 {
     let Some(mut first) = FieldReader::new(one) else {
         return false;
@@ -49,7 +50,7 @@ fn is_before(descends: &[bool], width: usize, one: &[u8], other: &[u8]) -> bool
     let Some(mut second) = FieldReader::new(other) else {
         return false;
     };
-    for at in 0..width {
+    for at in 0..columns {
         let Some(order) = column_order(descends_at(descends, at), &mut first, &mut second) else {
             return false;
         };
@@ -93,18 +94,19 @@ impl LastEntry {
         self.page
     }
 
-    /// Whether a record of so many values comes behind it, or there is none.
+    /// Whether the key of a record comes behind that of it, or there is none.
     fn is_before(&self, tree: &IndexTree<'_>, bytes: &[u8]) -> bool
         ensures before { IsTrue result → (x y : List Datum) → self.now.page ≢ None → IsRecord self.now.bytes x
-            → length x ≡ tree.now.width → IsRecord bytes.now y → length y ≡ tree.now.width → IsBefore tree.now.descends.now x y }
+            → IsOfWidth tree.now.widths x → IsRecord bytes.now y → IsOfWidth tree.now.widths y
+            → IsBefore tree.now.widths tree.now.descends.now x y }
         ensures some { IsFalse result → self.now.page ≢ None }
-        ensures not { IsFalse result → (x y : List Datum) → IsRecord self.now.bytes x → length x ≡ tree.now.width
-            → IsRecord bytes.now y → length y ≡ tree.now.width → ¬ IsBefore tree.now.descends.now x y }
+        ensures not { IsFalse result → (x y : List Datum) → IsRecord self.now.bytes x → IsOfWidth tree.now.widths x
+            → IsRecord bytes.now y → IsOfWidth tree.now.widths y → ¬ IsBefore tree.now.widths tree.now.descends.now x y }
     {
         if self.page.is_none() {
             return true;
         }
-        is_before(tree.descends, tree.width, self.bytes.as_slice(), bytes)
+        is_before(tree.descends, tree.widths.key, self.bytes.as_slice(), bytes)
     }
 
     /// Keeps a record of page `n` in the place of it.
@@ -126,8 +128,8 @@ impl LastEntry {
         n: u32,
         blamed: u32,
     ) -> Result<(), Fault>
-        ensures behind { OnOk result (Follows tree.now.descends.now tree.now.width self.old bytes.now n self.new) }
-        ensures fault { IfErr result (FollowsNot tree.now.descends.now tree.now.width self.old bytes.now blamed) }
+        ensures behind { OnOk result (Follows tree.now.widths tree.now.descends.now self.old bytes.now n self.new) }
+        ensures fault { IfErr result (FollowsNot tree.now.widths tree.now.descends.now self.old bytes.now blamed) }
         ensures only { IfErr result IsIndexWalkFault }
     {
         if !self.is_before(tree, bytes) {

@@ -48,12 +48,12 @@ fn walk<S: Source>(
     requires number { IsPageNumber pager.old.state n }
     requires long { pager.old.state.header.pages < length used.old }
     requires stands { WhereSteady pager.old.state (λ pages. StandsAt pages Index tree.now.root depth n) }
-    requires from { WhereSteady pager.old.state (λ pages. IsFrom pages tree.now.width tree.now.root last.old n) }
+    requires from { WhereSteady pager.old.state (λ pages. IsFrom pages tree.now.widths tree.now.root last.old n) }
     ensures deep { IfOk result (λ counts. counts.levels + depth ≤ most_levels) }
     ensures walked { WhereSteady pager.old.state (λ pages. IfOk result (λ counts.
-        IsWalked pages tree.now.width tree.now.descends.now tree.now.root n counts used.old used.new last.old last.new)) }
+        IsWalked pages tree.now.widths tree.now.descends.now tree.now.root n counts used.old used.new last.old last.new)) }
     ensures fault { WhereSteady pager.old.state (λ pages. IfErr result
-        (IsWalkCause pages tree.now.width tree.now.descends.now tree.now.root n used.old)) }
+        (IsWalkCause pages tree.now.widths tree.now.descends.now tree.now.root n used.old)) }
     ensures only { IfErr result IsIndexWalkFault }
     ensures reads { ReadsPages result pager.old.state pager.new.state }
 {
@@ -86,7 +86,7 @@ fn walk<S: Source>(
     })
 }
 
-/// Checks the tree of an index, whose entries have so many values each and ascend, counts what it has, and gives its pages
+/// Checks the tree of an index, whose entries have as many values as they may have and ascend by their keys, counts what it has, and gives its pages
 /// and their chains their marks. (Database File Format, section 1.6 "B-tree Pages", and section 2.3 "Representation Of SQL
 /// Indices")
 ///
@@ -103,8 +103,8 @@ pub fn check_index<S: Source>(
     requires number { IsPageNumber pager.old.state tree.now.root }
     requires long { pager.old.state.header.pages < length used.old }
     ensures outcome { MatchResult result
-        (HasCheckedIndex pager.old.state tree.now.width tree.now.descends.now tree.now.root)
-        (IsIndexFailure pager.old.state tree.now.width tree.now.descends.now tree.now.root used.old) }
+        (HasCheckedIndex pager.old.state tree.now.widths tree.now.descends.now tree.now.root)
+        (IsIndexFailure pager.old.state tree.now.widths tree.now.descends.now tree.now.root used.old) }
     ensures marks { WhereSteady pager.old.state (λ pages. OnOk result
         (MarksTree pages (index_tree tree.now.root) used.old used.new)) }
     ensures reads { ReadsPages result pager.old.state pager.new.state }

@@ -8,6 +8,7 @@ use Rattle.indexes.specs.IndexData.{IndexData}
 use Rattle.schema.specs.TableData.{TableData}
 use Rattle.tree_walk.specs.declared.counts.TreeCounts.{TreeCounts}
 use Rattle.table_walk.specs.Checked.{IsCheckedTree}
+use Rattle.index_walk.specs.Widths.{exactly}
 use Rattle.index_walk.specs.Checked.{IsCheckedIndex}
 use Rattle.index_rows.specs.declared.index.TableIndex.{TableIndex}
 use Rattle.index_rows.specs.Checked.{IsCheckedTable, IsCheckedTableIndex}
@@ -57,9 +58,9 @@ module _ (pages : Pages) (index : IndexData) (its : TableIndex) where
   its_columns entries root places descends checked = record {
     counts = checked.counts;
     number = subst (λ (n : ℕ). IsNumber pages n) (sym root) checked.number;
-    tree = subst (λ (n : ℕ). IsCheckedIndex pages (length its.places.now + 1) its.descends.now n checked.counts) (sym root)
-        (subst (λ (d : List Bool). IsCheckedIndex pages (length its.places.now + 1) d index.root checked.counts) (sym descends)
-        (subst (λ (l : List ℕ). IsCheckedIndex pages (length l + 1) (descends_of index) index.root checked.counts) (sym places) checked.tree));
+    tree = subst (λ (n : ℕ). IsCheckedIndex pages (exactly (length its.places.now + 1)) its.descends.now n checked.counts) (sym root)
+        (subst (λ (d : List Bool). IsCheckedIndex pages (exactly (length its.places.now + 1)) d index.root checked.counts) (sym descends)
+        (subst (λ (l : List ℕ). IsCheckedIndex pages (exactly (length l + 1)) (descends_of index) index.root checked.counts) (sym places) checked.tree));
     entries_are = checked.entries_are;
   }
 

@@ -12,6 +12,7 @@ use Rattle.schema.specs.TableData.{TableData}
 use Rattle.indexes.specs.IndexData.{IndexData}
 use Rattle.catalog.specs.CatalogData.{CatalogData}
 use Rattle.tree_walk.specs.declared.counts.TreeCounts.{TreeCounts}
+use Rattle.index_walk.specs.Widths.{exactly}
 use Rattle.index_walk.specs.Broken.{IsBrokenIndex}
 use Rattle.index_walk.specs.Checked.{IsCheckedIndex, IsIndexWalkFault}
 use Rattle.entry_prefixes.specs.Entries.{HoldsEntries}
@@ -40,7 +41,7 @@ width_of index = length (places_of index) + 1
 
 -- the tree of an index was checked
 abbrev pub IsCheckedIndexTree : Pages → IndexData → TreeCounts → Type 0
-IsCheckedIndexTree pages index counts = IsCheckedIndex pages (width_of index) (descends_of index) index.root counts
+IsCheckedIndexTree pages index counts = IsCheckedIndex pages (exactly (width_of index)) (descends_of index) index.root counts
 
 -- its first columns have so many different values, for each number of columns
 pub record HasDistinct (pages : Pages) (index : IndexData) (distinct : List ℕ) : Type 0 where
@@ -87,7 +88,7 @@ pub record IsTableIndex (pages : Pages) (table : TableData) (index : IndexData) 
 abbrev pub IsBrokenIndexTree : Pages → IndexData → Fault → Type 0
 IsBrokenIndexTree pages index (NotUnique name) =
     (string_bytes name ≡ index.name) × (index.is_unique ≡ true) × HasRepeats pages index.root (length (places_of index))
-IsBrokenIndexTree pages index fault = IsBrokenIndex pages (width_of index) (descends_of index) index.root fault
+IsBrokenIndexTree pages index fault = IsBrokenIndex pages (exactly (width_of index)) (descends_of index) index.root fault
 
 -- the faults of the check of an index's tree, and of its entries beside one another
 abbrev pub IsIndexCheckFault : Fault → Type 0

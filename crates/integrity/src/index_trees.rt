@@ -16,7 +16,7 @@ ghost use Rattle.integrity.specs.Used.{AreTreesTwice, MarksTrees, index_tree_of}
 
 use create_trees::KeyOrder;
 use entry_prefixes::read_prefixes;
-use index_walk::{IndexTree, check_index};
+use index_walk::{EntryWidths, IndexTree, check_index};
 use indexes::Index;
 use pager::{Pager, Source};
 use std::alloc::{AllocError, Global};
@@ -81,7 +81,7 @@ fn check_tree<S: Source>(
     let descends = directions_of(alloc, index)?;
     let tree = IndexTree {
         root: index.root(),
-        width: index.columns().len() + 1,
+        widths: EntryWidths::exactly(index.columns().len() + 1),
         descends: descends.as_slice(),
     };
     check_index(alloc, pager, &tree, used)

@@ -14,4 +14,4 @@ mod rows;
 pub use keys::read_head;
 pub use leaf::is_leaf_of_rows;
 pub use row_reader::RowReader;
-pub use rows::{RowView, check_rows, payload_of, read_row};
+pub use rows::{RowView, check_rows, fits_column, payload_of, read_row};

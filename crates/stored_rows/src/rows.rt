@@ -156,8 +156,8 @@ impl<'p> RowView<'p> {
     }
 }
 
-/// Whether a value is of a column.
-fn fits_column(column: &Column, value: ValueRef<'_>) -> bool
+/// Whether a value is of a column, so that a row may have it there. (STRICT Tables)
+pub fn fits_column(column: &Column, value: ValueRef<'_>) -> bool
     ensures { IsTrue result ↔ FitsColumn column.now (datum_of_ref value.entry) }
 {
     match value {

@@ -16,12 +16,12 @@ returns-in_err-follow-clause-fault g c = λ steady of.
     let same : c.as_slice.result.now ≡ cow_slice_items c.in_ok-bytes.bytes = search rules in
     let read = c.in_ok-bytes.ensures.entry steady of in
     let p = err_from_is_err_and c.from_residual-in_err-follow.result c.from_residual-in_err-follow.ensures.1 in
-    let told = subst (λ (m : ℕ). FollowsNot c.args.tree.now.descends.now c.args.tree.now.width c.args.last.now (cow_slice_items c.in_ok-bytes.bytes) m c.in_err-follow.field-0.0)
+    let told = subst (λ (m : ℕ). FollowsNot c.args.tree.now.widths c.args.tree.now.descends.now c.args.last.now (cow_slice_items c.in_ok-bytes.bytes) m c.in_err-follow.field-0.0)
     c.blamed_page-blamed.ensures
-    (subst (λ (b : List ℕ). FollowsNot c.args.tree.now.descends.now c.args.tree.now.width c.args.last.now b c.blamed_page-blamed.result c.in_err-follow.field-0.0) same
+    (subst (λ (b : List ℕ). FollowsNot c.args.tree.now.widths c.args.tree.now.descends.now c.args.last.now b c.blamed_page-blamed.result c.in_err-follow.field-0.0) same
     c.in_err-follow.ensures.fault) in
     rw (p.1, p.2)
-    (stop_of (pages_seen c.args.pager.now.state) c.args.tree.now.width c.args.view.now.level c.args.n c.args.i (cow_slice_items c.in_ok-bytes.bytes) c.args.used.now c.entry_record.new.used
+    (stop_of (pages_seen c.args.pager.now.state) c.args.tree.now.widths c.args.view.now.level c.args.n c.args.i (cow_slice_items c.in_ok-bytes.bytes) c.args.used.now c.entry_record.new.used
     read c.args.tree.now.descends.now c.args.last.now c.in_err-follow.field-0.0 c.args.used.now told)
 
 pub returns-clause-entry : goal.returns-clause-entry
@@ -30,5 +30,5 @@ returns-clause-entry g c = λ steady of.
     record {
       bytes = cow_slice_items c.in_ok-bytes.bytes;
       read = c.in_ok-bytes.ensures.entry steady of;
-      follows = subst (λ (b : List ℕ). Follows c.args.tree.now.descends.now c.args.tree.now.width c.args.last.now b c.args.n c.follow.new.self) same c.in_ok-follow.ensures.behind;
+      follows = subst (λ (b : List ℕ). Follows c.args.tree.now.widths c.args.tree.now.descends.now c.args.last.now b c.args.n c.follow.new.self) same c.in_ok-follow.ensures.behind;
     }

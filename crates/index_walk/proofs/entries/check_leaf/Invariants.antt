@@ -15,9 +15,9 @@ invariant-loop-i g l = record {
   chains : AsksChainsOnly l.fn.pager.state l.pager.state;
   failures : l.pager.state.source.failures ≡ l.fn.pager.state.source.failures;
   run : IsTrue l.fn.pager.state.source.steady → IsIndexPage (pages_seen l.fn.pager.state) l.tree.root l.n l.view
-      → IsEntryRunFrom (pages_seen l.fn.pager.state) l.tree.width l.tree.descends.now (map (place_at l.n) (range_with_len 0 l.i)) l.fn.last l.last;
+      → IsEntryRunFrom (pages_seen l.fn.pager.state) l.tree.widths l.tree.descends.now (map (place_at l.n) (range_with_len 0 l.i)) l.fn.last l.last;
   before : IsTrue l.fn.pager.state.source.steady → IsIndexPage (pages_seen l.fn.pager.state) l.tree.root l.n l.view
-      → IsLastBefore (pages_seen l.fn.pager.state) l.tree.width l.n l.i l.fn.last l.last;
+      → IsLastBefore (pages_seen l.fn.pager.state) l.tree.widths l.n l.i l.fn.last l.last;
   marks : IsTrue l.fn.pager.state.source.steady → IsIndexPage (pages_seen l.fn.pager.state) l.tree.root l.n l.view
       → MarksPart (pages_seen l.fn.pager.state) (index_tree l.tree.root) Leaf l.n 0 l.i 0 l.fn.used l.used;
 }

@@ -53,7 +53,7 @@ returns-in_err-check_record-clause-fault g c = λ steady of.
     let within : c.args.i < count_at seen c.args.n = omega (arith, c.requires.cell.within, count_is seen c.args.n c.args.view.now of) in
     let p = err_from_is_err_and c.from_residual-in_err-check_record.result c.from_residual-in_err-check_record.ensures.1 in
     rw (p.1, p.2)
-    (entry_broken seen c.args.n c.args.view.now of c.image_size-most.result c.args.i size (cell_data c.in-Some.cell) c.in-Some.ensures.found c.args.width
+    (entry_broken seen c.args.n c.args.view.now of c.image_size-most.result c.args.i size (cell_data c.in-Some.cell) c.in-Some.ensures.found c.args.widths
     within (cow_slice_items c.in-Some-2.bytes) c.as_slice.result.now (rw c.in-Some-2.is at (c.in_ok-bytes.ensures.bytes steady)) (search rules)
     c.in_err-check_record.field-0.0 c.in_err-check_record.ensures.fault c.args.used.now)
 
@@ -61,6 +61,6 @@ pub returns-clause-entry : goal.returns-clause-entry
 returns-clause-entry g c = λ steady of.
     let seen = pages_seen c.args.pager.now.state in
     let size = ap image_size (sym c.header.ensures.is) ∙ sym c.image_size-most.ensures in
-    entry_read seen c.args.n c.args.view.now of c.image_size-most.result c.args.i size (cell_data c.in-Some.cell) c.in-Some.ensures.found c.args.width
+    entry_read seen c.args.n c.args.view.now of c.image_size-most.result c.args.i size (cell_data c.in-Some.cell) c.in-Some.ensures.found c.args.widths
     (cow_slice_items c.in-Some-2.bytes) c.as_slice.result.now (rw c.in-Some-2.is at (c.in_ok-bytes.ensures.bytes steady)) (search rules) c.in_ok-check_record.ensures.found
     c.args.used.now c.payload.new.used (rw c.in-Some-2.is at (c.in_ok-bytes.ensures.marks steady))

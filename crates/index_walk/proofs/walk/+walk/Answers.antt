@@ -37,11 +37,11 @@ returns-in_err-check_leaf-clause-fault g t c = λ steady.
     let same = same_pages _ _ read in
     let p = err_from_is_err_and c.from_residual-in_err-check_leaf.result c.from_residual-in_err-check_leaf.ensures.1 in
     let there = subst (λ (p : Pages). IsIndexPage p c.args.tree.now.root c.args.n c.in_ok-view.view) (sym same) page in
-    let from = subst (λ (p : Pages). IsFrom p c.args.tree.now.width c.args.tree.now.root c.args.last.now c.args.n) (sym same) (c.requires.from steady) in
-    let told = subst (λ (p : Pages). IsLeafCause p c.args.tree.now.width c.args.tree.now.descends.now c.args.tree.now.root c.args.n c.use_page.new.used c.in_err-check_leaf.field-0.0) same
+    let from = subst (λ (p : Pages). IsFrom p c.args.tree.now.widths c.args.tree.now.root c.args.last.now c.args.n) (sym same) (c.requires.from steady) in
+    let told = subst (λ (p : Pages). IsLeafCause p c.args.tree.now.widths c.args.tree.now.descends.now c.args.tree.now.root c.args.n c.use_page.new.used c.in_err-check_leaf.field-0.0) same
     (c.in_err-check_leaf.ensures.fault (still_steady _ _ read steady) there from) in
     rw (p.1, p.2)
-    (leaf_cause seen c.args.tree.now.width c.args.tree.now.descends.now c.args.tree.now.root c.args.n c.args.used.now c.use_page.new.used c.in_ok-use_page.ensures.blank (c.in_ok-use_page.ensures.marks seen)
+    (leaf_cause seen c.args.tree.now.widths c.args.tree.now.descends.now c.args.tree.now.root c.args.n c.args.used.now c.use_page.new.used c.in_ok-use_page.ensures.blank (c.in_ok-use_page.ensures.marks seen)
     c.args.depth (c.requires.stands steady) (subst (λ (l : Level). IsPageOf seen Index l c.args.n) leaf page.page) c.in_err-check_leaf.field-0.0 told)
 
 pub returns-then-is_leaf-clause-walked : goal.returns-then-is_leaf-clause-walked
@@ -57,10 +57,10 @@ returns-then-is_leaf-clause-walked g t c = λ steady.
     let cells = subst (λ (p : Pages). MarksCells p (index_tree c.args.tree.now.root) Leaf c.args.n c.use_page.new.used c.check_leaf.new.used) same
     (c.in_ok-check_leaf.ensures.marks now there) in
     let count : c.from.result ≡ count_at seen c.args.n = omega (arith, c.from.ensures, c.count.ensures, count_is seen c.args.n c.in_ok-view.view page.seen) in
-    subst (λ (counts : TreeCounts). IsWalked seen c.args.tree.now.width c.args.tree.now.descends.now c.args.tree.now.root c.args.n counts c.args.used.now c.check_leaf.new.used c.args.last.now c.check_leaf.new.last) (sym c.counts_of_page.ensures)
-    (leaf_walked seen c.args.tree.now.width c.args.tree.now.descends.now c.args.tree.now.root c.args.n c.args.used.now c.use_page.new.used c.in_ok-use_page.ensures.blank (c.in_ok-use_page.ensures.marks seen)
+    subst (λ (counts : TreeCounts). IsWalked seen c.args.tree.now.widths c.args.tree.now.descends.now c.args.tree.now.root c.args.n counts c.args.used.now c.check_leaf.new.used c.args.last.now c.check_leaf.new.last) (sym c.counts_of_page.ensures)
+    (leaf_walked seen c.args.tree.now.widths c.args.tree.now.descends.now c.args.tree.now.root c.args.n c.args.used.now c.use_page.new.used c.in_ok-use_page.ensures.blank (c.in_ok-use_page.ensures.marks seen)
     c.args.depth (c.requires.stands steady) (subst (λ (l : Level). IsPageOf seen Index l c.args.n) leaf page.page) c.from.result count (search rules) (page.filled leaf)
-    c.args.last.now c.check_leaf.new.last (subst (λ (p : Pages). IsLeafWalked p c.args.tree.now.width c.args.tree.now.descends.now c.args.n c.args.last.now c.check_leaf.new.last) same held) c.check_leaf.new.used cells)
+    c.args.last.now c.check_leaf.new.last (subst (λ (p : Pages). IsLeafWalked p c.args.tree.now.widths c.args.tree.now.descends.now c.args.n c.args.last.now c.check_leaf.new.last) same held) c.check_leaf.new.used cells)
 
 pub loop-i-init : goal.loop-i-init
 loop-i-init g t c = record {
@@ -69,7 +69,7 @@ loop-i-init g t c = record {
   shallow = search rules;
   befores = λ steady.
       let seen = pages_seen c.args.pager.now.state in
-      none_branched seen c.args.tree.now.width c.args.tree.now.descends.now c.args.tree.now.root c.args.n c.args.used.now c.use_page.new.used c.in_ok-use_page.ensures.blank (c.in_ok-use_page.ensures.marks seen)
+      none_branched seen c.args.tree.now.widths c.args.tree.now.descends.now c.args.tree.now.root c.args.n c.args.used.now c.use_page.new.used c.in_ok-use_page.ensures.blank (c.in_ok-use_page.ensures.marks seen)
       c.counts_of_page-counts.result c.args.last.now (ap (λ (t : TreeCounts). t.cells) c.counts_of_page-counts.ensures) (ap (λ (t : TreeCounts). t.pages) c.counts_of_page-counts.ensures);
 }
 
@@ -115,8 +115,8 @@ walk-requires g t c κs within =
                   let interior : c.in_ok-view.view.level ≡ Interior = c.is_leaf.ensures.interior c.if-is_leaf.false in
                   let inner = subst (λ (l : Level). IsPageOf seen Index l c.args.n) interior page.page in
                   let in_count : c.loop-i.i ≤ cell_count c.in_ok-view.view.at c.in_ok-view.view.page = search rules in
-                  subst (λ (p : Pages). IsFrom p c.args.tree.now.width c.args.tree.now.root c.loop-i.last c.in-Some.child) (sym (same_pages _ _ inv.stays))
-                  (child_from seen c.args.tree.now.width c.args.tree.now.descends.now c.args.tree.now.root c.args.depth c.args.n (c.requires.stands steady) inner c.loop-i.i c.loop-i.counts c.args.used.now c.loop-i.used
+                  subst (λ (p : Pages). IsFrom p c.args.tree.now.widths c.args.tree.now.root c.loop-i.last c.in-Some.child) (sym (same_pages _ _ inv.stays))
+                  (child_from seen c.args.tree.now.widths c.args.tree.now.descends.now c.args.tree.now.root c.args.depth c.args.n (c.requires.stands steady) inner c.loop-i.i c.loop-i.counts c.args.used.now c.loop-i.used
                   c.args.last.now c.loop-i.last (inv.befores steady) (view_within seen c.args.n c.in_ok-view.view page.seen c.loop-i.i in_count) c.in-Some.child
                   (view_child seen c.args.n c.in_ok-view.view page.seen c.loop-i.i c.in-Some.child kid.0)
                   (kid.1, subst (λ (h : Header). c.in-Some.child ≤ h.pages) header kid.2) (c.requires.from steady)),
@@ -138,10 +138,10 @@ returns-in_err-below-clause-fault g t c = λ steady.
     let inner = subst (λ (l : Level). IsPageOf seen Index l c.args.n) interior page.page in
     let in_count : c.loop-i.i ≤ cell_count c.in_ok-view.view.at c.in_ok-view.view.page = search rules in
     let p = err_from_is_err_and c.from_residual-in_err-below.result c.from_residual-in_err-below.ensures.1 in
-    let told = subst (λ (p : Pages). IsWalkCause p c.args.tree.now.width c.args.tree.now.descends.now c.args.tree.now.root c.in-Some.child c.loop-i.used c.in_err-below.field-0.0) (same_pages _ _ inv.stays)
+    let told = subst (λ (p : Pages). IsWalkCause p c.args.tree.now.widths c.args.tree.now.descends.now c.args.tree.now.root c.in-Some.child c.loop-i.used c.in_err-below.field-0.0) (same_pages _ _ inv.stays)
     (c.in_err-below.ensures.fault now) in
     rw (p.1, p.2)
-    (child_cause seen c.args.tree.now.width c.args.tree.now.descends.now c.args.tree.now.root c.args.depth c.args.n (c.requires.stands steady) inner c.loop-i.i c.loop-i.counts c.args.used.now c.loop-i.used c.args.last.now c.loop-i.last (inv.befores steady)
+    (child_cause seen c.args.tree.now.widths c.args.tree.now.descends.now c.args.tree.now.root c.args.depth c.args.n (c.requires.stands steady) inner c.loop-i.i c.loop-i.counts c.args.used.now c.loop-i.used c.args.last.now c.loop-i.last (inv.befores steady)
     (view_within seen c.args.n c.in_ok-view.view page.seen c.loop-i.i in_count) c.in-Some.child (view_child seen c.args.n c.in_ok-view.view page.seen c.loop-i.i c.in-Some.child kid.0)
     (kid.1, subst (λ (h : Header). c.in-Some.child ≤ h.pages) header kid.2) c.in_err-below.field-0.0 told)
 
@@ -157,9 +157,9 @@ returns-then-is_uneven-clause-fault g t c = λ steady.
     let inner = subst (λ (l : Level). IsPageOf seen Index l c.args.n) interior page.page in
     let in_count : c.loop-i.i ≤ cell_count c.in_ok-view.view.at c.in_ok-view.view.page = search rules in
     let odd = c.is_uneven.ensures.uneven c.if-is_uneven.true in
-    let walked = subst (λ (p : Pages). IsWalked p c.args.tree.now.width c.args.tree.now.descends.now c.args.tree.now.root c.in-Some.child c.in_ok-below.below c.loop-i.used c.walk.new.used c.loop-i.last c.walk.new.last) (same_pages _ _ inv.stays)
+    let walked = subst (λ (p : Pages). IsWalked p c.args.tree.now.widths c.args.tree.now.descends.now c.args.tree.now.root c.in-Some.child c.in_ok-below.below c.loop-i.used c.walk.new.used c.loop-i.last c.walk.new.last) (same_pages _ _ inv.stays)
     (c.in_ok-below.ensures.walked now) in
-    inr (inl (inl (uneven_here seen c.args.tree.now.width c.args.tree.now.descends.now c.args.tree.now.root c.args.depth c.args.n (c.requires.stands steady) inner c.loop-i.i c.loop-i.counts c.args.used.now c.loop-i.used c.args.last.now c.loop-i.last (inv.befores steady)
+    inr (inl (inl (uneven_here seen c.args.tree.now.widths c.args.tree.now.descends.now c.args.tree.now.root c.args.depth c.args.n (c.requires.stands steady) inner c.loop-i.i c.loop-i.counts c.args.used.now c.loop-i.used c.args.last.now c.loop-i.last (inv.befores steady)
     (view_within seen c.args.n c.in_ok-view.view page.seen c.loop-i.i in_count) c.in-Some.child (view_child seen c.args.n c.in_ok-view.view page.seen c.loop-i.i c.in-Some.child kid.0)
     (kid.1, subst (λ (h : Header). c.in-Some.child ≤ h.pages) header kid.2) c.in_ok-below.below c.walk.new.used c.walk.new.last walked odd.0 odd.1)))
 
@@ -174,18 +174,18 @@ returns-in_err-own-clause-fault g t c = λ steady.
     let interior : c.in_ok-view.view.level ≡ Interior = c.is_leaf.ensures.interior c.if-is_leaf.false in
     let inner = subst (λ (l : Level). IsPageOf seen Index l c.args.n) interior page.page in
     let in_count : c.loop-i.i ≤ cell_count c.in_ok-view.view.at c.in_ok-view.view.page = search rules in
-    let walked = subst (λ (p : Pages). IsWalked p c.args.tree.now.width c.args.tree.now.descends.now c.args.tree.now.root c.in-Some.child c.in_ok-below.below c.loop-i.used c.walk.new.used c.loop-i.last c.walk.new.last) (same_pages _ _ inv.stays)
+    let walked = subst (λ (p : Pages). IsWalked p c.args.tree.now.widths c.args.tree.now.descends.now c.args.tree.now.root c.in-Some.child c.in_ok-below.below c.loop-i.used c.walk.new.used c.loop-i.last c.walk.new.last) (same_pages _ _ inv.stays)
     (c.in_ok-below.ensures.walked now) in
     let even = c.is_uneven.ensures.even c.if-is_uneven.false in
     let then = SameImage-trans _ _ _ inv.stays c.walk.ensures.reads.image in
     let same = same_pages _ _ then in
     let p = err_from_is_err_and c.from_residual-in_err-own.result c.from_residual-in_err-own.ensures.1 in
     let told = c.in_err-own.ensures.fault (still_steady _ _ then steady) (subst (λ (p : Pages). IsViewIn p c.args.n c.in_ok-view.view) (sym same) page.seen) in
-    let cause = subst (λ (l : Level). IsEntryStop seen c.args.tree.now.width c.args.tree.now.descends.now l c.args.n c.loop-i.i c.walk.new.last c.walk.new.used c.in_err-own.field-0.0) interior
-    (subst (λ (p : Pages). IsEntryStop p c.args.tree.now.width c.args.tree.now.descends.now c.in_ok-view.view.level c.args.n c.loop-i.i c.walk.new.last c.walk.new.used c.in_err-own.field-0.0) same told) in
+    let cause = subst (λ (l : Level). IsEntryStop seen c.args.tree.now.widths c.args.tree.now.descends.now l c.args.n c.loop-i.i c.walk.new.last c.walk.new.used c.in_err-own.field-0.0) interior
+    (subst (λ (p : Pages). IsEntryStop p c.args.tree.now.widths c.args.tree.now.descends.now c.in_ok-view.view.level c.args.n c.loop-i.i c.walk.new.last c.walk.new.used c.in_err-own.field-0.0) same told) in
     let less : c.loop-i.i < count_at seen c.args.n = omega (arith, c.in_err-own.ensures.some, count_is seen c.args.n c.in_ok-view.view page.seen) in
     rw (p.1, p.2)
-    (own_cause seen c.args.tree.now.width c.args.tree.now.descends.now c.args.tree.now.root c.args.depth c.args.n (c.requires.stands steady) inner c.loop-i.i c.loop-i.counts c.args.used.now c.loop-i.used c.args.last.now c.loop-i.last (inv.befores steady)
+    (own_cause seen c.args.tree.now.widths c.args.tree.now.descends.now c.args.tree.now.root c.args.depth c.args.n (c.requires.stands steady) inner c.loop-i.i c.loop-i.counts c.args.used.now c.loop-i.used c.args.last.now c.loop-i.last (inv.befores steady)
     (view_within seen c.args.n c.in_ok-view.view page.seen c.loop-i.i in_count) c.in-Some.child (view_child seen c.args.n c.in_ok-view.view page.seen c.loop-i.i c.in-Some.child kid.0)
     (kid.1, subst (λ (h : Header). c.in-Some.child ≤ h.pages) header kid.2) c.in_ok-below.below c.walk.new.used c.walk.new.last walked even less c.in_err-own.field-0.0 cause)
 
@@ -209,15 +209,15 @@ loop-i-preserved g t c =
           let seen = pages_seen c.args.pager.now.state in
           let page = c.in_ok-view.ensures.found c.args.pager.now.state c.header-header.ensures c.in_ok-page.ensures.outcome steady in
           let inner = subst (λ (l : Level). IsPageOf seen Index l c.args.n) interior page.page in
-          let walked = subst (λ (p : Pages). IsWalked p c.args.tree.now.width c.args.tree.now.descends.now c.args.tree.now.root c.in-Some.child c.in_ok-below.below c.loop-i.used c.walk.new.used c.loop-i.last c.walk.new.last) (same_pages _ _ inv.stays)
+          let walked = subst (λ (p : Pages). IsWalked p c.args.tree.now.widths c.args.tree.now.descends.now c.args.tree.now.root c.in-Some.child c.in_ok-below.below c.loop-i.used c.walk.new.used c.loop-i.last c.walk.new.last) (same_pages _ _ inv.stays)
           (c.in_ok-below.ensures.walked (still_steady _ _ inv.stays steady)) in
           let same = same_pages _ _ then in
           let told = c.in_ok-own.ensures.own (still_steady _ _ then steady) (subst (λ (p : Pages). IsViewIn p c.args.n c.in_ok-view.view) (sym same) page.seen) in
-          let owns = subst (λ (l : Level). AreOwnWalked seen c.args.tree.now.width c.args.tree.now.descends.now l c.args.n c.loop-i.i c.in_ok-own.own c.walk.new.used c.check_own.new.used c.walk.new.last c.check_own.new.last) interior
-          (subst (λ (p : Pages). AreOwnWalked p c.args.tree.now.width c.args.tree.now.descends.now c.in_ok-view.view.level c.args.n c.loop-i.i c.in_ok-own.own c.walk.new.used c.check_own.new.used c.walk.new.last c.check_own.new.last) same told) in
-          subst (λ (l : ℕ). AreBranches seen c.args.tree.now.width c.args.tree.now.descends.now c.args.tree.now.root c.args.n (c.loop-i.i + 1) (record { levels = l; cells = c.join-counts.result.cells; pages = c.join-counts.result.pages })
+          let owns = subst (λ (l : Level). AreOwnWalked seen c.args.tree.now.widths c.args.tree.now.descends.now l c.args.n c.loop-i.i c.in_ok-own.own c.walk.new.used c.check_own.new.used c.walk.new.last c.check_own.new.last) interior
+          (subst (λ (p : Pages). AreOwnWalked p c.args.tree.now.widths c.args.tree.now.descends.now c.in_ok-view.view.level c.args.n c.loop-i.i c.in_ok-own.own c.walk.new.used c.check_own.new.used c.walk.new.last c.check_own.new.last) same told) in
+          subst (λ (l : ℕ). AreBranches seen c.args.tree.now.widths c.args.tree.now.descends.now c.args.tree.now.root c.args.n (c.loop-i.i + 1) (record { levels = l; cells = c.join-counts.result.cells; pages = c.join-counts.result.pages })
           c.args.used.now c.check_own.new.used c.args.last.now c.check_own.new.last) (sym levels)
-          (branches_more seen c.args.tree.now.width c.args.tree.now.descends.now c.args.tree.now.root c.args.depth c.args.n (c.requires.stands steady) inner c.loop-i.i c.loop-i.counts c.args.used.now c.loop-i.used c.args.last.now c.loop-i.last (inv.befores steady)
+          (branches_more seen c.args.tree.now.widths c.args.tree.now.descends.now c.args.tree.now.root c.args.depth c.args.n (c.requires.stands steady) inner c.loop-i.i c.loop-i.counts c.args.used.now c.loop-i.used c.args.last.now c.loop-i.last (inv.befores steady)
           (view_within seen c.args.n c.in_ok-view.view page.seen c.loop-i.i in_count) c.in-Some.child (view_child seen c.args.n c.in_ok-view.view page.seen c.loop-i.i c.in-Some.child kid.0)
           (kid.1, subst (λ (h : Header). c.in-Some.child ≤ h.pages) header kid.2) c.in_ok-below.below c.walk.new.used c.walk.new.last walked even c.in_ok-own.own c.check_own.new.used c.check_own.new.last owns
           c.join-counts.result.cells c.join-counts.result.pages
@@ -233,5 +233,5 @@ returns-clause-walked g t c = λ steady.
     let interior : c.in_ok-view.view.level ≡ Interior = c.is_leaf.ensures.interior c.if-is_leaf.false in
     let inner = subst (λ (l : Level). IsPageOf seen Index l c.args.n) interior page.page in
     let end : c.loop-i.i ≡ cell_count c.in_ok-view.view.at c.in_ok-view.view.page + 1 = search rules in
-    all_walked seen c.args.tree.now.width c.args.tree.now.descends.now c.args.tree.now.root c.args.depth c.args.n (c.requires.stands steady) inner c.loop-i.i c.loop-i.counts c.args.used.now c.loop-i.used c.args.last.now c.loop-i.last (inv.befores steady)
+    all_walked seen c.args.tree.now.widths c.args.tree.now.descends.now c.args.tree.now.root c.args.depth c.args.n (c.requires.stands steady) inner c.loop-i.i c.loop-i.counts c.args.used.now c.loop-i.used c.args.last.now c.loop-i.last (inv.befores steady)
     (omega (arith, end, count_is seen c.args.n c.in_ok-view.view page.seen))

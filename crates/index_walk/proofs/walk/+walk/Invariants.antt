@@ -13,5 +13,5 @@ invariant-loop-i g l = record {
   failures : l.pager.state.source.failures ≡ l.fn.pager.state.source.failures;
   shallow : 0 < l.i → suc l.counts.levels + l.depth ≤ 20;
   befores : IsTrue l.fn.pager.state.source.steady
-      → AreBranches (pages_seen l.fn.pager.state) l.tree.width l.tree.descends.now l.tree.root l.n l.i l.counts l.fn.used l.used l.fn.last l.last;
+      → AreBranches (pages_seen l.fn.pager.state) l.tree.widths l.tree.descends.now l.tree.root l.n l.i l.counts l.fn.used l.used l.fn.last l.last;
 }

@@ -24,7 +24,7 @@ returns-in_err-counts-clause-outcome g c =
           let pages = pages_seen c.args.pager.now.state in
           ⊎_elim inl
           (λ why. inr (⊎_elim
-          (λ (broken : IsBrokenIndex pages c.args.tree.now.width c.args.tree.now.descends.now c.args.tree.now.root c.in_err-counts.field-0.0). inl broken)
+          (λ (broken : IsBrokenIndex pages c.args.tree.now.widths c.args.tree.now.descends.now c.args.tree.now.root c.in_err-counts.field-0.0). inl broken)
           (λ (twice : IsUnderTwice pages (index_tree c.args.tree.now.root) c.args.tree.now.root c.args.used.now c.in_err-counts.field-0.0).
           inr (tree_twice pages (index_tree c.args.tree.now.root) c.args.used.now c.requires.number c.in_err-counts.field-0.0 twice))
           why))
@@ -45,9 +45,9 @@ returns-clause-outcome g c = record {
         few = search rules;
         sound = sound_of_shape pages Index c.in_ok-counts.counts.levels c.args.tree.now.root (search rules) walked.shape;
         shape = walked.shape;
-        entries = all_held pages c.args.tree.now.width _ run.rows run.each;
-        order = in_order pages c.args.tree.now.width c.args.tree.now.descends.now c.in_ok-counts.counts.levels c.args.tree.now.root walked.shape
-            (pairs_of_run pages c.args.tree.now.width c.args.tree.now.descends.now None _ run.rows run.each run.ascend);
+        entries = all_held pages c.args.tree.now.widths _ run.rows run.each;
+        order = in_order pages c.args.tree.now.widths c.args.tree.now.descends.now c.in_ok-counts.counts.levels c.args.tree.now.root walked.shape
+            (pairs_of_run pages c.args.tree.now.widths c.args.tree.now.descends.now None _ run.rows run.each run.ascend);
         counts_are = walked.counts_are;
       };
 }

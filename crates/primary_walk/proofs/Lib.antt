@@ -1,0 +1,4 @@
+pub mod RowLemmas
+pub mod CheckLemmas
+pub mod UnbrokenLemmas
+pub mod HeldLemmas
