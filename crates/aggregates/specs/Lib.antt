@@ -1,0 +1,2 @@
+pub mod AggregateView
+pub mod State

@@ -1,0 +1,4 @@
+pub mod EdgeLemmas
+pub mod CutLemmas
+pub mod UnionLemmas
+pub mod SliceLemmas

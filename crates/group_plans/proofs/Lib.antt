@@ -1,0 +1,5 @@
+pub mod OverLemmas
+pub mod SeenLemmas
+pub mod WidthLemmas
+pub mod RowLemmas
+pub mod HitLemmas

@@ -1,0 +1,4 @@
+pub mod KeyLemmas
+pub mod AnyLemmas
+pub mod GatherLemmas
+pub mod LawLemmas

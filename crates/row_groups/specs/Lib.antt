@@ -1,0 +1,3 @@
+pub mod GroupView
+pub mod Gathered
+pub mod Kept

@@ -1,0 +1,32 @@
+use Rattle.std.proofs.Common.{◌∙◌, Global, Vec, map, ap, sym}
+use Rattle.std.proofs.lemmas.List.{take_all}
+use Rattle.values.specs.Datum.{datum_of}
+use Rattle.values.specs.declared.value.Value.{Value}
+use Rattle.expr.specs.Meaning.{eval}
+use Rattle.expr.specs.View.{term}
+use Rattle.meaning.specs.Valuation.{term_values}
+use Rattle.window_order.specs.declared.sorting.Entry.{Entry}
+use Rattle.window_entries.proofs.ValueLemmas.{made_more, map-map}
+use Rattle.window_entries.proofs.computed.entries.Goals as goal
+
+pub loop-index-preserved : goal.loop-index-preserved
+loop-index-preserved c =
+    let rows = c.args.rows.now in
+    let terms = map term c.args.terms.now in
+    let at = c.loop-index.index in
+    let row = c.index-rows-index.result in
+    rw c.in_ok-push.ensures.items
+    (record {
+      rows = made_more (λ (row : Vec Value Global). map datum_of row.items) (λ (e : Entry). map datum_of e.row.now) rows at row c.loop-index.placed.items _ c.loop-index-test.true
+          (ap (map datum_of) c.as_slice-row.ensures.value ∙ ap (λ (r : Vec Value Global). map datum_of r.items) c.index-rows-index.is) c.loop-index.invariant.rows;
+      keys = λ w. made_more (λ (row : Vec Value Global). term_values (eval w) terms (map datum_of row.items)) (λ (e : Entry). map datum_of e.keys.items) rows at row c.loop-index.placed.items _ c.loop-index-test.true
+          (c.in_ok-keys.ensures.values w ∙ ap (λ values. term_values (eval w) terms (map datum_of values)) c.as_slice-row.ensures.value
+          ∙ ap (λ (r : Vec Value Global). term_values (eval w) terms (map datum_of r.items)) c.index-rows-index.is) (c.loop-index.invariant.keys w);
+    })
+
+pub returns-clause-keys : goal.returns-clause-keys
+returns-clause-keys c = λ w.
+    let terms = map term c.args.terms.now in
+    c.loop-index.invariant.keys w
+    ∙ ap (map (λ (row : Vec Value Global). term_values (eval w) terms (map datum_of row.items))) (take_all c.loop-index.index c.args.rows.now c.loop-index-test.false)
+    ∙ sym (map-map (term_values (eval w) terms) (λ (row : Vec Value Global). map datum_of row.items) c.args.rows.now)

@@ -1,0 +1,5 @@
+pub mod KeyLemmas
+pub mod SortLemmas
+pub mod GroupLemmas
+pub mod EntryLemmas
+pub mod WalkLemmas

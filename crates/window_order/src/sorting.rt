@@ -1,0 +1,46 @@
+//! The sequence of a partition.
+ghost use Rattle.std.specs.Prelude.{◌≡◌, All, IsPermutation, List, OnOk, length, map};
+ghost use Rattle.std.specs.List.Sorted.{IsStableByKey};
+ghost use Rattle.values.specs.Datum.{datum_of};
+ghost use Rattle.meaning.specs.Query.{SortTerm};
+ghost use Rattle.meaning.specs.Valuation.{Valuation};
+ghost use Rattle.meaning.specs.Windows as windows;
+ghost use Rattle.query_trees.specs.SelectView.{direction_of};
+ghost use Rattle.window_order.specs.Entries.{IsInOrder, IsOf, IsSequence, entry_cmp, keys_of, view};
+
+use crate::keys::compare_keys;
+use std::alloc::AllocError;
+use std::cmp::Ordering;
+use syntax::Direction;
+use values::Value;
+
+/// A row of a partition.
+#[derive(Drop)]
+pub struct Entry<'a> {
+    pub row: &'a [Value],
+    /// The values of the window's ORDER BY on it.
+    pub keys: Vec<Value>,
+    /// Its place among the rows that are given.
+    pub index: usize,
+}
+
+/// Rows by the values of ORDER BY, and then by the whole row.
+fn compare_entries(directions: &[Direction], a: &Entry, b: &Entry) -> Ordering
+    ensures { result ≡ entry_cmp (map direction_of directions.now) (view a.now) (view b.now) }
+{
+    match compare_keys(directions, a.keys.as_slice(), b.keys.as_slice()) {
+        Ordering::Equal => a.row.cmp(b.row),
+        order => order,
+    }
+}
+
+/// Puts the rows of a partition in their sequence; equal rows stay as they were. (Window Functions)
+pub fn sort(directions: &[Direction], entries: &mut Vec<Entry>) -> Result<(), AllocError>
+    ensures same { IsPermutation entries.old.items entries.new.items }
+    ensures stable { IsStableByKey view (entry_cmp (map direction_of directions.now)) entries.old.items entries.new.items }
+    ensures in_order { OnOk result (All (λ (e : Entry). length e.keys.items ≡ length (map direction_of directions.now)) entries.old.items → IsInOrder (map direction_of directions.now) (keys_of entries.new.items)) }
+    ensures sequence { OnOk result ((value : Valuation) (order : List SortTerm) → windows.directions order ≡ map direction_of directions.now
+        → All (IsOf value order) entries.old.items → IsSequence value order entries.old.items entries.new.items) }
+{
+    entries.sort_by(|a, b| compare_entries(directions, a, b))
+}
