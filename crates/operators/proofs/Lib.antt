@@ -5,3 +5,4 @@ pub mod TreeLemmas
 pub mod StepLemmas
 pub mod StartLemmas
 pub mod BasisLemmas
+pub mod GroupLemmas

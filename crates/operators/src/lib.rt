@@ -4,14 +4,17 @@
 //! any source it returns, falls by a measure and tells of a failed read.
 //!
 //! The modules, in the order in which data passes them: `conditions` (conditions on a row, in their order), `nest` (a table
-//! behind the rows before it), `tree` (a plan's tables and conditions) and `laws` of the definitions.
+//! behind the rows before it), `gathering` (groups, and how many of them were given), `tree` (a plan's tables, conditions and
+//! groups) and `laws` of the definitions.
 #![tactic(auto)]
 
 mod conditions;
+mod gathering;
 pub mod laws;
 mod nest;
 mod tree;
 
 pub use conditions::copies;
+pub use gathering::Gathering;
 pub use nest::Nest;
 pub use tree::Op;

@@ -1,4 +1,3 @@
 pub mod Names
 pub mod Placed
 pub mod Over
-pub mod Parted

@@ -2,9 +2,10 @@
 use Rattle.std.specs.Prelude.{◌≤◌, All, Contains, ℕ, List, length}
 use Rattle.values.specs.Datum.{Datum}
 use Rattle.expr.specs.Columns.{columns_of}
+use Rattle.expr.specs.Conjuncts.{conjuncts}
 use Rattle.expr.specs.Filled.{filled}
 use Rattle.expr.specs.Term.{Term}
-use Rattle.plans.specs.Stands.{IsSplit, StandsFor}
+use Rattle.plans.specs.Stands.{AreTestsOf, StandsFor}
 use Rattle.plan_terms.specs.Names.{answers_of}
 
 -- each column that a term names is read, and it names the answer of none of so many inner queries
@@ -16,7 +17,7 @@ pub record IsOver (read : List ℕ) (inner : ℕ) (t : Term) : Type 0 where
 abbrev pub StandsOver : List ℕ → ℕ → Term → Term → Type 0
 StandsOver read inner e t = (answers : List (List Datum)) → length answers ≤ inner → StandsFor read e (filled answers t)
 
--- these are a condition's conjuncts that need no column, and its others
-abbrev pub IsSplitOver : List ℕ → ℕ → Term → List Term → List Term → Type 0
-IsSplitOver read inner condition constants tests =
-    (answers : List (List Datum)) → length answers ≤ inner → IsSplit read (filled answers condition) constants tests
+-- tests stand for the conjuncts of a condition, one by one
+abbrev pub AreTestsOver : List ℕ → ℕ → List Term → Term → Type 0
+AreTestsOver read inner tests condition =
+    (answers : List (List Datum)) → length answers ≤ inner → AreTestsOf read tests (conjuncts (filled answers condition))

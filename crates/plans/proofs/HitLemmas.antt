@@ -27,7 +27,7 @@ any_held P xs any = (any.1, (any.0, any.2, any.3), any.4)
 pub any_here : {X : Type 0} (P : X → Type 0) (xs : List X) (x : X) → Contains xs x → P x → Any P xs
 any_here P xs x held is = (held.0, x, held.1, held.2, is)
 
-from_map : {A B : Type 0} (f : A → B) (xs : List A) (y : B) → Contains (map f xs) y → (x : A) × Contains xs x × (f x ≡ y)
+pub from_map : {A B : Type 0} (f : A → B) (xs : List A) (y : B) → Contains (map f xs) y → (x : A) × Contains xs x × (f x ≡ y)
 from_map f [] y held = absurd (let none = held.1 in omega (arith, none))
 from_map f (x ∷ xs) y (zero, within, is) = (x, (0, omega arith, refl), is)
 from_map f (x ∷ xs) y (suc k, within, is) =
@@ -35,7 +35,7 @@ from_map f (x ∷ xs) y (suc k, within, is) =
     (rest.0, (suc rest.1.0, (let w = rest.1.1 in omega (arith, w)), rest.1.2), rest.2)
 
 -- where a test reaches an operation out of range, a condition does
-stands_reach : (columns : List ℕ) (tests conditions : List Term) (row : Row) → AreTestsOf columns tests conditions
+pub stands_reach : (columns : List ℕ) (tests conditions : List Term) (row : Row) → AreTestsOf columns tests conditions
     → Reaches tests (shown columns row) → Reaches conditions row
 stands_reach columns [] conditions row all reach = absurd (let none = reach.2 in omega (arith, none))
 stands_reach columns (test ∷ tests) [] row all reach = absurd all
@@ -45,13 +45,13 @@ stands_reach columns (test ∷ tests) (t ∷ conditions) row all (suc k, x, with
     let rest = stands_reach columns tests conditions row all.1 (k, x, omega (arith, within), is, e) in
     (suc rest.0, rest.1, (let w = rest.2 in omega (arith, w)), rest.3, rest.4)
 
-reach_among : (row : Row) (some all : List Term) → ((t : Term) → Contains some t → Contains all t) → Reaches some row → Reaches all row
+pub reach_among : (row : Row) (some all : List Term) → ((t : Term) → Contains some t → Contains all t) → Reaches some row → Reaches all row
 reach_among row some all among reach =
     let held = any_held (λ t. Overflows t row) some reach in
     any_here (λ t. Overflows t row) all held.0 (among held.0 held.1) held.2
 
 -- a conjunct in which inner queries have been answered is one of the condition's
-conjunct_reached : (w : Datum) (answers : List (List Datum)) (t : Term) (row : Row) → Reaches (conjuncts (filled answers t)) row
+pub conjunct_reached : (w : Datum) (answers : List (List Datum)) (t : Term) (row : Row) → Reaches (conjuncts (filled answers t)) row
     → SomeReaches w answers row (conjuncts t)
 conjunct_reached w answers t row reach =
     let held = any_held (λ c. Overflows c row) (conjuncts (filled answers t)) reach in

@@ -3,3 +3,5 @@ pub mod RowLemmas
 pub mod WhereLemmas
 pub mod HitLemmas
 pub mod ExampleLemmas
+pub mod JoinLemmas
+pub mod JoinHitLemmas

@@ -2,3 +2,4 @@ pub mod Plan
 pub mod PlanView
 pub mod Stands
 pub mod Examples
+pub mod JoinPlan

@@ -3,6 +3,7 @@ ghost use Rattle.std.specs.Prelude.{◌≡◌, [], ◌∷◌};
 ghost use Rattle.values.specs.Datum.{Datum};
 ghost use Rattle.meaning.specs.Examples.{items};
 ghost use Rattle.plans.specs.Examples.{example_sizes, is_seven, nothing_kept, sevens, sevens_rows, sold, sold_rows};
+ghost use Rattle.plans.specs.JoinPlan.{JoinHits, JoinIsWhere};
 ghost use Rattle.plans.specs.Plan.{rows_of, work};
 ghost use Rattle.plans.specs.Stands.{KeptIsWhere, NothingIsWhere, OneTableHits, OneTableIsWhere, OneTableWorks, StandsFor, StandsForItself};
 
@@ -23,6 +24,13 @@ pub fn one_table_is_where()
     ensures rows { OneTableIsWhere }
     ensures hits { OneTableHits }
     ensures work { OneTableWorks }
+{}
+
+/// The plan of inner joins of tables has exactly the rows of FROM and WHERE, in the order in which the tables are nested. It hits
+/// nothing that the SELECT doesn't hit.
+pub fn joins_are_where()
+    ensures rows { JoinIsWhere }
+    ensures hits { JoinHits }
 {}
 
 /// A table of four rows, whose third column is compared and may be NULL; a condition that is false without a row; and a

@@ -1,4 +1,4 @@
-//! Plans of FROM and WHERE: which rows a plan stands for, in which order, how many pages it may ask for, and what it can
+//! Plans of FROM, WHERE and groups: which rows a plan stands for, in which order, how many pages it may ask for, and what it can
 //! reach. It promises that the plan of one table has just the rows that a SELECT's FROM and WHERE have, that it asks for no
 //! more pages than the table's tree has, and for none where a condition that names no column isn't true, and that what it
 //! reaches the SELECT can reach.

@@ -1,6 +1,7 @@
 -- What a plan answers the query permits, and what it reaches the query can reach.
 use Rattle.std.proofs.Common.{◌≡◌, ◌∙◌, ◌⊎◌, inl, inr, Any, Contains, ℕ, ℤ, pos, false, List, [], ◌∷◌, ◌++◌, append-nil, map, Option, None, refl, sym, ap, subst}
 use Rattle.std.specs.List.{AllZip}
+use Rattle.std.proofs.lemmas.List.Elements.{All-head, All-tail}
 use Rattle.values.specs.Database.{Database}
 use Rattle.values.specs.Datum.{Datum}
 use Rattle.values.specs.Row.{Row}
@@ -9,20 +10,22 @@ use Rattle.expr.specs.Term.{Term, column}
 use Rattle.meaning.specs.Answer.{Permits}
 use Rattle.meaning.specs.Body.{answers_in}
 use Rattle.meaning.specs.Hits as meaning
-use Rattle.meaning.specs.Hits.{SelectHits, order_terms, where_rows}
+use Rattle.meaning.specs.Hits.{FromHits, SelectHits, order_terms, where_rows}
 use Rattle.meaning.specs.Query.{Key, KeyTerm, QueryData, Select, always, columns_of_table, only, select, table}
 use Rattle.meaning.proofs.OneTableLemmas.{scan_is_permitted}
 use Rattle.plan_terms.specs.Over.{StandsOver}
+use Rattle.plans.specs.JoinPlan.{AreWideBefore}
 use Rattle.plans.specs.Plan.{Hits, PlanData, Reaches, rows_of, table_rows}
-use Rattle.query_plans.specs.Answers.{HitsOf, IsAnswerOf, IsPlanFor, PlanReaches, PlannedData, columns, rows, sorted}
+use Rattle.distinct_results.specs.Permitted.{AreResults, IsResult}
+use Rattle.distinct_results.proofs.PermittedLemmas as once
+use Rattle.query_plans.specs.Answers.{HitsOf, IsAnswerOf, IsPlanFor, PlanReaches, PlannedData, columns, distinct, rows, sorted, sorted_distinct}
 use Rattle.query_plans.specs.Made.{HasRowsAlone, IsBare, IsMade, IsMadeOver, KeyStandsOver, KeyTermStandsOver}
-use Rattle.results.specs.Permitted.{SaysOf, SeesRows}
+use Rattle.results.specs.Permitted.{SaysOf, SeesRows, computed_rows}
 use Rattle.results.proofs.PermittedLemmas as results
 use Rattle.sorted_results.specs.Permitted.{IsKeyOver, KeySaysOf}
 use Rattle.sorted_results.proofs.PermittedLemmas as ordered
 use Rattle.table_plans.specs.Input.{input_from, seen}
 use Rattle.table_plans.specs.declared.inputs.Input.{Input}
-use Rattle.table_plans.specs.declared.inputs.Input.TheVariants.{Nothing, Table}
 use Rattle.table_plans.proofs.HitLemmas.{columns_are_hit, plan_is_hit}
 use Rattle.table_plans.proofs.RowLemmas.{columns_say, plan_has_rows}
 
@@ -45,6 +48,17 @@ order_stands read (k ∷ keys) (q ∷ order) all =
     one (KeyTerm.result m) (KeyTerm.term t) is = absurd is
     one (KeyTerm.term e) (KeyTerm.result n) is = absurd is
     one (KeyTerm.term e) (KeyTerm.term t) is = (is, tt)
+
+-- result columns have no terms
+no_terms : (order : List Key) → AreResults order → order_terms order ≡ []
+no_terms [] all = refl
+no_terms (key ∷ order) all =
+    ap (λ terms. terms ++ order_terms order) (none key.by (All-head (λ (k : Key). IsResult k.by) key order all))
+    ∙ no_terms order (All-tail (λ (k : Key). IsResult k.by) key order all)
+  where
+    none : (by : KeyTerm) → IsResult by → meaning.key_terms by ≡ []
+    none (KeyTerm.result at) is = refl
+    none (KeyTerm.term t) is = absurd is
 
 module _ (w : Datum) (db : Database) (input : Input) (s : Select) (read : List ℕ) where
   abbrev kept : List Row
@@ -75,31 +89,40 @@ module _ (input : Input) (s : Select) (alone : HasRowsAlone s) (order : List Key
   abbrev query : QueryData
   query = record { body = select (input_from input) s; order = order; limit = limit; offset = offset }
 
-  sees : (w : Datum) (db : Database) (plan : PlanData) (es : List Term) → IsMadeOver input s order plan es → SeesRows w db (input_from input) s plan es
-  sees w db plan es made = record {
-    seen = seen input made.read;
-    rows_are = plan_has_rows w db s input made.read plan made.plan_is;
-    columns_are = say_all w db input s made.read es s.columns made.columns_are;
-  }
+  sees : (w : Datum) (db : Database) (plan : PlanData) (es : List Term) → AreWideBefore db (input_from input) → IsMadeOver input s order plan es
+      → SeesRows w db (input_from input) s plan es
+  sees w db plan es wide made =
+      results.sees_where w db (input_from input) s alone.ungrouped alone.windowless plan es (seen input made.read)
+      (plan_has_rows w db s input made.read plan wide made.plan_is) (say_all w db input s made.read es s.columns made.columns_are)
+
+  keys_are_over : (w : Datum) (db : Database) (read : List ℕ) (keys : List Key) → AllZip (KeyStandsOver read) keys order
+      → AllZip (IsKeyOver (seen input read) (computed_rows w db (input_from input) s) (answers_in w db (input_from input))) keys order
+  keys_are_over w db read keys stand =
+      subst (λ (rows : List Row). AllZip (IsKeyOver (seen input read) rows (answers_in w db (input_from input))) keys order)
+      (results.where_is_computed w db (input_from input) s alone.ungrouped alone.windowless) (keys_say w db input s read keys order stand)
+
+  -- what ON reaches, or the expressions of the SELECT
+  abbrev IsHit : Datum → Database → List Term → Type 0
+  IsHit w db terms = FromHits w db (answers_in w db (input_from input)) (input_from input) false ⊎ SelectHits w db (input_from input) s terms
 
   -- what the plan or these expressions on its rows reach
-  reaches : (w : Datum) (db : Database) (terms es us : List Term) (plan : PlanData) (made : IsMadeOver input s order plan es)
-      → AllZip (StandsOver made.read 0) us terms → PlanReaches w db plan (es ++ us) → SelectHits w db (input_from input) s terms
-  reaches w db terms es us plan made stand (inl hits) = plan_is_hit w db s terms input made.read plan made.plan_is hits
-  reaches w db terms es us plan made stand (inr hits) =
-      columns_are_hit w db s terms (es ++ us) input made.read plan alone.ungrouped alone.windowless made.plan_is
-      (zip_append (StandsOver made.read 0) es us s.columns terms made.columns_are stand) hits
+  reaches : (w : Datum) (db : Database) (terms es us : List Term) (plan : PlanData) → AreWideBefore db (input_from input)
+      → (made : IsMadeOver input s order plan es) → AllZip (StandsOver made.read 0) us terms → PlanReaches w db plan (es ++ us) → IsHit w db terms
+  reaches w db terms es us plan wide made stand (inl hits) = plan_is_hit w db s terms input made.read plan wide made.plan_is hits
+  reaches w db terms es us plan wide made stand (inr hits) =
+      inr (columns_are_hit w db s terms (es ++ us) input made.read plan wide alone.ungrouped alone.windowless made.plan_is
+      (zip_append (StandsOver made.read 0) es us s.columns terms made.columns_are stand) hits)
 
-  scan_permits : (w : Datum) (db : Database) (at width : ℕ) (places : List ℕ) (answer : List Row) → input ≡ Table at width → IsBare s order limit offset
+  scan_permits : (w : Datum) (db : Database) (at width : ℕ) (places : List ℕ) (answer : List Row) → input_from input ≡ only (table at width) → IsBare s order limit offset
       → s.columns ≡ map column places → IsAnswerOf w db (columns at places) answer → Permits w db query answer
-  scan_permits w db at width places answer input_is bare columns_are is =
+  scan_permits w db at width places answer from_is bare columns_are is =
       let same : columns_of_table at width places ≡ query = λ i. record {
-        body = select (input_from (sym input_is i)) (record {
+        body = select (sym from_is i) (record {
           condition = sym bare.condition i;
           grouping = sym alone.ungrouped i;
           windows = sym alone.windowless i;
           columns = sym columns_are i;
-          distinct = sym alone.all i;
+          distinct = sym bare.all i;
         });
         order = sym bare.unordered i;
         limit = sym bare.unlimited i;
@@ -108,36 +131,63 @@ module _ (input : Input) (s : Select) (alone : HasRowsAlone s) (order : List Key
       subst (λ (q : QueryData). Permits w db q answer) same
       (subst (Permits w db (columns_of_table at width places)) (sym is) (scan_is_permitted w db at width places))
 
+  -- where nothing of ORDER BY is computed on a row of the plan
+  result_reaches : (w : Datum) (db : Database) (es : List Term) (plan : PlanData) → AreWideBefore db (input_from input) → IsMadeOver input s order plan es
+      → order_terms order ≡ [] → PlanReaches w db plan es → IsHit w db (order_terms order)
+  result_reaches w db es plan wide made none hits =
+      subst (IsHit w db) (sym none) (reaches w db [] es [] plan wide made tt (subst (PlanReaches w db plan) (sym (append-nil es)) hits))
+
   pub made_is_plan : (p : PlannedData) → IsMade input s order limit offset p → IsPlanFor query p
   unfolding sees
   made_is_plan (columns at places) made = record {
-    permits = λ w db answer is. scan_permits w db at made.width places answer made.input_is made.bare made.columns_are is;
-    hits = λ w db none. absurd none;
+    permits = λ w db answer wide is. scan_permits w db at made.width places answer made.from_is made.bare made.columns_are is;
+    hits = λ w db wide none. absurd none;
   }
   made_is_plan (rows selection) made = record {
-    permits = λ w db answer is.
+    permits = λ w db answer wide is.
         subst (Permits w db query) (sym is)
         (results.plain_is_permitted w db query (input_from input) s selection
-        (record { body = refl; ungrouped = alone.ungrouped; windowless = alone.windowless; all = alone.all })
+        (record { body = refl; all = made.all })
         made.unordered
-        (record { sees = sees w db selection.plan selection.columns made.made; limit = made.limit_is; offset = made.offset_is }));
-    hits = λ w db hits.
-        inr (subst (λ order. SelectHits w db (input_from input) s (order_terms order)) (sym made.unordered)
-        (reaches w db [] selection.columns [] selection.plan made.made tt
-        (subst (PlanReaches w db selection.plan) (sym (append-nil selection.columns)) hits)));
+        (record { sees = sees w db selection.plan selection.columns wide made.made; limit = made.limit_is; offset = made.offset_is }));
+    hits = λ w db wide hits.
+        result_reaches w db selection.columns selection.plan wide made.made (ap order_terms made.unordered) hits;
   }
   made_is_plan (sorted selection) made = record {
-    permits = λ w db answer is.
+    permits = λ w db answer wide is.
         ordered.plain_is_permitted w db query (input_from input) s selection answer
-        (record { body = refl; ungrouped = alone.ungrouped; windowless = alone.windowless; all = alone.all })
+        (record { body = refl; all = made.all })
         (record {
-          sees = sees w db selection.plan selection.columns made.made;
-          order = keys_say w db input s made.made.read selection.order order made.order_is;
+          sees = sees w db selection.plan selection.columns wide made.made;
+          order = keys_are_over w db made.made.read selection.order made.order_is;
           limit = made.limit_is;
           offset = made.offset_is;
         })
         is;
-    hits = λ w db hits.
-        inr (reaches w db (order_terms order) selection.columns (order_terms selection.order) selection.plan made.made
-        (order_stands made.made.read selection.order order made.order_is) hits);
+    hits = λ w db wide hits.
+        reaches w db (order_terms order) selection.columns (order_terms selection.order) selection.plan wide made.made
+        (order_stands made.made.read selection.order order made.order_is) hits;
+  }
+  made_is_plan (distinct selection) made = record {
+    permits = λ w db answer wide is.
+        subst (Permits w db query) (sym is)
+        (once.distinct_is_permitted w db query (input_from input) s selection
+        (record { body = refl; distinct = made.once_each })
+        made.unordered
+        (record { sees = sees w db selection.plan selection.columns wide made.made; limit = made.limit_is; offset = made.offset_is }));
+    hits = λ w db wide hits. result_reaches w db selection.columns selection.plan wide made.made (ap order_terms made.unordered) hits;
+  }
+  made_is_plan (sorted_distinct selection) made = record {
+    permits = λ w db answer wide is.
+        once.sorted_is_permitted w db query (input_from input) s selection answer
+        (record { body = refl; distinct = made.once_each })
+        made.results
+        (record {
+          sees = sees w db selection.plan selection.columns wide made.made;
+          order = made.order_is;
+          limit = made.limit_is;
+          offset = made.offset_is;
+        })
+        is;
+    hits = λ w db wide hits. result_reaches w db selection.columns selection.plan wide made.made (no_terms order made.results) hits;
   }

@@ -1,5 +1,5 @@
 -- What a query names is read, and nothing else.
-use Rattle.std.proofs.Common.{◌≡◌, ◌∙◌, ◌↔◌, ◌<◌, ◌≤◌, ◌++◌, append_assoc, All, Contains, ℕ, zero, suc, List, [], ◌∷◌, flat_map, length, slice_index_or, refl, sym, ap, subst, arith}
+use Rattle.std.proofs.Common.{◌≡◌, ◌∙◌, ◌↔◌, ◌+◌, ◌<◌, ◌≤◌, ◌++◌, append_assoc, append-nil, get_or, take, All, Contains, ℕ, zero, suc, List, [], ◌∷◌, flat_map, length, slice_index_or, refl, sym, ap, subst, arith}
 use Rattle.std.proofs.lemmas.List.Concat.{flat_map-append}
 use Rattle.std.proofs.lemmas.List.Elements.{All-contains, All-contains_itself, All-weaker, Contains-append_left, Contains-append_right}
 use Rattle.expr.specs.Columns.{columns_of}
@@ -8,8 +8,13 @@ use Rattle.meaning.proofs.ElementLemmas.{All-flat_map}
 use Rattle.plan_terms.specs.Names.{answers_of}
 use Rattle.plan_terms.specs.Over.{IsOver}
 use Rattle.meaning.specs.Hits.{order_terms}
-use Rattle.meaning.specs.Query.{Key, Select}
-use Rattle.query_plans.specs.Read.{AreRead, terms_in}
+use Rattle.meaning.specs.Query.{From, Key, Select}
+use Rattle.query_plans.specs.Read.{AreRead, select_terms, terms_in}
+use Rattle.query_trees.specs.TermView.{term}
+use Rattle.table_plans.specs.Input.{from_of}
+use Rattle.table_plans.specs.Planned.{on_terms}
+use Rattle.table_plans.specs.declared.inputs.JoinedTable.{JoinedTable}
+use Rattle.table_plans.proofs.InputLemmas.{from_of-take}
 
 -- what one of the lists has that are joined
 pub contains_flat : {A B : Type 0} (f : A → List B) (xs : List A) (x : A) (y : B) → Contains xs x → Contains (f x) y → Contains (flat_map f xs) y
@@ -39,14 +44,29 @@ all_read P read terms are all =
 
 -- ---- what the code names
 
-pub named_is : (n0 n1 n2 n3 xs ys zs : List ℕ) → n0 ≡ [] → n1 ≡ n0 ++ xs → n2 ≡ n1 ++ ys → n3 ≡ n2 ++ zs → n3 ≡ xs ++ (ys ++ zs)
-named_is n0 n1 n2 n3 xs ys zs none first second third =
-    third ∙ ap (λ n. n ++ zs) (second ∙ ap (λ n. n ++ ys) (first ∙ ap (λ n. n ++ xs) none)) ∙ append_assoc xs ys zs
+pub named_is : (n0 n1 n2 n3 n4 xs ys zs us : List ℕ) → n0 ≡ [] → n1 ≡ n0 ++ xs → n2 ≡ n1 ++ ys → n3 ≡ n2 ++ zs → n4 ≡ n3 ++ us → n4 ≡ (xs ++ (ys ++ zs)) ++ us
+named_is n0 n1 n2 n3 n4 xs ys zs us none first second third fourth =
+    fourth
+    ∙ ap (λ n. n ++ us) (third ∙ ap (λ n. n ++ zs) (second ∙ ap (λ n. n ++ ys) (first ∙ ap (λ n. n ++ xs) none)) ∙ append_assoc xs ys zs)
 
-pub read_of : (s : Select) (order : List Key) (named read : List ℕ)
-    → named ≡ columns_of s.condition ++ (flat_map columns_of s.columns ++ flat_map columns_of (order_terms order))
-    → ((at : ℕ) → Contains read at ↔ Contains named at) → AreRead read (terms_in s order)
-read_of s order named read is same at =
-    let whole : named ≡ flat_map columns_of (terms_in s order) =
-    is ∙ ap (λ later. columns_of s.condition ++ later) (sym (flat_map-append columns_of s.columns (order_terms order))) in
+pub read_of : (from : From) (s : Select) (order : List Key) (named read : List ℕ)
+    → named ≡ (columns_of s.condition ++ (flat_map columns_of s.columns ++ flat_map columns_of (order_terms order))) ++ flat_map columns_of (on_terms from)
+    → ((at : ℕ) → Contains read at ↔ Contains named at) → AreRead read (terms_in from s order)
+read_of from s order named read is same at =
+    let whole : named ≡ flat_map columns_of (terms_in from s order) =
+    is
+    ∙ ap (λ later. (columns_of s.condition ++ later) ++ flat_map columns_of (on_terms from)) (sym (flat_map-append columns_of s.columns (order_terms order)))
+    ∙ sym (flat_map-append columns_of (select_terms s order) (on_terms from)) in
     subst (λ n. Contains read at ↔ Contains n at) whole (same at)
+
+module _ (ts : List JoinedTable) (i : ℕ) (t : JoinedTable) (within : i < length ts) (found : t ≡ get_or ts i t) where
+  -- what one ON more names
+  pub on_more : (start before after : List ℕ) → before ≡ start ++ flat_map columns_of (on_terms (from_of (take i ts)))
+      → after ≡ before ++ columns_of (term t.condition) → after ≡ start ++ flat_map columns_of (on_terms (from_of (take (i + 1) ts)))
+  on_more start before after is pushed =
+      pushed ∙ ap (λ n. n ++ columns_of (term t.condition)) is
+      ∙ append_assoc start (flat_map columns_of (on_terms (from_of (take i ts)))) (columns_of (term t.condition))
+      ∙ ap (λ n. start ++ n)
+      (sym (ap (λ from. flat_map columns_of (on_terms from)) (from_of-take ts i t within found)
+      ∙ flat_map-append columns_of (on_terms (from_of (take i ts))) (term t.condition ∷ [])
+      ∙ ap (λ n. flat_map columns_of (on_terms (from_of (take i ts))) ++ n) (append-nil (columns_of (term t.condition)))))

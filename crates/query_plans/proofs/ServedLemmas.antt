@@ -1,18 +1,17 @@
 -- Which queries aren't served.
 use Rattle.std.proofs.Common.{◌≡◌, ◌≢◌, ◌∙◌, ◌==◌, inl, inr, Bool, true, false, not, is_some, IsSome, MatchBool, MatchOption, ℕ, List, [], ◌∷◌, length, map, option_map, Option, Some, None, refl, sym, ap, subst}
-use Rattle.meaning.specs.Query.{Body, From, Operator, QueryData, Select, compound, only, select, table}
+use Rattle.meaning.specs.Query.{Body, From, Operator, QueryData, Select, compound, select}
 use Rattle.std.proofs.Math.Dec.{eqb-suc-zero}
 use Rattle.query_trees.specs.SelectView.{call_of, grouping_of, select_of}
 use Rattle.query_trees.specs.declared.selects.Grouping as selects_grouping
 use Rattle.query_trees.specs.declared.selects.Select as selects_select
 use Rattle.query_trees.specs.declared.selects.WindowCall as selects_call
+use Rattle.distinct_results.specs.Permitted.{AreResults}
 use Rattle.query_plans.specs.Made.{HasRowsAlone}
 use Rattle.order_keys.specs.KeyView.{key_of}
 use Rattle.order_keys.specs.declared.terms.Key.{Key}
-use Rattle.query_plans.specs.Served.{IsServed, IsServedFrom}
-use Rattle.table_plans.specs.Input.{input_from}
-use Rattle.table_plans.specs.declared.inputs.Input.{Input}
-use Rattle.table_plans.specs.declared.inputs.Input.TheVariants.{Nothing, Table}
+use Rattle.query_plans.specs.Served.{IsServed}
+use Rattle.table_plans.specs.InnerJoins.{AreInnerJoins}
 
 -- several SELECTs
 pub not_compound : (query : QueryData) (left : Body) (operator : Operator) (from : From) (s : Select) → query.body ≡ compound left operator from s → ¬ IsServed query
@@ -25,18 +24,18 @@ module _ (query : QueryData) (from : From) (s : Select) (is : query.body ≡ sel
   same_select : (served : IsServed query) → served.s ≡ s
   same_select served = let e = sym served.body ∙ is in cc
 
-  input_named : (of : From) → of ≡ from → IsServedFrom of → (input : Input) × (from ≡ input_from input)
-  input_named of same (inl none) = (Nothing, sym same ∙ none)
-  input_named of same (inr one) = (Table one.0 one.1, sym same ∙ one.2)
-
   -- another FROM
-  pub not_from : ((input : Input) → from ≢ input_from input) → ¬ IsServed query
-  not_from none served = let named = input_named served.from (same_from served) served.source in none named.0 named.1
+  pub not_from : ¬ AreInnerJoins from → ¬ IsServed query
+  not_from none served = none (subst AreInnerJoins (same_from served) served.source)
 
-  -- groups, windows or DISTINCT
+  -- groups or windows
   pub not_alone : ¬ HasRowsAlone s → ¬ IsServed query
   not_alone none served =
-      none (subst HasRowsAlone (same_select served) (record { ungrouped = served.ungrouped; windowless = served.windowless; all = served.all }))
+      none (subst HasRowsAlone (same_select served) (record { ungrouped = served.ungrouped; windowless = served.windowless }))
+
+  -- ORDER BY has another term than result columns behind DISTINCT
+  pub not_results : s.distinct ≡ true → ¬ AreResults query.order → ¬ IsServed query
+  not_results distinct none served = none (served.ordered (ap (λ (s : Select). s.distinct) (same_select served) ∙ distinct))
 
 -- ---- the tests of the code
 
@@ -63,13 +62,10 @@ module _ (s : selects_select.Select) where
   pub is_windowed : (length s.windows.items == 0) ≡ false → ¬ HasRowsAlone (select_of s)
   is_windowed some alone = called s.windows.items some alone.windowless
 
-  pub by_distinct : is_some s.grouping ≡ false → (length s.windows.items == 0) ≡ true
-      → MatchBool (not s.distinct) (HasRowsAlone (select_of s)) (¬ HasRowsAlone (select_of s))
-  by_distinct ungrouped windowless = go s.distinct refl
-    where
-      go : (b : Bool) → s.distinct ≡ b → MatchBool (not b) (HasRowsAlone (select_of s)) (¬ HasRowsAlone (select_of s))
-      go true is = λ alone. let e : true ≡ false = sym is ∙ alone.all in cc
-      go false is = record { ungrouped = no_grouping s.grouping ungrouped; windowless = no_calls s.windows.items windowless; all = is }
+  pub by_windows : is_some s.grouping ≡ false → (b : Bool) → b ≡ (length s.windows.items == 0)
+      → MatchBool b (HasRowsAlone (select_of s)) (¬ HasRowsAlone (select_of s))
+  by_windows ungrouped true is = record { ungrouped = no_grouping s.grouping ungrouped; windowless = no_calls s.windows.items (sym is) }
+  by_windows ungrouped false is = is_windowed (sym is)
 
 -- what is there
 pub is_there : {A : Type 0} (o : Option A) (P : Type 0) (Q : A → Type 0) → MatchOption o (¬ P) Q → P → IsSome o

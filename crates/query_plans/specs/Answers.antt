@@ -1,5 +1,5 @@
 -- What a plan answers, what it may ask for and what it reaches. (SELECT)
-use Rattle.std.specs.Prelude.{◌≡◌, ◌⊎◌, ◌++◌, Any, ℕ, List, [], map}
+use Rattle.std.specs.Prelude.{◌≡◌, ◌⊎◌, ◌++◌, ⊤, Any, ℕ, List, [], map}
 use Rattle.values.specs.Database.{Database}
 use Rattle.values.specs.Datum.{Datum}
 use Rattle.values.specs.Row.{Row}
@@ -8,37 +8,48 @@ use Rattle.meaning.specs.Answer.{Permits}
 use Rattle.meaning.specs.Hits as meaning
 use Rattle.meaning.specs.Hits.{order_terms}
 use Rattle.meaning.specs.OneTable.{shown}
-use Rattle.meaning.specs.Query.{QueryData}
+use Rattle.meaning.specs.Query.{Body, QueryData, compound, select}
+use Rattle.plans.specs.JoinPlan.{AreWideBefore}
 use Rattle.plans.specs.Plan.{Hits, PlanData, Reaches, rows_of, table_rows, table_size, work}
 use Rattle.schema.specs.TableData.{TableData}
 use Rattle.operators.specs.Left.{IsNestOf, IsPlanOf}
 use Rattle.results.specs.Coming.{SelectionData, answer_of, selection_data}
 use Rattle.sorted_results.specs.Sorted.{IsSortedAnswer, SortedData, sorted_data}
+use Rattle.distinct_results.specs.Coming.{distinct_answer_of}
+use Rattle.distinct_results.specs.Sorted.{IsSortedDistinctAnswer, sorted_distinct_data}
 use Rattle.query_plans.specs.declared.planned.Planned.{Planned}
 use Rattle.query_plans.specs.declared.planned.Planned.TheVariants as p
 
--- these columns of each row of a table; rows in no order; rows in order
+-- these columns of each row of a table; rows in no order; rows in order; and these two, each row once
 pub data PlannedData : Type 0 where
   columns : ℕ → List ℕ → PlannedData
   rows : SelectionData → PlannedData
   sorted : SortedData → PlannedData
+  distinct : SelectionData → PlannedData
+  sorted_distinct : SortedData → PlannedData
 
 abbrev pub planned_data : Planned → PlannedData
 planned_data (p.Columns at places) = columns at places.items
 planned_data (p.Rows selection) = rows (selection_data selection)
 planned_data (p.Sorted selection) = sorted (sorted_data selection)
+planned_data (p.Distinct selection) = distinct (selection_data selection)
+planned_data (p.SortedDistinct selection) = sorted_distinct (sorted_distinct_data selection)
 
 -- the lists of rows that a plan may answer
 abbrev pub IsAnswerOf : Datum → Database → PlannedData → List Row → Type 0
 IsAnswerOf w db (columns at places) answer = answer ≡ map (shown places) (table_rows db at)
 IsAnswerOf w db (rows selection) answer = answer ≡ answer_of w db selection
 IsAnswerOf w db (sorted selection) answer = IsSortedAnswer w db selection answer
+IsAnswerOf w db (distinct selection) answer = answer ≡ distinct_answer_of w db selection
+IsAnswerOf w db (sorted_distinct selection) answer = IsSortedDistinctAnswer w db selection answer
 
 -- how many pages it may ask for, where the trees of the tables have so many
 abbrev pub work_of : Datum → Database → List ℕ → PlannedData → ℕ
 work_of w db sizes (columns at places) = table_size sizes at
 work_of w db sizes (rows selection) = work w db sizes selection.plan
 work_of w db sizes (sorted selection) = work w db sizes selection.plan
+work_of w db sizes (distinct selection) = work w db sizes selection.plan
+work_of w db sizes (sorted_distinct selection) = work w db sizes selection.plan
 
 -- the conditions of a plan, or these terms on one of its rows, reach an operation out of range
 abbrev pub PlanReaches : Datum → Database → PlanData → List Term → Type 0
@@ -48,14 +59,24 @@ abbrev pub HitsOf : Datum → Database → PlannedData → Type 0
 HitsOf w db (columns at places) = ⊥
 HitsOf w db (rows selection) = PlanReaches w db selection.plan selection.columns
 HitsOf w db (sorted selection) = PlanReaches w db selection.plan (selection.columns ++ order_terms selection.order)
+HitsOf w db (distinct selection) = PlanReaches w db selection.plan selection.columns
+HitsOf w db (sorted_distinct selection) = PlanReaches w db selection.plan selection.columns
+
+-- The rows of each table that another source of the SELECT stands behind have as many values as it has columns. Of one table
+-- alone, and of several SELECTs, this says nothing.
+abbrev pub AreWideFor : Database → Body → Type 0
+AreWideFor db (select from s) = AreWideBefore db from
+AreWideFor db (compound body operator from s) = ⊤
 
 -- what it answers the query permits, and what it reaches the query can reach
 pub record IsPlanFor (query : QueryData) (planned : PlannedData) : Type 0 where
-  pub permits : (w : Datum) (db : Database) (answer : List Row) → IsAnswerOf w db planned answer → Permits w db query answer
-  pub hits : (w : Datum) (db : Database) → HitsOf w db planned → meaning.Hits w db query
+  pub permits : (w : Datum) (db : Database) (answer : List Row) → AreWideFor db query.body → IsAnswerOf w db planned answer → Permits w db query answer
+  pub hits : (w : Datum) (db : Database) → AreWideFor db query.body → HitsOf w db planned → meaning.Hits w db query
 
 -- its tables and their columns are some of the catalog
 abbrev pub IsPlannedOver : List TableData → PlannedData → Type 0
 IsPlannedOver tables (columns at places) = IsNestOf tables (record { table = at; columns = places; tests = [] })
 IsPlannedOver tables (rows selection) = IsPlanOf tables selection.plan
 IsPlannedOver tables (sorted selection) = IsPlanOf tables selection.plan
+IsPlannedOver tables (distinct selection) = IsPlanOf tables selection.plan
+IsPlannedOver tables (sorted_distinct selection) = IsPlanOf tables selection.plan

@@ -1,26 +1,27 @@
--- How a plan is made of a SELECT that stands on one table or on none.
-use Rattle.std.specs.Prelude.{◌≡◌, ℕ, ℤ, pos, false, List, [], map, Option, None}
+-- How a plan is made of a SELECT that stands on tables that are joined by inner joins, or on none.
+use Rattle.std.specs.Prelude.{◌≡◌, ℕ, ℤ, pos, false, true, List, [], map, Option, None}
 use Rattle.std.specs.List.{AllZip}
 use Rattle.expr.specs.Term.{Term, column}
-use Rattle.meaning.specs.Query.{Key, KeyTerm, Select, always}
+use Rattle.meaning.specs.Query.{Key, KeyTerm, Select, always, only, table}
 use Rattle.plan_terms.specs.Over.{StandsOver}
 use Rattle.plans.specs.Plan.{PlanData}
-use Rattle.query_plans.specs.Answers.{PlannedData, columns, rows, sorted}
+use Rattle.distinct_results.specs.Permitted.{AreResults}
+use Rattle.query_plans.specs.Answers.{PlannedData, columns, distinct, rows, sorted, sorted_distinct}
 use Rattle.query_plans.specs.Read.{AreRead, terms_in}
 use Rattle.results.specs.Coming.{SelectionData}
 use Rattle.sorted_results.specs.Sorted.{SortedData}
 use Rattle.table_plans.specs.declared.inputs.Input.{Input}
-use Rattle.table_plans.specs.declared.inputs.Input.TheVariants.{Nothing, Table}
+use Rattle.table_plans.specs.Input.{input_from}
 use Rattle.table_plans.specs.Planned.{IsPlanOver}
 
--- a SELECT without groups, windows and DISTINCT
+-- a SELECT without groups and windows
 pub record HasRowsAlone (s : Select) : Type 0 where
   pub ungrouped : s.grouping ≡ None
   pub windowless : s.windows ≡ []
-  pub all : s.distinct ≡ false
 
--- a SELECT that keeps each row, in no order, without LIMIT and OFFSET
+-- a SELECT that keeps each row, in no order, without DISTINCT, LIMIT and OFFSET
 pub record IsBare (s : Select) (order : List Key) (limit : Option ℤ) (offset : ℤ) : Type 0 where
+  pub all : s.distinct ≡ false
   pub condition : s.condition ≡ always
   pub unordered : order ≡ []
   pub unlimited : limit ≡ None
@@ -40,19 +41,20 @@ pub record KeyStandsOver (read : List ℕ) (key whole : Key) : Type 0 where
 -- a plan of FROM and WHERE, and result columns over it
 pub record IsMadeOver (input : Input) (s : Select) (order : List Key) (plan : PlanData) (es : List Term) : Type 0 where
   pub read : List ℕ
-  pub are_read : AreRead read (terms_in s order)
+  pub are_read : AreRead read (terms_in (input_from input) s order)
   pub plan_is : IsPlanOver input read s.condition plan
   pub columns_are : AllZip (StandsOver read 0) es s.columns
 
 -- these columns of each row of the table
 pub record IsScanned (input : Input) (s : Select) (order : List Key) (limit : Option ℤ) (offset : ℤ) (at : ℕ) (places : List ℕ) : Type 0 where
   pub width : ℕ
-  pub input_is : input ≡ Table at width
+  pub from_is : input_from input ≡ only (table at width)
   pub bare : IsBare s order limit offset
   pub columns_are : s.columns ≡ map column places
 
 -- rows in no order
 pub record IsSelected (input : Input) (s : Select) (order : List Key) (limit : Option ℤ) (offset : ℤ) (selection : SelectionData) : Type 0 where
+  pub all : s.distinct ≡ false
   pub made : IsMadeOver input s order selection.plan selection.columns
   pub unordered : order ≡ []
   pub limit_is : selection.limit ≡ limit
@@ -60,8 +62,26 @@ pub record IsSelected (input : Input) (s : Select) (order : List Key) (limit : O
 
 -- rows in order
 pub record IsPutInOrder (input : Input) (s : Select) (order : List Key) (limit : Option ℤ) (offset : ℤ) (selection : SortedData) : Type 0 where
+  pub all : s.distinct ≡ false
   pub made : IsMadeOver input s order selection.plan selection.columns
   pub order_is : AllZip (KeyStandsOver made.read) selection.order order
+  pub limit_is : selection.limit ≡ limit
+  pub offset_is : selection.offset ≡ offset
+
+-- rows in no order, each once
+pub record IsSelectedOnce (input : Input) (s : Select) (order : List Key) (limit : Option ℤ) (offset : ℤ) (selection : SelectionData) : Type 0 where
+  pub once_each : s.distinct ≡ true
+  pub made : IsMadeOver input s order selection.plan selection.columns
+  pub unordered : order ≡ []
+  pub limit_is : selection.limit ≡ limit
+  pub offset_is : selection.offset ≡ offset
+
+-- rows in the order of result columns, each once
+pub record IsPutInOrderOnce (input : Input) (s : Select) (order : List Key) (limit : Option ℤ) (offset : ℤ) (selection : SortedData) : Type 0 where
+  pub once_each : s.distinct ≡ true
+  pub made : IsMadeOver input s order selection.plan selection.columns
+  pub results : AreResults order
+  pub order_is : selection.order ≡ order
   pub limit_is : selection.limit ≡ limit
   pub offset_is : selection.offset ≡ offset
 
@@ -69,3 +89,5 @@ abbrev pub IsMade : Input → Select → List Key → Option ℤ → ℤ → Pla
 IsMade input s order limit offset (columns at places) = IsScanned input s order limit offset at places
 IsMade input s order limit offset (rows selection) = IsSelected input s order limit offset selection
 IsMade input s order limit offset (sorted selection) = IsPutInOrder input s order limit offset selection
+IsMade input s order limit offset (distinct selection) = IsSelectedOnce input s order limit offset selection
+IsMade input s order limit offset (sorted_distinct selection) = IsPutInOrderOnce input s order limit offset selection

@@ -3,11 +3,16 @@ use Rattle.std.specs.Prelude.{◌↔◌, Contains, ℕ, List, ◌∷◌, ◌++�
 use Rattle.expr.specs.Columns.{columns_of}
 use Rattle.expr.specs.Term.{Term}
 use Rattle.meaning.specs.Hits.{order_terms}
-use Rattle.meaning.specs.Query.{Key, Select}
+use Rattle.meaning.specs.Query.{From, Key, Select}
+use Rattle.table_plans.specs.Planned.{on_terms}
 
 -- what is computed on the rows of FROM: WHERE, the result columns, and the terms of ORDER BY
-abbrev pub terms_in : Select → List Key → List Term
-terms_in s order = s.condition ∷ (s.columns ++ order_terms order)
+abbrev pub select_terms : Select → List Key → List Term
+select_terms s order = s.condition ∷ (s.columns ++ order_terms order)
+
+-- and what stands behind each ON
+abbrev pub terms_in : From → Select → List Key → List Term
+terms_in from s order = select_terms s order ++ on_terms from
 
 -- exactly the columns that these terms name are read
 abbrev pub AreRead : List ℕ → List Term → Type 0

@@ -1,12 +1,14 @@
 -- Which queries are served. (SELECT)
-use Rattle.std.specs.Prelude.{◌≡◌, ◌⊎◌, ℕ, false, [], None}
-use Rattle.meaning.specs.Query.{From, QueryData, Select, only, nothing, select, table}
+use Rattle.std.specs.Prelude.{◌≡◌, true, [], None}
+use Rattle.distinct_results.specs.Permitted.{AreResults}
+use Rattle.meaning.specs.Query.{From, QueryData, Select, select}
+use Rattle.table_plans.specs.InnerJoins.{AreInnerJoins}
 
--- FROM is one table of the catalog, or nothing
+-- FROM is tables of the catalog that are joined by inner joins, or nothing
 abbrev pub IsServedFrom : From → Type 0
-IsServedFrom from = (from ≡ nothing) ⊎ ((at : ℕ) × (width : ℕ) × (from ≡ only (table at width)))
+IsServedFrom from = AreInnerJoins from
 
--- one SELECT of one table or of none, without groups, windows and DISTINCT
+-- one SELECT of such tables or of none, without groups and windows; behind DISTINCT, ORDER BY names result columns alone
 pub record IsServed (query : QueryData) : Type 0 where
   pub from : From
   pub s : Select
@@ -14,4 +16,4 @@ pub record IsServed (query : QueryData) : Type 0 where
   pub source : IsServedFrom from
   pub ungrouped : s.grouping ≡ None
   pub windowless : s.windows ≡ []
-  pub all : s.distinct ≡ false
+  pub ordered : s.distinct ≡ true → AreResults query.order

@@ -5,11 +5,15 @@ ghost use Rattle.meaning.specs.Hits.{key_terms, order_terms};
 ghost use Rattle.order_keys.specs.KeyView.{key_of, key_term_of};
 ghost use Rattle.query_plans.specs.Read.{AreRead, terms_in};
 ghost use Rattle.query_trees.specs.SelectView.{select_of};
+ghost use Rattle.std.specs.List.Sorted.{IsStrictlyIncreasing};
+ghost use Rattle.table_plans.specs.Input.{from_of, input_from};
+ghost use Rattle.table_plans.specs.Planned.{on_terms};
 
 use order_keys::{Key, KeyTerm};
 use plan_terms::{push_columns, push_columns_of_all, read_columns};
 use query_trees::Select;
 use std::alloc::{AllocError, Global};
+use table_plans::{Input, JoinedTable};
 
 /// Puts the columns that a term of ORDER BY names at the end of a list.
 fn push_key(key: &KeyTerm, out: &mut Vec<usize>) -> Result<(), AllocError>
@@ -31,17 +35,30 @@ fn push_order(order: &[Key], out: &mut Vec<usize>) -> Result<(), AllocError>
     Ok(())
 }
 
-/// The columns that a SELECT and its ORDER BY name, each once and in their order.
+/// Puts the columns that the ON of each of these tables names at the end of a list.
+fn push_on(tables: &[JoinedTable], out: &mut Vec<usize>) -> Result<(), AllocError>
+    ensures { OnOk result (out.new.items ≡ out.old.items ++ flat_map columns_of (on_terms (from_of tables.now))) }
+{
+    for table in tables {
+        push_columns(&table.condition, out)?;
+    }
+    Ok(())
+}
+
+/// The columns that a SELECT, its ORDER BY and the ON of each of its tables name, each once and in their order.
 pub(crate) fn columns_read(
     alloc: Global,
+    input: &Input,
     select: &Select,
     order: &[Key],
 ) -> Result<Vec<usize>, AllocError>
-    ensures { IfOk result (λ read. AreRead read.items (terms_in (select_of select.now) (map key_of order.now))) }
+    ensures read { IfOk result (λ read. AreRead read.items (terms_in (input_from input.now) (select_of select.now) (map key_of order.now))) }
+    ensures once { IfOk result (λ read. IsStrictlyIncreasing read.items) }
 {
     let mut named = Vec::new(alloc);
     push_columns(&select.condition, &mut named)?;
     push_columns_of_all(select.columns.as_slice(), &mut named)?;
     push_order(order, &mut named)?;
+    push_on(input.tables.as_slice(), &mut named)?;
     Ok(read_columns(named))
 }

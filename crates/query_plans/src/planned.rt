@@ -1,5 +1,6 @@
 //! What is run for a query.
 
+use distinct_results::SortedDistinct;
 use results::Selection;
 use sorted_results::SortedSelection;
 
@@ -12,4 +13,8 @@ pub enum Planned {
     Rows(Selection),
     /// Rows in order.
     Sorted(SortedSelection),
+    /// Rows in no order, each once.
+    Distinct(Selection),
+    /// Rows in order, each once.
+    SortedDistinct(SortedDistinct),
 }

@@ -1,5 +1,5 @@
 //! The plan of a query.
-ghost use Rattle.std.specs.Prelude.{IfOk, List, MatchBool, MatchOption, map, ⊤};
+ghost use Rattle.std.specs.Prelude.{◌≡◌, IfOk, List, MatchBool, MatchOption, false, map, ⊤};
 ghost use Rattle.meaning.specs.Typed.{IsTyped};
 ghost use Rattle.order_keys.specs.KeyView.{key_of};
 ghost use Rattle.query_plans.specs.Answers.{IsPlanFor, IsPlannedOver, planned_data};
@@ -9,22 +9,24 @@ ghost use Rattle.query_trees.specs.SelectView.{select_of};
 ghost use Rattle.schema.specs.ColumnTypes.{column_types};
 ghost use Rattle.schema.specs.TableData.{TableData};
 ghost use Rattle.statement_names.specs.NamedView.{query_data};
+ghost use Rattle.table_plans.specs.InnerJoins.{AreInnerJoins};
+ghost use Rattle.table_plans.specs.Input.{input_from};
 
 use crate::Planned;
-use crate::columns::columns_read;
+use crate::base::base_of;
+use crate::distinct::distinct_of;
 use crate::keys::keys_over;
 use crate::scans::scan_of;
 use body_trees::Body;
 use order_keys::Key;
-use plan_terms::exprs_over;
 use query_trees::Select;
 use results::Selection;
 use sorted_results::SortedSelection;
 use statement_names::Query;
 use std::alloc::{AllocError, Global};
-use table_plans::{Input, input_of, plan_of};
+use table_plans::{Input, input_of};
 
-/// Whether a SELECT has neither groups nor windows nor DISTINCT.
+/// Whether a SELECT has neither groups nor windows.
 fn has_rows_alone(select: &Select) -> bool
     ensures { MatchBool result (HasRowsAlone (select_of select.now)) (¬ HasRowsAlone (select_of select.now)) }
 {
@@ -32,57 +34,54 @@ fn has_rows_alone(select: &Select) -> bool
         return false;
     }
     let calls = select.windows.as_slice();
-    if !calls.is_empty() {
-        return false;
-    }
-    !select.distinct
+    calls.is_empty()
 }
 
-/// The plan of a SELECT whose conditions and result columns are computed on the rows of one table or of none.
+/// The plan of a SELECT whose conditions and result columns are computed on the rows of FROM.
 fn selection_of(
     alloc: Global,
-    input: Input,
+    input: &Input,
     select: &Select,
     order: &[Key],
     limit: Option<i64>,
     offset: i64,
 ) -> Result<Planned, AllocError>
-    ensures { IfOk result (λ p. IsMade input (select_of select.now) (map key_of order.now) limit offset (planned_data p)) }
+    requires all { select.now.distinct ≡ false }
+    requires inner { AreInnerJoins (input_from input.now) }
+    ensures { IfOk result (λ p. IsMade input.now (select_of select.now) (map key_of order.now) limit offset (planned_data p)) }
 {
-    let read = columns_read(alloc, select, order)?;
-    let found = plan_of(alloc, input, read.as_slice(), &select.condition)?;
-    let plan = found.unwrap();
-    let shown = exprs_over(alloc, read.as_slice(), 0, select.columns.as_slice())?;
-    let columns = shown.unwrap();
+    let base = base_of(alloc, input, select, order)?;
     if order.is_empty() {
         return Ok(Planned::Rows(Selection {
-            plan,
-            columns,
+            plan: base.plan,
+            columns: base.columns,
             limit,
             offset,
         }));
     }
-    let keys = keys_over(alloc, read.as_slice(), order)?;
+    let keys = keys_over(alloc, base.read.as_slice(), order)?;
     let order = keys.unwrap();
     Ok(Planned::Sorted(SortedSelection {
-        plan,
-        columns,
+        plan: base.plan,
+        columns: base.columns,
         order,
         limit,
         offset,
     }))
 }
 
-/// The plan of a SELECT, the shortest that there is.
+/// The plan of a SELECT without DISTINCT, the shortest that there is.
 fn planned_of(
     alloc: Global,
-    input: Input,
+    input: &Input,
     select: &Select,
     order: &[Key],
     limit: Option<i64>,
     offset: i64,
 ) -> Result<Planned, AllocError>
-    ensures { IfOk result (λ p. IsMade input (select_of select.now) (map key_of order.now) limit offset (planned_data p)) }
+    requires all { select.now.distinct ≡ false }
+    requires inner { AreInnerJoins (input_from input.now) }
+    ensures { IfOk result (λ p. IsMade input.now (select_of select.now) (map key_of order.now) limit offset (planned_data p)) }
 {
     let scan = scan_of(alloc, input, select, order, limit, offset)?;
     match scan {
@@ -102,7 +101,7 @@ pub fn plan(alloc: Global, query: &Query) -> Result<Option<Planned>, AllocError>
         Body::Select(single) => single,
         Body::Compound(_, _, _) => return Ok(None),
     };
-    let input = match input_of(&single.tables) {
+    let input = match input_of(alloc, &single.tables)? {
         None => return Ok(None),
         Some(input) => input,
     };
@@ -110,9 +109,20 @@ pub fn plan(alloc: Global, query: &Query) -> Result<Option<Planned>, AllocError>
         return Ok(None);
     }
     let order = query.order.as_slice();
+    if single.select.distinct {
+        let once = distinct_of(
+            alloc,
+            &input,
+            &single.select,
+            order,
+            query.limit,
+            query.offset,
+        )?;
+        return Ok(once);
+    }
     let planned = planned_of(
         alloc,
-        input,
+        &input,
         &single.select,
         order,
         query.limit,

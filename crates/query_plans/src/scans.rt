@@ -27,34 +27,40 @@ fn places_of(alloc: Global, terms: &[Term]) -> Result<Option<Vec<usize>>, AllocE
     Ok(Some(places))
 }
 
-/// Whether neither WHERE nor ORDER BY, LIMIT and OFFSET are written.
+/// Whether neither DISTINCT nor WHERE, ORDER BY, LIMIT and OFFSET are written.
 fn is_bare(select: &Select, order: &[Key], limit: Option<i64>, offset: i64) -> bool
     ensures { IsTrue result → IsBare (select_of select.now) (map key_of order.now) limit offset }
 {
-    order.is_empty() && limit.is_none() && offset == 0 && is_always(&select.condition)
+    !select.distinct
+        && order.is_empty()
+        && limit.is_none()
+        && offset == 0
+        && is_always(&select.condition)
 }
 
 /// The plan of a SELECT of columns of one table alone, whose rows are shown as the table has them. (SELECT)
 pub(crate) fn scan_of(
     alloc: Global,
-    input: Input,
+    input: &Input,
     select: &Select,
     order: &[Key],
     limit: Option<i64>,
     offset: i64,
 ) -> Result<Option<Planned>, AllocError>
-    ensures { IfOk result (λ planned. IfSome planned (λ p. IsMade input (select_of select.now) (map key_of order.now) limit offset (planned_data p))) }
+    ensures { IfOk result (λ planned. IfSome planned (λ p. IsMade input.now (select_of select.now) (map key_of order.now) limit offset (planned_data p))) }
 {
-    let at = match input {
-        Input::Nothing => return Ok(None),
-        Input::Table(at, _) => at,
+    let [table] = input.tables.as_slice() else {
+        return Ok(None);
     };
+    if !is_always(&table.condition) {
+        return Ok(None);
+    }
     if !is_bare(select, order, limit, offset) {
         return Ok(None);
     }
     let places = places_of(alloc, select.columns.as_slice())?;
     match places {
         None => Ok(None),
-        Some(places) => Ok(Some(Planned::Columns(at, places))),
+        Some(places) => Ok(Some(Planned::Columns(table.table, places))),
     }
 }

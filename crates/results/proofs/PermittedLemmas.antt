@@ -1,8 +1,8 @@
--- The answer of a selection without groups, windows and DISTINCT is permitted.
+-- The answer of a selection without DISTINCT is permitted.
 use Rattle.std.proofs.Common.{◌≡◌, ◌∙◌, All, Contains, false, ℕ, List, [], ◌∷◌, map, None, Some, unwrap_or, refl, sym, ap, subst, IsPermutation}
 use Rattle.std.specs.List.{AllZip}
 use Rattle.std.proofs.lemmas.List.Elements.{All-contains_itself, All-head, All-tail}
-use Rattle.std.proofs.lemmas.List.Sorted.{IsPermutation-refl}
+use Rattle.std.proofs.lemmas.List.Sorted.{IsPermutation-map, IsPermutation-refl}
 use Rattle.values.specs.Database.{Database}
 use Rattle.values.specs.Datum.{Datum, null}
 use Rattle.values.specs.Row.{Row}
@@ -18,11 +18,11 @@ use Rattle.meaning.specs.Query.{From, Select, only, select, table}
 use Rattle.meaning.specs.Valuation.{term_values, with_answers}
 use Rattle.meaning.specs.Windows.{windowed}
 use Rattle.meaning.proofs.ScanLemmas.{unordered_permitted, windowed-none}
-use Rattle.plans.specs.Plan.{rows_of}
+use Rattle.plans.specs.Plan.{PlanData, rows_of}
 use Rattle.plans.specs.Stands.{AreTestsOf}
 use Rattle.plans.proofs.WhereLemmas.{one_table_is_where}
 use Rattle.results.specs.Coming.{result_rows}
-use Rattle.results.specs.Permitted.{OneTableIsPermitted, PlainIsPermitted, SaysOf}
+use Rattle.results.specs.Permitted.{OneTableIsPermitted, PlainIsPermitted, ReadsTable, SaysOf, SeesRows, computed_rows}
 
 module _ (w : Datum) (answers : List (List Datum)) (seen : Row → Row) (rows : List Row) where
   -- result columns on what is seen of a row
@@ -43,31 +43,27 @@ module _ (w : Datum) (answers : List (List Datum)) (seen : Row → Row) (rows : 
         rows_agree columns wholes some (All-tail (Contains rows) row some held) all,
       ) refl
 
-module _ (w : Datum) (db : Database) (from : From) (s : Select) (ungrouped : s.grouping ≡ None) (windowless : s.windows ≡ []) (all : s.distinct ≡ false) where
-  abbrev kept_rows : List Row
-  kept_rows = where_rows w db from s
+-- the rows of the body, one for each row that result columns are computed on
+plain_body : (w : Datum) (db : Database) (from : From) (s : Select) → s.distinct ≡ false
+    → body_rows w db (select from s) ≡ map (term_values (values_over w db from) s.columns) (computed_rows w db from s)
+plain_body w db from s all = ap (λ b. distinct b (map (term_values (values_over w db from) s.columns) (computed_rows w db from s))) all
 
-  -- the rows of the body, one for each row that WHERE keeps
-  plain_body : body_rows w db (select from s) ≡ map (term_values (values_over w db from) s.columns) kept_rows
-  plain_body =
-      ap (λ b. distinct b (map (term_values (values_over w db from) s.columns)
-      (windowed (values_over w db from) w s.windows (grouped (values_over w db from) w s.grouping kept_rows)))) all
-      ∙ ap (λ calls. map (term_values (values_over w db from) s.columns)
-      (windowed (values_over w db from) w calls (grouped (values_over w db from) w s.grouping kept_rows))) windowless
-      ∙ ap (map (term_values (values_over w db from) s.columns))
-      (windowed-none (values_over w db from) w (grouped (values_over w db from) w s.grouping kept_rows)
-      ∙ ap (λ grouping. grouped (values_over w db from) w grouping kept_rows) ungrouped)
+module _ (w : Datum) (db : Database) (from : From) (s : Select) (plan : PlanData) (columns : List Term) (sees : SeesRows w db from s plan columns) where
+  -- the result rows over a plan's rows, in some order
+  pub results_are : IsPermutation (map (term_values (values_over w db from) s.columns) (computed_rows w db from s)) (result_rows w columns (rows_of w db plan))
+  results_are =
+      subst (λ (rows : List Row). IsPermutation rows (result_rows w columns (rows_of w db plan)))
+      (rows_agree w (answers_in w db from) sees.seen (computed_rows w db from s) columns s.columns (computed_rows w db from s) (All-contains_itself (computed_rows w db from s))
+      sees.columns_are)
+      (IsPermutation-map (term_values (eval w) columns) (map sees.seen (computed_rows w db from s)) (rows_of w db plan) sees.rows_are)
 
 pub plain_is_permitted : PlainIsPermitted
 plain_is_permitted w db query from s selection plain unordered of =
-    let kept = where_rows w db from s in
     let rows = result_rows w selection.columns (rows_of w db selection.plan) in
-    let same : body_rows w db query.body ≡ rows =
-    ap (body_rows w db) plain.body ∙ plain_body w db from s plain.ungrouped plain.windowless plain.all
-    ∙ sym (rows_agree w (answers_in w db from) of.sees.seen kept selection.columns s.columns kept (All-contains_itself kept) of.sees.columns_are)
-    ∙ ap (result_rows w selection.columns) (sym of.sees.rows_are) in
-    let permitted : Permits w db query (slice query rows) =
-    unordered_permitted w db query rows unordered (subst (IsPermutation (body_rows w db query.body)) same (IsPermutation-refl (body_rows w db query.body))) in
+    let same : IsPermutation (body_rows w db query.body) rows =
+    subst (λ (bag : List Row). IsPermutation bag rows) (sym (ap (body_rows w db) plain.body ∙ plain_body w db from s plain.all))
+    (results_are w db from s selection.plan selection.columns of.sees) in
+    let permitted : Permits w db query (slice query rows) = unordered_permitted w db query rows unordered same in
     subst (Permits w db query)
     (ap (λ limit. limited limit (skipped query.offset rows)) (sym of.limit) ∙ ap (λ offset. limited selection.limit (skipped offset rows)) (sym of.offset)) permitted
 
@@ -80,19 +76,45 @@ tests_say read rows [] (t ∷ terms) all = absurd all
 tests_say read rows (e ∷ tests) [] all = absurd all
 tests_say read rows (e ∷ tests) (t ∷ terms) all = ((λ o row held. all.0 o row), tests_say read rows tests terms all.1)
 
+-- the rows that WHERE keeps are those that result columns are computed on
+pub where_is_computed : (w : Datum) (db : Database) (from : From) (s : Select) → s.grouping ≡ None → s.windows ≡ []
+    → where_rows w db from s ≡ computed_rows w db from s
+where_is_computed w db from s ungrouped windowless =
+    sym (ap (λ calls. windowed (values_over w db from) w calls (grouped (values_over w db from) w s.grouping (where_rows w db from s))) windowless
+    ∙ windowed-none (values_over w db from) w (grouped (values_over w db from) w s.grouping (where_rows w db from s))
+    ∙ ap (λ grouping. grouped (values_over w db from) w grouping (where_rows w db from s)) ungrouped)
+
+-- a plan that has what is seen of the rows that WHERE keeps, in their order
+abbrev pub sees_where : (w : Datum) (db : Database) (from : From) (s : Select) → s.grouping ≡ None → s.windows ≡ [] → (plan : PlanData) (columns : List Term) (seen : Row → Row)
+    → rows_of w db plan ≡ map seen (where_rows w db from s)
+    → AllZip (SaysOf seen (where_rows w db from s)) columns (map (filled (answers_in w db from)) s.columns)
+    → SeesRows w db from s plan columns
+sees_where w db from s ungrouped windowless plan columns seen rows_are columns_are = record {
+  seen = seen;
+  rows_are =
+      subst (IsPermutation (map seen (computed_rows w db from s))) (ap (map seen) (sym (where_is_computed w db from s ungrouped windowless)) ∙ sym rows_are)
+      (IsPermutation-refl (map seen (computed_rows w db from s)));
+  columns_are =
+      subst (λ (rows : List Row). AllZip (SaysOf seen rows) columns (map (filled (answers_in w db from)) s.columns))
+      (where_is_computed w db from s ungrouped windowless) columns_are;
+}
+
+abbrev pub table_sees : (w : Datum) (db : Database) (at width : ℕ) (s : Select) → s.grouping ≡ None → s.windows ≡ [] → (plan : PlanData) (columns : List Term)
+    → ReadsTable w db at width s plan columns → SeesRows w db (only (table at width)) s plan columns
+table_sees w db at width s ungrouped windowless plan columns reads =
+    sees_where w db (only (table at width)) s ungrouped windowless plan columns (shown reads.read)
+    (ap (rows_of w db) reads.plan_is ∙ one_table_is_where w db s at width reads.read reads.constants reads.tests reads.split)
+    (tests_say reads.read (where_rows w db (only (table at width)) s) columns (map (filled (answers_in w db (only (table at width)))) s.columns) reads.columns_are)
+
 pub one_table_is_permitted : OneTableIsPermitted
 one_table_is_permitted w db query at width s selection plain unordered of =
     let reads = of.reads in
     let from = only (table at width) in
     plain_is_permitted w db query from s selection
-    (record { body = plain.body; ungrouped = plain.ungrouped; windowless = plain.windowless; all = plain.all })
+    (record { body = plain.body; all = plain.all })
     unordered
     (record {
-      sees = record {
-        seen = shown reads.read;
-        rows_are = ap (rows_of w db) reads.plan_is ∙ one_table_is_where w db s at width reads.read reads.constants reads.tests reads.split;
-        columns_are = tests_say reads.read (where_rows w db from s) selection.columns (map (filled (answers_in w db from)) s.columns) reads.columns_are;
-      };
+      sees = table_sees w db at width s plain.ungrouped plain.windowless selection.plan selection.columns reads;
       limit = of.limit;
       offset = of.offset;
     })

@@ -1,5 +1,5 @@
--- The answer of a selection without groups, windows and DISTINCT. (SELECT)
-use Rattle.std.specs.Prelude.{◌≡◌, Contains, false, ℕ, List, [], map, None, Option}
+-- The answer of a selection without DISTINCT. (SELECT)
+use Rattle.std.specs.Prelude.{◌≡◌, Contains, false, ℕ, List, [], map, None, Option, IsPermutation}
 use Rattle.std.specs.List.{AllZip}
 use Rattle.values.specs.Database.{Database}
 use Rattle.values.specs.Datum.{Datum}
@@ -8,32 +8,34 @@ use Rattle.expr.specs.Filled.{filled}
 use Rattle.expr.specs.Meaning.{run}
 use Rattle.expr.specs.Term.{Term}
 use Rattle.meaning.specs.Answer.{Permits}
-use Rattle.meaning.specs.Body.{answers_in}
-use Rattle.meaning.specs.Hits.{where_rows}
+use Rattle.meaning.specs.Body.{answers_in, select_rows, values_over}
+use Rattle.meaning.specs.Body as body
 use Rattle.meaning.specs.Query.{From, QueryData, Select, only, select, table}
 use Rattle.plans.specs.Plan.{PlanData, rows_of}
 use Rattle.plans.specs.Stands.{AreTestsOf, IsSplit, condition_of, one_table}
 use Rattle.results.specs.Coming.{SelectionData, answer_of}
 
--- ---- over any plan of FROM and WHERE
+-- ---- over any plan of the rows that result columns are computed on
 
--- a SELECT without groups, windows and DISTINCT
+-- a SELECT without DISTINCT
 pub record IsPlainSelect (query : QueryData) (from : From) (s : Select) : Type 0 where
   pub body : query.body ≡ select from s
-  pub ungrouped : s.grouping ≡ None
-  pub windowless : s.windows ≡ []
   pub all : s.distinct ≡ false
+
+-- the rows that the result columns of a SELECT are computed on
+abbrev pub computed_rows : Datum → Database → From → Select → List Row
+computed_rows w db from s = select_rows (values_over w db from) w s (body.rows_of w db from)
 
 -- an expression says of what is seen of each of these rows what a term says of the row
 abbrev pub SaysOf : (Row → Row) → List Row → Term → Term → Type 0
 SaysOf seen rows e t = (o : Option Datum) (row : Row) → Contains rows row → run o (seen row) e ≡ run o row t
 
--- The rows of a plan are what is seen of those of FROM that WHERE keeps, and its result columns say of them what those of the
--- SELECT say.
+-- The rows of a plan are, in some order, what is seen of those that the SELECT computes its result columns on, and its own
+-- result columns say of them what those of the SELECT say.
 pub record SeesRows (w : Datum) (db : Database) (from : From) (s : Select) (plan : PlanData) (columns : List Term) : Type 0 where
   pub seen : Row → Row
-  pub rows_are : rows_of w db plan ≡ map seen (where_rows w db from s)
-  pub columns_are : AllZip (SaysOf seen (where_rows w db from s)) columns (map (filled (answers_in w db from)) s.columns)
+  pub rows_are : IsPermutation (map seen (computed_rows w db from s)) (rows_of w db plan)
+  pub columns_are : AllZip (SaysOf seen (computed_rows w db from s)) columns (map (filled (answers_in w db from)) s.columns)
 
 -- a selection over such a plan, with the query's LIMIT and OFFSET
 pub record IsSelectionOver (w : Datum) (db : Database) (query : QueryData) (from : From) (s : Select) (selection : SelectionData) : Type 0 where

@@ -7,11 +7,11 @@ ghost use Rattle.pager.specs.PagerState.{IsPageNumber};
 ghost use Rattle.image.specs.Pages.{Pages, WhereSteady};
 ghost use Rattle.schema.specs.TableData.{TableData};
 ghost use Rattle.expr.specs.View.{term};
-ghost use Rattle.plans.specs.Plan.{work};
+ghost use Rattle.plans.specs.Plan.{rows_of, work};
 ghost use Rattle.plans.specs.PlanView.{plan_data};
 ghost use Rattle.operators.specs.Basis.{AreStored, Basis, Gives, IsOperatorFault};
 ghost use Rattle.operators.specs.Left.{IsPlanOf, plan_of, steps};
-ghost use Rattle.results.specs.Coming.{IsComing, IsResultCause, answer_of, selection_data};
+ghost use Rattle.results.specs.Coming.{IsComing, IsResultCause, answer_of, result_rows, selection_data};
 
 use crate::columns::push_results;
 use crate::limits::Slice;
@@ -54,6 +54,25 @@ impl Results {
         let op = Op::open(alloc, &selection.plan)?;
         let columns = copies(alloc, selection.columns.as_slice())?;
         let slice = Slice::new(selection.limit, selection.offset);
+        let row = Vec::new(alloc);
+        Ok(Results {
+            op,
+            columns,
+            slice,
+            row,
+        })
+    }
+
+    /// All result rows of a plan, before the first. It reads no page.
+    pub fn of_all(alloc: Global, plan: &Plan, columns: &[Expr]) -> Result<Results, AllocError>
+        ensures plan { IfOk result (λ results. plan_of results.op ≡ plan_data plan.now) }
+        ensures columns { IfOk result (λ results. map term results.columns.items ≡ map term columns.now) }
+        ensures rows { IfOk result (λ results. (pages : Pages) (tables : List TableData) (on : Basis) → on.plan ≡ plan_data plan.now
+            → IsComing pages tables on results (result_rows on.w (map term columns.now) (rows_of on.w on.db on.plan)) (work on.w on.db on.sizes on.plan)) }
+    {
+        let op = Op::open(alloc, plan)?;
+        let columns = copies(alloc, columns)?;
+        let slice = Slice::new(None, 0);
         let row = Vec::new(alloc);
         Ok(Results {
             op,

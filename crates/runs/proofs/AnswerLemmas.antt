@@ -1,5 +1,5 @@
 -- From what was written to the answer of a plan.
-use Rattle.std.proofs.Common.{◌≡◌, ◌≢◌, ◌∙◌, ◌+◌, ◌^◌, ◌-◌, ◌≤◌, min, inl, inr, arith, ℕ, zero, suc, IsTrue, All, List, [], ◌∷◌, ◌++◌, length, map, slice_get, Some, Result, Ok, Err, refl, sym, ap, append-nil, subst}
+use Rattle.std.proofs.Common.{◌≡◌, ◌≢◌, ◌∙◌, ◌+◌, ◌^◌, ◌-◌, ◌≤◌, min, inl, inr, arith, Bool, true, false, ℕ, zero, suc, IsTrue, All, List, [], ◌∷◌, ◌++◌, length, map, slice_get, Some, Result, Ok, Err, refl, sym, ap, append-nil, subst, IsPermutation}
 use Rattle.std.specs.List.{flat_map}
 use Rattle.std.proofs.lemmas.List.{length-map, map-append}
 use Rattle.std.proofs.lemmas.List.Elements.{All-head, All-tail}
@@ -19,9 +19,10 @@ use Rattle.stored_rows.specs.Stored.{HoldsRows}
 use Rattle.stored_rows.proofs.OneLemmas.{one_rows}
 use Rattle.table_walk.specs.Checked.{IsStoredTable}
 use Rattle.expr.specs.Term.{Term}
-use Rattle.meaning.specs.Answer.{key_directions, limited, skipped}
-use Rattle.meaning.specs.Body.{Output}
-use Rattle.meaning.specs.Hits.{order_terms}
+use Rattle.expr.specs.Meaning.{eval}
+use Rattle.meaning.specs.Answer.{Ascends, key_directions, limited, skipped}
+use Rattle.meaning.specs.Body.{Output, plain_outputs}
+use Rattle.meaning.specs.Query.{Key}
 use Rattle.meaning.specs.OneTable.{shown}
 use Rattle.meaning.specs.Sequence.{ascending, keys_cmp}
 use Rattle.meaning.proofs.AnswerLemmas.{is_before}
@@ -31,8 +32,9 @@ use Rattle.plans.specs.Plan.{PlanData, rows_of, table_rows, table_size, work}
 use Rattle.scan.specs.Coming.{Asks}
 use Rattle.operators.specs.Basis.{AreStored, Basis, IsOperatorFault}
 use Rattle.operators.proofs.RowLemmas.{some_one}
-use Rattle.results.specs.Coming.{IsResultCause}
-use Rattle.sorted_results.specs.Sorted.{IsSortedAnswer, SortedData, outputs_over}
+use Rattle.results.specs.Coming.{IsResultCause, result_rows}
+use Rattle.sorted_results.specs.Sorted.{SortedData, outputs_over}
+use Rattle.distinct_results.specs.Firsts.{firsts}
 use Rattle.query_plans.specs.Answers.{PlannedData}
 use Rattle.explain.specs.Text.{row_text, rows_text}
 use Rattle.runs.specs.Faults.{IsOutsideFault, IsRunCause}
@@ -40,6 +42,7 @@ use Rattle.runs.specs.Printed.{PrintsUntil}
 use Rattle.runs.specs.Runs.{WritesAnswer, WritesBeginning}
 use Rattle.runs.specs.Stream.{AsksFew, Streams, StreamsUntil}
 use Rattle.runs.proofs.GivenLemmas.{not_operators, nothing_printed, stored_with, with_plan}
+use Rattle.runs.proofs.KindLemmas.{SortedIn, sorted_answers_in, sorted_hits_in, sorted_in, terms_in}
 
 -- ---- columns of one table
 
@@ -105,62 +108,76 @@ rows_text-map f (x ∷ xs) = ap (λ t. row_text (f x) ++ t) (rows_text-map f xs)
 pub rows_counted : {X : Type 0} (f : X → Row) (xs : List X) (n : ℕ) → n ≡ length xs → n ≤ 2 ^ 64 - 1 → n ≡ min (length (map f xs)) (2 ^ 64 - 1)
 rows_counted f xs n is few = let long = length-map xs f in omega (arith, is, few, long)
 
+-- outputs in some order that ascends
+record Ordered (order : List Key) (made : List Output) : Type 0 where
+  ordered : List Output
+  same : IsPermutation made ordered
+  ascends : Ascends order ordered
+
+some_order : (order : List Key) (made : List Output) → Ordered order made
+some_order order made = record {
+  ordered = ascending (is_before order) made;
+  same = ascending-same (is_before order) made;
+  ascends = IsSortedBy-ascending (is_before order) (ranks_by (keys_cmp_total (key_directions order)) (λ (o : Output). o.keys)) made;
+}
+
 -- a selection has some answer
-some_sorted : (w : Datum) (db : Database) (selection : SortedData) → (rows : List Row) × IsSortedAnswer w db selection rows
-some_sorted w db selection =
-    let made = outputs_over w selection.columns selection.order (rows_of w db selection.plan) in
-    let ordered = ascending (is_before selection.order) made in (
-      map (λ o. o.row) (limited selection.limit (skipped selection.offset ordered)),
-      record {
-        ordered = ordered;
-        same = ascending-same (is_before selection.order) made;
-        ascends = IsSortedBy-ascending (is_before selection.order)
-            (ranks_by (keys_cmp_total (key_directions selection.order)) (λ (o : Output). o.keys)) made;
-        shown = refl;
-      },
+some_sorted : (once : Bool) (w : Datum) (db : Database) (selection : SortedData) → (rows : List Row) × SortedIn once w db selection rows
+some_sorted false w db selection =
+    let some = some_order selection.order (outputs_over w selection.columns selection.order (rows_of w db selection.plan)) in (
+      map (λ o. o.row) (limited selection.limit (skipped selection.offset some.ordered)),
+      record { ordered = some.ordered; same = some.same; ascends = some.ascends; shown = refl },
+    )
+some_sorted true w db selection =
+    let some = some_order selection.order (plain_outputs (eval w) selection.order (firsts (result_rows w selection.columns (rows_of w db selection.plan)))) in (
+      map (λ o. o.row) (limited selection.limit (skipped selection.offset some.ordered)),
+      record { ordered = some.ordered; same = some.same; ascends = some.ascends; shown = refl },
     )
 
-module _ (start now : PagerState) (tables : List TableData) (selection : SortedData) (steady : IsTrue start.source.steady) where
+module _ (once : Bool) (start now : PagerState) (tables : List TableData) (selection : SortedData) (steady : IsTrue start.source.steady) where
   -- a fault before the first row
   pub sorted_stopped : (e : Fault) (old : SinkFacts) → IsOperatorFault e
       → WhereSteady start (λ pages. (on : Basis) → AreStored pages tables on → on.plan ≡ selection.plan
-      → IsResultCause on (selection.columns ++ order_terms selection.order) e)
-      → WritesBeginning (pages_seen start) tables (PlannedData.sorted selection) old old e
+      → IsResultCause on (terms_in once selection) e)
+      → WritesBeginning (pages_seen start) tables (sorted_in once selection) old old e
   sorted_stopped e old only call = record {
     given = [];
-    begins = λ on has. some_sorted on.w on.db selection;
+    begins = λ on has. let some = some_sorted once on.w on.db selection in (some.0, sorted_answers_in once on.w on.db selection some.0 some.1);
     prints = nothing_printed e old (not_operators e only);
     cause = λ on has.
         cause_of (with_plan on selection.plan)
         (call steady (with_plan on selection.plan) (stored_with (pages_seen start) tables on selection.plan has) refl);
   }
     where
-      cause_of : (on : Basis) → IsResultCause (with_plan on selection.plan) (selection.columns ++ order_terms selection.order) e
-          → IsRunCause on (PlannedData.sorted selection) e
+      cause_of : (on : Basis) → IsResultCause (with_plan on selection.plan) (terms_in once selection) e → IsRunCause on (sorted_in once selection) e
       cause_of on (inl read) = inl (inl read)
-      cause_of on (inr over) = inr over
+      cause_of on (inr over) = inr (over.0, sorted_hits_in once on.w on.db selection over.1)
 
   module _ (rows : List Row)
       (call : WhereSteady start (λ pages. (on : Basis) → AreStored pages tables on → on.plan ≡ selection.plan
-      → IsSortedAnswer on.w on.db selection rows × Asks on.local start (work on.w on.db on.sizes on.plan) now 0)) where
+      → SortedIn once on.w on.db selection rows × Asks on.local start (work on.w on.db on.sizes on.plan) now 0)) where
     said_of : (on : Basis) → AreStored (pages_seen start) tables on
-        → IsSortedAnswer on.w on.db selection rows × Asks on.local start (work on.w on.db on.sizes selection.plan) now 0
+        → SortedIn once on.w on.db selection rows × Asks on.local start (work on.w on.db on.sizes selection.plan) now 0
     said_of on has = call steady (with_plan on selection.plan) (stored_with (pages_seen start) tables on selection.plan has) refl
 
     pub sorted_answer : (old new : SinkFacts) (n : ℕ) → Writes {T = Unit {0}} (rows_text rows) (Ok tt) old new → n ≡ min (length rows) (2 ^ 64 - 1)
-        → WritesAnswer (pages_seen start) tables (PlannedData.sorted selection) old new n
+        → WritesAnswer (pages_seen start) tables (sorted_in once selection) old new n
     sorted_answer old new n wrote counted = record {
       given = rows;
-      answer = λ on has. (said_of on has).0;
+      answer = λ on has. sorted_answers_in once on.w on.db selection rows (said_of on has).0;
       prints = record { written = wrote.written; counted_is = counted };
     }
 
     -- a failed write of them
     pub sorted_cut : (e : Fault) (old new : SinkFacts) → e ≡ WriteFailed → Writes {T = Unit {0}} (rows_text rows) (Err e) old new
-        → WritesBeginning (pages_seen start) tables (PlannedData.sorted selection) old new e
+        → WritesBeginning (pages_seen start) tables (sorted_in once selection) old new e
     sorted_cut e old new is wrote = record {
       given = rows;
-      begins = λ on has. ([], subst (IsSortedAnswer on.w on.db selection) (sym (append-nil rows)) (said_of on has).0);
+      begins = λ on has. (
+        [],
+        sorted_answers_in once on.w on.db selection (rows ++ [])
+            (subst (SortedIn once on.w on.db selection) (sym (append-nil rows)) (said_of on has).0),
+      );
       prints = record { cut = λ _. wrote.written; whole = λ other. absurd (other is) };
       cause = λ on has. inl (inr is);
     }

@@ -1,4 +1,5 @@
 pub mod RowLemmas
 pub mod StreamLemmas
+pub mod KindLemmas
 pub mod GivenLemmas
 pub mod AnswerLemmas

@@ -4,10 +4,11 @@
 //! one; and that no more pages are asked for than the plan's work, and none of overflow chains where no cell has one.
 //!
 //! The modules, in the order in which data passes them: `columns` (columns of a table's rows), `selections` (rows that are
-//! computed, in no order or in order) and `planned` (what a plan answers).
+//! computed, in no order or in order), `once` (each of these once) and `planned` (what a plan answers).
 #![tactic(auto)]
 
 mod columns;
+mod once;
 mod planned;
 mod selections;
 

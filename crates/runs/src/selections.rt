@@ -57,7 +57,7 @@ pub(crate) fn write_selection<S: Source, W: Sink>(
 }
 
 /// Writes rows as lines. Its one fault is `WriteFailed`, after a beginning of the rows' text.
-fn write_lines<W: Sink>(rows: &[Vec<Value>], out: &mut W) -> Result<(), Fault>
+pub(crate) fn write_lines<W: Sink>(rows: &[Vec<Value>], out: &mut W) -> Result<(), Fault>
     ensures only { IfErr result (λ e. e ≡ Fault.WriteFailed) }
     ensures writes { Writes (flat_map (λ row. row_text (map datum_of row.items)) rows.now) result (W.facts out.old) (W.facts out.new) }
 {

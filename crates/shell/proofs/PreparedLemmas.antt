@@ -1,5 +1,5 @@
 -- What was made of a statement whose names are resolved.
-use Rattle.std.proofs.Common.{◌≡◌, ◌⊎◌, inl, inr, ℕ, List, sym, subst}
+use Rattle.std.proofs.Common.{◌≡◌, ◌⊎◌, inl, inr, refl, true, ℕ, List, sym, subst}
 use Rattle.values.specs.declared.fault.Fault.{Fault}
 use Rattle.values.specs.declared.fault.Fault.TheVariants.{NoMemory, NotYet}
 use Rattle.meaning.specs.Query.{QueryData}
@@ -32,6 +32,16 @@ unprepared tables text tree named e spelt within resolves (inl is) = inl (subst 
 unprepared tables text tree named e spelt within resolves (inr unserved) = inr (inr (record {
   named = named;
   spells = record { tree = tree; spelt = spelt; within = within; resolves = resolves };
-  unserved = unserved.1;
+  unserved = inr unserved.1;
   fault_is = unserved.0;
+}))
+
+-- it is only to be explained
+pub unexplained : (tables : List TableData) (text : List ℕ) (tree : StatementTree) (named : Named) → SpellsStatement text tree → IsAllowed text tree
+    → Resolves tables tree named → tree.explain ≡ true → Refuses tables text NotYet
+unexplained tables text tree named spelt within resolves explained = inr (inr (record {
+  named = named;
+  spells = record { tree = tree; spelt = spelt; within = within; resolves = resolves };
+  unserved = inl explained;
+  fault_is = refl;
 }))

@@ -28,7 +28,8 @@ use Rattle.integrity.specs.Denotes.{Denotes}
 use Rattle.integrity.proofs.DenotesLemmas.{HasDatabase, IsStoredAs, database_of}
 use Rattle.scan.specs.Coming.{Asks, size_of}
 use Rattle.operators.specs.Basis.{AreStored, Basis, IsTableAt}
-use Rattle.query_plans.specs.Answers.{HitsOf, PlannedData, work_of}
+use Rattle.query_plans.specs.Answers.{AreWideFor, HitsOf, PlannedData, work_of}
+use Rattle.query_plans.proofs.WideLemmas.{typed_wide}
 use Rattle.runs.specs.Faults.{IsOutsideFault, IsRunCause, IsRunFault}
 use Rattle.runs.specs.Runs.{WritesAnswer, WritesBeginning}
 use Rattle.shell.specs.Answer.{PrintsAnswer, PrintsBeginning}
@@ -134,6 +135,10 @@ module _ (pager : PagerState) (tables : List TableData) (prepared : PreparedData
   stored_on w =
       subst (λ (p : Pages). AreStored p tables (on w)) same_pages (stored_at (pages_of pager.source.bytes) w has.db.schema tables has.db.tables has.stored)
 
+  -- each row has as many values as its table has columns
+  wide : AreWideFor has.db prepared.query.body
+  wide = typed_wide (column_types tables) has.db (denoted_fits pager.source.bytes tables has.db has.denotes) prepared.query is.typed
+
   -- what the plan answers, the query permits
   pub prints_answer : (n : ℕ) (old new : SinkFacts) → WritesAnswer (pages_seen pager) tables prepared.planned old new n
       → PrintsAnswer pager.source.bytes tables prepared.query n old new
@@ -141,7 +146,7 @@ module _ (pager : PagerState) (tables : List TableData) (prepared : PreparedData
   prints_answer n old new wrote = record {
     rows = wrote.given;
     answer = λ w stand.
-        let permits = is.plan.permits w has.db wrote.given (wrote.answer (on w) (stored_on w)) in
+        let permits = is.plan.permits w has.db wrote.given wide (wrote.answer (on w) (stored_on w)) in
         record {
           database = has.db;
           denotes = has.denotes;
@@ -165,14 +170,14 @@ module _ (pager : PagerState) (tables : List TableData) (prepared : PreparedData
         record {
           database = has.db;
           denotes = has.denotes;
-          says = record { rest = begins.0; permitted = is.plan.permits w has.db _ begins.1 };
+          says = record { rest = begins.0; permitted = is.plan.permits w has.db _ wide begins.1 };
         };
     prints = wrote.prints;
     same_image = cause_unchanged (on null) prepared.planned e (wrote.cause (on null) (stored_on null));
     hits = λ over w stand. record {
       database = has.db;
       denotes = has.denotes;
-      says = is.plan.hits w has.db (cause_hits (on w) prepared.planned e over (wrote.cause (on w) (stored_on w)));
+      says = is.plan.hits w has.db wide (cause_hits (on w) prepared.planned e over (wrote.cause (on w) (stored_on w)));
     };
   }
 

@@ -1,5 +1,5 @@
 -- What preparing a text answers, over the tables of an engine. (SELECT; EXPLAIN QUERY PLAN)
-use Rattle.std.specs.Prelude.{◌≡◌, ◌⊎◌, ℕ, List}
+use Rattle.std.specs.Prelude.{◌≡◌, ◌⊎◌, true, false, ℕ, List}
 use Rattle.values.specs.declared.fault.Fault.{Fault}
 use Rattle.values.specs.declared.fault.Fault.TheVariants.{NotYet}
 use Rattle.meaning.specs.Typed.{IsTyped}
@@ -27,26 +27,26 @@ pub record Spells (tables : List TableData) (text : List ℕ) (named : Named) : 
   pub within : IsAllowed text tree
   pub resolves : Resolves tables tree named
 
--- the text spells a statement that is this query, with these names
+-- the text spells a statement without EXPLAIN that is this query, with these names
 pub record Means (tables : List TableData) (text : List ℕ) (prepared : PreparedData) : Type 0 where
   pub named : Named
   pub spells : Spells tables text named
+  pub unexplained : spells.tree.explain ≡ false
   pub query_is : named.query ≡ prepared.query
   pub names_are : named.names ≡ prepared.names
 
--- the text spells a statement within the limits whose names or types give this fault, or which isn't served yet whatever
--- its names are
+-- the text spells a statement within the limits whose names or types give this fault
 pub record IsUnresolved (tables : List TableData) (text : List ℕ) (fault : Fault) : Type 0 where
   pub tree : StatementTree
   pub spelt : SpellsStatement text tree
   pub within : IsAllowed text tree
   pub refused : IsRefused tables tree fault
 
--- it spells a statement whose query isn't served yet
+-- it spells a statement with EXPLAIN, or one whose query isn't served yet
 pub record IsUnserved (tables : List TableData) (text : List ℕ) (fault : Fault) : Type 0 where
   pub named : Named
   pub spells : Spells tables text named
-  pub unserved : ¬ IsServed named.query
+  pub unserved : (spells.tree.explain ≡ true) ⊎ (¬ IsServed named.query)
   pub fault_is : fault ≡ NotYet
 
 -- why a text was refused: it spells no statement, or one that is too large, or what it spells is no query, or one that isn't

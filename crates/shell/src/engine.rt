@@ -86,6 +86,9 @@ impl<S: Source> Engine<S> {
     {
         let statement = read_select(self.alloc, text)?;
         let named = resolve(self.alloc, self.checked.tables(), &statement)?;
+        if statement.explain {
+            return Err(Fault::NotYet);
+        }
         let prepared = Prepared::new(self.alloc, named)?;
         Ok(prepared)
     }

@@ -59,7 +59,7 @@ keys_at order at key x y within =
     (way_at order at key)
     ∙ ap (λ n. ordering_then (directed_cmp (direction_of (get_or order at key).direction) (value_at x at) (value_at y at)) (keys_cmp (drop n ways) (drop n x) (drop n y))) next
 
-drop_past : {X : Type 0} (n : ℕ) (xs : List X) → length xs ≤ n → drop n xs ≡ []
+pub drop_past : {X : Type 0} (n : ℕ) (xs : List X) → length xs ≤ n → drop n xs ≡ []
 drop_past zero [] all = refl
 drop_past zero (x ∷ xs) all = absurd (omega (arith, all))
 drop_past (suc n) [] all = refl

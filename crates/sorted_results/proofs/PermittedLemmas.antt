@@ -1,8 +1,9 @@
--- The answers of a sorted selection without groups, windows and DISTINCT are permitted.
-use Rattle.std.proofs.Common.{◌≡◌, ◌∙◌, All, Contains, false, if◌then◌else◌, ℕ, List, [], ◌∷◌, map, None, Some, unwrap_or, refl, sym, ap, subst, IsPermutation}
+-- The answers of a sorted selection without DISTINCT are permitted.
+use Rattle.std.proofs.Common.{◌≡◌, ◌∙◌, All, Contains, false, if◌then◌else◌, ℕ, List, [], ◌∷◌, map, Some, unwrap_or, refl, sym, ap, subst, IsPermutation}
 use Rattle.std.specs.List.{AllZip}
 use Rattle.std.specs.List.Sorted.{IsSortedByKey}
 use Rattle.std.proofs.lemmas.List.Elements.{All-contains_itself, All-head, All-tail}
+use Rattle.std.proofs.lemmas.List.Sorted.{IsPermutation-map, IsPermutation-trans}
 use Rattle.values.specs.Database.{Database}
 use Rattle.values.specs.Datum.{Datum, null}
 use Rattle.values.specs.Row.{Row}
@@ -11,18 +12,13 @@ use Rattle.expr.specs.Meaning.{eval}
 use Rattle.expr.specs.Term.{Term}
 use Rattle.meaning.specs.Answer.{key_directions, limited, skipped}
 use Rattle.meaning.specs.Body.{Output, answers_in, body, body_rows, key_value, output, outputs, plain_outputs, values_over}
-use Rattle.meaning.specs.Groups.{grouped}
-use Rattle.meaning.specs.Hits.{where_rows}
 use Rattle.meaning.specs.OneTable.{shown}
 use Rattle.meaning.specs.Query.{Direction, From, Key, KeyTerm, Select, only, select, table}
 use Rattle.meaning.specs.Sequence.{keys_cmp, value_at}
 use Rattle.meaning.specs.Valuation.{term_values, with_answers}
-use Rattle.meaning.specs.Windows.{windowed}
-use Rattle.meaning.proofs.ScanLemmas.{windowed-none}
-use Rattle.plans.specs.Plan.{PlanData, rows_of}
-use Rattle.plans.proofs.WhereLemmas.{one_table_is_where}
-use Rattle.results.specs.Permitted.{SaysOf}
-use Rattle.results.proofs.PermittedLemmas.{columns_agree, tests_say}
+use Rattle.plans.specs.Plan.{rows_of}
+use Rattle.results.specs.Permitted.{SaysOf, computed_rows}
+use Rattle.results.proofs.PermittedLemmas.{columns_agree, table_sees}
 use Rattle.sorted_results.specs.Permitted.{IsKeyOf, IsKeyOver, KeySaysOf, KeyStandsFor, OneTableIsPermitted, PlainIsPermitted}
 use Rattle.sorted_results.specs.Sorted.{outputs_over}
 
@@ -60,37 +56,34 @@ module _ (w : Datum) (answers : List (List Datum)) (seen : Row → Row) (rows : 
         outputs_agree columns wholes order written some (All-tail (Contains rows) row some held) say keys,
       ) refl
 
-module _ (w : Datum) (db : Database) (from : From) (s : Select) (order : List Key) (ungrouped : s.grouping ≡ None) (windowless : s.windows ≡ []) (all : s.distinct ≡ false) where
-  abbrev kept_rows : List Row
-  kept_rows = where_rows w db from s
-
+module _ (w : Datum) (db : Database) (from : From) (s : Select) (order : List Key) (all : s.distinct ≡ false) where
   abbrev of_row : Row → Output
   of_row row = output (values_over w db from) order (term_values (values_over w db from) s.columns row) row
 
-  -- the outputs of the body, one for each row that WHERE keeps
-  plain_body : outputs w db order (select from s) ≡ map of_row kept_rows
+  -- the outputs of the body, one for each row that result columns are computed on
+  plain_body : outputs w db order (select from s) ≡ map of_row (computed_rows w db from s)
   plain_body =
-      ap (λ b. if b then plain_outputs (values_over w db from) order (body_rows w db (select from s))
-      else map of_row (windowed (values_over w db from) w s.windows (grouped (values_over w db from) w s.grouping kept_rows))) all
-      ∙ ap (λ calls. map of_row (windowed (values_over w db from) w calls (grouped (values_over w db from) w s.grouping kept_rows))) windowless
-      ∙ ap (map of_row)
-      (windowed-none (values_over w db from) w (grouped (values_over w db from) w s.grouping kept_rows)
-      ∙ ap (λ grouping. grouped (values_over w db from) w grouping kept_rows) ungrouped)
+      ap (λ b. if b then plain_outputs (values_over w db from) order (body_rows w db (select from s)) else map of_row (computed_rows w db from s)) all
 
 pub plain_is_permitted : PlainIsPermitted
 plain_is_permitted w db query from s selection rows plain of answer =
     let answers = answers_in w db from in
-    let kept = where_rows w db from s in
+    let computed = computed_rows w db from s in
     let seen = of.sees.seen in
-    let same : outputs_over w selection.columns selection.order (rows_of w db selection.plan) ≡ body w db query =
-    ap (outputs_over w selection.columns selection.order) of.sees.rows_are
-    ∙ outputs_agree w answers seen kept selection.columns s.columns selection.order query.order kept (All-contains_itself kept) of.sees.columns_are of.order
-    ∙ sym (ap (outputs w db query.order) plain.body ∙ plain_body w db from s query.order plain.ungrouped plain.windowless plain.all) in
+    let outs = outputs_over w selection.columns selection.order in
+    let same : body w db query ≡ outs (map seen computed) =
+    (ap (outputs w db query.order) plain.body ∙ plain_body w db from s query.order plain.all)
+    ∙ sym (outputs_agree w answers seen computed selection.columns s.columns selection.order query.order computed (All-contains_itself computed) of.sees.columns_are of.order) in
+    let mixed : IsPermutation (outs (map seen computed)) (outs (rows_of w db selection.plan)) =
+    IsPermutation-map (λ row. output (eval w) selection.order (term_values (eval w) selection.columns row) row) (map seen computed) (rows_of w db selection.plan) of.sees.rows_are in
     record {
       ordered = answer.ordered;
-      same = subst (λ (outs : List Output). IsPermutation outs answer.ordered) same answer.same;
+      same =
+          subst (λ (bag : List Output). IsPermutation bag answer.ordered) (sym same)
+          (IsPermutation-trans (outs (map seen computed)) (outs (rows_of w db selection.plan)) answer.ordered mixed answer.same);
       ascends =
-          subst (λ (ways : List Direction). IsSortedByKey (λ o. o.keys) (keys_cmp ways) answer.ordered) (directions_agree w answers seen kept selection.order query.order of.order) answer.ascends;
+          subst (λ (ways : List Direction). IsSortedByKey (λ o. o.keys) (keys_cmp ways) answer.ordered) (directions_agree w answers seen computed selection.order query.order of.order)
+          answer.ascends;
       shown =
           answer.shown
           ∙ ap (λ limit. map (λ o. o.row) (limited limit (skipped selection.offset answer.ordered))) of.limit
@@ -118,14 +111,10 @@ one_table_is_permitted w db query at width s selection rows plain of answer =
     let reads = of.reads in
     let from = only (table at width) in
     plain_is_permitted w db query from s selection rows
-    (record { body = plain.body; ungrouped = plain.ungrouped; windowless = plain.windowless; all = plain.all })
+    (record { body = plain.body; all = plain.all })
     (record {
-      sees = record {
-        seen = shown reads.read;
-        rows_are = ap (λ (plan : PlanData). rows_of w db plan) reads.plan_is ∙ one_table_is_where w db s at width reads.read reads.constants reads.tests reads.split;
-        columns_are = tests_say reads.read (where_rows w db from s) selection.columns (map (filled (answers_in w db from)) s.columns) reads.columns_are;
-      };
-      order = keys_say reads.read (where_rows w db from s) (answers_in w db from) selection.order query.order of.order;
+      sees = table_sees w db at width s plain.ungrouped plain.windowless selection.plan selection.columns reads;
+      order = keys_say reads.read (computed_rows w db from s) (answers_in w db from) selection.order query.order of.order;
       limit = of.limit;
       offset = of.offset;
     })

@@ -1,4 +1,4 @@
--- The answers of a sorted selection without groups, windows and DISTINCT. (SELECT)
+-- The answers of a sorted selection without DISTINCT. (SELECT)
 use Rattle.std.specs.Prelude.{◌≡◌, ℕ, List}
 use Rattle.std.specs.List.{AllZip}
 use Rattle.values.specs.Database.{Database}
@@ -7,13 +7,12 @@ use Rattle.values.specs.Row.{Row}
 use Rattle.expr.specs.Filled.{filled}
 use Rattle.meaning.specs.Answer.{Permits}
 use Rattle.meaning.specs.Body.{answers_in}
-use Rattle.meaning.specs.Hits.{where_rows}
 use Rattle.meaning.specs.Query.{From, Key, KeyTerm, QueryData, Select, only, table}
 use Rattle.plans.specs.Stands.{StandsFor}
-use Rattle.results.specs.Permitted.{IsPlain, IsPlainSelect, ReadsTable, SaysOf, SeesRows}
+use Rattle.results.specs.Permitted.{IsPlain, IsPlainSelect, ReadsTable, SaysOf, SeesRows, computed_rows}
 use Rattle.sorted_results.specs.Sorted.{IsSortedAnswer, SortedData}
 
--- ---- over any plan of FROM and WHERE
+-- ---- over any plan of the rows that result columns are computed on
 
 -- a term of ORDER BY says of what is seen of each of these rows what the SELECT's says of the row
 abbrev pub KeySaysOf : (Row → Row) → List Row → List (List Datum) → KeyTerm → KeyTerm → Type 0
@@ -29,7 +28,7 @@ pub record IsKeyOver (seen : Row → Row) (rows : List Row) (answers : List (Lis
 -- a selection over a plan of the SELECT's rows, with the query's ORDER BY, LIMIT and OFFSET
 pub record IsSelectionOver (w : Datum) (db : Database) (query : QueryData) (from : From) (s : Select) (selection : SortedData) : Type 0 where
   pub sees : SeesRows w db from s selection.plan selection.columns
-  pub order : AllZip (IsKeyOver sees.seen (where_rows w db from s) (answers_in w db from)) selection.order query.order
+  pub order : AllZip (IsKeyOver sees.seen (computed_rows w db from s) (answers_in w db from)) selection.order query.order
   pub limit : selection.limit ≡ query.limit
   pub offset : selection.offset ≡ query.offset
 

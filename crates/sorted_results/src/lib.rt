@@ -14,3 +14,4 @@ mod order;
 
 pub use gathered::{SortedSelection, sorted_rows};
 pub use keys::{Key, KeyTerm, Output};
+pub use order::compare_at;

@@ -37,7 +37,7 @@ fn compare_by(direction: Direction, a: &Value, b: &Value) -> Ordering
 }
 
 /// The values at a place of two rows by a direction; past its end a row has NULLs.
-fn compare_at(direction: Direction, a: &[Value], b: &[Value], at: usize) -> Ordering
+pub fn compare_at(direction: Direction, a: &[Value], b: &[Value], at: usize) -> Ordering
     ensures { result ≡ directed_cmp (direction_of direction) (value_at (map datum_of a.now) at) (value_at (map datum_of b.now) at) }
 {
     let null = Value::Null;

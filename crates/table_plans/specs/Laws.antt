@@ -1,6 +1,7 @@
 -- What the plan of a SELECT's FROM and WHERE has and reaches.
-use Rattle.std.specs.Prelude.{◌≡◌, ◌++◌, Any, Contains, ℕ, List, [], map, None, Option}
+use Rattle.std.specs.Prelude.{◌≡◌, ◌⊎◌, ◌++◌, All, Any, Contains, false, ℕ, List, [], map, None, Option}
 use Rattle.std.specs.List.{AllZip}
+use Rattle.std.specs.List.Sorted.{IsStrictlyIncreasing}
 use Rattle.values.specs.Database.{Database}
 use Rattle.values.specs.Datum.{Datum}
 use Rattle.values.specs.Row.{Row}
@@ -8,23 +9,35 @@ use Rattle.expr.specs.Filled.{filled}
 use Rattle.expr.specs.Meaning.{run}
 use Rattle.expr.specs.Term.{Term}
 use Rattle.meaning.specs.Body.{answers_in}
-use Rattle.meaning.specs.Hits.{SelectHits, where_rows}
-use Rattle.meaning.specs.Query.{Select}
+use Rattle.meaning.specs.Hits.{FromHits, SelectHits, where_rows}
+use Rattle.meaning.specs.Query.{From, Select}
+use Rattle.plans.specs.JoinPlan.{AreWideBefore}
 use Rattle.plans.specs.Plan.{Hits, PlanData, Reaches, rows_of}
-use Rattle.plan_terms.specs.Over.{StandsOver}
+use Rattle.plan_terms.specs.Over.{IsOver, StandsOver}
 use Rattle.table_plans.specs.declared.inputs.Input as i
 use Rattle.table_plans.specs.Input.{input_from, seen}
-use Rattle.table_plans.specs.Planned.{IsPlanOver}
+use Rattle.table_plans.specs.InnerJoins.{AreInnerJoins}
+use Rattle.table_plans.specs.Parted.{AreParted}
+use Rattle.table_plans.specs.Planned.{AreOnOver, IsPlanOver, on_terms}
 
--- the rows of FROM that WHERE keeps, as they are seen
+-- columns in their order are parted before each table
+abbrev pub ColumnsAreParted : Type 0
+ColumnsAreParted = (from : From) (read : List ℕ) → IsStrictlyIncreasing read → AreParted from read
+
+-- where each ON of inner joins stands over the columns that are read, it does so over those of the tables up to its own
+abbrev pub OnIsOver : Type 0
+OnIsOver = (from : From) (read : List ℕ) → AreInnerJoins from → All (IsOver read 0) (on_terms from) → AreOnOver read from
+
+-- where its tables hold what FROM says of them, the rows of FROM that WHERE keeps, as they are seen
 abbrev pub PlanHasRows : Type 0
-PlanHasRows = (w : Datum) (db : Database) (s : Select) (input : i.Input) (read : List ℕ) (plan : PlanData) → IsPlanOver input read s.condition plan
-    → rows_of w db plan ≡ map (seen input read) (where_rows w db (input_from input) s)
+PlanHasRows = (w : Datum) (db : Database) (s : Select) (input : i.Input) (read : List ℕ) (plan : PlanData) → AreWideBefore db (input_from input)
+    → IsPlanOver input read s.condition plan → rows_of w db plan ≡ map (seen input read) (where_rows w db (input_from input) s)
 
 -- what the plan hits, the SELECT hits
 abbrev pub PlanIsHit : Type 0
 PlanIsHit = (w : Datum) (db : Database) (s : Select) (terms : List Term) (input : i.Input) (read : List ℕ) (plan : PlanData)
-    → IsPlanOver input read s.condition plan → Hits w db plan → SelectHits w db (input_from input) s terms
+    → AreWideBefore db (input_from input) → IsPlanOver input read s.condition plan → Hits w db plan
+    → FromHits w db (answers_in w db (input_from input)) (input_from input) false ⊎ SelectHits w db (input_from input) s terms
 
 -- an expression over the columns that are read says of what is seen of a row what its term says of the row
 abbrev pub ColumnsSay : Type 0
@@ -35,5 +48,6 @@ ColumnsSay = (w : Datum) (db : Database) (s : Select) (input : i.Input) (read : 
 -- what result columns and terms of ORDER BY reach on a row of the plan, the SELECT hits
 abbrev pub ColumnsAreHit : Type 0
 ColumnsAreHit = (w : Datum) (db : Database) (s : Select) (terms es : List Term) (input : i.Input) (read : List ℕ) (plan : PlanData)
-    → s.grouping ≡ None → s.windows ≡ [] → IsPlanOver input read s.condition plan → AllZip (StandsOver read 0) es (s.columns ++ terms)
+    → AreWideBefore db (input_from input) → s.grouping ≡ None → s.windows ≡ [] → IsPlanOver input read s.condition plan
+    → AllZip (StandsOver read 0) es (s.columns ++ terms)
     → Any (Reaches es) (rows_of w db plan) → SelectHits w db (input_from input) s terms

@@ -1,4 +1,5 @@
 pub mod Input
-pub mod Whole
+pub mod InnerJoins
+pub mod Parted
 pub mod Planned
 pub mod Laws

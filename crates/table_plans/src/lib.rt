@@ -1,15 +1,17 @@
-//! The plan of FROM and WHERE of a SELECT of one table or of none. It promises that a SELECT stands on one table, or on none,
-//! exactly where its FROM says so; and that its plan has the rows of FROM that WHERE keeps, seen through the columns that are
-//! read, that it reaches nothing that the SELECT can't reach, and that it asks for no page where a conjunct that names no column
-//! isn't true.
+//! The plan of FROM and WHERE of a SELECT of tables that are joined by inner joins, or of none. It promises that a SELECT stands on
+//! such tables exactly where its FROM says so; and that its plan has the rows of FROM that WHERE keeps, seen through the columns
+//! that are read, that it reaches nothing that the SELECT can't reach, and that each condition is tested as soon as its columns
+//! are read, and one that names no column before any table is opened.
 //!
-//! The modules, in the order in which data passes them: `inputs` (what a SELECT stands on), `tables` (the plan) and `laws` of the
-//! definitions.
+//! The modules, in the order in which data passes them: `inputs` (what a SELECT stands on), `columns` (those of tables side by
+//! side), `early` (conditions that need the first of them alone), `tables` (the plan) and `laws` of the definitions.
 #![tactic(auto)]
 
+mod columns;
+mod early;
 mod inputs;
 pub mod laws;
 mod tables;
 
-pub use inputs::{Input, input_of, is_always};
+pub use inputs::{Input, JoinedTable, input_of, is_always};
 pub use tables::plan_of;

@@ -1,4 +1,4 @@
-use Rattle.std.proofs.Common.{◌∙◌, map, refl, sym, subst, inl, inr}
+use Rattle.std.proofs.Common.{◌∙◌, false, map, refl, sym, subst, inl, inr}
 use Rattle.std.proofs.lemmas.Result.{err_from_is_err_and}
 use Rattle.values.specs.Datum.{datum_of}
 use Rattle.pager.proofs.CallLemmas.{SameImage-none}
@@ -11,11 +11,11 @@ use Rattle.runs.proofs.selections.write_selection.Goals as goal
 pub returns-in_err-results-clause-rows : goal.returns-in_err-results-clause-rows
 returns-in_err-results-clause-rows g c = λ steady.
     let p = err_from_is_err_and c.from_residual.result c.from_residual.ensures.1 in
-    rw (p.1, p.2) (none_given c.args.pager.now.state c.args.tables.now (selection_data c.args.selection.now) _ _ (inr refl))
+    rw (p.1, p.2) (none_given false c.args.pager.now.state c.args.tables.now (selection_data c.args.selection.now) _ _ (inr refl))
 
 pub rows-init : goal.rows-init
 rows-init g c =
-    Giving-start _ _ (selection_data c.args.selection.now) c.in_ok-results.results 0 _ (SameImage-none _) c.in_ok-results.ensures.plan c.in_ok-results.ensures.columns
+    Giving-start false _ _ (selection_data c.args.selection.now) c.in_ok-results.results 0 _ (SameImage-none _) c.in_ok-results.ensures.plan c.in_ok-results.ensures.columns
     c.in_ok-results.ensures.rows refl
 
 pub next-requires-clause-planned : goal.next-requires-clause-planned
@@ -24,7 +24,7 @@ next-requires-clause-planned g c = subst (λ (p : PlanData). IsPlanOf c.args.tab
 pub returns-in_err-next-clause-rows : goal.returns-in_err-next-clause-rows
 returns-in_err-next-clause-rows g c = λ steady.
     let p = err_from_is_err_and c.from_residual-in_err-next.result c.from_residual-in_err-next.ensures.1 in
-    rw (p.1, p.2) (Giving-stopped _ _ _ _ _ _ _ _ c.rows.invariant steady _ c.in_err-next.ensures.only c.in_err-next.ensures.rows)
+    rw (p.1, p.2) (Giving-stopped false _ _ _ _ _ _ _ _ c.rows.invariant steady _ c.in_err-next.ensures.only c.in_err-next.ensures.rows)
 
 pub returns-in_err-next-clause-only : goal.returns-in_err-next-clause-only
 returns-in_err-next-clause-only g c =
@@ -35,23 +35,23 @@ pub returns-in_err-values_text-clause-rows : goal.returns-in_err-values_text-cla
 returns-in_err-values_text-clause-rows g c = λ steady.
     let p = err_from_is_err_and c.from_residual-in_err-values_text.result c.from_residual-in_err-values_text.ensures.1 in
     rw (p.1, p.2)
-    (Giving-cut _ _ _ _ _ _ _ _ c.rows.invariant c.next.new.self (map datum_of c.next.new.out.items) c.next.new.pager.state steady _ (g.W.Sink.facts c.values_text.new.out)
+    (Giving-cut false _ _ _ _ _ _ _ _ c.rows.invariant c.next.new.self (map datum_of c.next.new.out.items) c.next.new.pager.state steady _ (g.W.Sink.facts c.values_text.new.out)
     (rw c.if-branch.true at c.in_ok-next.ensures.rows) c.in_err-values_text.ensures.only
     (rw c.as_slice.ensures.value at c.in_err-values_text.ensures.writes))
 
 pub rows-preserved : goal.rows-preserved
 rows-preserved g c =
-    Giving-next _ _ _ _ _ _ _ _ c.rows.invariant c.next.new.self (map datum_of c.next.new.out.items) c.next.new.pager.state _ _
+    Giving-next false _ _ _ _ _ _ _ _ c.rows.invariant c.next.new.self (map datum_of c.next.new.out.items) c.next.new.pager.state _ _
     (rw c.if-branch.true at c.in_ok-next.ensures.rows) c.next.ensures.reads.image c.in_ok-next.ensures.reads.failures
     c.in_ok-next.ensures.plan c.in_ok-next.ensures.columns
     (rw c.as_slice.ensures.value at c.in_ok-values_text.ensures.writes) c.saturating_add-count.ensures
 
 pub returns-clause-rows : goal.returns-clause-rows
 returns-clause-rows g c = λ steady.
-    Giving-done _ _ _ _ _ _ _ _ c.rows.invariant c.next.new.self (map datum_of c.next.new.out.items) c.next.new.pager.state steady
+    Giving-done false _ _ _ _ _ _ _ _ c.rows.invariant c.next.new.self (map datum_of c.next.new.out.items) c.next.new.pager.state steady
     (rw c.if-branch.false at c.in_ok-next.ensures.rows)
 
 pub returns-clause-pages : goal.returns-clause-pages
 returns-clause-pages g c = λ steady.
-    Giving-few _ _ _ _ _ _ _ _ c.rows.invariant c.next.new.self (map datum_of c.next.new.out.items) c.next.new.pager.state steady
+    Giving-few false _ _ _ _ _ _ _ _ c.rows.invariant c.next.new.self (map datum_of c.next.new.out.items) c.next.new.pager.state steady
     (rw c.if-branch.false at c.in_ok-next.ensures.rows)

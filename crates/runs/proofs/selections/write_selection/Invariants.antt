@@ -1,3 +1,4 @@
+use Rattle.std.proofs.Common.{false}
 use Rattle.operators.specs.Left.{steps}
 use Rattle.results.specs.Coming.{selection_data}
 use Rattle.runs.proofs.GivenLemmas.{Giving}
@@ -5,7 +6,7 @@ use Rattle.runs.proofs.selections.write_selection.Given as goal
 
 abbrev pub invariant-rows : goal.invariant-rows
 invariant-rows g l =
-    Giving l.fn.pager.state l.pager.state l.tables (selection_data l.selection) l.results l.count (g.W.Sink.facts l.fn.out) (g.W.Sink.facts l.out)
+    Giving false l.fn.pager.state l.pager.state l.tables (selection_data l.selection) l.results l.count (g.W.Sink.facts l.fn.out) (g.W.Sink.facts l.out)
 
 abbrev pub decreases-rows : goal.decreases-rows
 decreases-rows g l = steps l.results.op

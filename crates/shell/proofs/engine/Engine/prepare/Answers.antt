@@ -1,4 +1,4 @@
-use Rattle.std.proofs.Common.{◌∙◌, List, ap, subst, sym, inl, inr, ⊎_elim}
+use Rattle.std.proofs.Common.{◌∙◌, List, rules, ap, subst, sym, inl, inr, ⊎_elim}
 use Rattle.std.proofs.lemmas.Result.{err_from_is_err_and}
 use Rattle.schema.specs.ColumnTypes.{column_types}
 use Rattle.schema.specs.TableData.{TableData}
@@ -10,7 +10,7 @@ use Rattle.statement_trees.specs.StatementView.{statement_of}
 use Rattle.resolver.specs.Resolved.{IsRefused, Resolves}
 use Rattle.shell.specs.PreparedView.{prepared_data}
 use Rattle.shell.specs.State.{EngineState}
-use Rattle.shell.proofs.PreparedLemmas.{prepared_for, unprepared}
+use Rattle.shell.proofs.PreparedLemmas.{prepared_for, unexplained, unprepared}
 use Rattle.shell.proofs.engine.Engine.prepare.Goals as goal
 
 pub returns-in_err-named : goal.returns-in_err-named
@@ -49,7 +49,15 @@ returns g c =
           within = c.in_ok-statement.ensures.within;
           resolves = subst (λ (ts : List TableData). Resolves ts (statement_of c.in_ok-statement.statement) (named_data c.in_ok-named.named)) tables c.in_ok-named.ensures.means;
         };
+        unexplained = search rules;
         query_is = sym c.in_ok-prepared.ensures.query;
         names_are = sym c.in_ok-prepared.ensures.names;
       },
     )
+
+pub returns-then-statement : goal.returns-then-statement
+returns-then-statement g c =
+    let tables = c.tables.ensures ∙ ap (λ (e : EngineState). e.tables) c.self.view_is in
+    unexplained _ _ (statement_of c.in_ok-statement.statement) (named_data c.in_ok-named.named) c.in_ok-statement.ensures.spelt c.in_ok-statement.ensures.within
+    (subst (λ (ts : List TableData). Resolves ts (statement_of c.in_ok-statement.statement) (named_data c.in_ok-named.named)) tables c.in_ok-named.ensures.means)
+    (search rules)

@@ -1,0 +1,12 @@
+use Rattle.std.proofs.Common.{map, sym}
+use Rattle.expr.specs.View.{term}
+use Rattle.plans.specs.Plan.{rows_of}
+use Rattle.results.specs.Coming.{result_rows}
+use Rattle.distinct_results.proofs.stream.DistinctResults.sliced.Goals as goal
+
+pub returns-clause-rows : goal.returns-clause-rows
+returns-clause-rows c = λ pages tables on same. record {
+  rows = result_rows on.w (map term c.args.columns.now) (rows_of on.w on.db on.plan);
+  coming = c.in_ok-results.ensures.rows pages tables on same;
+  rest_is = sym (c.new-first.ensures (result_rows on.w (map term c.args.columns.now) (rows_of on.w on.db on.plan)));
+}

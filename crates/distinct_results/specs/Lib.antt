@@ -1,0 +1,4 @@
+pub mod Firsts
+pub mod Coming
+pub mod Sorted
+pub mod Permitted

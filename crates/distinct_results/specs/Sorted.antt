@@ -1,0 +1,46 @@
+-- The answer of a SELECT DISTINCT in order. (SELECT, "The ORDER BY clause" and "The LIMIT clause")
+use Rattle.std.specs.Prelude.{◌≡◌, List, map, IsPermutation}
+use Rattle.values.specs.Database.{Database}
+use Rattle.values.specs.Datum.{Datum}
+use Rattle.values.specs.Row.{Row}
+use Rattle.expr.specs.Meaning.{eval}
+use Rattle.expr.specs.View.{term}
+use Rattle.meaning.specs.Answer.{Ascends, limited, skipped}
+use Rattle.meaning.specs.Body.{Output, plain_outputs}
+use Rattle.meaning.specs.Query.{Direction, Key, KeyTerm}
+use Rattle.meaning.specs.Sequence.{value_at}
+use Rattle.plans.specs.Plan.{rows_of}
+use Rattle.plans.specs.PlanView.{plan_data}
+use Rattle.query_trees.specs.SelectView.{direction_of}
+use Rattle.results.specs.Coming.{result_rows}
+use Rattle.sorted_results.specs.Sorted.{SortedData}
+use Rattle.distinct_results.specs.Firsts.{firsts}
+use Rattle.distinct_results.specs.declared.gathered.SortedDistinct.{SortedDistinct}
+use Rattle.distinct_results.specs.declared.order.ResultKey.{ResultKey}
+
+-- a term of ORDER BY that is a result column
+abbrev pub result_key : ResultKey → Key
+result_key key = record { by = KeyTerm.result key.at; direction = direction_of key.direction }
+
+abbrev pub directions : List ResultKey → List Direction
+directions order = map (λ key. direction_of key.direction) order
+
+-- the values that a row is put in order by
+abbrev pub key_values : List ResultKey → Row → Row
+key_values order row = map (λ key. value_at row key.at) order
+
+abbrev pub sorted_distinct_data : SortedDistinct → SortedData
+sorted_distinct_data selection = record {
+  plan = plan_data selection.plan;
+  columns = map term selection.columns.items;
+  order = map result_key selection.order.items;
+  limit = selection.limit;
+  offset = selection.offset;
+}
+
+-- Some permutation of the result rows, each once, ascends, and these are the rows that LIMIT and OFFSET leave of it.
+pub record IsSortedDistinctAnswer (w : Datum) (db : Database) (selection : SortedData) (rows : List Row) : Type 0 where
+  pub ordered : List Output
+  pub same : IsPermutation (plain_outputs (eval w) selection.order (firsts (result_rows w selection.columns (rows_of w db selection.plan)))) ordered
+  pub ascends : Ascends selection.order ordered
+  pub shown : rows ≡ map (λ o. o.row) (limited selection.limit (skipped selection.offset ordered))

@@ -1,0 +1,9 @@
+use Rattle.plans.proofs.JoinHitLemmas.{join_hits}
+use Rattle.plans.proofs.JoinLemmas.{join_is_where}
+use Rattle.plans.proofs.laws.joins_are_where.Goals as goal
+
+pub returns-clause-rows : goal.returns-clause-rows
+returns-clause-rows c = join_is_where
+
+pub returns-clause-hits : goal.returns-clause-hits
+returns-clause-hits c = join_hits

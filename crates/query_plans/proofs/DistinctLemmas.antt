@@ -1,0 +1,48 @@
+-- ORDER BY behind DISTINCT, term by term.
+use Rattle.std.proofs.Common.{◌≡◌, ◌∙◌, ◌+◌, ◌<◌, MatchOption, Contains, ℕ, List, [], ◌∷◌, ◌++◌, get_or, length, map, take, Option, None, Some, sym, ap, subst}
+use Rattle.std.specs.Prelude.{⊤}
+use Rattle.std.proofs.lemmas.List.{get_or-map, length-map, map-append, map_push, take_more}
+use Rattle.std.proofs.lemmas.List.Elements.{All-contains, All-push, Contains-get_or}
+use Rattle.distinct_results.specs.Permitted.{AreResults, IsResult}
+use Rattle.distinct_results.specs.Sorted.{result_key}
+use Rattle.distinct_results.specs.declared.order.ResultKey.{ResultKey}
+use Rattle.meaning.specs.Query as query
+use Rattle.order_keys.specs.KeyView.{key_of}
+use Rattle.order_keys.specs.declared.terms.Key.{Key}
+use Rattle.query_plans.specs.Answers.{IsPlanFor, PlannedData, planned_data}
+use Rattle.query_plans.specs.declared.planned.Planned.{Planned}
+use Rattle.query_plans.specs.Served.{IsServed}
+
+module _ (order : List Key) (i : ℕ) (key : Key) (within : i < length order) (at : key ≡ get_or order i key) where
+  taken : map key_of (take (i + 1) order) ≡ map key_of (take i order) ++ key_of key ∷ []
+  taken =
+      ap (map key_of) (take_more order i key within) ∙ map-append key_of (take i order) (get_or order i key ∷ [])
+      ∙ ap (λ (k : Key). map key_of (take i order) ++ key_of k ∷ []) (sym at)
+
+  -- a result column more
+  pub results_more : AreResults (map key_of (take i order)) → IsResult (key_of key).by → AreResults (map key_of (take (i + 1) order))
+  results_more all is = subst AreResults (sym taken) (All-push (λ (k : query.Key). IsResult k.by) (map key_of (take i order)) (key_of key) all is)
+
+  pub keys_more : (keys : List ResultKey) (one : ResultKey) → map result_key keys ≡ map key_of (take i order) → result_key one ≡ key_of key
+      → map result_key (keys ++ one ∷ []) ≡ map key_of (take (i + 1) order)
+  keys_more keys one same is = map_push result_key keys one ∙ (λ j. same j ++ is j ∷ []) ∙ sym taken
+
+  -- another term
+  pub not_all : ¬ IsResult (key_of key).by → ¬ AreResults (map key_of order)
+  not_all none all =
+      none
+      (All-contains (λ (k : query.Key). IsResult k.by) (map key_of order) (key_of key) all
+      (subst (Contains (map key_of order)) (get_or-map key_of order i key (key_of key) within ∙ ap key_of (sym at))
+      (Contains-get_or (map key_of order) i (key_of key) (subst (λ n. i < n) (sym (length-map order key_of)) within))))
+
+-- the plan of a SELECT DISTINCT, or none
+pub told_plan : (q : query.QueryData) (Made : PlannedData → Type 0) (P : Type 0) (planned : Option Planned) → (¬ P → ¬ IsServed q)
+    → ((p : PlannedData) → Made p → IsPlanFor q p) → MatchOption planned (¬ P) (λ p. Made (planned_data p))
+    → MatchOption planned (¬ IsServed q) (λ p. IsPlanFor q (planned_data p))
+told_plan q Made P None none made tells = none tells
+told_plan q Made P (Some p) none made tells = made (planned_data p) tells
+
+pub told_over : (Made Over : PlannedData → Type 0) (P : Type 0) (planned : Option Planned) → ((p : PlannedData) → Made p → Over p)
+    → MatchOption planned (¬ P) (λ p. Made (planned_data p)) → MatchOption planned ⊤ (λ p. Over (planned_data p))
+told_over Made Over P None made tells = tt
+told_over Made Over P (Some p) made tells = made (planned_data p) tells

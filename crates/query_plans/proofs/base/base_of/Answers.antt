@@ -1,0 +1,49 @@
+use Rattle.std.proofs.Common.{◌≡◌, ◌∙◌, All, List, map, refl, subst, sym}
+use Rattle.std.specs.List.{AllZip}
+use Rattle.expr.specs.View as expressions
+use Rattle.order_keys.specs.KeyView.{key_of}
+use Rattle.plan_terms.specs.Over.{IsOver, StandsOver}
+use Rattle.plans.specs.PlanView.{plan_data}
+use Rattle.query_plans.proofs.QueryLemmas.{columns_over, condition_over, joins_over, joins_parted, made_of}
+use Rattle.query_plans.proofs.ServedLemmas.{is_there}
+use Rattle.query_trees.specs.SelectView.{select_of}
+use Rattle.query_trees.specs.TermView.{term}
+use Rattle.query_trees.specs.declared.terms.Term.{Term}
+use Rattle.table_plans.specs.Input.{input_from}
+use Rattle.table_plans.specs.Planned.{AreOnOver}
+use Rattle.query_plans.proofs.base.base_of.Goals as goal
+
+pub plan_of-requires : goal.plan_of-requires
+plan_of-requires c = record {
+  parted = joins_parted (input_from c.args.input.now) c.in_ok-read.read.items c.as_slice.result.now c.in_ok-read.ensures.once c.as_slice.ensures.value;
+}
+
+pub unwrap-plan-requires : goal.unwrap-plan-requires
+unwrap-plan-requires c =
+    let from = input_from c.args.input.now in
+    let s = select_of c.args.select.now in
+    let order = map key_of c.args.order.now in
+    is_there c.in_ok-found.found (IsOver c.as_slice.result.now 0 (term c.args.select.now.condition) × AreOnOver c.as_slice.result.now from) _ c.in_ok-found.ensures.over (
+      condition_over from s order c.in_ok-read.read.items c.in_ok-read.ensures.read c.as_slice.result.now c.as_slice.ensures.value,
+      joins_over from s order c.in_ok-read.read.items c.in_ok-read.ensures.read c.as_slice.result.now c.as_slice.ensures.value c.requires,
+    )
+
+pub unwrap-columns-requires : goal.unwrap-columns-requires
+unwrap-columns-requires c =
+    is_there c.in_ok-shown.shown (All (IsOver c.as_slice-2.result.now 0) (map term c.as_slice-3.result.now)) _ c.in_ok-shown.ensures.over
+    (subst (λ (ts : List Term). All (IsOver c.as_slice-2.result.now 0) (map term ts)) (sym c.as_slice-3.ensures.value)
+    (columns_over (input_from c.args.input.now) (select_of c.args.select.now) (map key_of c.args.order.now) c.in_ok-read.read.items c.in_ok-read.ensures.read
+    c.as_slice-2.result.now c.as_slice-2.ensures.value))
+
+pub returns : goal.returns
+unfolding made_of
+returns c =
+    let stand = rw c.unwrap-columns.ensures at c.in_ok-shown.ensures.stand in (
+      made_of c.args.input.now (select_of c.args.select.now) (map key_of c.args.order.now)
+          (plan_data c.unwrap-plan.result) (map expressions.term c.unwrap-columns.result.items)
+          c.in_ok-read.read.items c.as_slice.result.now c.as_slice-2.result.now c.in_ok-read.ensures.read
+          c.as_slice.ensures.value (rw c.unwrap-plan.ensures at c.in_ok-found.ensures.plan) c.as_slice-2.ensures.value
+          (subst (λ (ts : List Term). AllZip (StandsOver c.as_slice-2.result.now 0) (map expressions.term c.unwrap-columns.result.items) (map term ts))
+          c.as_slice-3.ensures.value stand),
+      refl,
+    )

@@ -1,0 +1,13 @@
+use Rattle.std.proofs.Common.{◌≡◌, ◌++◌, List, flat_map, subst}
+use Rattle.std.proofs.lemmas.List.{take_all}
+use Rattle.expr.specs.Columns.{columns_of}
+use Rattle.query_plans.proofs.ReadLemmas.{on_more}
+use Rattle.table_plans.specs.Input.{from_of}
+use Rattle.table_plans.specs.Planned.{on_terms}
+use Rattle.table_plans.specs.declared.inputs.JoinedTable.{JoinedTable}
+use Rattle.query_plans.proofs.columns.push_on.Goals as goal
+
+pub loop-table-preserved : goal.loop-table-preserved
+loop-table-preserved c =
+    on_more c.args.tables.now c.loop-table.table-index c.table-item.result c.loop-table-test.true c.table-item.is c.args.out.now.items c.loop-table.out.items
+    c.push_columns.new.out.items c.loop-table.invariant c.in_ok-push_columns.ensures

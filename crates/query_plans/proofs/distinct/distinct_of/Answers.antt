@@ -1,0 +1,24 @@
+use Rattle.std.proofs.Common.{◌∙◌, refl, sym, w64}
+use Rattle.std.proofs.lemmas.Int.{to_z-of_z}
+use Rattle.query_plans.proofs.ServedLemmas.{none_written}
+use Rattle.query_plans.proofs.distinct.distinct_of.Goals as goal
+
+pub returns-then-is_empty : goal.returns-then-is_empty
+returns-then-is_empty c = record {
+  once_each = c.requires.once_each;
+  made = c.in_ok-base.ensures.0;
+  unordered = none_written c.args.order.now (sym c.is_empty.ensures ∙ c.if-is_empty.true);
+  limit_is = refl;
+  offset_is = to_z-of_z w64 c.args.offset c.ranges.offset;
+}
+
+pub returns : goal.returns
+returns c =
+    let keys = rw c.in-Some.is at c.in_ok-keys.ensures in record {
+      once_each = c.requires.once_each;
+      made = c.in_ok-base.ensures.0;
+      results = keys.0;
+      order_is = keys.1;
+      limit_is = refl;
+      offset_is = to_z-of_z w64 c.args.offset c.ranges.offset;
+    }

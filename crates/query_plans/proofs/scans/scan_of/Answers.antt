@@ -1,0 +1,18 @@
+use Rattle.std.proofs.Common.{◌≡◌, ◌∙◌, List, ap, length, map, rules, sym, arith}
+use Rattle.query_plans.proofs.ScanLemmas.{one_from}
+use Rattle.query_trees.specs.TermView.{term}
+use Rattle.query_trees.specs.declared.terms.Term.{Term}
+use Rattle.table_plans.specs.Input.{from_of}
+use Rattle.query_plans.proofs.scans.scan_of.Goals as goal
+
+pub returns-in-Some : goal.returns-in-Some
+returns-in-Some c =
+    let least = c.in-len1.len_at_least in
+    let most = c.in-len1.len_below in
+    let long : length c.as_slice.result.now ≡ 1 = omega (arith, least, most) in record {
+      width = c.table-item.result.width;
+      from_is =
+          ap from_of (sym c.as_slice.ensures.value) ∙ one_from c.as_slice.result.now c.table-item.result long c.table-item.is c.if-not-is_always.ensures;
+      bare = search rules;
+      columns_are = ap (λ (ts : List Term). map term ts) (sym c.as_slice-2.ensures.value) ∙ (rw c.in-Some.is at c.in_ok-places.ensures);
+    }
