@@ -1,7 +1,8 @@
 #!/usr/bin/env python3
-"""Compares what the program answers to random statements over random tables with what SQLite answers: expressions, WHERE, ORDER BY,
-LIMIT and OFFSET over one table or none. An operation that leaves 64 bits is `fault 50: Overflow`, where SQLite goes on with a
-floating-point number or stops; such statements are asked for that fault, or for any answer where it isn't reached.
+"""Compares what the program answers to random statements over random tables with what SQLite answers: expressions, WHERE,
+DISTINCT, ORDER BY, LIMIT and OFFSET over one table, over tables that are joined by inner joins, or over none. An operation that
+leaves 64 bits is `fault 50: Overflow`, where SQLite goes on with a floating-point number or stops; such statements are asked for
+that fault, or for any answer where it isn't reached.
 
 Run from any folder. The last line is 'N passed, M failed'. `--seed S --only N` makes one statement anew and prints it.
 """
@@ -45,7 +46,8 @@ def line(values: tuple) -> bytes:
 
 @dataclass(frozen=True)
 class Statement:
-    """A SELECT without LIMIT, with what may leave 64 bits in it, and its LIMIT. `is_ordered` tells that ORDER BY leaves no choice."""
+    """A SELECT without LIMIT, its sources side by side, what may leave 64 bits in it, and its LIMIT. `is_ordered` tells that ORDER
+    BY leaves no choice."""
 
     text: str
     source: str
@@ -89,49 +91,107 @@ def small_value(rng: Random, kind: str) -> int | str | bytes | None:
     return rng.choice(("bolt", "nut", "Cap", "", "it's", "\u00e4b")) if kind == "TEXT" else rng.choice((b"", b"\0", b"ab", b"\xff"))
 
 
-def random_source(rng: Random, table: str, kinds: dict[str, str]) -> tuple[str, Columns, str]:
-    """What stands behind FROM, the columns as they may be written, and the name before `.*`."""
+@dataclass
+class Source:
+    """FROM as it is written, and with each pair of rows side by side; what makes expressions over its columns; how many columns
+    `*` has, and `.*` behind each name."""
+
+    text: str
+    pairs: str
+    maker: Maker
+    width: int
+    widths: dict[str, int]
+
+
+def no_source(rng: Random) -> Source:
+    """No FROM."""
+    return Source("", "", Maker(rng, Columns({})), 0, {})
+
+
+def one_source(rng: Random, table: str, kinds: dict[str, str]) -> Source:
+    """One table behind FROM."""
     called = rng.choice((table, "a", "Other"))
     written = table if called == table else f"{table} {rng.choice(('AS ', ''))}{called}"
     ways = [lambda c: c, lambda c: c.upper(), lambda c: f"{called}.{c}", lambda c: f'"{c}"', lambda c: f"[{called}] . `{c}`"]
-    return f" FROM {written}", Columns({rng.choice(ways)(column): kind for column, kind in kinds.items()}), called
+    columns = Columns({rng.choice(ways)(column): kind for column, kind in kinds.items()})
+    return Source(f" FROM {written}", f" FROM {written}", Maker(rng, columns), len(kinds), {called: len(kinds)})
 
 
-def random_keys(rng: Random, maker: Maker, width: int, is_final: bool) -> str:
-    """Terms of ORDER BY. Where they are final, all result columns stand behind them."""
+def joined_source(rng: Random, tables: dict[str, dict[str, str]]) -> Source:
+    """Two or three tables behind FROM, some of them the same, whose columns are written with their names before them."""
+    chosen = [rng.choice(list(tables)) for _ in range(rng.choice((2, 2, 2, 3)))]
+    names = [f"{table}{place}" for place, table in enumerate(chosen)]
+    maker, text, width = Maker(rng, Columns({})), "", 0
+    for place, (table, called) in enumerate(zip(chosen, names)):
+        kinds = tables[table]
+        maker.columns.names.update({f"{called}.{column}": kind for column, kind in kinds.items()})
+        same = [column for column, kind in kinds.items() if tables[chosen[0]].get(column) == kind]
+        width += len(kinds)
+        joined = f"{table} {rng.choice(('AS ', ''))}{called}"
+        if place == 0:
+            text = f" FROM {joined}"
+        elif place == 1 and same and rng.random() < 0.25:
+            using = rng.sample(same, rng.randint(1, min(2, len(same))))
+            text += f" {rng.choice(('JOIN', 'INNER JOIN', 'join'))} {joined} USING ({', '.join(using)})"
+            width -= len(using)
+        elif rng.random() < 0.6:
+            text += f" {rng.choice(('JOIN', 'INNER JOIN', 'inner  join'))} {joined} ON {random_condition(rng, maker, called, kinds)}"
+        else:
+            text += f"{rng.choice((',', ' CROSS JOIN', ' JOIN'))} {joined}"
+    pairs = ", ".join(f"{table} AS {called}" for table, called in zip(chosen, names))
+    widths = {called: len(tables[table]) for table, called in zip(chosen, names)}
+    return Source(text, f" FROM {pairs}", maker, width, widths)
+
+
+def random_condition(rng: Random, maker: Maker, called: str, kinds: dict[str, str]) -> str:
+    """An ON: mostly that a column of the table is one of those before it, and sometimes anything."""
+    column, kind = rng.choice(list(kinds.items()))
+    others = [name for name in maker.columns.of(kind) if not name.startswith(f"{called}.")]
+    equal = f"{rng.choice(others)} = {called}.{column}" if others else maker.make("INT", 1)
+    return rng.choice((equal, equal, f"{equal} AND {maker.make('INT', 1)}", maker.make("INT", 2)))
+
+
+def random_keys(rng: Random, maker: Maker, width: int, is_final: bool, is_distinct: bool) -> str:
+    """Terms of ORDER BY. Where they are final, all result columns stand behind them; behind DISTINCT there are no others. None has
+    an AND: SQLite's parser makes the number 0 of `x AND 0`, and takes that for the place of a result column."""
     keys = []
     for _ in range(rng.randint(0 if is_final else 1, 2)):
         named = [f"{maker.make(rng.choice(KINDS), 1)}" for _ in range(9)]
-        columns = [key for key in named if any(name in key for name in maker.columns.names) and key.startswith("(")]
-        keys.append(rng.choice(columns) if columns and rng.random() < 0.6 else str(rng.randint(1, width)))
+        columns = [key for key in named if key.startswith("(") and "AND" not in key and any(name in key for name in maker.columns.names)]
+        keys.append(rng.choice(columns) if columns and not is_distinct and rng.random() < 0.6 else str(rng.randint(1, width)))
     keys += [str(place) for place in range(1, width + 1)] if is_final else []
     endings = ("", "", " ASC", " DESC", " NULLS FIRST", " NULLS LAST", " DESC NULLS FIRST", " asc nulls last")
     return " ORDER BY " + ", ".join(key + rng.choice(endings) for key in keys)
 
 
 def random_statement(rng: Random, tables: dict[str, dict[str, str]]) -> Statement:
-    """A statement over one of these tables, or over none."""
-    table = rng.choice(list(tables))
-    source, columns, called = random_source(rng, table, tables[table]) if rng.random() < 0.9 else ("", Columns({}), "")
-    maker = Maker(rng, columns)
+    """A statement over one of these tables, over several that are joined, or over none."""
+    form, table = rng.random(), rng.choice(list(tables))
+    if form < 0.1:
+        source = no_source(rng)
+    else:
+        source = joined_source(rng, tables) if form < 0.4 else one_source(rng, table, tables[table])
+    maker = source.maker
     items, width = [], 0
     for _ in range(rng.randint(1, 4)):
-        if source and rng.random() < 0.15:
-            items.append(rng.choice(("*", f"{called}.*")))
-            width += len(tables[table])
+        if source.text and rng.random() < 0.15:
+            called = rng.choice(("", *source.widths))
+            items.append(f"{called}.*" if called else "*")
+            width += source.widths[called] if called else source.width
             continue
         alias = rng.choice(("", "", f" AS x{width}", f" x{width}"))
         items.append(maker.make(rng.choice(KINDS), rng.randint(0, 3)) + alias)
         width += 1
-    text = f"SELECT {'' if rng.random() < 0.9 else 'ALL '}{', '.join(items)}{source}"
+    is_distinct = rng.random() < 0.3
+    text = f"SELECT {'DISTINCT ' if is_distinct else rng.choice(('', '', 'ALL '))}{', '.join(items)}{source.text}"
     if rng.random() < 0.6:
         text += f" WHERE {maker.make('INT', rng.randint(1, 3))}"
     is_ordered = rng.random() < 0.5
     if is_ordered:
-        text += random_keys(rng, maker, width, is_final=True)
+        text += random_keys(rng, maker, width, is_final=True, is_distinct=is_distinct)
     limit = rng.randint(-2, 15) if rng.random() < 0.4 else None
     offset = rng.randint(-2, 6) if rng.random() < 0.5 else 0
-    return Statement(text, source, tuple(maker.risky), is_ordered, limit, offset)
+    return Statement(text, source.pairs, tuple(maker.risky), is_ordered, limit, offset)
 
 
 def leaves_64_bits(connection: sqlite3.Connection, statement: Statement) -> bool:
