@@ -6,7 +6,7 @@ use Rattle.std.specs.List.{AllZip}
 use Rattle.values.specs.Row.{Row}
 use Rattle.schema.specs.Names.{IsSameName}
 use Rattle.schema.specs.Rows.{AreTables, SaysTable}
-use Rattle.schema.specs.TableData.{TableData}
+use Rattle.tables.specs.TableData.{TableData}
 use Rattle.catalog.proofs.KindLemmas.{object_of}
 use Rattle.catalog.proofs.TableLemmas.{row_name}
 use Rattle.catalog.proofs.ObjectLemmas.{one_name}

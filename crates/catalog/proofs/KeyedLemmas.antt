@@ -18,7 +18,7 @@ use Rattle.schema.proofs.ListLemmas.{all_from_map, all_zip_push, map_next}
 use Rattle.schema.proofs.OneLemmas.{one_table}
 use Rattle.schema.specs.Created.{IsColumn, IsNamedIn, IsTable}
 use Rattle.schema.specs.Rows.{SaysTable}
-use Rattle.schema.specs.TableData.{ColumnData, TableData}
+use Rattle.tables.specs.TableData.{ColumnData, TableData}
 use Rattle.syntax.specs.Tree.{Name}
 use Rattle.table_keys.proofs.AutomaticLemmas.{one_list}
 use Rattle.table_keys.specs.Automatic.{AutomaticData, WantIndexes}

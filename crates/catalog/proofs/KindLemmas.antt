@@ -4,7 +4,7 @@ use Rattle.values.specs.Datum.{text}
 use Rattle.values.specs.Row.{Row}
 use Rattle.indexes.specs.IndexData.{IndexData}
 use Rattle.schema.specs.Rows.{SaysTable}
-use Rattle.schema.specs.TableData.{TableData}
+use Rattle.tables.specs.TableData.{TableData}
 use Rattle.catalog.specs.Objects.{ObjectData, int_or_null, object_row, text_or_null}
 use Rattle.catalog.specs.Says.{IsNoIndex, IsNoTable, IsOfKind, IsTrigger, SaysAnyIndex, SaysKeyIndex}
 use Rattle.catalog.specs.declared.objects.Kind.{Kind}

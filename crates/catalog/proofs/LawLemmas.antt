@@ -22,7 +22,7 @@ use Rattle.schema.proofs.OneLemmas.{one_table}
 use Rattle.schema.specs.Created.{IsColumn, IsTable}
 use Rattle.schema.specs.Names.{AreDistinct, IsSameName}
 use Rattle.schema.specs.Rows.{SaysTable}
-use Rattle.schema.specs.TableData.{ColumnData, TableData}
+use Rattle.tables.specs.TableData.{ColumnData, TableData}
 use Rattle.syntax.specs.Tree.{Name}
 use Rattle.table_keys.specs.Automatic.{AutomaticData}
 use Rattle.catalog.specs.CatalogData.{CatalogData}

@@ -18,7 +18,7 @@ use Rattle.schema.specs.Created.{IsTable}
 use Rattle.schema.specs.Names.{IsSameName}
 use Rattle.schema.specs.Refused.{IsRefused as IsRefusedTable}
 use Rattle.schema.specs.Rows.{SaysTable}
-use Rattle.schema.specs.TableData.{TableData}
+use Rattle.tables.specs.TableData.{TableData}
 use Rattle.table_keys.specs.Automatic.{AutomaticData}
 use Rattle.catalog.specs.Keyed.{AreKeyedOf, IsMade, IsNotWanted, IsRootedAs, KeyedData, SaysKeyed, tables_in}
 use Rattle.catalog.specs.Objects.{ObjectData, object_row}

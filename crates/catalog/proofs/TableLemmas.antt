@@ -7,7 +7,7 @@ use Rattle.values.specs.Row.{Row}
 use Rattle.schema.proofs.OneLemmas.{one_table}
 use Rattle.schema.specs.Names.{IsSameName}
 use Rattle.schema.specs.Rows.{SaysTable}
-use Rattle.schema.specs.TableData.{TableData}
+use Rattle.tables.specs.TableData.{TableData}
 use Rattle.catalog.specs.Says.{Doubled}
 use Rattle.catalog.proofs.KindLemmas.{object_of}
 

@@ -11,7 +11,7 @@ use Rattle.indexes.specs.KeyIndexes.{IsKeyIndex, KeyIndexData, rooted}
 use Rattle.schema.specs.Created.{IsTable}
 use Rattle.schema.specs.Names.{IsSameName}
 use Rattle.schema.specs.Rows.{SaysTable}
-use Rattle.schema.specs.TableData.{TableData}
+use Rattle.tables.specs.TableData.{TableData}
 use Rattle.syntax.specs.Tree.{Name}
 use Rattle.table_keys.specs.Automatic.{AutomaticData, WantIndexes}
 use Rattle.catalog.specs.Picks.{Picks}

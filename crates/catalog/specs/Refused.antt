@@ -14,7 +14,7 @@ use Rattle.indexes.specs.KeyIndexes.{automatic_name}
 use Rattle.schema.specs.Created.{IsTable}
 use Rattle.schema.specs.Names.{IsSameName}
 use Rattle.schema.specs.Rows.{SaysTable}
-use Rattle.schema.specs.TableData.{TableData}
+use Rattle.tables.specs.TableData.{TableData}
 use Rattle.syntax.specs.Tree.{Name}
 use Rattle.table_keys.specs.Automatic.{AutomaticData}
 use Rattle.catalog.specs.Wanted.{HasKeyRow, IsKeyRow, Wants}

@@ -9,7 +9,7 @@ use Rattle.indexes.specs.Indexed.{IsIndex}
 use Rattle.indexes.specs.KeyIndexes.{IsKeyIndex, KeyIndexData, automatic_name, rooted}
 use Rattle.schema.specs.Names.{IsSameName}
 use Rattle.schema.specs.Rows.{SaysTable}
-use Rattle.schema.specs.TableData.{TableData}
+use Rattle.tables.specs.TableData.{TableData}
 use Rattle.table_keys.specs.Automatic.{AutomaticData}
 use Rattle.catalog.specs.CatalogData.{CatalogData}
 use Rattle.catalog.specs.Wanted.{HasKeyRow, IsKeyRow, Wants}

@@ -5,7 +5,7 @@ use Rattle.values.specs.Row.{Row}
 use Rattle.declared_keys.specs.Keys.{keys_of}
 use Rattle.schema.specs.Names.{IsSameName}
 use Rattle.schema.specs.Rows.{SaysTable}
-use Rattle.schema.specs.TableData.{TableData}
+use Rattle.tables.specs.TableData.{TableData}
 use Rattle.syntax.specs.Tree.{Name}
 use Rattle.table_keys.specs.Automatic.{AutomaticData, WantIndexes}
 use Rattle.catalog.specs.Objects.{ObjectData, object_row}

@@ -23,8 +23,9 @@ use crate::objects::{Kind, Object, object_of, root_within};
 use create_reader::read_create_index;
 use create_trees::CreateIndex;
 use indexes::{Index, index_from};
-use schema::{Table, is_same_name};
+use schema::is_same_name;
 use std::alloc::Global;
+use tables::Table;
 use values::{Fault, Row};
 
 /// The CREATE INDEX that the text of an object of this name spells. The fault is `SchemaText` where it spells none, and

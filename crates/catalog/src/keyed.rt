@@ -11,9 +11,10 @@ ghost use Rattle.catalog.specs.Wanted.{HasKeyRow, IsKeyRow};
 
 use crate::objects::{Kind, object_of};
 use indexes::KeyIndex;
-use schema::{Table, is_same_name};
+use schema::is_same_name;
 use std::alloc::{AllocError, Global};
 use table_keys::AutomaticIndex;
+use tables::Table;
 use values::Row;
 
 /// A table of the image, with the indexes that its keys want.

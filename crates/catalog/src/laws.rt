@@ -6,7 +6,7 @@ ghost use Rattle.catalog.specs.Refused.{HasObject, IsBadSchema, IsLeftOut, IsUnr
 ghost use Rattle.catalog.specs.Says.{IsCatalog};
 ghost use Rattle.catalog.specs.Wanted.{Wants};
 ghost use Rattle.schema.specs.Rows.{AreTables};
-ghost use Rattle.schema.specs.TableData.{TableData};
+ghost use Rattle.tables.specs.TableData.{TableData};
 ghost use Rattle.syntax.specs.Tree.{Name};
 ghost use Rattle.table_keys.specs.Automatic.{AutomaticData};
 

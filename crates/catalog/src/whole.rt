@@ -12,8 +12,8 @@ use crate::index_said::index_said;
 use crate::keyed::{KeyedTable, lack_row, tables_from};
 use crate::table_said::table_said;
 use indexes::Index;
-use schema::Table;
 use std::alloc::Global;
+use tables::Table;
 use values::{Fault, Row};
 
 /// The tables that the rows say, in their order, with the indexes that their keys want.

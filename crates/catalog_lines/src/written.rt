@@ -2,8 +2,8 @@
 use catalog::Catalog;
 use create_trees::KeyOrder;
 use indexes::Index;
-use schema::{Column, Missing, RowKey, Table};
 use std::alloc::{AllocError, Global};
+use tables::{Column, Missing, RowKey, Table};
 use values::{Ty, Value};
 
 /// The word for a type.

@@ -5,7 +5,7 @@ use Rattle.values.specs.Database.{Database}
 use Rattle.values.specs.Datum.{Datum}
 use Rattle.values.specs.Row.{Row}
 use Rattle.image.specs.Pages.{Pages}
-use Rattle.schema.specs.TableData.{TableData}
+use Rattle.tables.specs.TableData.{TableData}
 use Rattle.meaning.specs.Answer.{limited, skipped}
 use Rattle.plans.specs.Plan.{rows_of}
 use Rattle.operators.specs.Basis.{Basis}

@@ -21,8 +21,8 @@ use expr::Expr;
 use pager::{Pager, Source};
 use plans::Plan;
 use results::Slice;
-use schema::Table;
 use std::alloc::{AllocError, Global};
+use tables::Table;
 use values::{Fault, Value};
 
 /// What a SELECT DISTINCT in order computes of the rows of a plan. (SELECT)

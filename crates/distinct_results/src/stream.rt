@@ -4,7 +4,7 @@ ghost use Rattle.values.specs.Datum.{Datum, datum_of};
 ghost use Rattle.pager.specs.Calls.{ReadsPages};
 ghost use Rattle.pager.specs.PagerState.{IsPageNumber};
 ghost use Rattle.image.specs.Pages.{Pages, WhereSteady};
-ghost use Rattle.schema.specs.TableData.{TableData};
+ghost use Rattle.tables.specs.TableData.{TableData};
 ghost use Rattle.expr.specs.View.{term};
 ghost use Rattle.plans.specs.Plan.{rows_of, work};
 ghost use Rattle.plans.specs.PlanView.{plan_data};
@@ -20,8 +20,8 @@ use expr::Expr;
 use pager::{Pager, Source};
 use plans::Plan;
 use results::{Results, Selection, Slice};
-use schema::Table;
 use std::alloc::{AllocError, Global};
+use tables::Table;
 use values::{Fault, Row, Value};
 
 /// The rows of a SELECT DISTINCT that is run: each result row once, where the plan first has it.

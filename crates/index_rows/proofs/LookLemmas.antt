@@ -12,7 +12,7 @@ use Rattle.image.specs.Shape.{places_under}
 use Rattle.image.specs.Tree.{Place}
 use Rattle.image.proofs.ChainLemmas.{one_payload}
 use Rattle.wanted_entries.specs.Wanted.{entry_of}
-use Rattle.schema.specs.TableData.{TableData}
+use Rattle.tables.specs.TableData.{TableData}
 use Rattle.stored_rows.specs.RowFaults.{IsRecordFault, fault_of}
 use Rattle.stored_rows.specs.Stored.{IsRowOf, IsRowRecord}
 use Rattle.stored_rows.proofs.OneLemmas.{no_record_fault, one_record_row}

@@ -18,8 +18,8 @@ use Rattle.wanted_entries.specs.Bags.{IsOnce}
 use Rattle.wanted_entries.specs.Wanted.{KeyedRow, entry_of, row_key, values_at, wanted}
 use Rattle.wanted_entries.proofs.KeptLemmas.{once_kept}
 use Rattle.tree_walk.specs.declared.counts.TreeCounts.{TreeCounts}
-use Rattle.schema.specs.TableData.{TableData}
-use Rattle.schema.proofs.OneLemmas.{zip_same}
+use Rattle.tables.specs.TableData.{TableData}
+use Rattle.tables.proofs.ZipLemmas.{zip_same}
 use Rattle.stored_rows.specs.Stored.{HoldsRow, IsRowOf}
 use Rattle.stored_rows.proofs.OneLemmas.{one_places, one_row}
 use Rattle.table_walk.specs.Checked.{IsCheckedTree}

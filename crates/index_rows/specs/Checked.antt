@@ -5,7 +5,7 @@ use Rattle.image.specs.Pages.{IsNumber, Pages}
 use Rattle.tree_walk.specs.declared.counts.TreeCounts.{TreeCounts}
 use Rattle.index_walk.specs.Widths.{exactly}
 use Rattle.index_walk.specs.Checked.{IsCheckedIndex}
-use Rattle.schema.specs.TableData.{TableData}
+use Rattle.tables.specs.TableData.{TableData}
 use Rattle.table_walk.specs.Checked.{IsCheckedTree}
 use Rattle.index_rows.specs.declared.index.TableIndex.{TableIndex}
 

@@ -5,7 +5,7 @@ use Rattle.values.specs.Row.{Row}
 use Rattle.image.specs.Pages.{Pages}
 use Rattle.expr.specs.Term.{Term}
 use Rattle.wanted_entries.specs.Wanted.{IsDifferent, KeyedRow, wanted}
-use Rattle.schema.specs.TableData.{TableData}
+use Rattle.tables.specs.TableData.{TableData}
 use Rattle.entry_prefixes.specs.Entries.{HoldsEntries}
 use Rattle.index_rows.specs.Entries.{indexed}
 use Rattle.index_rows.specs.Kept.{keeps_row}

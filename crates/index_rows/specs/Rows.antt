@@ -6,7 +6,7 @@ use Rattle.image.specs.Pages.{Pages}
 use Rattle.image.specs.Sound.{AreRowsOf}
 use Rattle.image.specs.Tree.{IsRowAt, Place}
 use Rattle.wanted_entries.specs.Wanted.{KeyedRow}
-use Rattle.schema.specs.TableData.{TableData}
+use Rattle.tables.specs.TableData.{TableData}
 use Rattle.stored_rows.specs.Stored.{IsRowOf}
 
 -- the cell at a place is this row of the table, with this rowid

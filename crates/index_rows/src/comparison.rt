@@ -15,8 +15,8 @@ use crate::index::TableIndex;
 use cursor::Cursor;
 use image::TreeKind;
 use pager::{Pager, Source};
-use schema::Table;
 use std::alloc::Global;
+use tables::Table;
 use values::Fault;
 
 /// Whether so many rows are as many as the entries of an index, by their counts, which stay at the greatest number.

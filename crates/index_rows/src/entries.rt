@@ -20,9 +20,9 @@ use crate::index::TableIndex;
 use btree::Cell;
 use entry_rows::has_entry;
 use pager::{Pager, Source};
-use schema::Table;
 use std::alloc::{AllocError, Global};
 use stored_rows::{RowView, payload_of, read_row};
+use tables::Table;
 use values::{Fault, Row, Value};
 
 /// The value of a column of a row, NULL where the row lacks it.

@@ -2,7 +2,7 @@
 ghost use Rattle.std.specs.Prelude.{ℕ, List, Option};
 ghost use Rattle.image.specs.Pages.{Pages};
 ghost use Rattle.expr.specs.Term.{Term};
-ghost use Rattle.schema.specs.TableData.{TableData};
+ghost use Rattle.tables.specs.TableData.{TableData};
 ghost use Rattle.index_rows.specs.Compared.{IsDifferentIndex, IsIndexOf};
 
 /// An index that has exactly the entries that its table's rows want isn't different from them.

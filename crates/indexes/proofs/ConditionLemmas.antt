@@ -14,9 +14,9 @@ use Rattle.expr.specs.declared.tree.Expr.{Expr}
 use Rattle.indexes.specs.Condition.{IsCondition, IsConditionOf, place_from, term_of, terms_of}
 use Rattle.naming.specs.Outcome.{also, both}
 use Rattle.schema.proofs.NameLemmas.{tested_name}
-use Rattle.schema.specs.ColumnTypes.{types_of}
+use Rattle.tables.specs.ColumnTypes.{types_of}
 use Rattle.schema.specs.Names.{IsSameName, same_name}
-use Rattle.schema.specs.TableData.{ColumnData, TableData}
+use Rattle.tables.specs.TableData.{ColumnData, TableData}
 use Rattle.statement_trees.specs.TreeView.{expr_of}
 use Rattle.statement_trees.specs.declared.expressions.Expr.{Expr as Tree}
 use Rattle.syntax.specs.ExprTree.{ExprTree, trees_of}

@@ -14,9 +14,9 @@ use Rattle.indexes.specs.Indexed.{AreIndexed, IsIndex, IsIndexed}
 use Rattle.indexes.specs.Others.{others_of}
 use Rattle.schema.proofs.ListLemmas.{all_zip_push, map_next}
 use Rattle.schema.proofs.NameLemmas.{one_place}
-use Rattle.schema.proofs.OneLemmas.{zip_same}
+use Rattle.tables.proofs.ZipLemmas.{zip_same}
 use Rattle.schema.specs.Names.{AreDistinct, IsPlaceOf, IsSameName}
-use Rattle.schema.specs.TableData.{ColumnData, TableData}
+use Rattle.tables.specs.TableData.{ColumnData, TableData}
 use Rattle.syntax.specs.ExprTree.{ExprTree}
 use Rattle.syntax.specs.Tree.{Name}
 

@@ -4,10 +4,10 @@ use Rattle.std.proofs.lemmas.List.{take_all}
 use Rattle.std.proofs.lemmas.Option.{slice_get-get_or, slice_get-map}
 use Rattle.std.specs.List.{AllZip}
 use Rattle.schema.proofs.ListLemmas.{all_from_map, all_zip_push, map_next}
-use Rattle.schema.proofs.OneLemmas.{zip_same}
+use Rattle.tables.proofs.ZipLemmas.{zip_same}
 use Rattle.schema.proofs.NameLemmas.{one_place}
 use Rattle.schema.specs.Names.{AreDistinct, IsPlaceOf}
-use Rattle.schema.specs.TableData.{ColumnData, TableData}
+use Rattle.tables.specs.TableData.{ColumnData, TableData}
 use Rattle.syntax.specs.Tree.{Name}
 use Rattle.table_keys.specs.Automatic.{AutomaticData}
 use Rattle.indexes.specs.IndexData.{IndexedData}

@@ -8,9 +8,9 @@ use Rattle.expr.specs.Term.{Term, column, literal}
 use Rattle.expr.specs.Types.{HasType}
 use Rattle.naming.specs.Expression.{among_items, between_bounds, binary, postfix, prefix}
 use Rattle.naming.specs.Outcome.{also, both, checked, followed, found_or}
-use Rattle.schema.specs.ColumnTypes.{types_of}
+use Rattle.tables.specs.ColumnTypes.{types_of}
 use Rattle.schema.specs.Names.{same_name}
-use Rattle.schema.specs.TableData.{ColumnData, TableData}
+use Rattle.tables.specs.TableData.{ColumnData, TableData}
 use Rattle.syntax.specs.ExprTree.{ExprTree, ExprTrees}
 use Rattle.syntax.specs.Tree.{Name}
 use Rattle.syntax.specs.declared.expr.BinaryOperator.{BinaryOperator}

@@ -7,7 +7,7 @@ use Rattle.indexes.specs.IndexData.{IndexData, IndexedData}
 use Rattle.schema.specs.Created.{IsBinary}
 use Rattle.indexes.specs.Others.{others_of}
 use Rattle.schema.specs.Names.{AreDistinct, IsPlaceOf, IsSameName}
-use Rattle.schema.specs.TableData.{ColumnData, TableData}
+use Rattle.tables.specs.TableData.{ColumnData, TableData}
 
 -- a column of the table, whose texts are compared by their bytes (Indexed column)
 pub record IsIndexed (columns : List ColumnData) (tree : IndexedColumnTree) (indexed : IndexedData) : Type 0 where

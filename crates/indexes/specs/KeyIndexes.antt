@@ -6,7 +6,7 @@ use Rattle.create_trees.specs.declared.create.KeyOrder.TheVariants.{Ascending}
 use Rattle.indexes.specs.IndexData.{IndexData, IndexedData}
 use Rattle.indexes.specs.Others.{others_of}
 use Rattle.schema.specs.Names.{IsPlaceOf, IsSameName}
-use Rattle.schema.specs.TableData.{ColumnData, TableData}
+use Rattle.tables.specs.TableData.{ColumnData, TableData}
 use Rattle.syntax.specs.Tree.{Name}
 use Rattle.table_keys.specs.Automatic.{AutomaticData}
 

@@ -2,7 +2,7 @@
 -- ROWID secondary indexes")
 use Rattle.std.specs.Prelude.{Bool, not, ℕ, nat_eq, List, []}
 use Rattle.std.specs.List.{filter, list_any}
-use Rattle.schema.specs.TableData.{RowKeyData}
+use Rattle.tables.specs.TableData.{RowKeyData}
 use Rattle.indexes.specs.IndexData.{IndexedData}
 
 -- one of the columns stands at this place of the table

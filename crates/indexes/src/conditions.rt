@@ -9,17 +9,18 @@ ghost use Rattle.indexes.specs.Condition.{IsConditionOf, column_of, term_of, ter
 ghost use Rattle.naming.specs.Expression as n;
 ghost use Rattle.naming.specs.Expression.{among_items, between_bounds};
 ghost use Rattle.query_trees.specs.Outcome.{Gives};
-ghost use Rattle.schema.specs.ColumnTypes as column_types;
+ghost use Rattle.tables.specs.ColumnTypes as column_types;
 ghost use Rattle.statement_trees.specs.TreeView.{expr_of};
 ghost use Rattle.syntax.specs.ExprTree.{trees_of};
 
 use crate::places::place_of;
 use expr::{Comparison, Expr, Function};
 use expr_types::type_of;
-use schema::{Table, is_same_name};
+use schema::is_same_name;
 use statement_trees::Expr as Tree;
 use std::alloc::{AllocError, Global};
 use syntax::{BinaryOperator, PostfixOperator, PrefixOperator};
+use tables::Table;
 use values::{Fault, Ty, Value, ValueRef};
 
 /// Whether a column of the table may stand behind this name of a table, or behind none.

@@ -11,9 +11,9 @@ use crate::others::others_of;
 use crate::places::place_of;
 use crate::{Index, IndexedColumn};
 use create_trees::KeyOrder;
-use schema::{Column, Table};
 use std::alloc::{AllocError, Global};
 use table_keys::AutomaticIndex;
+use tables::{Column, Table};
 
 /// The name of the index of this number of a table. (Database File Format, 2.6.1)
 fn automatic_name(alloc: Global, table: &str, number: usize) -> Result<String, AllocError>

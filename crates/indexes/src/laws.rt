@@ -5,7 +5,7 @@ ghost use Rattle.indexes.specs.IndexData.{IndexData};
 ghost use Rattle.indexes.specs.Indexed.{IsIndex};
 ghost use Rattle.indexes.specs.KeyIndexes.{IsKeyIndex, KeyIndexData};
 ghost use Rattle.schema.specs.Names.{AreDistinct};
-ghost use Rattle.schema.specs.TableData.{TableData};
+ghost use Rattle.tables.specs.TableData.{TableData};
 ghost use Rattle.table_keys.specs.Automatic.{AutomaticData};
 
 /// A CREATE INDEX makes one index at most of a root, on a table whose columns have different names.

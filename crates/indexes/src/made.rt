@@ -17,9 +17,9 @@ use crate::places::{are_distinct, indexed};
 use crate::{Index, IndexedColumn, conditions};
 use create_trees::{CreateIndex, IndexedColumn as NamedColumn};
 use expr::Expr;
-use schema::{Column, Table};
 use statement_trees::Expr as Tree;
 use std::alloc::{AllocError, Global};
+use tables::{Column, Table};
 use values::Fault;
 
 /// The columns of an index that are named, over a table of these columns; `None` where one of them can't be, or is named

@@ -4,8 +4,8 @@ ghost use Rattle.indexes.specs.Others as spec;
 ghost use Rattle.indexes.specs.Others.{has_place};
 
 use crate::IndexedColumn;
-use schema::{RowKey, Table};
 use std::alloc::{AllocError, Global};
+use tables::{RowKey, Table};
 
 /// Whether one of the columns stands at this place of the table.
 fn has_column_at(columns: &[IndexedColumn], place: usize) -> bool

@@ -9,7 +9,8 @@ ghost use Rattle.schema.specs.Names.{AreDistinct, IsPlaceOf, IsSameName};
 
 use crate::IndexedColumn;
 use create_trees::IndexedColumn as NamedColumn;
-use schema::{Column, is_binary, is_same_name};
+use schema::{is_binary, is_same_name};
+use tables::Column;
 
 /// Whether one of the columns is named so.
 fn is_named(columns: &[NamedColumn], name: &str) -> bool

@@ -8,7 +8,7 @@ use Rattle.image.specs.Pages.{Pages}
 use Rattle.image.specs.Tree.{Place}
 use Rattle.page_use.specs.Marks.{IsUseFault}
 use Rattle.values.specs.Row.{Row}
-use Rattle.schema.specs.TableData.{TableData, schema_table}
+use Rattle.tables.specs.TableData.{TableData, schema_table}
 use Rattle.tree_walk.specs.declared.counts.TreeCounts.{TreeCounts}
 use Rattle.catalog.proofs.LawLemmas.{row_of_table}
 use Rattle.catalog.specs.CatalogData.{CatalogData}

@@ -7,7 +7,7 @@ use Rattle.image.specs.Pages.{pages_of, Pages}
 use Rattle.image.specs.Shape.{places_under}
 use Rattle.values.specs.Row.{Row}
 use Rattle.values.specs.Database.{Database}
-use Rattle.schema.specs.TableData.{TableData}
+use Rattle.tables.specs.TableData.{TableData}
 use Rattle.stored_rows.specs.Stored.{Fits, HoldsRows, IsStored}
 use Rattle.integrity.specs.Denotes.{Denotes, HasTables}
 use Rattle.table_walk.specs.Checked.{IsStoredTable}

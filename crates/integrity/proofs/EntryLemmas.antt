@@ -5,7 +5,7 @@ use Rattle.std.proofs.lemmas.List.Elements.{All-cons, All-head, All-nil, All-tai
 use Rattle.image.specs.Pages.{IsNumber, Pages}
 use Rattle.expr.specs.Term.{Term}
 use Rattle.indexes.specs.IndexData.{IndexData}
-use Rattle.schema.specs.TableData.{TableData}
+use Rattle.tables.specs.TableData.{TableData}
 use Rattle.tree_walk.specs.declared.counts.TreeCounts.{TreeCounts}
 use Rattle.table_walk.specs.Checked.{IsCheckedTree}
 use Rattle.index_walk.specs.Widths.{exactly}

@@ -9,7 +9,7 @@ use Rattle.pager.specs.PagerState.{IsPageNumber, PagerState}
 use Rattle.image.specs.Pages.{Pages}
 use Rattle.indexes.specs.IndexData.{IndexData}
 use Rattle.schema.specs.Names.{IsSameName}
-use Rattle.schema.specs.TableData.{TableData}
+use Rattle.tables.specs.TableData.{TableData}
 use Rattle.catalog.specs.CatalogData.{CatalogData}
 use Rattle.catalog.specs.Picks.{Picks}
 use Rattle.catalog.specs.Says.{IsCatalog, IsNoIndex, SaysAnyIndex}

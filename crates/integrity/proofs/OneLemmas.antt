@@ -3,7 +3,7 @@ use Rattle.std.proofs.Common.{◌≡◌, List, subst}
 use Rattle.values.specs.Row.{Row}
 use Rattle.values.specs.declared.fault.Fault.{Fault}
 use Rattle.image.specs.Pages.{Pages}
-use Rattle.schema.specs.TableData.{schema_table}
+use Rattle.tables.specs.TableData.{schema_table}
 use Rattle.catalog.proofs.LawLemmas.{no_broken_schema, one_catalog}
 use Rattle.catalog.specs.CatalogData.{CatalogData}
 use Rattle.catalog.specs.Refused.{IsBrokenSchema}

@@ -16,7 +16,7 @@ use Rattle.page_use.proofs.FrontLemmas.{none_gone}
 use Rattle.page_use.proofs.WalkLemmas.{twice_not, twice_number}
 use Rattle.values.specs.Row.{Row}
 use Rattle.schema.proofs.ListLemmas.{get_front}
-use Rattle.schema.specs.TableData.{schema_table}
+use Rattle.tables.specs.TableData.{schema_table}
 use Rattle.catalog.specs.CatalogData.{CatalogData}
 use Rattle.tree_walk.specs.Used.{IsDoneOn, IsTreeComing, IsTreeGone, IsTreeTwice, MarksTree}
 use Rattle.tree_walk.proofs.UsedLemmas.{done_on_later}

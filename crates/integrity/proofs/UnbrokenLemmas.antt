@@ -5,7 +5,7 @@ use Rattle.values.specs.declared.fault.Fault.{Fault}
 use Rattle.values.specs.Row.{Row}
 use Rattle.image.specs.Pages.{Pages}
 use Rattle.image.specs.Tree.{Place}
-use Rattle.schema.specs.TableData.{TableData, schema_table}
+use Rattle.tables.specs.TableData.{TableData, schema_table}
 use Rattle.catalog.proofs.LawLemmas.{said_of_them}
 use Rattle.catalog.specs.CatalogData.{CatalogData}
 use Rattle.catalog.specs.Refused.{IsBrokenSchema}

@@ -15,7 +15,7 @@ use Rattle.page_use.specs.Free.{header_on}
 use Rattle.page_use.specs.Marks.{IsUsedTwice}
 use Rattle.values.specs.Row.{Row}
 use Rattle.schema.specs.Rows.{SaysTable}
-use Rattle.schema.specs.TableData.{HasRowids, TableData, schema_table}
+use Rattle.tables.specs.TableData.{HasRowids, TableData, schema_table}
 use Rattle.indexes.specs.IndexData.{IndexData}
 use Rattle.catalog.specs.CatalogData.{CatalogData}
 use Rattle.catalog.specs.Refused.{IsBrokenSchema}

@@ -8,7 +8,7 @@ use Rattle.create_trees.specs.declared.create.KeyOrder.{KeyOrder}
 use Rattle.create_trees.specs.declared.create.KeyOrder.TheVariants.{Ascending, Descending}
 use Rattle.image.specs.Pages.{IsNumber, Pages}
 use Rattle.schema.specs.Names.{IsSameName}
-use Rattle.schema.specs.TableData.{TableData}
+use Rattle.tables.specs.TableData.{TableData}
 use Rattle.indexes.specs.IndexData.{IndexData}
 use Rattle.catalog.specs.CatalogData.{CatalogData}
 use Rattle.tree_walk.specs.declared.counts.TreeCounts.{TreeCounts}

@@ -8,7 +8,7 @@ use Rattle.image.specs.Use.{Use, as_root, TreeData, Users}
 use Rattle.page_use.specs.Free.{header_on}
 use Rattle.page_use.specs.Marks.{AreTreeMarks, IsUsedTwice}
 use Rattle.tree_walk.specs.Used.{IsDoneOn}
-use Rattle.schema.specs.TableData.{schema_table}
+use Rattle.tables.specs.TableData.{schema_table}
 use Rattle.indexes.specs.IndexData.{IndexData}
 use Rattle.catalog.specs.CatalogData.{CatalogData}
 use Rattle.index_walk.specs.Checked.{index_tree}

@@ -5,7 +5,7 @@ ghost use Rattle.catalog.specs.CatalogView.{catalog_data};
 ghost use Rattle.indexes.specs.IndexView.{index_data};
 ghost use Rattle.integrity.specs.CheckedView.{checked_data};
 ghost use Rattle.integrity.specs.Checked.{HasCheckedImage, IsCheckFailure};
-ghost use Rattle.schema.specs.TableData.{HasRowids};
+ghost use Rattle.tables.specs.TableData.{HasRowids};
 
 use crate::entries::check_entries;
 use crate::index_trees::{IndexCounts, check_indexes};
@@ -14,8 +14,8 @@ use catalog::Catalog;
 use indexes::Index;
 use page_use::check_rest;
 use pager::{Pager, Source};
-use schema::Table;
 use std::alloc::Global;
+use tables::Table;
 use tree_walk::TreeCounts;
 use values::Fault;
 

@@ -7,7 +7,7 @@ ghost use Rattle.image.specs.Pages.{WhereSteady};
 ghost use Rattle.indexes.specs.IndexData.{IndexData};
 ghost use Rattle.indexes.specs.IndexView.{index_data};
 ghost use Rattle.schema.specs.Names.{IsSameName};
-ghost use Rattle.schema.specs.TableData.{TableData};
+ghost use Rattle.tables.specs.TableData.{TableData};
 ghost use Rattle.index_rows.specs.Checked.{IsCheckedTable};
 ghost use Rattle.integrity.specs.Checked.{IsCheckFault};
 ghost use Rattle.integrity.specs.Indexes.{AreBrokenEntries, AreItsEntries, IsCheckedIndexOf, IsCheckedIndexWith, IsCheckedWith};
@@ -16,8 +16,9 @@ use crate::index_trees::{IndexCounts, directions_of, places_of};
 use index_rows::{TableIndex, is_index_of};
 use indexes::Index;
 use pager::{Pager, Source};
-use schema::{Table, is_same_name};
+use schema::is_same_name;
 use std::alloc::Global;
+use tables::Table;
 use values::Fault;
 
 /// Holds the entries of an index, of which there are so many, against the rows of its table: they have to be just those that

@@ -4,7 +4,7 @@ ghost use Rattle.std.specs.List.{AllZip};
 ghost use Rattle.pager.specs.Calls.{IsReadFault, ReadsPages};
 ghost use Rattle.pager.specs.PagerState.{IsPageNumber};
 ghost use Rattle.image.specs.Pages.{WhereSteady};
-ghost use Rattle.schema.specs.TableData.{TableData, schema_table};
+ghost use Rattle.tables.specs.TableData.{TableData, schema_table};
 ghost use Rattle.integrity.specs.Checked.{HasCause};
 ghost use Rattle.tree_walk.specs.Used.{IsTreeTwice, MarksTree};
 ghost use Rattle.integrity.specs.Used.{AreTreesTwice, MarksTrees};
@@ -14,9 +14,9 @@ ghost use Rattle.table_walk.specs.Checked.{IsCheckedTree, tree_of};
 ghost use Rattle.table_walk.specs.Walked.{IsWalkFault};
 
 use pager::{Pager, Source};
-use schema::Table;
 use std::alloc::Global;
 use table_walk::{all_rows, check_table};
+use tables::Table;
 use tree_walk::TreeCounts;
 use values::{Fault, Row};
 

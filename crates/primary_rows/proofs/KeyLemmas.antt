@@ -3,7 +3,7 @@ use Rattle.std.proofs.Common.{◌≡◌, ◌∙◌, ◌<◌, ◌≤◌, ℕ, zer
 use Rattle.std.specs.List.{range_with_len}
 use Rattle.values.specs.Datum.{Datum, null}
 use Rattle.values.specs.Row.{Row}
-use Rattle.schema.specs.TableData.{IsKeyWithin, RowKeyData, TableData}
+use Rattle.tables.specs.TableData.{IsKeyWithin, RowKeyData, TableData}
 use Rattle.stored_rows.proofs.FilledLemmas.{filled_at}
 use Rattle.primary_rows.specs.Firsts.{firsts, has_number}
 use Rattle.primary_rows.specs.Order.{key_order, primary_of, record_order}

@@ -4,7 +4,7 @@ use Rattle.std.proofs.lemmas.Option.{slice_get-get_or, slice_get_past, slice_get
 use Rattle.std.proofs.lemmas.List.FromFn.{get_or-map-range_with_len, length-map-range_with_len}
 use Rattle.std.proofs.lemmas.List.{length-map}
 use Rattle.values.specs.Datum.{Datum}
-use Rattle.schema.specs.TableData.{ColumnData, MissingData, TableData}
+use Rattle.tables.specs.TableData.{ColumnData, MissingData, TableData}
 use Rattle.stored_rows.specs.Stored.{Fits, FitsColumn}
 use Rattle.stored_rows.proofs.FilledLemmas.{filled_at}
 use Rattle.stored_rows.proofs.RowLemmas.{all_from_each, each_more, each_of_all}

@@ -2,7 +2,7 @@
 -- File Format, section 2.4 "Representation Of WITHOUT ROWID Tables")
 use Rattle.std.specs.Prelude.{◌≡◌, ℕ, List, [], ◌++◌, length, map}
 use Rattle.std.specs.List.{range_with_len}
-use Rattle.schema.specs.TableData.{RowKeyData, TableData}
+use Rattle.tables.specs.TableData.{RowKeyData, TableData}
 use Rattle.primary_rows.specs.declared.order.RecordOrder.{RecordOrder}
 use Rattle.primary_rows.specs.Firsts.{firsts, place_of}
 

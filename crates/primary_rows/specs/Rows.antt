@@ -9,7 +9,7 @@ use Rattle.values.specs.declared.fault.Fault.{Fault}
 use Rattle.values.specs.declared.fault.Fault.TheVariants.{BadRecord, ValueBreaksColumn}
 use Rattle.records.specs.Record.{IsRecord}
 use Rattle.index_entries.specs.Entries.{BreaksRecord, IsCompareFault}
-use Rattle.schema.specs.TableData.{MissingData, TableData}
+use Rattle.tables.specs.TableData.{MissingData, TableData}
 use Rattle.stored_rows.specs.Stored.{Fits}
 use Rattle.primary_rows.specs.Firsts.{place_of}
 use Rattle.primary_rows.specs.Order.{key_order, record_order}

@@ -2,7 +2,7 @@
 ghost use Rattle.std.specs.Prelude.{◌≡◌, ◌<◌, ℕ, List, Some, length, map, slice_get, slice_index_or, take};
 ghost use Rattle.values.specs.Datum.{Datum, null};
 ghost use Rattle.values.specs.Row.{Row};
-ghost use Rattle.schema.specs.TableData.{IsKeyWithin, TableData};
+ghost use Rattle.tables.specs.TableData.{IsKeyWithin, TableData};
 ghost use Rattle.primary_rows.specs.Order.{key_order, record_order};
 ghost use Rattle.primary_rows.specs.Rows.{IsPrimaryRow};
 

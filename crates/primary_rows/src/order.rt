@@ -1,11 +1,11 @@
 //! Where a table's record has its columns.
 ghost use Rattle.std.specs.Prelude.{◌≡◌, ◌≤◌, ◌↔◌, IfOk, IsTrue};
-ghost use Rattle.schema.specs.RowKeyView.{row_key_of};
+ghost use Rattle.tables.specs.RowKeyView.{row_key_of};
 ghost use Rattle.primary_rows.specs.Order.{IsOrderOf, primary_of};
 
 use crate::numbers::{numbers_below, places_in, put_firsts};
-use schema::{RowKey, Table};
 use std::alloc::{AllocError, Global};
+use tables::{RowKey, Table};
 
 /// Where the record of a row has each column of its table, and how many values it has.
 #[derive(Debug, Drop)]

@@ -2,7 +2,7 @@
 ghost use Rattle.std.specs.Prelude.{◌≡◌, ◌<◌, ◌↔◌, IfErr, IfNone, IfSome, IsTrue, List, OnOk, Some, length, map, slice_get, Contains};
 ghost use Rattle.values.specs.Datum.{Datum, datum_of_ref};
 ghost use Rattle.records.specs.Record.{IsRecord};
-ghost use Rattle.schema.specs.TableData.{MissingData};
+ghost use Rattle.tables.specs.TableData.{MissingData};
 ghost use Rattle.stored_rows.specs.Stored.{Fits};
 ghost use Rattle.primary_rows.specs.Order.{IsOrderOf};
 ghost use Rattle.primary_rows.specs.Rows.{BreaksRowRecord, IsPrimaryFault, IsStoredRow, told_values};
@@ -10,9 +10,9 @@ ghost use Rattle.primary_rows.specs.Rows.{BreaksRowRecord, IsPrimaryFault, IsSto
 use crate::order::RecordOrder;
 use index_entries::record_fault;
 use records::RecordView;
-use schema::{Column, Missing, Table};
 use std::alloc::Global;
 use stored_rows::fits_column;
+use tables::{Column, Missing, Table};
 use values::{Fault, ValueRef};
 
 /// What a row that is older than a column has in it; `None` where that isn't known. (ALTER TABLE ADD COLUMN)

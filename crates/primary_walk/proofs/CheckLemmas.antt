@@ -10,7 +10,7 @@ use Rattle.tree_walk.specs.Used.{IsTreeTwice}
 use Rattle.index_walk.specs.declared.tree.EntryWidths.{EntryWidths}
 use Rattle.index_walk.specs.Broken.{IsBrokenIndex}
 use Rattle.index_walk.specs.Checked.{HasCheckedIndex, IsCheckedIndex, IsIndexFailure, IsIndexWalkFault, index_tree}
-use Rattle.schema.specs.TableData.{TableData}
+use Rattle.tables.specs.TableData.{TableData}
 use Rattle.primary_rows.specs.declared.order.RecordOrder.{RecordOrder}
 use Rattle.primary_rows.specs.Order.{IsOrderOf}
 use Rattle.primary_walk.specs.Checked.{IsBrokenPrimary, IsKeyTree, IsPrimaryFailure, IsPrimaryWalkFault, widths_of}

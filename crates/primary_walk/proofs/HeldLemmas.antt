@@ -22,7 +22,7 @@ use Rattle.tree_walk.specs.declared.counts.TreeCounts.{TreeCounts}
 use Rattle.tree_walk.proofs.KindLemmas.{one_entry}
 use Rattle.index_walk.specs.Widths.{key_of}
 use Rattle.index_walk.proofs.EntryLemmas.{entry_at_place}
-use Rattle.schema.specs.TableData.{IsKeyWithin, TableData}
+use Rattle.tables.specs.TableData.{IsKeyWithin, TableData}
 use Rattle.stored_rows.specs.Stored.{Fits}
 use Rattle.primary_rows.specs.Order.{key_order}
 use Rattle.primary_rows.proofs.KeyLemmas.{key_first}

@@ -30,7 +30,7 @@ use Rattle.cursor.specs.Search.{IsSearchableIndex}
 use Rattle.cursor.proofs.RestLemmas.{first_place}
 use Rattle.entry_rows.proofs.ListedLemmas.{Begins, IsListed, Listing, Tells, begins, ended}
 use Rattle.pager.specs.Calls.{IsReadFault}
-use Rattle.schema.specs.TableData.{TableData}
+use Rattle.tables.specs.TableData.{TableData}
 use Rattle.primary_rows.specs.Rows.{BreaksRow, BreaksRowRecord, IsPrimaryFault, IsStoredRow}
 use Rattle.primary_walk.specs.Checked.{HasBrokenRow, HoldsPrimaryRow, IsKeyTree, IsPrimaryWalkFault, widths_of}
 

@@ -14,7 +14,7 @@ use Rattle.tree_walk.specs.declared.counts.TreeCounts.{TreeCounts}
 use Rattle.tree_walk.proofs.KindLemmas.{one_entry}
 use Rattle.index_walk.proofs.CheckedLemmas.{unbroken_index}
 use Rattle.index_walk.proofs.EntryLemmas.{entry_at_place}
-use Rattle.schema.specs.TableData.{MissingData, TableData}
+use Rattle.tables.specs.TableData.{MissingData, TableData}
 use Rattle.stored_rows.specs.Stored.{Fits}
 use Rattle.stored_rows.proofs.FilledLemmas.{fills_same, none_refused}
 use Rattle.primary_rows.specs.Rows.{BreaksRow, IsMisfit, IsNoPrimaryRow, IsPrimaryRow}

@@ -15,7 +15,7 @@ use Rattle.image.specs.Shape.{most_levels, places_under}
 use Rattle.image.specs.Tree.{ArePlacesOf, IsPageOf, IsPlaceOf, Place}
 use Rattle.index_entries.specs.Entries.{HasValues}
 use Rattle.key_ranges.specs.Runs.{Ascend}
-use Rattle.schema.specs.TableData.{TableData}
+use Rattle.tables.specs.TableData.{TableData}
 use Rattle.stored_rows.specs.Stored.{Fits}
 use Rattle.tree_walk.specs.declared.counts.TreeCounts.{TreeCounts}
 use Rattle.tree_walk.specs.Used.{IsTreeTwice}

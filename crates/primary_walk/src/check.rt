@@ -11,8 +11,8 @@ use crate::rows::check_rows;
 use index_walk::{EntryWidths, IndexTree, check_index};
 use pager::{Pager, Source};
 use primary_rows::RecordOrder;
-use schema::Table;
 use std::alloc::Global;
+use tables::Table;
 use tree_walk::TreeCounts;
 use values::Fault;
 

@@ -4,7 +4,7 @@ ghost use Rattle.values.specs.Row.{Row};
 ghost use Rattle.values.specs.declared.fault.Fault.{Fault};
 ghost use Rattle.image.specs.Pages.{Pages};
 ghost use Rattle.tree_walk.specs.declared.counts.TreeCounts.{TreeCounts};
-ghost use Rattle.schema.specs.TableData.{IsKeyWithin, TableData};
+ghost use Rattle.tables.specs.TableData.{IsKeyWithin, TableData};
 ghost use Rattle.stored_rows.specs.Stored.{Fits};
 ghost use Rattle.primary_walk.specs.Checked.{HoldsPrimaryRows, IsBrokenPrimary, IsCheckedPrimary};
 

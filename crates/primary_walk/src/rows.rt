@@ -18,8 +18,8 @@ use cursor::Cursor;
 use image::TreeKind;
 use pager::{Pager, Source};
 use primary_rows::{RecordOrder, check_primary_row};
-use schema::Table;
 use std::alloc::Global;
+use tables::Table;
 use values::Fault;
 
 /// Tests that an entry of page `n` is a row of a table, whose values are of its columns.

@@ -22,8 +22,8 @@ use Rattle.query_plans.specs.Made.{HasRowsAlone, IsMade, IsMadeOver}
 use Rattle.query_plans.specs.Read.{select_terms, terms_in}
 use Rattle.query_plans.proofs.ReadLemmas.{all_read}
 use Rattle.query_plans.proofs.TypedLemmas.{query_within, source_is}
-use Rattle.schema.specs.ColumnTypes.{column_types, types_of}
-use Rattle.schema.specs.TableData.{TableData}
+use Rattle.tables.specs.ColumnTypes.{column_types, types_of}
+use Rattle.tables.specs.TableData.{TableData}
 use Rattle.table_plans.specs.Input.{input_from}
 use Rattle.table_plans.specs.InnerJoins.{AreInnerJoins}
 use Rattle.table_plans.specs.Planned.{on_terms}

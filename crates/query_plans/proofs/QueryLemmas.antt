@@ -16,8 +16,8 @@ use Rattle.query_plans.specs.Read.{AreRead, select_terms, terms_in}
 use Rattle.query_plans.proofs.MadeLemmas.{made_is_plan}
 use Rattle.query_plans.proofs.OverLemmas.{made_over}
 use Rattle.query_plans.proofs.ReadLemmas.{all_over}
-use Rattle.schema.specs.ColumnTypes.{column_types}
-use Rattle.schema.specs.TableData.{TableData}
+use Rattle.tables.specs.ColumnTypes.{column_types}
+use Rattle.tables.specs.TableData.{TableData}
 use Rattle.table_plans.specs.Input.{input_from}
 use Rattle.table_plans.specs.declared.inputs.Input.{Input}
 use Rattle.table_plans.specs.InnerJoins.{AreInnerJoins}

@@ -11,7 +11,7 @@ use Rattle.meaning.specs.OneTable.{shown}
 use Rattle.meaning.specs.Query.{Body, QueryData, compound, select}
 use Rattle.plans.specs.JoinPlan.{AreWideBefore}
 use Rattle.plans.specs.Plan.{Hits, PlanData, Reaches, rows_of, table_rows, table_size, work}
-use Rattle.schema.specs.TableData.{TableData}
+use Rattle.tables.specs.TableData.{TableData}
 use Rattle.operators.specs.Left.{IsNestOf, IsPlanOf}
 use Rattle.results.specs.Coming.{SelectionData, answer_of, selection_data}
 use Rattle.sorted_results.specs.Sorted.{IsSortedAnswer, SortedData, sorted_data}

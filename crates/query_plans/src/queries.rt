@@ -6,8 +6,8 @@ ghost use Rattle.query_plans.specs.Answers.{IsPlanFor, IsPlannedOver, planned_da
 ghost use Rattle.query_plans.specs.Made.{HasRowsAlone, IsMade};
 ghost use Rattle.query_plans.specs.Served.{IsServed};
 ghost use Rattle.query_trees.specs.SelectView.{select_of};
-ghost use Rattle.schema.specs.ColumnTypes.{column_types};
-ghost use Rattle.schema.specs.TableData.{TableData};
+ghost use Rattle.tables.specs.ColumnTypes.{column_types};
+ghost use Rattle.tables.specs.TableData.{TableData};
 ghost use Rattle.statement_names.specs.NamedView.{query_data};
 ghost use Rattle.table_plans.specs.InnerJoins.{AreInnerJoins};
 ghost use Rattle.table_plans.specs.Input.{input_from};

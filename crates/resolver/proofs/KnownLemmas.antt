@@ -8,8 +8,8 @@ use Rattle.meaning.specs.Query.{Source}
 use Rattle.naming.specs.Sources.{Known}
 use Rattle.naming.specs.Typed as naming
 use Rattle.naming.specs.Typed.{known_from}
-use Rattle.schema.specs.ColumnTypes as schema
-use Rattle.schema.specs.TableData.{ColumnData, TableData}
+use Rattle.tables.specs.ColumnTypes as schema
+use Rattle.tables.specs.TableData.{ColumnData, TableData}
 use Rattle.resolver.specs.Resolved.{column_of, table_of, tables_of}
 
 same_names : (columns : List ColumnData) → map (λ c. c.name) columns ≡ map (λ c. c.name) (map column_of columns)

@@ -9,8 +9,8 @@ use Rattle.naming.specs.Statement.{Named, named}
 use Rattle.naming.specs.Typed as naming
 use Rattle.naming.specs.Typed.{known_tables, typed_query, with_types}
 use Rattle.query_trees.specs.Outcome.{Gives}
-use Rattle.schema.specs.ColumnTypes as schema
-use Rattle.schema.specs.TableData.{TableData}
+use Rattle.tables.specs.ColumnTypes as schema
+use Rattle.tables.specs.TableData.{TableData}
 use Rattle.statement_names.specs.NamedView.{named_data, query_data}
 use Rattle.statement_names.specs.declared.trees.NamedStatement.{NamedStatement}
 use Rattle.syntax.specs.StatementTree.{StatementTree}

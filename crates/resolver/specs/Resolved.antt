@@ -4,7 +4,7 @@ use Rattle.values.specs.declared.fault.Fault.{Fault}
 use Rattle.syntax.specs.StatementTree.{StatementTree}
 use Rattle.naming.specs.Statement.{Named}
 use Rattle.naming.specs.Typed as naming
-use Rattle.schema.specs.TableData.{ColumnData, TableData}
+use Rattle.tables.specs.TableData.{ColumnData, TableData}
 
 -- a table of the catalog by the names and types of its columns
 abbrev pub column_of : ColumnData → naming.Column

@@ -4,13 +4,13 @@ ghost use Rattle.body_trees.specs.BodyView.{source_of};
 ghost use Rattle.meaning.specs.Query as q;
 ghost use Rattle.naming.specs.Typed as naming;
 ghost use Rattle.resolver.specs.Resolved.{table_of, tables_of};
-ghost use Rattle.schema.specs.ColumnTypes as schema;
+ghost use Rattle.tables.specs.ColumnTypes as schema;
 ghost use Rattle.source_names.specs.GivenView.{known_of};
 
 use body_trees::Source;
-use schema::{Column, Table};
 use source_names::Known;
 use std::alloc::{AllocError, Global};
+use tables::{Column, Table};
 use values::Ty;
 
 // The names of columns, as they were declared.

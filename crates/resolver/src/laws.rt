@@ -4,8 +4,8 @@ ghost use Rattle.values.specs.declared.fault.Fault.{Fault};
 ghost use Rattle.values.specs.declared.fault.Fault.TheVariants.{NoMemory};
 ghost use Rattle.meaning.specs.Typed.{IsTyped};
 ghost use Rattle.naming.specs.Statement.{Named};
-ghost use Rattle.schema.specs.ColumnTypes.{column_types};
-ghost use Rattle.schema.specs.TableData.{TableData};
+ghost use Rattle.tables.specs.ColumnTypes.{column_types};
+ghost use Rattle.tables.specs.TableData.{TableData};
 ghost use Rattle.syntax.specs.StatementTree.{StatementTree};
 ghost use Rattle.resolver.specs.Resolved.{IsRefused, Resolves};
 

@@ -3,7 +3,7 @@ ghost use Rattle.std.specs.Prelude.{IfErr, IfOk, map};
 ghost use Rattle.meaning.specs.Typed.{IsTyped};
 ghost use Rattle.naming.specs.Typed as naming;
 ghost use Rattle.query_trees.specs.Outcome.{Gives};
-ghost use Rattle.schema.specs.ColumnTypes.{column_types};
+ghost use Rattle.tables.specs.ColumnTypes.{column_types};
 ghost use Rattle.statement_names.specs.NamedView.{named_data, query_data};
 ghost use Rattle.statement_trees.specs.StatementView.{statement_of};
 ghost use Rattle.resolver.specs.Resolved.{IsRefused, Resolves, tables_of};
@@ -11,10 +11,10 @@ ghost use Rattle.resolver.specs.Resolved.{IsRefused, Resolves, tables_of};
 use crate::known::{column_types, known_tables};
 use naming::laws::typed_as_meaning;
 use query_types::check_types;
-use schema::Table;
 use statement_names::{NamedStatement, named_statement};
 use statement_trees::Statement;
 use std::alloc::Global;
+use tables::Table;
 use values::{Fault, Ty};
 
 // A statement by its names, where it is typed. The fault is one of `check_types`.

@@ -5,7 +5,7 @@ ghost use Rattle.values.specs.Row.{Row};
 ghost use Rattle.pager.specs.Calls.{ReadsPages};
 ghost use Rattle.pager.specs.PagerState.{IsPageNumber};
 ghost use Rattle.image.specs.Pages.{Pages, WhereSteady};
-ghost use Rattle.schema.specs.TableData.{TableData};
+ghost use Rattle.tables.specs.TableData.{TableData};
 ghost use Rattle.expr.specs.View.{term};
 ghost use Rattle.plans.specs.Plan.{rows_of, work};
 ghost use Rattle.plans.specs.PlanView.{plan_data};
@@ -19,8 +19,8 @@ use expr::Expr;
 use operators::{Op, copies};
 use pager::{Pager, Source};
 use plans::Plan;
-use schema::Table;
 use std::alloc::{AllocError, Global};
+use tables::Table;
 use values::{Fault, Value};
 
 /// What a SELECT in no order computes of the rows of a plan. (SELECT)

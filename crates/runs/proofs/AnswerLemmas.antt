@@ -14,7 +14,7 @@ use Rattle.pager.specs.PagerState.{PagerState}
 use Rattle.image.specs.Pages.{Pages, WhereSteady, pages_seen}
 use Rattle.image.specs.Shape.{places_under}
 use Rattle.image.specs.declared.kind.TreeKind.TheVariants.{Table}
-use Rattle.schema.specs.TableData.{TableData}
+use Rattle.tables.specs.TableData.{TableData}
 use Rattle.stored_rows.specs.Stored.{HoldsRows}
 use Rattle.stored_rows.proofs.OneLemmas.{one_rows}
 use Rattle.table_walk.specs.Checked.{IsStoredTable}

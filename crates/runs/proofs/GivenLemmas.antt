@@ -11,7 +11,7 @@ use Rattle.pager.specs.PagerState.{PagerState}
 use Rattle.pager.specs.Calls.{IsReadFault, ReadsPages, SameImage}
 use Rattle.pager.proofs.CallLemmas.{SameImage-trans}
 use Rattle.image.specs.Pages.{Pages, WhereSteady, pages_seen}
-use Rattle.schema.specs.TableData.{TableData}
+use Rattle.tables.specs.TableData.{TableData}
 use Rattle.expr.specs.Term.{Term}
 use Rattle.plans.specs.Plan.{PlanData, work}
 use Rattle.scan.specs.Coming.{Asks}

@@ -21,7 +21,7 @@ use Rattle.cursor.specs.Calls.{HasFailed, HasStepped, IsCursorFault, IsOpenedAt,
 use Rattle.cursor.specs.Listing.{IsAt, IsEntry}
 use Rattle.cursor.proofs.RestLemmas.{standing_asked}
 use Rattle.values.specs.Row.{Row}
-use Rattle.schema.specs.TableData.{TableData}
+use Rattle.tables.specs.TableData.{TableData}
 use Rattle.table_walk.specs.Checked.{IsStoredTable}
 use Rattle.stored_rows.specs.Stored.{IsRowOf, StoresRow}
 use Rattle.explain.specs.Text.{row_text, rows_text}

@@ -6,7 +6,7 @@ use Rattle.values.specs.Row.{Row}
 use Rattle.values.specs.Sink.{SinkFacts}
 use Rattle.values.specs.declared.fault.Fault.{Fault}
 use Rattle.image.specs.Pages.{Pages}
-use Rattle.schema.specs.TableData.{TableData}
+use Rattle.tables.specs.TableData.{TableData}
 use Rattle.operators.specs.Basis.{AreStored, Basis}
 use Rattle.query_plans.specs.Answers.{IsAnswerOf, PlannedData}
 use Rattle.runs.specs.Faults.{IsRunCause}

@@ -4,7 +4,7 @@ use Rattle.values.specs.Sink.{SinkFacts}
 use Rattle.values.specs.declared.fault.Fault.{Fault}
 use Rattle.pager.specs.PagerState.{PagerState}
 use Rattle.image.specs.Pages.{Pages}
-use Rattle.schema.specs.TableData.{TableData}
+use Rattle.tables.specs.TableData.{TableData}
 use Rattle.values.specs.Row.{Row}
 use Rattle.meaning.specs.OneTable.{shown}
 use Rattle.scan.specs.Coming.{AreUnchained, size_of}

@@ -21,11 +21,11 @@ use cursor::Cursor;
 use explain::row_text;
 use image::TreeKind;
 use pager::{Pager, Source};
-use schema::Table;
 use smallvec::SmallVec;
 use std::alloc::Global;
 use std::borrow::CowSlice;
 use stored_rows::RowReader;
+use tables::Table;
 use values::{Fault, Sink, ValueRef};
 
 /// The payload of a cell. Its faults are `ReadFailed`, `NoMemory`, and `Changed` where its overflow pages are no chain.

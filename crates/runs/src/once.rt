@@ -20,8 +20,8 @@ use distinct_results::{DistinctResults, SortedDistinct, sorted_distinct_rows};
 use explain::values_text;
 use pager::{Pager, Source};
 use results::Selection;
-use schema::Table;
 use std::alloc::Global;
+use tables::Table;
 use values::{Fault, Sink};
 
 /// Writes the rows of a SELECT DISTINCT in no order as lines, each as it is first computed, and counts them. Its faults are those

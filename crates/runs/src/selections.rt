@@ -22,9 +22,9 @@ ghost use Rattle.runs.specs.Runs.{WritesAnswer, WritesBeginning};
 use explain::values_text;
 use pager::{Pager, Source};
 use results::{Results, Selection};
-use schema::Table;
 use sorted_results::{SortedSelection, sorted_rows};
 use std::alloc::Global;
+use tables::Table;
 use values::{Fault, Sink, Value};
 
 /// Writes the rows of a SELECT in no order as lines, each as it is computed, and counts them. Its faults are those of a run.

@@ -13,7 +13,7 @@ use Rattle.image.proofs.CellLemmas.{one_cell}
 use Rattle.cursor.specs.declared.cursor.Cursor.{Cursor}
 use Rattle.cursor.specs.Listing.{IsAt, IsEntry}
 use Rattle.cursor.proofs.RestLemmas.{standing_asked}
-use Rattle.schema.specs.TableData.{TableData}
+use Rattle.tables.specs.TableData.{TableData}
 use Rattle.stored_rows.specs.Stored.{IsRowOf, StoresRow}
 use Rattle.meaning.specs.OneTable.{shown}
 use Rattle.scan.specs.Coming.{Asks, GivesRow, IsToCome, IsUnchained}

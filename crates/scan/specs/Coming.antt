@@ -14,7 +14,7 @@ use Rattle.image.specs.Shape.{places_under, size_under}
 use Rattle.image.specs.Tree.{IsRowAt, Place}
 use Rattle.cursor.specs.declared.cursor.Cursor.{Cursor}
 use Rattle.cursor.specs.Listing.{IsAt}
-use Rattle.schema.specs.TableData.{TableData}
+use Rattle.tables.specs.TableData.{TableData}
 use Rattle.stored_rows.specs.Stored.{StoresRow}
 use Rattle.meaning.specs.OneTable.{shown}
 

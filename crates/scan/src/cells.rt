@@ -13,10 +13,10 @@ ghost use Rattle.scan.specs.Coming.{Grows, IsScanFault};
 
 use btree::{Cell, payload};
 use pager::{Pager, Source};
-use schema::Table;
 use std::alloc::Global;
 use std::borrow::CowSlice;
 use stored_rows::RowReader;
+use tables::Table;
 use values::{Fault, Value};
 
 /// The payload of a cell. Its faults are `ReadFailed`, `NoMemory`, and `Changed` where its overflow pages are no chain.

@@ -10,7 +10,7 @@ use Rattle.create_trees.specs.declared.create.TableOption.{TableOption}
 use Rattle.declared_keys.specs.Keys.{KeyData}
 use Rattle.schema.proofs.ListLemmas.{all_zip_push, any_at, beside}
 use Rattle.schema.specs.Created.{IsColumn, is_not_null}
-use Rattle.schema.specs.TableData.{ColumnData}
+use Rattle.tables.specs.TableData.{ColumnData}
 
 pub not_null_is : (t : ConstraintTree) → is_not_null t ≡ true → t ≡ ConstraintTree.NotNull
 not_null_is ConstraintTree.NotNull e = refl

@@ -16,7 +16,7 @@ use Rattle.declared_keys.specs.Keys.{KeyData, keys_of}
 use Rattle.schema.specs.Created.{AreKeys, AreServed, IsColumn, IsRowKey, IsServed, IsTable, column_names}
 use Rattle.schema.specs.Names.{AreDistinct, IsPlaceOf, IsReserved}
 use Rattle.schema.specs.Refused.{IsRefused}
-use Rattle.schema.specs.TableData.{ColumnData, IsKeyWithin, RowKeyData, TableData}
+use Rattle.tables.specs.TableData.{ColumnData, IsKeyWithin, RowKeyData, TableData}
 
 -- what is refused, as what it is a part of
 pub refused_part : {A B : Type 0} (IsPart : A → Type 0) (IsWhole : B → Type 0) (fault : Fault) → IsRefused IsPart fault

@@ -12,7 +12,7 @@ use Rattle.declared_keys.specs.Keys.{KeyData}
 use Rattle.syntax.specs.Tree.{Name}
 use Rattle.schema.specs.Created.{AreColumns, AreKeys, Clash, IsNamedIn, IsOnlyPrimary, IsRowid, IsRowidPlace, IsRowKey, IsRowless, column_names}
 use Rattle.schema.specs.Names.{AreApart, IsPlaceOf, IsSameName}
-use Rattle.schema.specs.TableData.{RowKeyData}
+use Rattle.tables.specs.TableData.{RowKeyData}
 use Rattle.schema.proofs.ListLemmas.{all_from_map, all_zip_push, map_next}
 use Rattle.schema.proofs.ServedLemmas.{any_from_map}
 

@@ -6,7 +6,7 @@ use Rattle.create_trees.specs.CreateTrees.{ConstraintTree, DefaultTree}
 use Rattle.create_trees.specs.CreateView.{constraint_of}
 use Rattle.create_trees.specs.declared.create.ColumnConstraint.{ColumnConstraint}
 use Rattle.schema.specs.Missing.{IsMissing, IsOther, filled, missing_behind}
-use Rattle.schema.specs.TableData.{MissingData}
+use Rattle.tables.specs.TableData.{MissingData}
 
 missing_default : (constraints : List ConstraintTree) (value : DefaultTree) (missing : MissingData) → missing ≡ filled value
     → IsMissing (constraints ++ ConstraintTree.Default value ∷ []) missing

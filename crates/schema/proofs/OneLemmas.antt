@@ -13,22 +13,12 @@ use Rattle.declared_keys.specs.Keys.{KeyData, keys_of}
 use Rattle.schema.specs.Created.{Clash, IsColumn, IsKeyOf, IsRowid, IsRowidPlace, IsRowKey, IsTable, column_names}
 use Rattle.schema.specs.Names.{AreApart, AreDistinct, IsPlaceOf, IsSameName}
 use Rattle.schema.specs.Rows.{SaysTable}
-use Rattle.schema.specs.TableData.{ColumnData, RowKeyData, TableData}
+use Rattle.tables.specs.TableData.{ColumnData, RowKeyData, TableData}
 use Rattle.schema.proofs.MissingLemmas.{one_missing}
 use Rattle.schema.proofs.NameLemmas.{one_place, same_test}
 use Rattle.schema.proofs.TypeLemmas.{one_type, same_words}
 use Rattle.syntax.specs.Tree.{Name}
-
--- a relation that gives one element for each gives one list for each
-pub zip_same : {X Y : Type 0} (R : X → Y → Type 0) → ((x : X) (a b : Y) → R x a → R x b → a ≡ b) → (xs : List X) (ys zs : List Y)
-    → AllZip R xs ys → AllZip R xs zs → ys ≡ zs
-zip_same R one [] [] [] p q = refl
-zip_same R one [] [] (b ∷ zs) p q = absurd q
-zip_same R one [] (a ∷ ys) zs p q = absurd p
-zip_same R one (x ∷ xs) [] zs p q = absurd p
-zip_same R one (x ∷ xs) (a ∷ ys) [] p q = absurd q
-zip_same R one (x ∷ xs) (a ∷ ys) (b ∷ zs) p q =
-    ap (λ y. y ∷ ys) (one x a b p.0 q.0) ∙ ap (λ ys. b ∷ ys) (zip_same R one xs ys zs p.1 q.1)
+use Rattle.tables.proofs.ZipLemmas.{zip_same}
 
 one_column : (options : List TableOption) (keys : List KeyData) (tree : ColumnTree) (a b : ColumnData) → IsColumn options keys tree a
     → IsColumn options keys tree b → a ≡ b

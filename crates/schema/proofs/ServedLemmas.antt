@@ -13,7 +13,7 @@ use Rattle.create_trees.specs.declared.create.TableOption.{TableOption}
 use Rattle.schema.proofs.ListLemmas.{all_from_map, any_at}
 use Rattle.schema.specs.Created.{AreColumns, AreOptions, IsNamedIn, IsServedIn, IsTable}
 use Rattle.schema.specs.Names.{AreDistinct, IsSameName}
-use Rattle.schema.specs.TableData.{TableData}
+use Rattle.tables.specs.TableData.{TableData}
 
 -- one of the trees has what one of the columns has
 pub any_of_map : {X Y : Type 0} (P : X → Type 0) (f : Y → X) (ys : List Y) → Any (λ y. P (f y)) ys → Any P (map f ys)

@@ -4,7 +4,7 @@ use Rattle.std.specs.List.{AllZip, Any}
 use Rattle.create_trees.specs.CreateTrees.{ConstraintTree, ColumnTree, IndexedColumnTree, TableConstraintTree, TableTree}
 use Rattle.declared_keys.specs.Keys.{KeyData, keys_of}
 use Rattle.schema.specs.Missing.{IsMissing}
-use Rattle.schema.specs.TableData.{ColumnData, RowKeyData, TableData}
+use Rattle.tables.specs.TableData.{ColumnData, RowKeyData, TableData}
 use Rattle.create_trees.specs.declared.create.KeyOrder.TheVariants.{Ascending}
 use Rattle.syntax.specs.Tree.{Name}
 use Rattle.create_trees.specs.declared.create.TableOption.{TableOption}

@@ -1,10 +1,6 @@
-pub mod TableData
-pub mod MissingView
-pub mod RowKeyView
 pub mod Missing
 pub mod Names
 pub mod Types
 pub mod Created
 pub mod Rows
 pub mod Refused
-pub mod ColumnTypes

@@ -3,7 +3,7 @@
 use Rattle.std.specs.Prelude.{◌≡◌, ◌⊎◌, ℤ, pos, negsuc, neg_ℤ, All, List, ◌∷◌, ◌++◌}
 use Rattle.values.specs.Datum.{Datum}
 use Rattle.create_trees.specs.CreateTrees.{ConstraintTree, DefaultTree}
-use Rattle.schema.specs.TableData.{MissingData}
+use Rattle.tables.specs.TableData.{MissingData}
 
 -- a number behind a minus, which has no sign itself
 abbrev pub negated : ℤ → MissingData

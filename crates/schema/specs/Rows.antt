@@ -7,7 +7,7 @@ use Rattle.create_reader.specs.CreateGrammar.{SpellsCreate}
 use Rattle.phrases.specs.Texts.{IsWithin}
 use Rattle.syntax.specs.Tree.{Name}
 use Rattle.create_trees.specs.CreateTrees.{TableTree, columns_of_table}
-use Rattle.schema.specs.TableData.{TableData}
+use Rattle.tables.specs.TableData.{TableData}
 use Rattle.schema.specs.Names.{AreDistinct, IsSameName}
 use Rattle.schema.specs.Created.{IsTable}
 

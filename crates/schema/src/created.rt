@@ -8,18 +8,18 @@ ghost use Rattle.schema.specs.Created as spec;
 ghost use Rattle.schema.specs.Created.{AreServed, IsColumn, IsNotNull, IsServed, IsTable};
 ghost use Rattle.schema.specs.Names.{AreDistinct, IsReserved, IsSameName};
 ghost use Rattle.schema.specs.Refused.{IsRefused};
-ghost use Rattle.schema.specs.TableData.{ColumnData};
+ghost use Rattle.tables.specs.TableData.{ColumnData};
 
 use crate::keys::{are_keys, is_in_primary, is_rowid, row_key};
 use crate::missing::missing_by;
 use crate::served::{are_options, constraints_are_served};
 use crate::types::type_of;
-use crate::{Column, Table};
 use create_trees::{
     Column as ColumnDefinition, ColumnConstraint, CreateTable, KeyOrder, TableOption,
 };
 use declared_keys::{Key, keys_of};
 use std::alloc::Global;
+use tables::{Column, Table};
 use values::Fault;
 
 /// What the name of an object begins with that only SQLite makes.
@@ -139,12 +139,8 @@ fn column_from(
         constraints,
     } = definition;
     let ty = type_of(&ty)?;
-    Some(Column {
-        name,
-        ty,
-        not_null,
-        missing: missing_by(constraints),
-    })
+    let missing = missing_by(constraints);
+    Some(Column::new(name, ty, not_null, missing))
 }
 
 /// The columns that the definitions declare, in a table of these options and keys. The fault is `NotYet` where a type isn't
@@ -201,10 +197,5 @@ pub fn table_from(alloc: Global, created: CreateTable, root: u32) -> Result<Tabl
         return Err(Fault::NotYet);
     };
     let columns = columns_from(alloc, options, keys, columns)?;
-    Ok(Table {
-        name,
-        root,
-        columns,
-        key,
-    })
+    Ok(Table::new(name, root, columns, key))
 }

@@ -6,16 +6,16 @@ ghost use Rattle.declared_keys.specs.Keys.{KeyData};
 ghost use Rattle.declared_keys.specs.KeyView.{key_data};
 ghost use Rattle.schema.specs.Created.{AreColumns, AreKeys, Clash, HasColumn, IsKeyOf, IsNamedIn, IsOnlyPrimary, IsRowid, IsRowidPlace, IsRowKey, column_names};
 ghost use Rattle.schema.specs.Names.{AreApart, IsPlaceOf, IsSameName};
-ghost use Rattle.schema.specs.RowKeyView.{row_key_of};
-ghost use Rattle.schema.specs.TableData.{RowKeyData};
+ghost use Rattle.tables.specs.RowKeyView.{row_key_of};
+ghost use Rattle.tables.specs.TableData.{RowKeyData};
 
-use crate::RowKey;
 use crate::created::is_same_name;
 use crate::served::{are_columns, contains, is_rowless};
 use crate::types::is_integer;
 use create_trees::{Column as ColumnDefinition, TableOption};
 use declared_keys::Key;
 use std::alloc::{AllocError, Global};
+use tables::RowKey;
 
 /// Whether these are the same names, in the same order.
 fn are_same(first: &[String], second: &[String]) -> bool

@@ -2,7 +2,7 @@
 ghost use Rattle.std.specs.Prelude.{◌≡◌, ℕ};
 ghost use Rattle.values.specs.Row.{Row};
 ghost use Rattle.schema.specs.Rows.{SaysTable};
-ghost use Rattle.schema.specs.TableData.{TableData};
+ghost use Rattle.tables.specs.TableData.{TableData};
 
 /// A row of the schema says at most one table.
 pub fn one_table()

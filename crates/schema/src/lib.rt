@@ -5,24 +5,18 @@
 //! keys of the same columns, and without DESC, AUTOINCREMENT, and a collation other than BINARY; WITHOUT ROWID, PRIMARY KEY is
 //! its only key, and the rows are found by it.
 //!
-//! The modules, in the order in which data passes them: `row_key` (how rows are found), `table` (tables and columns), `served`
-//! (constraints and options of a table), `keys` (which keys a table may have, the column that is the rowid, and the places of
-//! the PRIMARY KEY), `missing` (what rows that are older than a column have in it), `types` (of columns), `created` (the table
-//! of a text), and `laws`.
+//! The modules, in the order in which data passes them: `served` (constraints and options of a table), `keys` (which keys a table
+//! may have, the column that is the rowid, and the places of the PRIMARY KEY), `missing` (what rows that are older than a column
+//! have in it), `types` (of columns), `created` (the table of a text), and `laws`.
 #![tactic(auto)]
 
 mod created;
 mod keys;
 pub mod laws;
 mod missing;
-mod row_key;
 mod served;
-mod table;
 mod types;
 
 pub use created::{is_same_name, table_from};
-pub use missing::Missing;
-pub use row_key::RowKey;
 pub use served::{is_binary, is_rowless};
-pub use table::{Column, Table};
 pub use types::is_integer;

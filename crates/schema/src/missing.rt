@@ -2,18 +2,11 @@
 ghost use Rattle.std.specs.Prelude.{◌≡◌, map};
 ghost use Rattle.create_trees.specs.CreateView.{constraint_of, default_of};
 ghost use Rattle.schema.specs.Missing.{IsMissing, filled, missing_behind};
-ghost use Rattle.schema.specs.MissingView.{missing_of};
+ghost use Rattle.tables.specs.MissingView.{missing_of};
 
 use create_trees::{ColumnConstraint, DefaultValue};
+use tables::Missing;
 use values::Value;
-
-/// What a row that is older than a column has in it. (CREATE TABLE, "The DEFAULT clause")
-#[derive(Debug, Drop)]
-pub enum Missing {
-    Fill(Value),
-    /// The value of an expression, which isn't computed.
-    Refused,
-}
 
 /// What older rows have by this DEFAULT.
 fn filled_by(value: DefaultValue) -> Missing

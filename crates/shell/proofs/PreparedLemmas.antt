@@ -8,8 +8,8 @@ use Rattle.naming.specs.Statement.{Named}
 use Rattle.query_plans.specs.Answers.{IsPlanFor, IsPlannedOver}
 use Rattle.query_plans.specs.Served.{IsServed}
 use Rattle.resolver.specs.Resolved.{Resolves}
-use Rattle.schema.specs.ColumnTypes.{column_types}
-use Rattle.schema.specs.TableData.{TableData}
+use Rattle.tables.specs.ColumnTypes.{column_types}
+use Rattle.tables.specs.TableData.{TableData}
 use Rattle.statement_texts.specs.StatementTexts.{IsAllowed, IsRefusedStatement, SpellsStatement}
 use Rattle.syntax.specs.StatementTree.{StatementTree}
 use Rattle.shell.specs.Prepared.{IsPreparedFor, Refuses}

@@ -19,8 +19,8 @@ use Rattle.meaning.specs.Typed.{FitTypes}
 use Rattle.meaning.specs.Typed as meant
 use Rattle.meaning.proofs.TypedLemmas.{Permits-typed}
 use Rattle.plans.specs.Plan.{once}
-use Rattle.schema.specs.ColumnTypes.{column_types, types_of}
-use Rattle.schema.specs.TableData.{ColumnData, TableData, schema_table}
+use Rattle.tables.specs.ColumnTypes.{column_types, types_of}
+use Rattle.tables.specs.TableData.{ColumnData, TableData, schema_table}
 use Rattle.stored_rows.specs.Stored.{Fits, FitsColumn}
 use Rattle.table_walk.specs.Checked.{IsStoredTable}
 use Rattle.integrity.specs.Checked.{IsCheckFault}

@@ -4,7 +4,7 @@ use Rattle.std.specs.Io.KnownBytes.{Appends}
 use Rattle.values.specs.Gathered.{Gathering, gathered_facts}
 use Rattle.values.specs.Sink.{SinkFacts, Writes}
 use Rattle.values.proofs.SinkLemmas.{Appends-then}
-use Rattle.schema.specs.TableData.{TableData}
+use Rattle.tables.specs.TableData.{TableData}
 use Rattle.shell.specs.PreparedView.{PreparedData}
 use Rattle.shell.specs.Served.{HasLines, header_text}
 

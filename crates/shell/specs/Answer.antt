@@ -11,8 +11,8 @@ use Rattle.values.specs.Database.{Database}
 use Rattle.meaning.specs.Answer.{Begins, IsStandIn, Permits}
 use Rattle.meaning.specs.Hits.{Hits}
 use Rattle.meaning.specs.Typed.{FitTypes, HasTypes}
-use Rattle.schema.specs.ColumnTypes.{column_types}
-use Rattle.schema.specs.TableData.{TableData}
+use Rattle.tables.specs.ColumnTypes.{column_types}
+use Rattle.tables.specs.TableData.{TableData}
 use Rattle.integrity.specs.Denotes.{Denotes}
 use Rattle.runs.specs.Printed.{Prints, PrintsUntil}
 

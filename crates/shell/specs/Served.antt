@@ -6,7 +6,7 @@ use Rattle.values.specs.Sink.{SinkFacts}
 use Rattle.image.specs.Pages.{pages_of}
 use Rattle.values.specs.Row.{Row}
 use Rattle.explain.specs.Text.{row_text, rows_text}
-use Rattle.schema.specs.TableData.{TableData}
+use Rattle.tables.specs.TableData.{TableData}
 use Rattle.integrity.specs.Denotes.{HasTables}
 use Rattle.shell.specs.Answer.{IsAnswerOver}
 use Rattle.shell.specs.Prepared.{Means}

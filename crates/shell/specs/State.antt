@@ -6,7 +6,7 @@ use Rattle.pager.specs.Header.{IsHeaderFault, IsLeastBroken, KeepsAll, header_of
 use Rattle.pager.specs.PagerState.{IsPageNumber, PagerState}
 use Rattle.pager.specs.Source.{SourceFacts}
 use Rattle.image.specs.Pages.{pages_of}
-use Rattle.schema.specs.TableData.{TableData}
+use Rattle.tables.specs.TableData.{TableData}
 use Rattle.integrity.specs.Checked.{IsBrokenImage, IsCheckCause, IsExamined, IsCheckFault}
 use Rattle.integrity.specs.Denotes.{HasTables}
 

@@ -6,7 +6,7 @@ use Rattle.values.specs.Database.{Database}
 use Rattle.values.specs.Datum.{Datum, datum_of}
 use Rattle.values.specs.Row.{Row}
 use Rattle.image.specs.Pages.{Pages}
-use Rattle.schema.specs.TableData.{TableData}
+use Rattle.tables.specs.TableData.{TableData}
 use Rattle.meaning.specs.Answer.{key_directions, limited, skipped}
 use Rattle.meaning.specs.Body.{Output}
 use Rattle.meaning.specs.Sequence.{keys_cmp}

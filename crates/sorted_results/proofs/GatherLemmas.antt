@@ -7,7 +7,7 @@ use Rattle.values.specs.declared.fault.Fault.TheVariants.{NoMemory, Overflow}
 use Rattle.pager.specs.Calls.{SameImage}
 use Rattle.pager.specs.PagerState.{PagerState}
 use Rattle.image.specs.Pages.{WhereSteady, pages_seen}
-use Rattle.schema.specs.TableData.{TableData}
+use Rattle.tables.specs.TableData.{TableData}
 use Rattle.expr.specs.Meaning.{Overflows, eval}
 use Rattle.expr.specs.Term.{Term}
 use Rattle.meaning.specs.Body.{Output, output}

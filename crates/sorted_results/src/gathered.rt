@@ -27,8 +27,8 @@ use operators::Op;
 use pager::{Pager, Source};
 use plans::Plan;
 use results::{Slice, push_results};
-use schema::Table;
 use std::alloc::{AllocError, Global};
+use tables::Table;
 use values::{Fault, Value};
 
 /// What a SELECT in order computes of the rows of a plan. (SELECT)

@@ -8,7 +8,7 @@ use Rattle.records.specs.declared.fault.RecordFault.TheVariants as r
 use Rattle.image.specs.Cell.{CellData}
 use Rattle.image.specs.Chain.{HasBytes, local}
 use Rattle.image.specs.Pages.{Pages}
-use Rattle.schema.specs.TableData.{TableData}
+use Rattle.tables.specs.TableData.{TableData}
 use Rattle.values.specs.Row.{Row}
 use Rattle.stored_rows.specs.Stored.{IsRowOf, IsRowRecord}
 use Rattle.stored_rows.specs.RowFaults.{HasRecordFault, IsCellFault, IsRecordFault, IsRowFault, fault_of}

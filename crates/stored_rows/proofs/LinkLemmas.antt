@@ -17,7 +17,7 @@ use Rattle.image.proofs.CellLemmas.{one_cell}
 use Rattle.btree.specs.Bytes as bytes
 use Rattle.page_use.specs.Links.{IsPayloadOf, IsPayloadTwice, MarksPayload}
 use Rattle.page_use.specs.Marks.{AreTreeMarks, IsOn}
-use Rattle.schema.specs.TableData.{TableData}
+use Rattle.tables.specs.TableData.{TableData}
 use Rattle.stored_rows.specs.Keys.{IsSeen}
 use Rattle.stored_rows.specs.Links.{AreWithRows, IsOpenLeaf, IsRowTwice, MarksRows, table_tree}
 use Rattle.stored_rows.specs.RowFaults.{AreRowsIn}

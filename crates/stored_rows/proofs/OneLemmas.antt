@@ -21,8 +21,8 @@ use Rattle.image.proofs.CellLemmas.{one_cell}
 use Rattle.image.proofs.ChainLemmas.{one_payload}
 use Rattle.image.proofs.ListLemmas.{cons_cases, in_head, in_none, in_tail}
 use Rattle.image.proofs.TableLemmas.{leaf_place, rowids}
-use Rattle.schema.proofs.OneLemmas.{zip_same}
-use Rattle.schema.specs.TableData.{MissingData, TableData, rowid_of}
+use Rattle.tables.proofs.ZipLemmas.{zip_same}
+use Rattle.tables.specs.TableData.{MissingData, TableData, rowid_of}
 use Rattle.stored_rows.specs.RowFaults.{HasRecordFault, IsCellFault, IsRecordFault}
 use Rattle.stored_rows.specs.Stored.{Fits, HoldsRows, IsNoRow, IsRowFrom, IsRowOf, IsRowRecord, StoresRow, filled_values, row_from}
 use Rattle.stored_rows.proofs.FilledLemmas.{fills_same, none_refused}

@@ -10,7 +10,7 @@ use Rattle.values.specs.Datum.{Datum, datum_of_ref, null, int}
 use Rattle.records.specs.Fields.{AreUnread, Unread}
 use Rattle.records.specs.Record.{IsRecord}
 use Rattle.values.specs.Row.{Row}
-use Rattle.schema.specs.TableData.{ColumnData, MissingData, TableData, rowid_of}
+use Rattle.tables.specs.TableData.{ColumnData, MissingData, TableData, rowid_of}
 use Rattle.stored_rows.specs.Reading.{IsReading, Reading, value_in}
 use Rattle.stored_rows.specs.Stored.{Fits, FitsColumn, IsRowRecord, filled_values, older_values, row_from}
 use Rattle.stored_rows.proofs.FilledLemmas.{behind, drop-all, filled_at, full_filled, length-filled, length-slice_set, not_refused, set_here, set_other, stored_at}

@@ -4,7 +4,7 @@ use Rattle.values.specs.Datum.{Datum, int}
 use Rattle.records.specs.Fields.{AreUnread, Unread}
 use Rattle.records.specs.Record.{IsRecord}
 use Rattle.values.specs.Row.{Row}
-use Rattle.schema.specs.TableData.{TableData}
+use Rattle.tables.specs.TableData.{TableData}
 use Rattle.stored_rows.specs.Stored.{IsRowFrom}
 
 -- the value of a row in a column where its record has this one: the rowid at its place

@@ -16,7 +16,7 @@ use Rattle.image.specs.Pages.{Pages}
 use Rattle.image.specs.Tree.{Place, IsPlaceOf, IsRowAt}
 use Rattle.btree.specs.Bytes as bytes
 use Rattle.values.specs.Row.{Row}
-use Rattle.schema.specs.TableData.{TableData}
+use Rattle.tables.specs.TableData.{TableData}
 use Rattle.stored_rows.specs.Stored.{Fits, IsNoRow, IsRowOf}
 
 -- the bytes are a record, with more values than the table has columns, or without one that isn't known otherwise

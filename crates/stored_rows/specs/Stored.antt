@@ -13,7 +13,7 @@ use Rattle.image.specs.Tree.{Place, IsRowAt, Reaches}
 use Rattle.image.specs.Shape.{HasShape, places_under}
 use Rattle.image.specs.Sound.{AreRowsOf}
 use Rattle.values.specs.Row.{Row}
-use Rattle.schema.specs.TableData.{ColumnData, MissingData, TableData, rowid_of}
+use Rattle.tables.specs.TableData.{ColumnData, MissingData, TableData, rowid_of}
 
 -- The row that a record's values are: at the place of the column that is the rowid stands the rowid, whatever is stored
 -- there.

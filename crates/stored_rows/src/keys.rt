@@ -6,7 +6,7 @@ ghost use Rattle.stored_rows.specs.Keys.{HasCells, HasKeyAt, IsAbove, IsAtMost, 
 
 use btree::PageView;
 use image::Level;
-use schema::Table;
+use tables::Table;
 use values::Fault;
 
 fn is_above(low: Option<i64>, key: i64) -> bool

@@ -14,7 +14,7 @@ use crate::keys::is_within;
 use crate::rows::is_row;
 use btree::{Cell, PageView};
 use image::Level;
-use schema::Table;
+use tables::Table;
 
 /// The rowid of a cell that is a row of a table, whose values are of its columns, and that has the whole of its payload.
 /// `None` says nothing of the cell.

@@ -2,14 +2,14 @@
 ghost use Rattle.std.specs.Prelude.{◌≡◌, ◌<◌, ◌≤◌, IfNone, IfSome, IsFalse, IsTrue, None, Some, length, slice_get};
 ghost use Rattle.values.specs.Datum.{datum_of_ref};
 ghost use Rattle.values.specs.Row.{Row};
-ghost use Rattle.schema.specs.TableData.{rowid_of};
+ghost use Rattle.tables.specs.TableData.{rowid_of};
 ghost use Rattle.stored_rows.specs.Reading.{GoesBack, IsReading};
 ghost use Rattle.stored_rows.specs.Stored.{IsRowRecord};
 
 use crate::rows::older_value;
 use records::FieldReader;
-use schema::Table;
 use std::marker::Model;
+use tables::Table;
 use values::ValueRef;
 
 /// Reads single values of a row in place, and takes no memory. It looks at no more of the record than it is asked for.

@@ -14,16 +14,16 @@ ghost use Rattle.stored_rows.specs.Links.{IsRowTwice, MarksRows};
 ghost use Rattle.stored_rows.specs.Reading.{value_in};
 ghost use Rattle.stored_rows.specs.RowFaults.{AreRowsIn, IsCellFault, IsLeafFault, IsRecordFault, IsRowFault, fault_of};
 ghost use Rattle.records.specs.Record.{IsBadWhere};
-ghost use Rattle.schema.specs.TableData.{IsPlaceIn, MissingData};
+ghost use Rattle.tables.specs.TableData.{IsPlaceIn, MissingData};
 ghost use Rattle.stored_rows.specs.Stored.{Fits, FitsColumn, IsNoRow, IsRowOf, IsRowRecord, filled_values, older_values, row_from};
 
 use btree::{Cell, PageView, payload};
 use pager::{Pager, Source};
 use records::{FieldReader, RecordFault, RecordView};
-use schema::{Column, Missing, Table};
 use std::alloc::{AllocError, Global};
 use std::borrow::CowSlice;
 use std::marker::Model;
+use tables::{Column, Missing, Table};
 use values::{Fault, Row, Ty, ValueRef};
 
 /// What a row that is older than a column of a table has in it; `None` where that isn't known. (ALTER TABLE ADD COLUMN)

@@ -11,7 +11,7 @@ use Rattle.image.specs.Shape.{places_under}
 use Rattle.image.specs.Tree.{Place}
 use Rattle.image.proofs.CellLemmas.{one_cell}
 use Rattle.image.proofs.TableLemmas as table_laws
-use Rattle.schema.specs.TableData.{TableData}
+use Rattle.tables.specs.TableData.{TableData}
 use Rattle.stored_rows.specs.RowFaults.{HasCellFault, IsBrokenTable}
 use Rattle.stored_rows.specs.Stored.{Fits, HoldsRow, HoldsRows, IsRowOf, StoresRow}
 use Rattle.stored_rows.proofs.OneLemmas.{one_stored, unbroken_cell}

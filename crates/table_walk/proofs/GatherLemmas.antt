@@ -18,7 +18,7 @@ use Rattle.cursor.specs.declared.cursor.Cursor.{Cursor}
 use Rattle.cursor.specs.Calls.{HasFailed, HasStepped, IsCursorFault, IsOpenedAt, IsStepFault}
 use Rattle.cursor.specs.Left.{all_left, steps_left}
 use Rattle.cursor.specs.Listing.{IsAt, IsEntry}
-use Rattle.schema.specs.TableData.{TableData}
+use Rattle.tables.specs.TableData.{TableData}
 use Rattle.tree_walk.specs.declared.counts.TreeCounts.{TreeCounts}
 use Rattle.table_walk.specs.Checked.{IsCheckedTree, IsStoredTable}
 use Rattle.stored_rows.specs.RowFaults.{IsCellFault, IsRowFault}

@@ -9,7 +9,7 @@ use Rattle.image.specs.declared.kind.Level.TheVariants.{Leaf}
 use Rattle.image.specs.Pages.{Pages}
 use Rattle.image.specs.Shape.{place_at, places_in, places_under}
 use Rattle.image.specs.Tree.{IsPageOf, StandsAt, child_at, count_at}
-use Rattle.schema.specs.TableData.{TableData}
+use Rattle.tables.specs.TableData.{TableData}
 use Rattle.stored_rows.specs.RowFaults.{AreRowsIn, HasCellFault, IsLeafFault}
 use Rattle.stored_rows.specs.Stored.{HoldsRow}
 use Rattle.stored_rows.specs.Keys.{IsSeen}

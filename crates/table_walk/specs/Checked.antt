@@ -10,7 +10,7 @@ use Rattle.image.specs.Pages.{Pages, WhereSteady}
 use Rattle.image.specs.Shape.{HasShape, most_levels, places_under}
 use Rattle.image.specs.Sound.{IsSoundTable}
 use Rattle.image.specs.Use.{TreeData}
-use Rattle.schema.specs.TableData.{TableData}
+use Rattle.tables.specs.TableData.{TableData}
 use Rattle.stored_rows.specs.Links.{table_tree}
 use Rattle.stored_rows.specs.RowFaults.{IsBrokenTable}
 use Rattle.stored_rows.specs.Stored.{HoldsRow, IsStored}

@@ -13,9 +13,9 @@ use btree::Cell;
 use cursor::Cursor;
 use image::TreeKind;
 use pager::{Pager, Source};
-use schema::Table;
 use std::alloc::Global;
 use stored_rows::{payload_of, read_row};
+use tables::Table;
 use values::{Fault, Row};
 
 /// The row of a table that a cell of page `n` is, with its values in memory of their own.

@@ -21,9 +21,9 @@ use btree::{PageView, view_of};
 use image::{Level, MOST_LEVELS};
 use page_use::use_page;
 use pager::{Pager, Source};
-use schema::Table;
 use std::alloc::Global;
 use stored_rows::{check_rows, is_leaf_of_rows, read_head};
+use tables::Table;
 use tree_walk::{TreeCounts, child_within, counts_of_page, is_uneven, join};
 use values::Fault;
 

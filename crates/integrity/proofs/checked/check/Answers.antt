@@ -13,7 +13,7 @@ use Rattle.catalog.specs.CatalogView.{catalog_data}
 use Rattle.indexes.specs.IndexData.{IndexData}
 use Rattle.indexes.specs.IndexView.{index_data}
 use Rattle.schema.specs.Names.{IsSameName}
-use Rattle.schema.specs.TableData.{HasRowids, TableData}
+use Rattle.tables.specs.TableData.{HasRowids, TableData}
 use Rattle.integrity.specs.declared.index_trees.IndexCounts.{IndexCounts}
 use Rattle.table_walk.specs.Checked.{IsCheckedTree, tree_of}
 use Rattle.integrity.specs.Indexes.{AreBrokenEntries, AreItsEntries, IsBrokenIndexTree, IsCheckedIndexOf}

@@ -1,7 +1,7 @@
 use Rattle.std.proofs.Common.{rules, tests}
 use Rattle.std.proofs.lemmas.Iterator.{YieldsList-from_slice, cases_from_all}
 use Rattle.schema.proofs.ListLemmas.{all_is}
-use Rattle.schema.specs.TableData.{HasRowids}
+use Rattle.tables.specs.TableData.{HasRowids}
 use Rattle.integrity.proofs.checked.have_rowids.Goals as goal
 
 pub returns : goal.returns

@@ -7,7 +7,7 @@ use Rattle.btree.proofs.SeenLemmas.{still_steady, same_pages}
 use Rattle.indexes.specs.IndexData.{IndexData}
 use Rattle.indexes.specs.IndexView.{index_data}
 use Rattle.schema.specs.Names.{IsSameName}
-use Rattle.schema.specs.TableData.{TableData}
+use Rattle.tables.specs.TableData.{TableData}
 use Rattle.index_rows.specs.Checked.{IsCheckedTable}
 use Rattle.integrity.specs.Indexes.{AreBrokenEntries, AreItsEntries, IsCheckedIndexOf}
 use Rattle.integrity.proofs.EntryLemmas.{all_in, index_with}

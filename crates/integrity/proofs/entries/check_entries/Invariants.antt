@@ -4,7 +4,7 @@ use Rattle.pager.specs.Calls.{SameImage}
 use Rattle.image.specs.Pages.{pages_seen}
 use Rattle.indexes.specs.IndexView.{index_data}
 use Rattle.schema.specs.Names.{IsSameName}
-use Rattle.schema.specs.TableData.{TableData}
+use Rattle.tables.specs.TableData.{TableData}
 use Rattle.index_rows.specs.Checked.{IsCheckedTable}
 use Rattle.integrity.specs.Indexes.{AreItsEntries, IsCheckedIndexOf}
 use Rattle.integrity.proofs.ZipLemmas.{AreBeside}

@@ -8,7 +8,7 @@ use Rattle.pager.specs.PagerState.{PagerState}
 use Rattle.image.specs.Pages.{pages_seen, Pages}
 use Rattle.btree.proofs.SeenLemmas.{still_steady, same_pages}
 use Rattle.indexes.specs.IndexView.{index_data}
-use Rattle.schema.specs.TableData.{TableData}
+use Rattle.tables.specs.TableData.{TableData}
 use Rattle.schema.specs.Names.{IsSameName}
 use Rattle.index_rows.specs.Checked.{IsCheckedTable}
 use Rattle.integrity.specs.Indexes.{AreBrokenEntries, AreItsEntries}

@@ -7,7 +7,7 @@ use Rattle.image.specs.Pages.{pages_seen, Pages}
 use Rattle.btree.proofs.SeenLemmas.{still_steady, same_pages}
 use Rattle.table_walk.specs.Checked.{IsCheckedTree, tree_of}
 use Rattle.tree_walk.specs.Used.{IsTreeTwice, MarksTree}
-use Rattle.schema.specs.TableData.{TableData}
+use Rattle.tables.specs.TableData.{TableData}
 use Rattle.integrity.proofs.TreesLemmas.{next_twice, trees_all, trees_more, trees_none}
 use Rattle.stored_rows.specs.RowFaults.{IsBrokenTable}
 use Rattle.stored_rows.proofs.RowLemmas.{all_next, get_at}

@@ -2,7 +2,7 @@ use Rattle.std.proofs.Common.{subst, inl, inr, ⊎_elim}
 use Rattle.std.proofs.lemmas.Result.{err_from_is_err_and}
 use Rattle.image.specs.Pages.{pages_seen}
 use Rattle.btree.proofs.SeenLemmas.{still_steady}
-use Rattle.schema.specs.TableData.{TableData, schema_table}
+use Rattle.tables.specs.TableData.{TableData, schema_table}
 use Rattle.table_walk.specs.Checked.{IsCheckedTree, tree_of}
 use Rattle.integrity.specs.Checked.{schema}
 use Rattle.tree_walk.specs.Used.{IsTreeTwice, MarksTree}

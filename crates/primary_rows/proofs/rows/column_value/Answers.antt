@@ -1,6 +1,6 @@
 use Rattle.std.proofs.Common.{◌∙◌, Some, Option, None, ap, arith, rules}
 use Rattle.std.specs.Prelude.{IfNone, IfSome}
-use Rattle.schema.specs.TableData.{MissingData}
+use Rattle.tables.specs.TableData.{MissingData}
 use Rattle.values.specs.declared.value.ValueRef.{ValueRef}
 use Rattle.stored_rows.proofs.RowLemmas.{get_at}
 use Rattle.primary_rows.proofs.ToldLemmas.{found_at, lacking_at, long_places, place_in}

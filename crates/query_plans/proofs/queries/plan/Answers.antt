@@ -9,8 +9,8 @@ use Rattle.order_keys.specs.KeyView.{key_of}
 use Rattle.order_keys.specs.declared.terms.Key.{Key}
 use Rattle.plan_terms.proofs.OverLemmas.{told}
 use Rattle.meaning.specs.Typed.{IsTyped}
-use Rattle.schema.specs.ColumnTypes.{column_types}
-use Rattle.schema.specs.TableData.{TableData}
+use Rattle.tables.specs.ColumnTypes.{column_types}
+use Rattle.tables.specs.TableData.{TableData}
 use Rattle.query_plans.specs.Answers.{IsPlannedOver, planned_data}
 use Rattle.distinct_results.specs.Permitted.{AreResults}
 use Rattle.query_plans.specs.Made.{HasRowsAlone, IsMade}

@@ -6,8 +6,8 @@ use Rattle.declared_keys.specs.KeyView.{key_data}
 use Rattle.schema.proofs.CreatedLemmas.{columns_are, columns_refused, distinct_names, doubled_refused, key_is, key_within, keyless_refused, keys_are, keys_refused, reserved_refused, served_constraints, unreserved, unserved_refused}
 use Rattle.schema.proofs.ServedLemmas.{options_are, other_options, served_in, unserved_in}
 use Rattle.schema.specs.Created.{AreKeys, IsRowKey}
-use Rattle.schema.specs.RowKeyView.{row_key_of}
-use Rattle.schema.specs.TableData.{RowKeyData}
+use Rattle.tables.specs.RowKeyView.{row_key_of}
+use Rattle.tables.specs.TableData.{RowKeyData}
 use Rattle.schema.proofs.created.table_from.Goals as goal
 use Rattle.schema.proofs.created.table_from.Goals.{
   then-is_reserved-via-else-is_reserved+then-not-are_distinct,
@@ -108,8 +108,8 @@ returns-in_err-columns-clause-refused c =
     (columns_refused c.args.created c.args.created.columns.items refl (map key_data c.as_slice-keys.result.now) keys
     c.as_slice-options.result.now c.as_slice-options.ensures.value c.in_err-columns.field-0.0 c.in_err-columns.ensures.refused)
 
-pub invariant_of-result : goal.invariant_of-result
-invariant_of-result c =
+pub new-requires : goal.new-requires
+new-requires c =
     let keys = ap (map key_data) c.as_slice-keys.ensures.value ∙ c.in_ok-keys.ensures in
     let options = c.as_slice-options.ensures.value in
     let tree = table_of c.args.created in
@@ -125,7 +125,7 @@ pub returns-clause-made : goal.returns-clause-made
 returns-clause-made c =
     let keys = ap (map key_data) c.as_slice-keys.ensures.value ∙ c.in_ok-keys.ensures in
     let options = c.as_slice-options.ensures.value in
-    record {
+    rw c.new.ensures (record {
       name_is = refl;
       unreserved = unreserved c.args.created c.is_reserved.result c.as_str.result.now c.as_str.ensures.value c.is_reserved.ensures
           c.if-is_reserved.false;
@@ -147,4 +147,4 @@ returns-clause-made c =
           c.as_slice-options.result.now options (row_key_of c.in-Some.key)
           (some_found (λ key. IsRowKey c.as_slice-options.result.now (map key_data c.as_slice-keys.result.now) (map column_of c.as_slice-4.result.now) (row_key_of key))
           c.in_ok-key.field-0 c.in-Some.key c.in-Some.is c.in_ok-key.ensures.found);
-    }
+    })

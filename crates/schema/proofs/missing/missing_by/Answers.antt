@@ -1,6 +1,6 @@
 use Rattle.schema.proofs.MissingLemmas.{missing_more}
 use Rattle.schema.proofs.missing.missing_by.Goals as goal
-use Rattle.schema.specs.MissingView.{missing_of}
+use Rattle.tables.specs.MissingView.{missing_of}
 
 pub loop-constraint-preserved : goal.loop-constraint-preserved
 loop-constraint-preserved c =

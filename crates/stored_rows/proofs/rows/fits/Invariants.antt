@@ -1,6 +1,6 @@
 use Rattle.std.proofs.Common.{◌≡◌, ◌<◌, ℕ, slice_get, Some}
 use Rattle.values.specs.Datum.{Datum}
-use Rattle.schema.specs.TableData.{ColumnData}
+use Rattle.tables.specs.TableData.{ColumnData}
 use Rattle.stored_rows.specs.Stored.{FitsColumn}
 use Rattle.stored_rows.proofs.rows.fits.Given as goal
 

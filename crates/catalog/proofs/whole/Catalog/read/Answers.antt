@@ -2,7 +2,7 @@ use Rattle.std.proofs.Common.{◌≡◌, ◌≤◌, All, Bool, MatchBool, map, s
 use Rattle.std.specs.List.{Any}
 use Rattle.indexes.specs.IndexView.{index_data}
 use Rattle.schema.specs.Rows.{SaysTable}
-use Rattle.schema.specs.TableData.{TableData}
+use Rattle.tables.specs.TableData.{TableData}
 use Rattle.catalog.specs.Keyed.{HasRows, LacksRow, tables_in}
 use Rattle.catalog.specs.KeyedView.{keyed_data}
 use Rattle.catalog.specs.Refused.{IsBadSchema}

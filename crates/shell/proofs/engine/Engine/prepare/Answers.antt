@@ -1,7 +1,7 @@
 use Rattle.std.proofs.Common.{◌∙◌, List, rules, ap, subst, sym, inl, inr, ⊎_elim}
 use Rattle.std.proofs.lemmas.Result.{err_from_is_err_and}
-use Rattle.schema.specs.ColumnTypes.{column_types}
-use Rattle.schema.specs.TableData.{TableData}
+use Rattle.tables.specs.ColumnTypes.{column_types}
+use Rattle.tables.specs.TableData.{TableData}
 use Rattle.meaning.specs.Query.{QueryData}
 use Rattle.meaning.specs.Typed.{IsTyped}
 use Rattle.query_plans.specs.Answers.{IsPlanFor}

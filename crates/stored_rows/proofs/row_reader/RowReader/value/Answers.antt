@@ -1,6 +1,6 @@
 use Rattle.std.proofs.Common.{◌∙◌, ap, refl, sym}
 use Rattle.values.specs.Datum.{datum_of_ref}
-use Rattle.schema.specs.TableData.{TableData, rowid_of}
+use Rattle.tables.specs.TableData.{TableData, rowid_of}
 use Rattle.stored_rows.specs.Reading.{Reading}
 use Rattle.stored_rows.proofs.ReadingLemmas.{IsBehind, IsStoredAt, older_found, older_none, value_stored}
 use Rattle.stored_rows.proofs.row_reader.RowReader.value.Goals as goal

@@ -1,5 +1,5 @@
 use Rattle.std.proofs.Common.{rules, inr, length, ◌≤◌}
-use Rattle.schema.specs.TableData.{MissingData}
+use Rattle.tables.specs.TableData.{MissingData}
 use Rattle.stored_rows.proofs.FilledLemmas.{contains_at, filled_all, filled_more}
 use Rattle.stored_rows.proofs.rows.RowView.filled.Goals as goal
 

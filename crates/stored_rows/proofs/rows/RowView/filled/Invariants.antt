@@ -1,6 +1,6 @@
 use Rattle.std.proofs.Common.{◌≡◌, map, take}
 use Rattle.values.specs.Datum.{datum_of_ref}
-use Rattle.schema.specs.TableData.{MissingData}
+use Rattle.tables.specs.TableData.{MissingData}
 use Rattle.stored_rows.specs.Stored.{filled_values}
 use Rattle.stored_rows.proofs.rows.RowView.filled.Given as goal
 

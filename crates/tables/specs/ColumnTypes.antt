@@ -1,7 +1,7 @@
 -- The types of the columns of tables.
 use Rattle.std.specs.Prelude.{List, map}
 use Rattle.values.specs.declared.value.Ty.{Ty}
-use Rattle.schema.specs.TableData.{TableData}
+use Rattle.tables.specs.TableData.{TableData}
 
 abbrev pub types_of : TableData → List Ty
 types_of table = map (λ c. c.ty) table.columns

@@ -1,8 +1,8 @@
 -- What the program's missing values are.
 use Rattle.values.specs.Datum.{datum_of}
-use Rattle.schema.specs.TableData.{MissingData}
-use Rattle.schema.specs.declared.missing.Missing.{Missing}
-use Rattle.schema.specs.declared.missing.Missing.TheVariants as m
+use Rattle.tables.specs.TableData.{MissingData}
+use Rattle.tables.specs.declared.missing.Missing.{Missing}
+use Rattle.tables.specs.declared.missing.Missing.TheVariants as m
 
 abbrev pub missing_of : Missing → MissingData
 missing_of (m.Fill value) = MissingData.Fill (datum_of value)

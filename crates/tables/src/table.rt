@@ -1,8 +1,8 @@
 //! Tables and their columns.
-ghost use Rattle.std.specs.Prelude.{◌≡◌, ◌↔◌, IfOk, IsTrue, length};
-ghost use Rattle.schema.specs.MissingView.{missing_of};
-ghost use Rattle.schema.specs.RowKeyView.{row_key_of};
-ghost use Rattle.schema.specs.TableData.{HasRowids, IsKeyWithin, IsPlaceIn, nullable, rowid_of, schema_table};
+ghost use Rattle.std.specs.Prelude.{◌≡◌, ◌↔◌, IfOk, IsTrue, length, string_bytes};
+ghost use Rattle.tables.specs.MissingView.{missing_of};
+ghost use Rattle.tables.specs.RowKeyView.{row_key_of};
+ghost use Rattle.tables.specs.TableData.{HasRowids, IsKeyWithin, IsPlaceIn, nullable, rowid_of, schema_table};
 
 use crate::{Missing, RowKey};
 use std::alloc::{AllocError, Global};
@@ -12,16 +12,16 @@ use values::Ty;
 /// A column of a table. (STRICT Tables)
 #[derive(Debug, Drop)]
 pub struct Column {
-    pub(crate) name: String,
-    pub(crate) ty: Ty,
-    pub(crate) not_null: bool,
-    pub(crate) missing: Missing,
+    name: String,
+    ty: Ty,
+    not_null: bool,
+    missing: Missing,
 }
 
 impl Model for Column {
     ghost use Rattle.std.specs.Prelude.{string_bytes};
-    ghost use Rattle.schema.specs.MissingView.{missing_of};
-    ghost use Rattle.schema.specs.TableData.{ColumnData};
+    ghost use Rattle.tables.specs.MissingView.{missing_of};
+    ghost use Rattle.tables.specs.TableData.{ColumnData};
 
     ghost Value = { ColumnData };
 
@@ -29,6 +29,18 @@ impl Model for Column {
 }
 
 impl Column {
+    /// A column of this name and type, whose values may be NULL or not, with what a row that is older than it has in it.
+    pub fn new(name: String, ty: Ty, not_null: bool, missing: Missing) -> Column
+        ensures { result ≡ record { name = string_bytes name; ty = ty; not_null = not_null; missing = missing_of missing } }
+    {
+        Column {
+            name,
+            ty,
+            not_null,
+            missing,
+        }
+    }
+
     /// A column whose values may be NULL, and which no row lacks.
     fn nullable(alloc: Global, name: &str, ty: Ty) -> Result<Column, AllocError>
         ensures { IfOk result (λ column. column ≡ nullable name.now ty) }
@@ -74,16 +86,16 @@ impl Column {
 /// A table of the image. (CREATE TABLE)
 #[derive(Debug, Drop)]
 pub struct Table {
-    pub(crate) name: String,
-    pub(crate) root: u32,
-    pub(crate) columns: Vec<Column>,
-    pub(crate) key: RowKey,
+    name: String,
+    root: u32,
+    columns: Vec<Column>,
+    key: RowKey,
 }
 
 impl Model for Table {
     ghost use Rattle.std.specs.Prelude.{length, map, string_bytes};
-    ghost use Rattle.schema.specs.RowKeyView.{row_key_of};
-    ghost use Rattle.schema.specs.TableData.{IsKeyWithin, TableData};
+    ghost use Rattle.tables.specs.RowKeyView.{row_key_of};
+    ghost use Rattle.tables.specs.TableData.{IsKeyWithin, TableData};
 
     ghost Value = { TableData };
 
@@ -93,6 +105,19 @@ impl Model for Table {
 }
 
 impl Table {
+    /// A table of this name, with the page at the root of its tree, its columns, and how its rows are found.
+    pub fn new(name: String, root: u32, columns: Vec<Column>, key: RowKey) -> Table
+        requires { IsKeyWithin (row_key_of key) (length columns.items) }
+        ensures { result ≡ record { name = string_bytes name; root = root; columns = columns.items; key = row_key_of key } }
+    {
+        Table {
+            name,
+            root,
+            columns,
+            key,
+        }
+    }
+
     /// The table in which each object of the schema has a row. (The Schema Table)
     pub fn schema(alloc: Global) -> Result<Table, AllocError>
         ensures { IfOk result (λ table. table ≡ schema_table) }

@@ -1,7 +1,7 @@
 -- What the program's ways to find rows are.
-use Rattle.schema.specs.TableData.{RowKeyData}
-use Rattle.schema.specs.declared.row_key.RowKey.{RowKey}
-use Rattle.schema.specs.declared.row_key.RowKey.TheVariants as k
+use Rattle.tables.specs.TableData.{RowKeyData}
+use Rattle.tables.specs.declared.row_key.RowKey.{RowKey}
+use Rattle.tables.specs.declared.row_key.RowKey.TheVariants as k
 
 abbrev pub row_key_of : RowKey → RowKeyData
 row_key_of (k.Rowid place) = RowKeyData.Rowid place

@@ -1,0 +1,4 @@
+pub mod TableData
+pub mod MissingView
+pub mod RowKeyView
+pub mod ColumnTypes
