@@ -1,5 +1,5 @@
 -- The plan of a SELECT's FROM and WHERE. (SELECT, "Determination of input data" and "WHERE clause filtering")
-use Rattle.std.specs.Prelude.{◌≡◌, ◌<◌, All, ℕ, List, [], ◌∷◌, ◌++◌, if◌then◌else◌, map, Option, IsPermutation}
+use Rattle.std.specs.Prelude.{◌≡◌, ◌<◌, All, ℕ, List, [], ◌∷◌, ◌++◌, false, if◌then◌else◌, map, Option, IsPermutation}
 use Rattle.std.specs.List.{AllZip, range_with_len}
 use Rattle.values.specs.Database.{Database}
 use Rattle.values.specs.Datum.{Datum}
@@ -37,15 +37,19 @@ pub record IsSplit (columns : List ℕ) (condition : Term) (constants tests : Li
   pub constants_are : AreTestsOf [] constants bare
   pub tests_are : AreTestsOf columns tests others
 
+-- the rows of a plan on which these conditions are true
+abbrev pub tested : List Term → PlanData → PlanData
+tested [] plan = plan
+tested (test ∷ tests) plan = PlanData.kept plan (test ∷ tests)
+
 -- one row of no values, where these conditions are true
 abbrev pub tested_once : List Term → PlanData
-tested_once [] = once
-tested_once (test ∷ tests) = PlanData.kept once (test ∷ tests)
+tested_once tests = tested tests once
 
 -- The plan of one table: what needs no column is tested before the table is read.
 abbrev pub one_table : ℕ → List ℕ → List Term → List Term → PlanData
 one_table at columns constants tests =
-    joined (tested_once constants) (record { table = at; columns = columns; tests = tests })
+    joined (tested_once constants) (record { table = at; columns = columns; tests = tests; padded = false })
 
 -- a SELECT's condition, where its inner queries have been answered
 abbrev pub condition_of : Datum → Database → From → Select → Term

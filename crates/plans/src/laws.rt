@@ -2,8 +2,8 @@
 ghost use Rattle.std.specs.Prelude.{◌≡◌, [], ◌∷◌};
 ghost use Rattle.values.specs.Datum.{Datum};
 ghost use Rattle.meaning.specs.Examples.{items};
-ghost use Rattle.plans.specs.Examples.{example_sizes, is_seven, nothing_kept, sevens, sevens_rows, sold, sold_rows};
-ghost use Rattle.plans.specs.JoinPlan.{JoinHits, JoinIsWhere};
+ghost use Rattle.plans.specs.Examples.{example_sizes, is_seven, nothing_kept, padded, padded_rows, sevens, sevens_rows, sold, sold_rows};
+ghost use Rattle.plans.specs.JoinPlan.{InnerInTurn, JoinHits, JoinIsBag, JoinIsWhere};
 ghost use Rattle.plans.specs.Plan.{rows_of, work};
 ghost use Rattle.plans.specs.Stands.{KeptIsWhere, NothingIsWhere, OneTableHits, OneTableIsWhere, OneTableWorks, StandsFor, StandsForItself};
 
@@ -26,18 +26,26 @@ pub fn one_table_is_where()
     ensures work { OneTableWorks }
 {}
 
-/// The plan of inner joins of tables has exactly the rows of FROM and WHERE, in the order in which the tables are nested. It hits
-/// nothing that the SELECT doesn't hit.
+/// The plan of inner and LEFT joins of tables has exactly the rows of FROM and WHERE, in the order in which the tables are nested,
+/// which is a row's pairs or else its NULLs behind those of the row before. So the two are one bag. It hits nothing that the SELECT
+/// doesn't hit.
 pub fn joins_are_where()
     ensures rows { JoinIsWhere }
+    ensures bag { JoinIsBag }
     ensures hits { JoinHits }
 {}
 
-/// A table of four rows, whose third column is compared and may be NULL; a condition that is false without a row; and a
-/// second table behind the first.
+/// Of inner joins alone the rows of FROM are in that order.
+pub fn inner_joins_are_in_turn()
+    ensures { InnerInTurn }
+{}
+
+/// A table of four rows, whose third column is compared and may be NULL; a condition that is false without a row; a
+/// second table behind the first; and one that is padded.
 pub fn examples()
     ensures stands { StandsFor (0 ∷ 2 ∷ []) (is_seven 1) (is_seven 2) }
     ensures sevens { (w : Datum) → (rows_of w items sevens ≡ sevens_rows) × (work w items example_sizes sevens ≡ 5) }
     ensures nothing { (w : Datum) → (rows_of w items nothing_kept ≡ []) × (work w items example_sizes nothing_kept ≡ 0) }
+    ensures padded { (w : Datum) → (rows_of w items padded ≡ padded_rows) × (work w items example_sizes padded ≡ 17) }
     ensures sold { (w : Datum) → (rows_of w items sold ≡ sold_rows) × (work w items example_sizes sold ≡ 11) }
 {}

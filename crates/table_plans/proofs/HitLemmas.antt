@@ -1,6 +1,7 @@
 -- What a plan and expressions on its rows reach, the SELECT can reach.
-use Rattle.std.proofs.Common.{◌≡◌, ◌∙◌, Any, Contains, List, ℕ, [], ◌∷◌, ◌++◌, map, None, sym, ap, subst}
+use Rattle.std.proofs.Common.{◌≡◌, ◌∙◌, Contains, List, ℕ, [], ◌∷◌, ◌++◌, map, None, sym, ap, subst}
 use Rattle.std.specs.List.{AllZip}
+use Rattle.std.proofs.lemmas.List.Sorted.{Contains-permutation, IsPermutation-sym}
 use Rattle.values.specs.Database.{Database}
 use Rattle.values.specs.Datum.{Datum}
 use Rattle.values.specs.Row.{Row}
@@ -22,7 +23,7 @@ use Rattle.plan_terms.specs.Over.{StandsOver}
 use Rattle.table_plans.specs.Input.{input_from, seen}
 use Rattle.table_plans.specs.Laws.{ColumnsAreHit, PlanIsHit}
 use Rattle.table_plans.specs.declared.inputs.Input as i
-use Rattle.table_plans.proofs.RowLemmas.{columns_say, plan_has_rows}
+use Rattle.table_plans.proofs.RowLemmas.{columns_say, plan_has_bag}
 
 pub plan_is_hit : PlanIsHit
 plan_is_hit w db s terms input read plan wide of hits = join_hits w db s terms (input_from input) read plan wide of hits
@@ -51,7 +52,8 @@ pub columns_are_hit : ColumnsAreHit
 columns_are_hit w db s terms es input read plan wide ungrouped windowless of stand any =
     let from = input_from input in
     let here = any_held (Reaches es) (rows_of w db plan) any in
-    let row = from_map (seen input read) (where_rows w db from s) here.0 (subst (λ rows. Contains rows here.0) (plan_has_rows w db s input read plan wide of) here.1) in
+    let row = from_map (seen input read) (where_rows w db from s) here.0 (Contains-permutation (rows_of w db plan) (map (seen input read) (where_rows w db from s)) here.0
+    (IsPermutation-sym (map (seen input read) (where_rows w db from s)) (rows_of w db plan) (plan_has_bag w db s input read plan wide of)) here.1) in
     let reach : Reaches (map (filled (answers_in w db from)) (s.columns ++ terms)) row.0 =
     terms_reach (seen input read row.0) row.0 es (map (filled (answers_in w db from)) (s.columns ++ terms))
     (say_all w db s input read row.0 row.1 es (s.columns ++ terms) stand) (subst (Reaches es) (sym row.2) here.2) in

@@ -1,5 +1,5 @@
 -- What the plan of a SELECT's FROM and WHERE has and reaches.
-use Rattle.std.specs.Prelude.{◌≡◌, ◌⊎◌, ◌++◌, All, Any, Contains, false, ℕ, List, [], map, None, Option}
+use Rattle.std.specs.Prelude.{◌≡◌, ◌⊎◌, ◌++◌, All, Any, Contains, false, ℕ, List, [], map, None, Option, IsPermutation}
 use Rattle.std.specs.List.{AllZip}
 use Rattle.std.specs.List.Sorted.{IsStrictlyIncreasing}
 use Rattle.values.specs.Database.{Database}
@@ -11,12 +11,12 @@ use Rattle.expr.specs.Term.{Term}
 use Rattle.meaning.specs.Body.{answers_in}
 use Rattle.meaning.specs.Hits.{FromHits, SelectHits, where_rows}
 use Rattle.meaning.specs.Query.{From, Select}
-use Rattle.plans.specs.JoinPlan.{AreWideBefore}
+use Rattle.plans.specs.JoinPlan.{AreWideBefore, where_in_turn}
 use Rattle.plans.specs.Plan.{Hits, PlanData, Reaches, rows_of}
 use Rattle.plan_terms.specs.Over.{IsOver, StandsOver}
 use Rattle.table_plans.specs.declared.inputs.Input as i
 use Rattle.table_plans.specs.Input.{input_from, seen}
-use Rattle.table_plans.specs.InnerJoins.{AreInnerJoins}
+use Rattle.table_plans.specs.TableJoins.{AreTableJoins}
 use Rattle.table_plans.specs.Parted.{AreParted}
 use Rattle.table_plans.specs.Planned.{AreOnOver, IsPlanOver, on_terms}
 
@@ -24,14 +24,20 @@ use Rattle.table_plans.specs.Planned.{AreOnOver, IsPlanOver, on_terms}
 abbrev pub ColumnsAreParted : Type 0
 ColumnsAreParted = (from : From) (read : List ℕ) → IsStrictlyIncreasing read → AreParted from read
 
--- where each ON of inner joins stands over the columns that are read, it does so over those of the tables up to its own
+-- where each ON stands over the columns that are read, it does so over those of the tables up to its own
 abbrev pub OnIsOver : Type 0
-OnIsOver = (from : From) (read : List ℕ) → AreInnerJoins from → All (IsOver read 0) (on_terms from) → AreOnOver read from
+OnIsOver = (from : From) (read : List ℕ) → AreTableJoins from → All (IsOver read 0) (on_terms from) → AreOnOver read from
 
--- where its tables hold what FROM says of them, the rows of FROM that WHERE keeps, as they are seen
+-- where its tables hold what FROM says of them, the rows of FROM that WHERE keeps, as they are seen, in the order in which the
+-- tables are nested
 abbrev pub PlanHasRows : Type 0
 PlanHasRows = (w : Datum) (db : Database) (s : Select) (input : i.Input) (read : List ℕ) (plan : PlanData) → AreWideBefore db (input_from input)
-    → IsPlanOver input read s.condition plan → rows_of w db plan ≡ map (seen input read) (where_rows w db (input_from input) s)
+    → IsPlanOver input read s.condition plan → rows_of w db plan ≡ map (seen input read) (where_in_turn w db (input_from input) s)
+
+-- so in some order they are the SELECT's
+abbrev pub PlanHasBag : Type 0
+PlanHasBag = (w : Datum) (db : Database) (s : Select) (input : i.Input) (read : List ℕ) (plan : PlanData) → AreWideBefore db (input_from input)
+    → IsPlanOver input read s.condition plan → IsPermutation (map (seen input read) (where_rows w db (input_from input) s)) (rows_of w db plan)
 
 -- what the plan hits, the SELECT hits
 abbrev pub PlanIsHit : Type 0

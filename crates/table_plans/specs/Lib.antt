@@ -1,5 +1,5 @@
 pub mod Input
-pub mod InnerJoins
+pub mod TableJoins
 pub mod Parted
 pub mod Planned
 pub mod Laws

@@ -1,20 +1,21 @@
 //! What holds of the definitions alone.
-ghost use Rattle.table_plans.specs.Laws.{ColumnsAreHit, ColumnsAreParted, ColumnsSay, OnIsOver, PlanHasRows, PlanIsHit};
+ghost use Rattle.table_plans.specs.Laws.{ColumnsAreHit, ColumnsAreParted, ColumnsSay, OnIsOver, PlanHasBag, PlanHasRows, PlanIsHit};
 
 /// Columns in their order are parted before each table.
 pub fn columns_are_parted()
     ensures { ColumnsAreParted }
 {}
 
-/// Where each ON of inner joins stands over the columns that are read, it does so over those of the tables up to its own.
+/// Where each ON stands over the columns that are read, it does so over those of the tables up to its own.
 pub fn conditions_are_over()
     ensures { OnIsOver }
 {}
 
-/// The plan of a SELECT's FROM and WHERE has the rows of FROM that WHERE keeps, as they are seen, and what it reaches the SELECT
-/// can reach.
+/// The plan of a SELECT's FROM and WHERE has the rows of FROM that WHERE keeps, as they are seen, in the order in which the tables
+/// are nested; and what it reaches the SELECT can reach.
 pub fn plan_has_rows()
     ensures rows { PlanHasRows }
+    ensures bag { PlanHasBag }
     ensures hits { PlanIsHit }
 {}
 

@@ -1,10 +1,10 @@
-//! The plan of FROM and WHERE of a SELECT of tables that are joined by inner joins, or of none. It promises that a SELECT stands on
-//! such tables exactly where its FROM says so; and that its plan has the rows of FROM that WHERE keeps, seen through the columns
-//! that are read, that it reaches nothing that the SELECT can't reach, and that each condition is tested as soon as its columns
-//! are read, and one that names no column before any table is opened.
+//! The plan of FROM and WHERE of a SELECT of tables that are joined by inner and LEFT joins, or of none. It promises that a SELECT
+//! stands on such tables exactly where its FROM says so; and that its plan has the rows of FROM that WHERE keeps, seen through the
+//! columns that are read, that it reaches nothing that the SELECT can't reach, that each condition is tested as soon as its columns
+//! are read, one that names no column before any table is opened, and ON of a LEFT JOIN at its table alone.
 //!
 //! The modules, in the order in which data passes them: `inputs` (what a SELECT stands on), `columns` (those of tables side by
-//! side), `early` (conditions that need the first of them alone), `tables` (the plan) and `laws` of the definitions.
+//! side), `early` (conditions that need the first of them alone, and where each is tested), `tables` (the plan) and `laws` of the definitions.
 #![tactic(auto)]
 
 mod columns;

@@ -1,4 +1,4 @@
-use Rattle.plans.proofs.ExampleLemmas.{nothing_shows, seven_stands, sevens_show, sold_shows}
+use Rattle.plans.proofs.ExampleLemmas.{nothing_shows, padded_shows, seven_stands, sevens_show, sold_shows}
 use Rattle.plans.proofs.laws.examples.Goals as goal
 
 pub returns-clause-stands : goal.returns-clause-stands
@@ -12,3 +12,6 @@ returns-clause-nothing c = nothing_shows
 
 pub returns-clause-sold : goal.returns-clause-sold
 returns-clause-sold c = sold_shows
+
+pub returns-clause-padded : goal.returns-clause-padded
+returns-clause-padded c = padded_shows
