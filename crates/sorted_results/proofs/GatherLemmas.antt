@@ -10,6 +10,7 @@ use Rattle.image.specs.Pages.{WhereSteady, pages_seen}
 use Rattle.tables.specs.TableData.{TableData}
 use Rattle.expr.specs.Meaning.{Overflows, eval}
 use Rattle.expr.specs.Term.{Term}
+use Rattle.meaning.specs.Answer.{key_directions}
 use Rattle.meaning.specs.Body.{Output, output}
 use Rattle.meaning.specs.Hits.{key_terms, order_terms}
 use Rattle.meaning.specs.Query.{Key}
@@ -29,6 +30,8 @@ use Rattle.results.specs.Slices.{sliced}
 use Rattle.results.proofs.SliceLemmas.{none_sliced}
 use Rattle.results.proofs.StreamLemmas.{GivesFirst, PassesFirst}
 use Rattle.sorted_results.specs.declared.keys.Key.{Key as SKey}
+use Rattle.sorted_results.specs.declared.first_outputs.FirstOutputs.{FirstOutputs}
+use Rattle.sorted_results.specs.FirstView.{KeepsFirst}
 use Rattle.sorted_results.specs.KeyView.{key_data, key_term}
 use Rattle.sorted_results.specs.Sorted.{outputs_over}
 
@@ -73,24 +76,27 @@ slice_whole first last done given all =
 
 -- ---- rows that are gathered
 
--- of the rows to come these outputs were made, and the others are still to come
-abbrev pub Gathering : PagerState → List TableData → Op → Op → Row → List Term → List Key → List Output → PagerState → Type 0
-Gathering start tables first op row columns order outputs now =
+-- of the rows to come the outputs of some were made, of which the first are kept, and the others are still to come
+abbrev pub Gathering : PagerState → List TableData → Op → Op → Row → List Term → List Key → FirstOutputs → PagerState → Type 0
+Gathering start tables first op row columns order kept now =
     WhereSteady start (λ pages. (on : Basis) (rows : List Row) (ahead : ℕ) → AreStored pages tables on → IsLeft pages tables on first [] rows ahead
     → All (Contains (rows_of on.w on.db on.plan)) rows
-    → (rest : List Row) × (left : ℕ) × IsLeft pages tables on op row rest left × (outputs_over on.w columns order rows ≡ outputs ++ outputs_over on.w columns order rest)
-    × All (Contains (rows_of on.w on.db on.plan)) rest × Asks on.local start ahead now left)
+    → (made : List Output) × (rest : List Row) × (left : ℕ) × IsLeft pages tables on op row rest left
+    × (outputs_over on.w columns order rows ≡ made ++ outputs_over on.w columns order rest)
+    × All (Contains (rows_of on.w on.db on.plan)) rest × Asks on.local start ahead now left × KeepsFirst (key_directions order) kept made)
 
-pub Gathering-start : (start : PagerState) (tables : List TableData) (op : Op) (columns : List Term) (order : List Key) → Gathering start tables op op [] columns order [] start
-Gathering-start start tables op columns order steady on rows ahead has left among = (rows, ahead, left, refl, among, Asks-none on.local start ahead)
+pub Gathering-start : (start : PagerState) (tables : List TableData) (op : Op) (columns : List Term) (order : List Key) (kept : FirstOutputs)
+    → KeepsFirst (key_directions order) kept [] → Gathering start tables op op [] columns order kept start
+Gathering-start start tables op columns order kept none steady on rows ahead has left among =
+    ([], rows, ahead, left, refl, among, Asks-none on.local start ahead, none)
 
-module _ (start now : PagerState) (image : SameImage start now) (tables : List TableData) (first op : Op) (row : Row) (columns : List Term) (order : List Key) (outputs : List Output)
-    (keeps : Gathering start tables first op row columns order outputs now)
+module _ (start now : PagerState) (image : SameImage start now) (tables : List TableData) (first op : Op) (row : Row) (columns : List Term) (order : List Key) (kept : FirstOutputs)
+    (keeps : Gathering start tables first op row columns order kept now)
     (steady : IsTrue start.source.steady) (on : Basis) (rows : List Row) (ahead : ℕ) (has : AreStored (pages_seen start) tables on)
     (left : IsLeft (pages_seen start) tables on first [] rows ahead) (among : All (Contains (rows_of on.w on.db on.plan)) rows) where
-  here : (rest : List Row) × (left : ℕ) × IsLeft (pages_seen start) tables on op row rest left
-      × (outputs_over on.w columns order rows ≡ outputs ++ outputs_over on.w columns order rest)
-      × All (Contains (rows_of on.w on.db on.plan)) rest × Asks on.local start ahead now left
+  here : (made : List Output) × (rest : List Row) × (left : ℕ) × IsLeft (pages_seen start) tables on op row rest left
+      × (outputs_over on.w columns order rows ≡ made ++ outputs_over on.w columns order rest)
+      × All (Contains (rows_of on.w on.db on.plan)) rest × Asks on.local start ahead now left × KeepsFirst (key_directions order) kept made
   here = keeps steady on rows ahead has left among
 
   -- what is said of the rows that the operator has to give
@@ -99,26 +105,26 @@ module _ (start now : PagerState) (image : SameImage start now) (tables : List T
       → Then on
   gather_says Then says =
       at_start start now image (λ pages. (on : Basis) (rows : List Row) (more : ℕ) → AreStored pages tables on → IsLeft pages tables on op row rows more → Then on) says steady
-      on here.0 here.1 has here.2
+      on here.1 here.2 has here.3
 
   module _ (new : Op) (after : Row) (then : PagerState) where
     abbrev pub CallsOp : Bool → Type 0
     CallsOp found = WhereSteady now (Called tables op new found row after now then)
 
     -- all were gathered
-    pub gathered_all : CallsOp false → (outputs ≡ outputs_over on.w columns order rows) × Asks on.local start ahead then 0
+    pub gathered_all : CallsOp false → KeepsFirst (key_directions order) kept (outputs_over on.w columns order rows) × Asks on.local start ahead then 0
     gathered_all called =
-        let none = at_start start now image (Called tables op new false row after now then) called steady on here.0 here.1 has here.2 in (
-          sym (append-nil outputs) ∙ ap (λ rest. outputs ++ outputs_over on.w columns order rest) (sym none.rest_is) ∙ sym here.3,
-          Asks-then on.local start ahead now here.1 then 0 here.5 none.asks,
-        )
+        let none = at_start start now image (Called tables op new false row after now then) called steady on here.1 here.2 has here.3 in
+        let whole : here.0 ≡ outputs_over on.w columns order rows =
+        sym (append-nil here.0) ∙ ap (λ rest. here.0 ++ outputs_over on.w columns order rest) (sym none.rest_is) ∙ sym here.4 in
+        (subst (KeepsFirst (key_directions order) kept) whole here.7, Asks-then on.local start ahead now here.2 then 0 here.6 none.asks)
 
     module _ (called : CallsOp true) where
-      given : GivesNext on.local now here.1 then here.0 after (IsLeft (pages_seen start) tables on new after)
-      given = at_start start now image (Called tables op new true row after now then) called steady on here.0 here.1 has here.2
+      given : GivesNext on.local now here.2 then here.1 after (IsLeft (pages_seen start) tables on new after)
+      given = at_start start now image (Called tables op new true row after now then) called steady on here.1 here.2 has here.3
 
       all_among : All (Contains (rows_of on.w on.db on.plan)) (after ∷ given.later)
-      all_among = subst (λ (rows : List Row). All (Contains (rows_of on.w on.db on.plan)) rows) given.rest_is here.4
+      all_among = subst (λ (rows : List Row). All (Contains (rows_of on.w on.db on.plan)) rows) given.rest_is here.5
 
       -- an expression on the row has no value
       pub output_cause : (terms : List Term) (e : Fault) → (e ≡ Overflow) ⊎ (e ≡ NoMemory) → (e ≡ Overflow → Reaches terms after) → IsResultCause on terms e
@@ -127,17 +133,20 @@ module _ (start now : PagerState) (image : SameImage start now) (tables : List T
       output_cause terms e (inr is) reaches = inl (inr is)
 
       -- an output more
-      pub gathered_more : (more : Output) → more ≡ output (eval on.w) order (term_values (eval on.w) columns after) after
-          → (rest : List Row) × (left : ℕ) × IsLeft (pages_seen start) tables on new after rest left
-          × (outputs_over on.w columns order rows ≡ (outputs ++ more ∷ []) ++ outputs_over on.w columns order rest)
-          × All (Contains (rows_of on.w on.db on.plan)) rest × Asks on.local start ahead then left
-      gathered_more more is = (
+      pub gathered_more : (more : Output) (then_kept : FirstOutputs) → more ≡ output (eval on.w) order (term_values (eval on.w) columns after) after
+          → ((all : List Output) → KeepsFirst (key_directions order) kept all → KeepsFirst (key_directions order) then_kept (all ++ more ∷ []))
+          → (made : List Output) × (rest : List Row) × (left : ℕ) × IsLeft (pages_seen start) tables on new after rest left
+          × (outputs_over on.w columns order rows ≡ made ++ outputs_over on.w columns order rest)
+          × All (Contains (rows_of on.w on.db on.plan)) rest × Asks on.local start ahead then left × KeepsFirst (key_directions order) then_kept made
+      gathered_more more then_kept is goes_on = (
+        here.0 ++ more ∷ [],
         given.later,
         given.left,
         given.is_left,
-        here.3 ∙ ap (λ rest. outputs ++ outputs_over on.w columns order rest) given.rest_is
-            ∙ ap (λ one. outputs ++ (one ∷ outputs_over on.w columns order given.later)) (sym is)
-            ∙ sym (append_assoc outputs (more ∷ []) (outputs_over on.w columns order given.later)),
+        here.4 ∙ ap (λ rest. here.0 ++ outputs_over on.w columns order rest) given.rest_is
+            ∙ ap (λ one. here.0 ++ (one ∷ outputs_over on.w columns order given.later)) (sym is)
+            ∙ sym (append_assoc here.0 (more ∷ []) (outputs_over on.w columns order given.later)),
         All-tail (Contains (rows_of on.w on.db on.plan)) after given.later all_among,
-        Asks-then on.local start ahead now here.1 then given.left here.5 given.asks,
+        Asks-then on.local start ahead now here.2 then given.left here.6 given.asks,
+        goes_on here.0 here.7,
       )

@@ -1,3 +1,5 @@
 pub mod KeyView
+pub mod Firsts
+pub mod FirstView
 pub mod Sorted
 pub mod Permitted

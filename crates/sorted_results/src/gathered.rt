@@ -7,7 +7,8 @@ ghost use Rattle.pager.specs.PagerState.{IsPageNumber};
 ghost use Rattle.image.specs.Pages.{WhereSteady};
 ghost use Rattle.expr.specs.Meaning.{eval};
 ghost use Rattle.expr.specs.View.{term};
-ghost use Rattle.meaning.specs.Body.{output};
+ghost use Rattle.meaning.specs.Answer.{key_directions, limited, skipped};
+ghost use Rattle.meaning.specs.Body.{Output as OutputData, output};
 ghost use Rattle.meaning.specs.Hits.{order_terms};
 ghost use Rattle.meaning.specs.Valuation.{term_values};
 ghost use Rattle.plans.specs.Plan.{Reaches, rows_of, work};
@@ -16,12 +17,13 @@ ghost use Rattle.scan.specs.Coming.{Asks};
 ghost use Rattle.operators.specs.Basis.{AreStored, Basis, IsOperatorFault};
 ghost use Rattle.operators.specs.Left.{IsLeft, IsPlanOf, plan_of};
 ghost use Rattle.results.specs.Coming.{IsResultCause};
-ghost use Rattle.results.specs.Slices.{sliced};
+ghost use Rattle.results.specs.Slices.{at_most, sliced};
+ghost use Rattle.sorted_results.specs.Firsts.{BeginsAll, comes_before};
 ghost use Rattle.sorted_results.specs.KeyView.{key_data, output_data};
 ghost use Rattle.sorted_results.specs.Sorted.{IsSortedAnswer, outputs_over, sorted_data};
 
+use crate::first_outputs::FirstOutputs;
 use crate::keys::{Key, Output, values_of};
-use crate::order::sort;
 use expr::Expr;
 use operators::Op;
 use pager::{Pager, Source};
@@ -55,7 +57,17 @@ fn output_of(alloc: Global, columns: &[Expr], order: &[Key], row: &[Value]) -> R
     Ok(Output { row: shown, keys })
 }
 
-/// An output for each row that an operator still has to give.
+/// How many rows in order LIMIT and OFFSET look at, if not all. (SELECT, "The LIMIT clause")
+fn rows_looked_at(limit: Option<i64>, offset: i64) -> Option<usize>
+    ensures { (outputs : List OutputData) → limited limit (skipped offset (at_most result outputs)) ≡ limited limit (skipped offset outputs) }
+{
+    match limit {
+        Some(limit) if limit >= 0 => Some(limit as usize + offset.max(0) as usize),
+        _ => None,
+    }
+}
+
+/// An output for each row that an operator still has to give, of which the first in order are kept.
 fn gather<S: Source>(
     alloc: Global,
     pager: &mut Pager<S>,
@@ -63,13 +75,15 @@ fn gather<S: Source>(
     op: Op,
     columns: &[Expr],
     order: &[Key],
+    most: Option<usize>,
 ) -> Result<Vec<Output>, Fault>
     requires roots { All (λ table. IsPageNumber pager.old.state table.root) tables.now }
     requires planned { IsPlanOf tables.now (plan_of op) }
     ensures rows { WhereSteady pager.old.state (λ pages. (on : Basis) (rows : List Row) (ahead : ℕ) → AreStored pages tables.now on
         → IsLeft pages tables.now on op [] rows ahead → All (Contains (rows_of on.w on.db on.plan)) rows
         → MatchResult result
-        (λ outputs. (map output_data outputs.items ≡ outputs_over on.w (map term columns.now) (map key_data order.now) rows)
+        (λ outputs. BeginsAll (comes_before (key_directions (map key_data order.now))) most (map output_data outputs.items)
+        (outputs_over on.w (map term columns.now) (map key_data order.now) rows)
         × Asks on.local pager.old.state ahead pager.new.state 0)
         (IsResultCause on (map term columns.now ++ order_terms (map key_data order.now)))) }
     ensures only { IfErr result IsOperatorFault }
@@ -77,11 +91,12 @@ fn gather<S: Source>(
 {
     let mut op = op;
     let mut row = Vec::new(alloc);
-    let mut outputs = Vec::new(alloc);
+    let mut first = FirstOutputs::new(alloc, most);
     'rows: while op.next(alloc, pager, tables, &mut row)? {
         let output = output_of(alloc, columns, order, row.as_slice())?;
-        outputs.push(output)?;
+        first.push(order, output)?;
     }
+    let outputs = first.in_order(order)?;
     Ok(outputs)
 }
 
@@ -122,16 +137,16 @@ pub fn sorted_rows<S: Source>(
     ensures reads { ReadsPages result pager.old.state pager.new.state }
 {
     let op = Op::open(alloc, &selection.plan)?;
-    let order = selection.order.as_slice();
-    let mut outputs = gather(
+    let most = rows_looked_at(selection.limit, selection.offset);
+    let outputs = gather(
         alloc,
         pager,
         tables,
         op,
         selection.columns.as_slice(),
-        order,
+        selection.order.as_slice(),
+        most,
     )?;
-    sort(order, &mut outputs)?;
     let slice = Slice::new(selection.limit, selection.offset);
     let rows = shown_rows(alloc, outputs, slice)?;
     Ok(rows)

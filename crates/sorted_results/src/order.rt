@@ -3,7 +3,7 @@ ghost use Rattle.std.specs.Prelude.{◌≡◌, IsPermutation, OnOk, map};
 ghost use Rattle.std.specs.List.Sorted.{IsSortedByKey};
 ghost use Rattle.values.specs.Datum.{datum_of};
 ghost use Rattle.meaning.specs.Answer.{key_directions};
-ghost use Rattle.meaning.specs.Sequence.{directed_cmp, keys_cmp, null_rank, value_at};
+ghost use Rattle.meaning.specs.Sequence.{directed_cmp, keys_cmp, value_at};
 ghost use Rattle.query_trees.specs.SelectView.{direction_of};
 ghost use Rattle.sorted_results.specs.KeyView.{key_data};
 
@@ -11,30 +11,8 @@ use crate::keys::{Key, Output};
 use std::alloc::AllocError;
 use std::cmp::Ordering;
 use syntax::Direction;
-use values::{Value, compare};
-
-/// Where NULL stands beside other values.
-#[tactic(auto, unfolding(expr::specs::Operations::is_null))]
-fn rank(nulls_first: bool, value: &Value) -> u8
-    ensures { result ≡ null_rank nulls_first (datum_of value.now) }
-{
-    match value {
-        Value::Null if nulls_first => 0,
-        Value::Null => 2,
-        _ => 1,
-    }
-}
-
-/// Two values by a direction: NULLs first or last, and the others ascending or descending. (SELECT, "The ORDER BY clause")
-fn compare_by(direction: Direction, a: &Value, b: &Value) -> Ordering
-    ensures { result ≡ directed_cmp (direction_of direction) (datum_of a.now) (datum_of b.now) }
-{
-    match rank(direction.nulls_first, a).cmp(&rank(direction.nulls_first, b)) {
-        Ordering::Equal if direction.descending => compare(b, a),
-        Ordering::Equal => compare(a, b),
-        order => order,
-    }
-}
+use values::Value;
+use window_order::compare_by;
 
 /// The values at a place of two rows by a direction; past its end a row has NULLs.
 pub fn compare_at(direction: Direction, a: &[Value], b: &[Value], at: usize) -> Ordering
@@ -49,7 +27,7 @@ pub fn compare_at(direction: Direction, a: &[Value], b: &[Value], at: usize) -> 
 }
 
 /// Rows of keys by the first value in which they differ, each by its direction.
-fn compare_keys(order: &[Key], a: &[Value], b: &[Value]) -> Ordering
+pub(crate) fn compare_keys(order: &[Key], a: &[Value], b: &[Value]) -> Ordering
     ensures { result ≡ keys_cmp (key_directions (map key_data order.now)) (map datum_of a.now) (map datum_of b.now) }
 {
     for at in 0..order.len() {
