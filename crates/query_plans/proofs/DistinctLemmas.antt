@@ -1,6 +1,5 @@
 -- ORDER BY behind DISTINCT, term by term.
-use Rattle.std.proofs.Common.{◌≡◌, ◌∙◌, ◌+◌, ◌<◌, MatchOption, Contains, ℕ, List, [], ◌∷◌, ◌++◌, get_or, length, map, take, Option, None, Some, sym, ap, subst}
-use Rattle.std.specs.Prelude.{⊤}
+use Rattle.std.proofs.Common.{◌≡◌, ◌∙◌, ◌+◌, ◌<◌, Contains, ℕ, List, [], ◌∷◌, ◌++◌, get_or, length, map, take, sym, ap, subst}
 use Rattle.std.proofs.lemmas.List.{get_or-map, length-map, map-append, map_push, take_more}
 use Rattle.std.proofs.lemmas.List.Elements.{All-contains, All-push, Contains-get_or}
 use Rattle.distinct_results.specs.Permitted.{AreResults, IsResult}
@@ -9,9 +8,6 @@ use Rattle.distinct_results.specs.declared.order.ResultKey.{ResultKey}
 use Rattle.meaning.specs.Query as query
 use Rattle.order_keys.specs.KeyView.{key_of}
 use Rattle.order_keys.specs.declared.terms.Key.{Key}
-use Rattle.query_plans.specs.Answers.{IsPlanFor, PlannedData, planned_data}
-use Rattle.query_plans.specs.declared.planned.Planned.{Planned}
-use Rattle.query_plans.specs.Served.{IsServed}
 
 module _ (order : List Key) (i : ℕ) (key : Key) (within : i < length order) (at : key ≡ get_or order i key) where
   taken : map key_of (take (i + 1) order) ≡ map key_of (take i order) ++ key_of key ∷ []
@@ -34,15 +30,3 @@ module _ (order : List Key) (i : ℕ) (key : Key) (within : i < length order) (a
       (All-contains (λ (k : query.Key). IsResult k.by) (map key_of order) (key_of key) all
       (subst (Contains (map key_of order)) (get_or-map key_of order i key (key_of key) within ∙ ap key_of (sym at))
       (Contains-get_or (map key_of order) i (key_of key) (subst (λ n. i < n) (sym (length-map order key_of)) within))))
-
--- the plan of a SELECT DISTINCT, or none
-pub told_plan : (q : query.QueryData) (Made : PlannedData → Type 0) (P : Type 0) (planned : Option Planned) → (¬ P → ¬ IsServed q)
-    → ((p : PlannedData) → Made p → IsPlanFor q p) → MatchOption planned (¬ P) (λ p. Made (planned_data p))
-    → MatchOption planned (¬ IsServed q) (λ p. IsPlanFor q (planned_data p))
-told_plan q Made P None none made tells = none tells
-told_plan q Made P (Some p) none made tells = made (planned_data p) tells
-
-pub told_over : (Made Over : PlannedData → Type 0) (P : Type 0) (planned : Option Planned) → ((p : PlannedData) → Made p → Over p)
-    → MatchOption planned (¬ P) (λ p. Made (planned_data p)) → MatchOption planned ⊤ (λ p. Over (planned_data p))
-told_over Made Over P None made tells = tt
-told_over Made Over P (Some p) made tells = made (planned_data p) tells

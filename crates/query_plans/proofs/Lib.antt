@@ -1,6 +1,7 @@
 pub mod ReadLemmas
 pub mod TypedLemmas
 pub mod WideLemmas
+pub mod BaseLemmas
 pub mod MadeLemmas
 pub mod OverLemmas
 pub mod ServedLemmas

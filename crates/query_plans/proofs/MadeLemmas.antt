@@ -1,5 +1,5 @@
 -- What a plan answers the query permits, and what it reaches the query can reach.
-use Rattle.std.proofs.Common.{◌≡◌, ◌∙◌, ◌⊎◌, inl, inr, Any, Contains, ℕ, ℤ, pos, false, List, [], ◌∷◌, ◌++◌, append-nil, map, Option, None, refl, sym, ap, subst}
+use Rattle.std.proofs.Common.{◌≡◌, ◌∙◌, ◌⊎◌, inl, inr, ℕ, ℤ, false, List, [], ◌∷◌, ◌++◌, append-nil, map, Option, refl, sym, ap, subst}
 use Rattle.std.specs.List.{AllZip}
 use Rattle.std.proofs.lemmas.List.Elements.{All-head, All-tail}
 use Rattle.values.specs.Database.{Database}
@@ -10,24 +10,24 @@ use Rattle.expr.specs.Term.{Term, column}
 use Rattle.meaning.specs.Answer.{Permits}
 use Rattle.meaning.specs.Body.{answers_in}
 use Rattle.meaning.specs.Hits as meaning
-use Rattle.meaning.specs.Hits.{FromHits, SelectHits, order_terms, where_rows}
-use Rattle.meaning.specs.Query.{Key, KeyTerm, QueryData, Select, always, columns_of_table, only, select, table}
+use Rattle.meaning.specs.Hits.{FromHits, SelectHits, order_terms}
+use Rattle.meaning.specs.Query.{From, Key, KeyTerm, QueryData, Select, columns_of_table, only, select, table}
 use Rattle.meaning.proofs.OneTableLemmas.{scan_is_permitted}
 use Rattle.plan_terms.specs.Over.{StandsOver}
 use Rattle.plans.specs.JoinPlan.{AreWideBefore}
-use Rattle.plans.specs.Plan.{Hits, PlanData, Reaches, rows_of, table_rows}
+use Rattle.plans.specs.Plan.{PlanData}
 use Rattle.distinct_results.specs.Permitted.{AreResults, IsResult}
 use Rattle.distinct_results.proofs.PermittedLemmas as once
-use Rattle.query_plans.specs.Answers.{HitsOf, IsAnswerOf, IsPlanFor, PlanReaches, PlannedData, columns, distinct, rows, sorted, sorted_distinct}
-use Rattle.query_plans.specs.Made.{HasRowsAlone, IsBare, IsMade, IsMadeOver, KeyStandsOver, KeyTermStandsOver}
+use Rattle.query_plans.specs.Answers.{IsAnswerOf, IsPlanFor, PlanReaches, PlannedData, columns, distinct, rows, sorted, sorted_distinct}
+use Rattle.query_plans.proofs.BaseLemmas.{IsBase, base_of}
+use Rattle.query_plans.specs.Made.{IsBare, IsMade, IsMadeOver, KeyStandsOver, KeyTermStandsOver}
 use Rattle.results.specs.Permitted.{SaysOf, SeesRows, computed_rows}
 use Rattle.results.proofs.PermittedLemmas as results
 use Rattle.sorted_results.specs.Permitted.{IsKeyOver, KeySaysOf}
 use Rattle.sorted_results.proofs.PermittedLemmas as ordered
-use Rattle.table_plans.specs.Input.{input_from, seen}
+use Rattle.table_plans.specs.Input.{input_from}
+use Rattle.table_plans.specs.TableJoins.{AreTableJoins}
 use Rattle.table_plans.specs.declared.inputs.Input.{Input}
-use Rattle.table_plans.proofs.HitLemmas.{columns_are_hit, plan_is_hit}
-use Rattle.table_plans.proofs.RowLemmas.{columns_say, plan_has_rows}
 
 zip_append : {A B : Type 0} (R : A → B → Type 0) (xs us : List A) (ys vs : List B) → AllZip R xs ys → AllZip R us vs → AllZip R (xs ++ us) (ys ++ vs)
 zip_append R [] us [] vs left right = right
@@ -60,58 +60,62 @@ no_terms (key ∷ order) all =
     none (KeyTerm.result at) is = refl
     none (KeyTerm.term t) is = absurd is
 
-module _ (w : Datum) (db : Database) (input : Input) (s : Select) (read : List ℕ) where
-  abbrev kept : List Row
-  kept = where_rows w db (input_from input) s
+module _ (w : Datum) (db : Database) (from : From) (s : Select) (shown : List ℕ) (plan : PlanData) (base : IsBase w db from s shown plan) where
+  abbrev computed : List Row
+  computed = computed_rows w db from s
 
   abbrev answers : List (List Datum)
-  answers = answers_in w db (input_from input)
+  answers = answers_in w db from
 
-  say_all : (es ts : List Term) → AllZip (StandsOver read 0) es ts → AllZip (SaysOf (seen input read) kept) es (map (filled answers) ts)
+  say_all : (es ts : List Term) → AllZip (StandsOver shown 0) es ts → AllZip (SaysOf base.seen computed) es (map (filled answers) ts)
   say_all [] [] all = tt
   say_all [] (t ∷ ts) all = absurd all
   say_all (e ∷ es) [] all = absurd all
-  say_all (e ∷ es) (t ∷ ts) all = (columns_say w db s input read e t all.0, say_all es ts all.1)
+  say_all (e ∷ es) (t ∷ ts) all = (base.says e t all.0, say_all es ts all.1)
 
-  key_says : (a b : KeyTerm) → KeyTermStandsOver read a b → KeySaysOf (seen input read) kept answers a b
+  key_says : (a b : KeyTerm) → KeyTermStandsOver shown a b → KeySaysOf base.seen computed answers a b
   key_says (KeyTerm.result m) (KeyTerm.result n) is = is
   key_says (KeyTerm.result m) (KeyTerm.term t) is = is
   key_says (KeyTerm.term e) (KeyTerm.result n) is = is
-  key_says (KeyTerm.term e) (KeyTerm.term t) is = columns_say w db s input read e t is
+  key_says (KeyTerm.term e) (KeyTerm.term t) is = base.says e t is
 
-  keys_say : (keys order : List Key) → AllZip (KeyStandsOver read) keys order → AllZip (IsKeyOver (seen input read) kept answers) keys order
+  keys_say : (keys order : List Key) → AllZip (KeyStandsOver shown) keys order → AllZip (IsKeyOver base.seen computed answers) keys order
   keys_say [] [] all = tt
   keys_say [] (q ∷ order) all = absurd all
   keys_say (k ∷ keys) [] all = absurd all
   keys_say (k ∷ keys) (q ∷ order) all = (record { by = key_says k.by q.by all.0.by; direction = all.0.direction }, keys_say keys order all.1)
 
-module _ (input : Input) (s : Select) (alone : HasRowsAlone s) (order : List Key) (limit : Option ℤ) (offset : ℤ) where
+  -- what the plan has
+  abbrev has_rows : (es : List Term) → AllZip (StandsOver shown 0) es s.columns → SeesRows w db from s plan es
+  has_rows es stand = record { seen = base.seen; rows_are = base.rows_are; columns_are = say_all es s.columns stand }
+
+  -- what the plan or these expressions on its rows reach
+  reached : (terms es us : List Term) → AllZip (StandsOver shown 0) es s.columns → AllZip (StandsOver shown 0) us terms → PlanReaches w db plan (es ++ us)
+      → FromHits w db answers from false ⊎ SelectHits w db from s terms
+  reached terms es us columns_are stand (inl hits) = base.plan_hits terms hits
+  reached terms es us columns_are stand (inr hits) =
+      inr (base.column_hits terms (es ++ us) (zip_append (StandsOver shown 0) es us s.columns terms columns_are stand) hits)
+
+module _ (input : Input) (inner : AreTableJoins (input_from input)) (s : Select) (windowless : s.windows ≡ []) (order : List Key) (limit : Option ℤ) (offset : ℤ) where
   abbrev query : QueryData
   query = record { body = select (input_from input) s; order = order; limit = limit; offset = offset }
 
-  sees : (w : Datum) (db : Database) (plan : PlanData) (es : List Term) → AreWideBefore db (input_from input) → IsMadeOver input s order plan es
-      → SeesRows w db (input_from input) s plan es
-  sees w db plan es wide made =
-      results.sees_where w db (input_from input) s alone.ungrouped alone.windowless plan es (seen input made.read)
-      (plan_has_rows w db s input made.read plan wide made.plan_is) (say_all w db input s made.read es s.columns made.columns_are)
+  base : (w : Datum) (db : Database) (plan : PlanData) (es : List Term) → AreWideBefore db (input_from input) → (made : IsMadeOver input s order plan es)
+      → IsBase w db (input_from input) s made.columns plan
+  base w db plan es wide made = base_of w db s input inner wide windowless made.read made.below made.below_is made.columns plan made.rows_are
 
-  keys_are_over : (w : Datum) (db : Database) (read : List ℕ) (keys : List Key) → AllZip (KeyStandsOver read) keys order
-      → AllZip (IsKeyOver (seen input read) (computed_rows w db (input_from input) s) (answers_in w db (input_from input))) keys order
-  keys_are_over w db read keys stand =
-      subst (λ (rows : List Row). AllZip (IsKeyOver (seen input read) rows (answers_in w db (input_from input))) keys order)
-      (results.where_is_computed w db (input_from input) s alone.ungrouped alone.windowless) (keys_say w db input s read keys order stand)
+  abbrev sees : (w : Datum) (db : Database) (plan : PlanData) (es : List Term) → AreWideBefore db (input_from input) → IsMadeOver input s order plan es
+      → SeesRows w db (input_from input) s plan es
+  sees w db plan es wide made = has_rows w db (input_from input) s made.columns plan (base w db plan es wide made) es made.columns_are
 
   -- what ON reaches, or the expressions of the SELECT
   abbrev IsHit : Datum → Database → List Term → Type 0
   IsHit w db terms = FromHits w db (answers_in w db (input_from input)) (input_from input) false ⊎ SelectHits w db (input_from input) s terms
 
-  -- what the plan or these expressions on its rows reach
   reaches : (w : Datum) (db : Database) (terms es us : List Term) (plan : PlanData) → AreWideBefore db (input_from input)
-      → (made : IsMadeOver input s order plan es) → AllZip (StandsOver made.read 0) us terms → PlanReaches w db plan (es ++ us) → IsHit w db terms
-  reaches w db terms es us plan wide made stand (inl hits) = plan_is_hit w db s terms input made.read plan wide made.plan_is hits
-  reaches w db terms es us plan wide made stand (inr hits) =
-      inr (columns_are_hit w db s terms (es ++ us) input made.read plan wide alone.ungrouped alone.windowless made.plan_is
-      (zip_append (StandsOver made.read 0) es us s.columns terms made.columns_are stand) hits)
+      → (made : IsMadeOver input s order plan es) → AllZip (StandsOver made.columns 0) us terms → PlanReaches w db plan (es ++ us) → IsHit w db terms
+  reaches w db terms es us plan wide made stand hits =
+      reached w db (input_from input) s made.columns plan (base w db plan es wide made) terms es us made.columns_are stand hits
 
   scan_permits : (w : Datum) (db : Database) (at width : ℕ) (places : List ℕ) (answer : List Row) → input_from input ≡ only (table at width) → IsBare s order limit offset
       → s.columns ≡ map column places → IsAnswerOf w db (columns at places) answer → Permits w db query answer
@@ -119,8 +123,8 @@ module _ (input : Input) (s : Select) (alone : HasRowsAlone s) (order : List Key
       let same : columns_of_table at width places ≡ query = λ i. record {
         body = select (sym from_is i) (record {
           condition = sym bare.condition i;
-          grouping = sym alone.ungrouped i;
-          windows = sym alone.windowless i;
+          grouping = sym bare.ungrouped i;
+          windows = sym windowless i;
           columns = sym columns_are i;
           distinct = sym bare.all i;
         });
@@ -138,7 +142,6 @@ module _ (input : Input) (s : Select) (alone : HasRowsAlone s) (order : List Key
       subst (IsHit w db) (sym none) (reaches w db [] es [] plan wide made tt (subst (PlanReaches w db plan) (sym (append-nil es)) hits))
 
   pub made_is_plan : (p : PlannedData) → IsMade input s order limit offset p → IsPlanFor query p
-  unfolding sees
   made_is_plan (columns at places) made = record {
     permits = λ w db answer wide is. scan_permits w db at made.width places answer made.from_is made.bare made.columns_are is;
     hits = λ w db wide none. absurd none;
@@ -159,14 +162,14 @@ module _ (input : Input) (s : Select) (alone : HasRowsAlone s) (order : List Key
         (record { body = refl; all = made.all })
         (record {
           sees = sees w db selection.plan selection.columns wide made.made;
-          order = keys_are_over w db made.made.read selection.order made.order_is;
+          order = keys_say w db (input_from input) s made.made.columns selection.plan (base w db selection.plan selection.columns wide made.made) selection.order order made.order_is;
           limit = made.limit_is;
           offset = made.offset_is;
         })
         is;
     hits = λ w db wide hits.
         reaches w db (order_terms order) selection.columns (order_terms selection.order) selection.plan wide made.made
-        (order_stands made.made.read selection.order order made.order_is) hits;
+        (order_stands made.made.columns selection.order order made.order_is) hits;
   }
   made_is_plan (distinct selection) made = record {
     permits = λ w db answer wide is.

@@ -1,5 +1,5 @@
 -- The tables and columns of a plan of a typed query are the catalog's.
-use Rattle.std.proofs.Common.{◌≡◌, ◌∙◌, ◌+◌, ◌<◌, arith, All, ℕ, ℤ, List, [], ◌∷◌, ◌++◌, length, map, option_map, slice_get, Option, Some, refl, sym, ap, subst}
+use Rattle.std.proofs.Common.{◌≡◌, ◌∙◌, ◌+◌, ◌<◌, arith, All, ℕ, ℤ, List, [], ◌∷◌, ◌++◌, length, map, option_map, slice_get, Option, Some, None, true, sym, ap, subst}
 use Rattle.std.proofs.lemmas.List.{length-map}
 use Rattle.std.proofs.lemmas.List.Elements.{All-cons, All-head, All-nil, All-tail}
 use Rattle.std.proofs.lemmas.Option.{slice_get-map, slice_get_within}
@@ -9,23 +9,23 @@ use Rattle.expr.specs.Conjuncts.{conjuncts}
 use Rattle.expr.specs.Filled.{filled}
 use Rattle.expr.specs.Term.{Term, column}
 use Rattle.meaning.specs.Hits.{order_terms}
-use Rattle.meaning.specs.Query.{From, Key, Select, from_width, joined, nothing, select, source_width, with_inner}
-use Rattle.meaning.specs.Typed.{FromHasTypes, IsTyped}
-use Rattle.operators.specs.Left.{IsNestOf, IsPlanOf}
+use Rattle.meaning.specs.Query.{From, Grouping, JoinKind, Key, Select, Source, from_width, full, inner, joined, nothing, right, select, source_width, table, with_inner}
+use Rattle.meaning.specs.Typed.{FromHasTypes, IsTyped, SourceHasTypes}
+use Rattle.operators.specs.Left.{IsPlanOf}
 use Rattle.plan_terms.proofs.PlacedLemmas.{All-back, All-front}
 use Rattle.plans.specs.JoinPlan.{IsJoinPlan, columns_before}
-use Rattle.plans.specs.Plan.{PlanData}
-use Rattle.plans.specs.Stands.{tested_once}
+use Rattle.plans.specs.Plan.{PlanData, once}
+use Rattle.plans.specs.Stands.{tested}
 use Rattle.plans.proofs.JoinLemmas.{before_within}
 use Rattle.query_plans.specs.Answers.{IsPlannedOver, PlannedData, columns, distinct, rows, sorted, sorted_distinct}
-use Rattle.query_plans.specs.Made.{HasRowsAlone, IsMade, IsMadeOver}
-use Rattle.query_plans.specs.Read.{select_terms, terms_in}
+use Rattle.query_plans.specs.Made.{IsMade, IsMadeOver, IsOverRows}
+use Rattle.query_plans.specs.Read.{row_terms, select_terms, terms_in}
 use Rattle.query_plans.proofs.ReadLemmas.{all_read}
 use Rattle.query_plans.proofs.TypedLemmas.{query_within, source_is}
 use Rattle.tables.specs.ColumnTypes.{column_types, types_of}
 use Rattle.tables.specs.TableData.{TableData}
 use Rattle.table_plans.specs.Input.{input_from}
-use Rattle.table_plans.specs.InnerJoins.{AreInnerJoins}
+use Rattle.table_plans.specs.TableJoins.{AreTableJoins}
 use Rattle.table_plans.specs.Planned.{on_terms}
 use Rattle.table_plans.specs.declared.inputs.Input.{Input}
 
@@ -42,34 +42,49 @@ nest_of tables at row read found within = (
       subst (λ n. All (λ c. c < n) read) (ap length same ∙ length-map table.columns (λ c. c.ty)) within),
 )
 
-once_of : (tables : List TableData) (tests : List Term) → IsPlanOf tables (tested_once tests)
-once_of tables [] = tt
-once_of tables (test ∷ tests) = tt
-
 shifted : (m n : ℕ) (cs : List ℕ) → All (λ c. c < m + n) (map (λ c. m + c) cs) → All (λ c. c < n) cs
 shifted m n [] all = All-nil (λ c. c < n)
 shifted m n (c ∷ cs) all =
     let here : m + c < m + n = All-head (λ c. c < m + n) (m + c) (map (λ c. m + c) cs) all in
     All-cons (λ c. c < n) c cs (omega (arith, here)) (shifted m n cs (All-tail (λ c. c < m + n) (m + c) (map (λ c. m + c) cs) all))
 
+tested_of : (tables : List TableData) (tests : List Term) (plan : PlanData) → IsPlanOf tables plan → IsPlanOf tables (tested tests plan)
+tested_of tables [] plan of = of
+tested_of tables (test ∷ tests) plan of = of
+
+-- a typed table behind such a plan
+nest_over : (tables : List TableData) (m : ℕ) (source : Source) (at width : ℕ) (r : List Ty) (read places : List ℕ) → source ≡ table at width
+    → SourceHasTypes (column_types tables) source r → All (λ c. c < m + source_width source) read → read ≡ columns_before m read ++ map (λ c. m + c) places
+    → (at < length tables) × ((table : TableData) → slice_get tables at ≡ Some table → All (λ c. c < length table.columns) places)
+nest_over tables m source at width r read places same typed within read_is =
+    let table_is = source_is (column_types tables) source at width r same typed in
+    let behind : All (λ c. c < m + source_width source) (map (λ c. m + c) places) =
+    All-back (λ c. c < m + source_width source) (columns_before m read) (map (λ c. m + c) places)
+    (subst (λ cs. All (λ c. c < m + source_width source) cs) read_is within) in
+    nest_of tables at r places table_is.0 (subst (λ n. All (λ c. c < n) places) (sym table_is.1) (shifted m (source_width source) places behind))
+
 -- the plan of typed tables, of which these columns are read
-from_over : (tables : List TableData) (from : From) → AreInnerJoins from → (answers types : List Ty) → FromHasTypes (column_types tables) answers from types
+from_over : (tables : List TableData) (from : From) → (answers types : List Ty) → FromHasTypes (column_types tables) answers from types
     → (read : List ℕ) → All (λ c. c < from_width from) read → (conditions : List Term) (plan : PlanData) → IsJoinPlan read from conditions plan → IsPlanOf tables plan
-from_over tables nothing inner answers types typed read within conditions plan of = subst (IsPlanOf tables) (sym of.plan_is) (once_of tables of.tests)
-from_over tables (joined from kind source on) inner answers types typed read within conditions plan of =
+from_over tables nothing answers types typed read within conditions plan of = subst (IsPlanOf tables) (sym of.plan_is) (tested_of tables of.tests once tt)
+from_over tables (joined from inner source on) answers types typed read within conditions plan of =
     let m = from_width from in
-    let table_is = source_is (column_types tables) kind source typed.1 (record { at = of.at; width = of.width; kind_is = of.kind_is; source_is = of.source_is }) typed.3 in
-    let behind : All (λ c. c < m + source_width source) (map (λ c. m + c) of.columns) =
-    All-back (λ c. c < m + source_width source) (columns_before m read) (map (λ c. m + c) of.columns)
-    (subst (λ cs. All (λ c. c < m + source_width source) cs) of.read_is within) in
-    let nested : All (λ c. c < length typed.1) of.columns =
-    subst (λ n. All (λ c. c < n) of.columns) (sym table_is.1) (shifted m (source_width source) of.columns behind) in
-    let nest = nest_of tables of.at typed.1 of.columns table_is.0 nested in
+    let nest = nest_over tables m source of.at of.width typed.1 read of.columns of.source_is typed.3 within of.read_is in
     subst (IsPlanOf tables) (sym of.plan_is) (
-      from_over tables from inner.0 answers typed.0 typed.2 (columns_before m read) (before_within m read) of.early of.left of.before,
+      from_over tables from answers typed.0 typed.2 (columns_before m read) (before_within m read) of.early of.left of.before,
       record { table = nest.0; columns = nest.1 },
     )
-from_over tables (with_inner from query) inner answers types typed read within conditions plan of = absurd inner
+from_over tables (joined from JoinKind.left source on) answers types typed read within conditions plan of =
+    let m = from_width from in
+    let nest = nest_over tables m source of.at of.width typed.1 read of.columns of.source_is typed.3 within of.read_is in
+    subst (IsPlanOf tables) (sym of.plan_is)
+    (tested_of tables of.above (PlanData.joined of.left (record { table = of.at; columns = of.columns; tests = of.tests; padded = true })) (
+      from_over tables from answers typed.0 typed.2 (columns_before m read) (before_within m read) of.early of.left of.before,
+      record { table = nest.0; columns = nest.1 },
+    ))
+from_over tables (joined from right source on) answers types typed read within conditions plan of = absurd of
+from_over tables (joined from full source on) answers types typed read within conditions plan of = absurd of
+from_over tables (with_inner from query) answers types typed read within conditions plan of = absurd of
 
 -- columns alone
 places_within : (n : ℕ) (places : List ℕ) → All (λ t. All (λ c. c < n) (columns_of t)) (map column places) → All (λ c. c < n) places
@@ -79,36 +94,43 @@ places_within n (c ∷ places) all =
     (All-head (λ c. c < n) c [] (All-head (λ t. All (λ c. c < n) (columns_of t)) (column c) (map column places) all))
     (places_within n places (All-tail (λ t. All (λ c. c < n) (columns_of t)) (column c) (map column places) all))
 
-module _ (tables : List TableData) (s : Select) (alone : HasRowsAlone s) (order : List Key) (limit : Option ℤ) (offset : ℤ) where
+module _ (tables : List TableData) (s : Select) (windowless : s.windows ≡ []) (order : List Key) (limit : Option ℤ) (offset : ℤ) where
   abbrev IsTypedOver : Input → Type 0
   IsTypedOver input = IsTyped (column_types tables) (record { body = select (input_from input) s; order = order; limit = limit; offset = offset })
 
-  -- what is read behind FROM and WHERE
-  plan_over : (input : Input) (plan : PlanData) (es : List Term) → AreInnerJoins (input_from input) → IsTypedOver input → IsMadeOver input s order plan es → IsPlanOf tables plan
-  plan_over input plan es inner typed made =
+  -- what is read behind FROM and WHERE, and groups of it
+  rows_over : (read : List ℕ) (grouping : Option Grouping) (below : PlanData) (known : List ℕ) (plan : PlanData) → IsOverRows read grouping below known plan
+      → IsPlanOf tables below → IsPlanOf tables plan
+  rows_over read None below known plan over of = subst (IsPlanOf tables) (sym over.1) of
+  rows_over read (Some g) below known plan over of = subst (IsPlanOf tables) (sym over.1.plan_is) of
+
+  plan_over : (input : Input) (plan : PlanData) (es : List Term) → AreTableJoins (input_from input) → IsTypedOver input → IsMadeOver input s order plan es → IsPlanOf tables plan
+  plan_over input plan es joins typed made =
       let from = input_from input in
-      let within = query_within (column_types tables) from inner s alone order limit offset typed.0 typed.1 in
+      let within = query_within (column_types tables) from joins s windowless order limit offset typed.0 typed.1 in
       let body = typed.1.body in
-      from_over tables from inner body.0 body.1 body.3 made.read
+      rows_over made.read s.grouping made.below made.columns plan made.rows_are
+      (from_over tables from body.0 body.1 body.3 made.read
       (all_read (λ c. c < from_width from) made.read (terms_in from s order) made.are_read within)
-      (conjuncts (filled [] s.condition)) plan made.plan_is
+      (conjuncts (filled [] s.condition)) made.below made.below_is)
 
   -- columns alone
-  pub made_over : (input : Input) (p : PlannedData) → AreInnerJoins (input_from input) → IsMade input s order limit offset p → IsTypedOver input → IsPlannedOver tables p
-  made_over input (rows selection) inner made typed = plan_over input selection.plan selection.columns inner typed made.made
-  made_over input (sorted selection) inner made typed = plan_over input selection.plan selection.columns inner typed made.made
-  made_over input (distinct selection) inner made typed = plan_over input selection.plan selection.columns inner typed made.made
-  made_over input (sorted_distinct selection) inner made typed = plan_over input selection.plan selection.columns inner typed made.made
-  made_over input (columns at places) inner made typed =
+  pub made_over : (input : Input) (p : PlannedData) → AreTableJoins (input_from input) → IsMade input s order limit offset p → IsTypedOver input → IsPlannedOver tables p
+  made_over input (rows selection) joins made typed = plan_over input selection.plan selection.columns joins typed made.made
+  made_over input (sorted selection) joins made typed = plan_over input selection.plan selection.columns joins typed made.made
+  made_over input (distinct selection) joins made typed = plan_over input selection.plan selection.columns joins typed made.made
+  made_over input (sorted_distinct selection) joins made typed = plan_over input selection.plan selection.columns joins typed made.made
+  made_over input (columns at places) joins made typed =
       let from = input_from input in
-      let within = query_within (column_types tables) from inner s alone order limit offset typed.0 typed.1 in
+      let within = query_within (column_types tables) from joins s windowless order limit offset typed.0 typed.1 in
       let one = subst (λ from. IsTyped (column_types tables) (record { body = select from s; order = order; limit = limit; offset = offset })) made.from_is typed in
       let source = one.1.body.3 in
       let named : All (λ t. All (λ c. c < from_width from) (columns_of t)) (map column places) =
       subst (λ ts. All (λ t. All (λ c. c < from_width from) (columns_of t)) ts) made.columns_are
       (All-front (λ t. All (λ c. c < from_width from) (columns_of t)) s.columns (order_terms order)
-      (All-tail (λ t. All (λ c. c < from_width from) (columns_of t)) s.condition (s.columns ++ order_terms order)
-      (All-front (λ t. All (λ c. c < from_width from) (columns_of t)) (select_terms s order) (on_terms from) within))) in
+      (subst (λ grouping. All (λ t. All (λ c. c < from_width from) (columns_of t)) (row_terms grouping (s.columns ++ order_terms order))) made.bare.ungrouped
+      (All-tail (λ t. All (λ c. c < from_width from) (columns_of t)) s.condition (row_terms s.grouping (s.columns ++ order_terms order))
+      (All-front (λ t. All (λ c. c < from_width from) (columns_of t)) (select_terms s order) (on_terms from) within)))) in
       let wide : from_width from ≡ 0 + made.width = ap from_width made.from_is in
       let same : made.width ≡ length source.1 = source.3.1 in
       let long : from_width from ≡ length source.1 = omega (arith, wide, same) in

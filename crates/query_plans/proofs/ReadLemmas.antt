@@ -1,5 +1,5 @@
 -- What a query names is read, and nothing else.
-use Rattle.std.proofs.Common.{◌≡◌, ◌∙◌, ◌↔◌, ◌+◌, ◌<◌, ◌≤◌, ◌++◌, append_assoc, append-nil, get_or, take, All, Contains, ℕ, zero, suc, List, [], ◌∷◌, flat_map, length, slice_index_or, refl, sym, ap, subst, arith}
+use Rattle.std.proofs.Common.{◌≡◌, ◌∙◌, ◌↔◌, ◌+◌, ◌<◌, ◌≤◌, ◌++◌, append_assoc, append-nil, get_or, take, All, Contains, ℕ, zero, suc, List, [], ◌∷◌, flat_map, length, sym, ap, subst, arith}
 use Rattle.std.proofs.lemmas.List.Concat.{flat_map-append}
 use Rattle.std.proofs.lemmas.List.Elements.{All-contains, All-contains_itself, All-weaker, Contains-append_left, Contains-append_right}
 use Rattle.expr.specs.Columns.{columns_of}
@@ -9,7 +9,7 @@ use Rattle.plan_terms.specs.Names.{answers_of}
 use Rattle.plan_terms.specs.Over.{IsOver}
 use Rattle.meaning.specs.Hits.{order_terms}
 use Rattle.meaning.specs.Query.{From, Key, Select}
-use Rattle.query_plans.specs.Read.{AreRead, select_terms, terms_in}
+use Rattle.query_plans.specs.Read.{AreRead, row_terms, select_terms, terms_in}
 use Rattle.query_trees.specs.TermView.{term}
 use Rattle.table_plans.specs.Input.{from_of}
 use Rattle.table_plans.specs.Planned.{on_terms}
@@ -44,18 +44,22 @@ all_read P read terms are all =
 
 -- ---- what the code names
 
-pub named_is : (n0 n1 n2 n3 n4 xs ys zs us : List ℕ) → n0 ≡ [] → n1 ≡ n0 ++ xs → n2 ≡ n1 ++ ys → n3 ≡ n2 ++ zs → n4 ≡ n3 ++ us → n4 ≡ (xs ++ (ys ++ zs)) ++ us
-named_is n0 n1 n2 n3 n4 xs ys zs us none first second third fourth =
-    fourth
-    ∙ ap (λ n. n ++ us) (third ∙ ap (λ n. n ++ zs) (second ∙ ap (λ n. n ++ ys) (first ∙ ap (λ n. n ++ xs) none)) ∙ append_assoc xs ys zs)
+-- result columns and then the terms of ORDER BY
+pub computed_named : (columns ordered : List Term) (n0 n1 n2 : List ℕ) → n1 ≡ n0 ++ flat_map columns_of columns → n2 ≡ n1 ++ flat_map columns_of ordered
+    → n2 ≡ n0 ++ flat_map columns_of (columns ++ ordered)
+computed_named columns ordered n0 n1 n2 first second =
+    second ∙ ap (λ n. n ++ flat_map columns_of ordered) first ∙ append_assoc n0 (flat_map columns_of columns) (flat_map columns_of ordered)
+    ∙ ap (λ n. n0 ++ n) (sym (flat_map-append columns_of columns ordered))
+
+pub named_is : (n0 n1 n2 n3 xs ys us : List ℕ) → n0 ≡ [] → n1 ≡ n0 ++ xs → n2 ≡ n1 ++ ys → n3 ≡ n2 ++ us → n3 ≡ (xs ++ ys) ++ us
+named_is n0 n1 n2 n3 xs ys us none first second third = third ∙ ap (λ n. n ++ us) (second ∙ ap (λ n. n ++ ys) (first ∙ ap (λ n. n ++ xs) none))
 
 pub read_of : (from : From) (s : Select) (order : List Key) (named read : List ℕ)
-    → named ≡ (columns_of s.condition ++ (flat_map columns_of s.columns ++ flat_map columns_of (order_terms order))) ++ flat_map columns_of (on_terms from)
+    → named ≡ (columns_of s.condition ++ flat_map columns_of (row_terms s.grouping (s.columns ++ order_terms order))) ++ flat_map columns_of (on_terms from)
     → ((at : ℕ) → Contains read at ↔ Contains named at) → AreRead read (terms_in from s order)
 read_of from s order named read is same at =
     let whole : named ≡ flat_map columns_of (terms_in from s order) =
     is
-    ∙ ap (λ later. (columns_of s.condition ++ later) ++ flat_map columns_of (on_terms from)) (sym (flat_map-append columns_of s.columns (order_terms order)))
     ∙ sym (flat_map-append columns_of (select_terms s order) (on_terms from)) in
     subst (λ n. Contains read at ↔ Contains n at) whole (same at)
 

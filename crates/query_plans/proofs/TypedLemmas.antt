@@ -1,21 +1,27 @@
 -- A typed query names columns of its tables alone.
-use Rattle.std.proofs.Common.{◌≡◌, ◌∙◌, ◌+◌, ◌<◌, All, ℕ, ℤ, List, [], ◌∷◌, ◌++◌, append-nil, length, slice_get, Option, Some, refl, sym, ap, subst}
-use Rattle.std.specs.List.{AllZip}
+use Rattle.std.proofs.Common.{◌≡◌, ◌∙◌, ◌+◌, ◌<◌, ◌≤◌, All, Contains, ℕ, ℤ, List, [], ◌∷◌, ◌++◌, append-nil, length, map, slice_get, zero-add, true, Option, Some, None, refl, sym, ap, subst, arith}
+use Rattle.std.specs.List.{AllZip, range_with_len}
 use Rattle.std.proofs.lemmas.List.{length-append}
-use Rattle.std.proofs.lemmas.List.Elements.{All-append, All-cons, All-nil, All-weaker}
+use Rattle.std.proofs.lemmas.List.Elements.{All-append, All-cons, All-contains_itself, All-nil, All-weaker, Contains-get_or}
+use Rattle.std.proofs.lemmas.List.FromFn.{get_or-range_with_len, length-range_with_len}
 use Rattle.std.proofs.lemmas.Option.{slice_get_within}
 use Rattle.values.specs.declared.value.Ty.{Ty}
 use Rattle.values.specs.declared.value.Ty.TheVariants.{Int, Text}
+use Rattle.distinct_results.specs.Permitted.{IsResult}
 use Rattle.expr.specs.Columns.{columns_of, columns_of_all, columns_of_arms}
 use Rattle.expr.specs.Term.{Term, Terms, Arms, literal, column, call, arithmetic, concat, compare, is, and, or, between, among, coalesce, choice, choice_of, null_if, like, none, answer, more, no_arms, arm}
 use Rattle.expr.specs.Types.{ArmsHaveTypes, HasType, HaveType}
-use Rattle.meaning.specs.Hits.{key_terms, order_terms}
-use Rattle.meaning.specs.Query.{From, JoinKind, Key, KeyTerm, QueryData, Select, Source, from_width, joined, nothing, select, source_width, table, with_inner}
-use Rattle.meaning.proofs.ElementLemmas.{All-flat_map}
-use Rattle.meaning.specs.Typed.{CallHasType, ComputedHasTypes, FromHasTypes, GroupedHasTypes, HasTypes, IsKeyTerm, SourceHasTypes}
-use Rattle.query_plans.specs.Made.{HasRowsAlone}
-use Rattle.query_plans.specs.Read.{select_terms, terms_in}
-use Rattle.table_plans.specs.InnerJoins.{AreInnerJoins, IsInnerTable}
+use Rattle.group_plans.specs.Grouped.{group_columns}
+use Rattle.meaning.specs.Hits.{grouping_terms, key_terms, order_terms}
+use Rattle.meaning.specs.Query.{Aggregate, AggregateFunction, Body, From, Grouping, Key, KeyTerm, QueryData, Select, Source, from_width, joined, nothing, select, source_width, table, with_inner}
+use Rattle.meaning.proofs.ElementLemmas.{All-flat_map, length_all_zip}
+use Rattle.meaning.specs.Typed.{AggregateGives, AggregateHasType, CallHasType, ComputedHasTypes, FromHasTypes, GroupedHasTypes, GroupingHasTypes, HasTypes, IsKeyTerm, IsTermOf, IsTyped, SourceHasTypes}
+use Rattle.plan_terms.specs.Names.{answers_of}
+use Rattle.plan_terms.specs.Over.{IsOver}
+use Rattle.query_plans.specs.Read.{row_terms, select_terms, terms_in}
+use Rattle.query_plans.specs.Laws.{TypedIsServed}
+use Rattle.query_plans.specs.Served.{AreOfGroups}
+use Rattle.table_plans.specs.TableJoins.{AreTableJoins}
 use Rattle.table_plans.specs.Planned.{on_terms}
 use Rattle.table_plans.proofs.OnLemmas.{on_within}
 
@@ -68,6 +74,18 @@ module _ (row answers : List Ty) where
   columns_within (t ∷ terms) (ty ∷ types) all =
       All-cons (λ t. Within (columns_of t)) t terms (term_within t ty all.0) (columns_within terms types all.1)
 
+-- a term that names some of the first columns alone stands over these
+over_range : (n : ℕ) (t : Term) → All (λ c. c < n) (columns_of t) → IsOver (range_with_len 0 n) 0 t
+over_range n t within = record {
+  columns = All-weaker (λ c. c < n) (Contains (range_with_len 0 n)) (λ c low. held c low) (columns_of t) within;
+  answers = All-weaker (Contains (answers_of t)) (λ at. 0 ≤ at) (λ at held. omega arith) (answers_of t) (All-contains_itself (answers_of t));
+}
+  where
+    held : (c : ℕ) → c < n → Contains (range_with_len 0 n) c
+    held c low =
+        subst (Contains (range_with_len 0 n)) (get_or-range_with_len 0 n c 0 low ∙ zero-add c)
+        (Contains-get_or (range_with_len 0 n) c 0 (subst (λ m. c < m) (sym (length-range_with_len 0 n)) low))
+
 -- ---- a query of joined tables
 
 no_calls : (inputs values answers : List Ty) → AllZip (CallHasType answers inputs) [] values → values ≡ []
@@ -76,58 +94,153 @@ no_calls inputs (ty ∷ values) answers all = absurd all
 
 module _ (catalog : List (List Ty)) where
   -- a table of the catalog has as many columns as FROM says
-  pub source_is : (kind : JoinKind) (source : Source) (r : List Ty) → (t : IsInnerTable kind source) → SourceHasTypes catalog source r
-      → (slice_get catalog t.at ≡ Some r) × (length r ≡ source_width source)
-  source_is kind source r t typed =
-      let of = subst (λ (s : Source). SourceHasTypes catalog s r) t.source_is typed in
-      (of.0, sym of.1 ∙ ap source_width (sym t.source_is))
+  pub source_is : (source : Source) (at width : ℕ) (r : List Ty) → source ≡ table at width → SourceHasTypes catalog source r
+      → (slice_get catalog at ≡ Some r) × (length r ≡ source_width source)
+  source_is source at width r same typed =
+      let of = subst (λ (s : Source). SourceHasTypes catalog s r) same typed in
+      (of.0, sym of.1 ∙ ap source_width (sym same))
 
-  pub from_long : (from : From) → AreInnerJoins from → (answers types : List Ty) → FromHasTypes catalog answers from types → length types ≡ from_width from
+  pub from_long : (from : From) → AreTableJoins from → (answers types : List Ty) → FromHasTypes catalog answers from types → length types ≡ from_width from
   from_long nothing inner answers types typed = ap length typed
   from_long (joined from kind source on) inner answers types typed =
       ap length typed.4 ∙ length-append typed.0 typed.1
-      ∙ (λ i. from_long from inner.0 answers typed.0 typed.2 i + (source_is kind source typed.1 inner.1 typed.3).1 i)
+      ∙ (λ i. from_long from inner.0 answers typed.0 typed.2 i + (source_is source inner.1.at inner.1.width typed.1 inner.1.source_is typed.3).1 i)
   from_long (with_inner from query) inner answers types typed = absurd inner
 
-module _ (catalog : List (List Ty)) (from : From) (inner : AreInnerJoins from) (s : Select) (alone : HasRowsAlone s) where
-  -- the result columns are computed on the rows of FROM
-  computed_is : (answers of computed : List Ty) → ComputedHasTypes answers of s computed → computed ≡ of
-  computed_is answers of computed typed =
-      let inputs : typed.inputs ≡ of = subst (λ grouping. GroupedHasTypes answers of grouping typed.inputs) alone.ungrouped typed.grouped in
-      let values : typed.values ≡ [] =
-      no_calls typed.inputs typed.values answers (subst (λ calls. AllZip (CallHasType answers typed.inputs) calls typed.values) alone.windowless typed.windows) in
-      typed.types_are ∙ (λ i. inputs i ++ typed.values) ∙ (λ i. of ++ values i) ∙ append-nil of
+-- how many values the rows have that result columns are computed on, over rows of so many
+abbrev computed_width : Option Grouping → ℕ → ℕ
+computed_width None width = width
+computed_width (Some g) width = length g.by + length g.aggregates
 
-  computed_long : (answers of computed : List Ty) → FromHasTypes catalog answers from of → ComputedHasTypes answers of s computed → length computed ≡ from_width from
-  computed_long answers of computed typed computes = ap length (computed_is answers of computed computes) ∙ from_long catalog from inner answers of typed
+module _ (answers row : List Ty) where
+  -- the arguments of aggregates
+  arguments_within : (aggregates : List Aggregate) (values : List Ty) → AllZip (AggregateHasType answers row) aggregates values
+      → All (λ t. Within row answers (columns_of t)) (map (λ (a : Aggregate). a.argument) aggregates)
+  arguments_within [] [] all = All-nil (λ t. Within row answers (columns_of t))
+  arguments_within [] (ty ∷ values) all = absurd all
+  arguments_within (a ∷ aggregates) [] all = absurd all
+  arguments_within (a ∷ aggregates) (ty ∷ values) all =
+      All-cons (λ t. Within row answers (columns_of t)) a.argument (map (λ (a : Aggregate). a.argument) aggregates) (one a.function a.argument ty all.0)
+      (arguments_within aggregates values all.1)
+    where
+      one : (f : AggregateFunction) (t : Term) (ty : Ty) → AggregateGives answers row f t ty → Within row answers (columns_of t)
+      one AggregateFunction.count t ty gives = term_within row answers t gives.0.0 gives.0.1
+      one AggregateFunction.sum t ty gives = term_within row answers t Int gives.0
+      one AggregateFunction.min t ty gives = term_within row answers t ty gives
+      one AggregateFunction.max t ty gives = term_within row answers t ty gives
+
+  -- GROUP BY and the arguments of aggregates
+  groups_within : (g : Grouping) (types : List Ty) → GroupingHasTypes answers row g types → All (λ t. Within row answers (columns_of t)) (grouping_terms g)
+  groups_within g types typed =
+      All-append (λ t. Within row answers (columns_of t)) g.by (map (λ (a : Aggregate). a.argument) g.aggregates)
+      (columns_within row answers g.by typed.keys typed.by) (arguments_within g.aggregates typed.values typed.aggregates)
+
+  -- the row of a group has a value for each term of GROUP BY and for each aggregate
+  groups_long : (g : Grouping) (types : List Ty) → GroupingHasTypes answers row g types → length types ≡ length g.by + length g.aggregates
+  groups_long g types typed =
+      ap length typed.types_are ∙ length-append typed.keys typed.values
+      ∙ (λ i. sym (length_all_zip (IsTermOf answers row) g.by typed.keys typed.by) i + sym (length_all_zip (AggregateHasType answers row) g.aggregates typed.values typed.aggregates) i)
+
+  inputs_long : (grouping : Option Grouping) (inputs : List Ty) → GroupedHasTypes answers row grouping inputs → length inputs ≡ computed_width grouping (length row)
+  inputs_long None inputs typed = ap length typed
+  inputs_long (Some g) inputs typed = groups_long g inputs typed
+
+module _ (catalog : List (List Ty)) (from : From) (inner : AreTableJoins from) (s : Select) (windowless : s.windows ≡ []) where
+  -- result columns are computed on the rows of FROM, or of groups
+  computed_long : (answers of computed : List Ty) → FromHasTypes catalog answers from of → ComputedHasTypes answers of s computed
+      → length computed ≡ computed_width s.grouping (from_width from)
+  computed_long answers of computed typed computes =
+      let values : computes.values ≡ [] =
+      no_calls computes.inputs computes.values answers (subst (λ calls. AllZip (CallHasType answers computes.inputs) calls computes.values) windowless computes.windows) in
+      ap length (computes.types_are ∙ (λ i. computes.inputs ++ values i) ∙ append-nil computes.inputs)
+      ∙ inputs_long answers of s.grouping computes.inputs computes.grouped
+      ∙ ap (computed_width s.grouping) (from_long catalog from inner answers of typed)
 
   abbrev IsWithin : Term → Type 0
   IsWithin t = All (λ c. c < from_width from) (columns_of t)
 
-  key_within : (types : List Ty) (by : KeyTerm) → IsKeyTerm catalog (select from s) types by → All IsWithin (key_terms by)
-  key_within types (KeyTerm.result n) typed = All-nil IsWithin
+  -- it names values of the rows that result columns are computed on
+  abbrev IsOnComputed : Term → Type 0
+  IsOnComputed t = All (λ c. c < computed_width s.grouping (from_width from)) (columns_of t)
+
+  key_within : (types : List Ty) (by : KeyTerm) → IsKeyTerm catalog (select from s) types by → All IsOnComputed (key_terms by)
+  key_within types (KeyTerm.result n) typed = All-nil IsOnComputed
   key_within types (KeyTerm.term t) typed =
       let one = typed.1 in
-      All-cons IsWithin t []
+      All-cons IsOnComputed t []
       (subst (λ n. All (λ c. c < n) (columns_of t)) (computed_long one.0 one.1 one.2 one.4 one.5) (term_within one.2 one.0 t one.6.0 one.6.1))
-      (All-nil IsWithin)
+      (All-nil IsOnComputed)
 
-  -- what is computed names columns of the tables alone
-  pub query_within : (order : List Key) (limit : Option ℤ) (offset : ℤ) (types : List Ty)
-      → HasTypes catalog (record { body = select from s; order = order; limit = limit; offset = offset }) types
+  abbrev typed_query : List Key → Option ℤ → ℤ → QueryData
+  typed_query order limit offset = record { body = select from s; order = order; limit = limit; offset = offset }
+
+  -- the result columns and ORDER BY
+  computed_within : (order : List Key) (limit : Option ℤ) (offset : ℤ) (types : List Ty) → HasTypes catalog (typed_query order limit offset) types
+      → All IsOnComputed (s.columns ++ order_terms order)
+  computed_within order limit offset types typed =
+      let body = typed.body in
+      All-append IsOnComputed s.columns (order_terms order)
+      (subst (λ n. All (λ t. All (λ c. c < n) (columns_of t)) s.columns) (computed_long body.0 body.1 body.4.0 body.3 body.4.1)
+      (columns_within body.4.0 body.0 s.columns types body.4.2))
+      (All-flat_map IsOnComputed (λ key. key_terms key.by) order
+      (All-weaker (λ key. IsKeyTerm catalog (select from s) types key.by) (λ key. All IsOnComputed (key_terms key.by))
+      (λ key. key_within types key.by) order typed.order))
+
+  -- what is computed on the rows of FROM names columns of the tables alone
+  pub query_within : (order : List Key) (limit : Option ℤ) (offset : ℤ) (types : List Ty) → HasTypes catalog (typed_query order limit offset) types
       → All IsWithin (terms_in from s order)
   query_within order limit offset types typed =
       let body = typed.body in
-      let condition : IsWithin s.condition =
-      subst (λ n. All (λ c. c < n) (columns_of s.condition)) (from_long catalog from inner body.0 body.1 body.3)
-      (term_within body.1 body.0 s.condition Int body.4.1.condition) in
-      let columns : All IsWithin s.columns =
-      subst (λ n. All (λ t. All (λ c. c < n) (columns_of t)) s.columns) (computed_long body.0 body.1 body.4.0 body.3 body.4.1)
-      (columns_within body.4.0 body.0 s.columns types body.4.2) in
+      let long = from_long catalog from inner body.0 body.1 body.3 in
       All-append IsWithin (select_terms s order) (on_terms from)
-      (All-cons IsWithin s.condition (s.columns ++ order_terms order) condition
-      (All-append IsWithin s.columns (order_terms order) columns
-      (All-flat_map IsWithin (λ key. key_terms key.by) order
-      (All-weaker (λ key. IsKeyTerm catalog (select from s) types key.by) (λ key. All IsWithin (key_terms key.by))
-      (λ key. key_within types key.by) order typed.order))))
+      (All-cons IsWithin s.condition (row_terms s.grouping (s.columns ++ order_terms order))
+      (subst (λ n. All (λ c. c < n) (columns_of s.condition)) long (term_within body.1 body.0 s.condition Int body.4.1.condition))
+      (by_groups s.grouping body.4.1.inputs (computed_within order limit offset types typed) body.4.1.grouped))
       (on_within from inner)
+    where
+      by_groups : (grouping : Option Grouping) (inputs : List Ty)
+          → All (λ t. All (λ c. c < computed_width grouping (from_width from)) (columns_of t)) (s.columns ++ order_terms order)
+          → GroupedHasTypes typed.body.0 typed.body.1 grouping inputs → All IsWithin (row_terms grouping (s.columns ++ order_terms order))
+      by_groups None inputs all of = all
+      by_groups (Some g) inputs all of =
+          subst (λ n. All (λ t. All (λ c. c < n) (columns_of t)) (grouping_terms g)) (from_long catalog from inner typed.body.0 typed.body.1 typed.body.3)
+          (groups_within typed.body.0 typed.body.1 g inputs of)
+
+  -- over groups HAVING, the result columns and ORDER BY name values of a group's row alone
+  pub groups_named : (order : List Key) (limit : Option ℤ) (offset : ℤ) (types : List Ty) → HasTypes catalog (typed_query order limit offset) types
+      → AreOfGroups s.grouping (s.columns ++ order_terms order)
+  groups_named order limit offset types typed =
+      by_groups s.grouping typed.body.4.1.inputs (computed_within order limit offset types typed) typed.body.4.1.grouped
+    where
+      by_groups : (grouping : Option Grouping) (inputs : List Ty)
+          → All (λ t. All (λ c. c < computed_width grouping (from_width from)) (columns_of t)) (s.columns ++ order_terms order)
+          → GroupedHasTypes typed.body.0 typed.body.1 grouping inputs → AreOfGroups grouping (s.columns ++ order_terms order)
+      by_groups None inputs all of = tt
+      by_groups (Some g) inputs all of =
+          All-cons (IsOver (group_columns g) 0) g.having (s.columns ++ order_terms order)
+          (over_range (length g.by + length g.aggregates) g.having
+          (subst (λ n. All (λ c. c < n) (columns_of g.having)) (groups_long typed.body.0 typed.body.1 g inputs of) (term_within inputs typed.body.0 g.having Int of.having)))
+          (All-weaker (λ t. All (λ c. c < length g.by + length g.aggregates) (columns_of t)) (IsOver (group_columns g) 0)
+          (over_range (length g.by + length g.aggregates)) (s.columns ++ order_terms order) all)
+
+-- ---- which typed queries are served
+
+-- behind DISTINCT a typed ORDER BY names result columns alone
+results_named : (catalog : List (List Ty)) (from : From) (s : Select) → s.distinct ≡ true → (types : List Ty) (by : KeyTerm) → IsKeyTerm catalog (select from s) types by
+    → IsResult by
+results_named catalog from s distinct types (KeyTerm.result at) typed = tt
+results_named catalog from s distinct types (KeyTerm.term t) typed = absurd (let e = sym typed.0 ∙ distinct in cc)
+
+pub typed_is_served : TypedIsServed
+typed_is_served catalog query from s typed body inner windowless =
+    let of = subst (λ (b : Body). IsTyped catalog (record { body = b; order = query.order; limit = query.limit; offset = query.offset })) body typed in record {
+      from = from;
+      s = s;
+      body = body;
+      source = inner;
+      windowless = windowless;
+      ordered = λ distinct.
+          All-weaker (λ key. IsKeyTerm catalog (select from s) of.0 key.by) (λ key. IsResult key.by)
+          (λ key. results_named catalog from s distinct of.0 key.by) query.order of.1.order;
+      grouped = groups_named catalog from inner s windowless query.order query.limit query.offset of.0 of.1;
+    }

@@ -1,5 +1,5 @@
 -- Over rows that fit the catalog a typed query's tables have as many values in each row as they have columns.
-use Rattle.std.proofs.Common.{◌≡◌, ◌∙◌, All, ℕ, zero, suc, List, [], ◌∷◌, length, slice_get, slice_index_or, Option, Some, sym, subst}
+use Rattle.std.proofs.Common.{◌≡◌, ◌∙◌, ℕ, zero, suc, List, [], ◌∷◌, length, slice_get, slice_index_or, Some, sym, subst}
 use Rattle.std.specs.List.{AllZip}
 use Rattle.std.proofs.lemmas.List.Elements.{All-weaker}
 use Rattle.values.specs.Database.{Database}
@@ -9,7 +9,7 @@ use Rattle.expr.specs.Types.{IsOfType}
 use Rattle.meaning.specs.Query.{Body, From, QueryData, Source, compound, derived, joined, nothing, schema, select, table, with_inner}
 use Rattle.meaning.specs.Typed.{BodyHasTypes, FitTypes, Fits, FromHasTypes, IsTyped, SourceHasTypes}
 use Rattle.meaning.proofs.ElementLemmas.{length_all_zip}
-use Rattle.plans.specs.JoinPlan.{AreWide, AreWideBefore, IsWideSource}
+use Rattle.plans.specs.JoinPlan.{AreWide, IsWideSource}
 use Rattle.plans.proofs.JoinLemmas.{wide_before}
 use Rattle.query_plans.specs.Answers.{AreWideFor}
 

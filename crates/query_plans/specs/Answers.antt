@@ -1,5 +1,5 @@
 -- What a plan answers, what it may ask for and what it reaches. (SELECT)
-use Rattle.std.specs.Prelude.{◌≡◌, ◌⊎◌, ◌++◌, ⊤, Any, ℕ, List, [], map}
+use Rattle.std.specs.Prelude.{◌≡◌, ◌⊎◌, ◌++◌, ⊤, false, Any, ℕ, List, [], map}
 use Rattle.values.specs.Database.{Database}
 use Rattle.values.specs.Datum.{Datum}
 use Rattle.values.specs.Row.{Row}
@@ -75,7 +75,7 @@ pub record IsPlanFor (query : QueryData) (planned : PlannedData) : Type 0 where
 
 -- its tables and their columns are some of the catalog
 abbrev pub IsPlannedOver : List TableData → PlannedData → Type 0
-IsPlannedOver tables (columns at places) = IsNestOf tables (record { table = at; columns = places; tests = [] })
+IsPlannedOver tables (columns at places) = IsNestOf tables (record { table = at; columns = places; tests = []; padded = false })
 IsPlannedOver tables (rows selection) = IsPlanOf tables selection.plan
 IsPlannedOver tables (sorted selection) = IsPlanOf tables selection.plan
 IsPlannedOver tables (distinct selection) = IsPlanOf tables selection.plan

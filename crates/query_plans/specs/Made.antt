@@ -1,8 +1,9 @@
--- How a plan is made of a SELECT that stands on tables that are joined by inner joins, or on none.
-use Rattle.std.specs.Prelude.{◌≡◌, ℕ, ℤ, pos, false, true, List, [], map, Option, None}
+-- How a plan is made of a SELECT that stands on tables that are joined by inner and LEFT joins, or on none.
+use Rattle.std.specs.Prelude.{◌≡◌, ⊤, ℕ, ℤ, pos, false, true, List, [], map, Option, Some, None}
 use Rattle.std.specs.List.{AllZip}
 use Rattle.expr.specs.Term.{Term, column}
-use Rattle.meaning.specs.Query.{Key, KeyTerm, Select, always, only, table}
+use Rattle.group_plans.specs.Grouped.{IsGroupedOver, IsOverGroups, group_columns}
+use Rattle.meaning.specs.Query.{Grouping, Key, KeyTerm, Select, always, only, table}
 use Rattle.plan_terms.specs.Over.{StandsOver}
 use Rattle.plans.specs.Plan.{PlanData}
 use Rattle.distinct_results.specs.Permitted.{AreResults}
@@ -14,14 +15,10 @@ use Rattle.table_plans.specs.declared.inputs.Input.{Input}
 use Rattle.table_plans.specs.Input.{input_from}
 use Rattle.table_plans.specs.Planned.{IsPlanOver}
 
--- a SELECT without groups and windows
-pub record HasRowsAlone (s : Select) : Type 0 where
-  pub ungrouped : s.grouping ≡ None
-  pub windowless : s.windows ≡ []
-
--- a SELECT that keeps each row, in no order, without DISTINCT, LIMIT and OFFSET
+-- a SELECT that keeps each row, in no order, without groups, DISTINCT, LIMIT and OFFSET
 pub record IsBare (s : Select) (order : List Key) (limit : Option ℤ) (offset : ℤ) : Type 0 where
   pub all : s.distinct ≡ false
+  pub ungrouped : s.grouping ≡ None
   pub condition : s.condition ≡ always
   pub unordered : order ≡ []
   pub unlimited : limit ≡ None
@@ -33,17 +30,31 @@ KeyTermStandsOver read (KeyTerm.result at) (KeyTerm.term t) = ⊥
 KeyTermStandsOver read (KeyTerm.term e) (KeyTerm.result n) = ⊥
 KeyTermStandsOver read (KeyTerm.term e) (KeyTerm.term t) = StandsOver read 0 e t
 
--- a term of ORDER BY over the columns that are read
+-- a term of ORDER BY over these columns
 pub record KeyStandsOver (read : List ℕ) (key whole : Key) : Type 0 where
   pub by : KeyTermStandsOver read key.by whole.by
   pub direction : key.direction ≡ whole.direction
 
--- a plan of FROM and WHERE, and result columns over it
+-- the terms of groups, where there are some, stand over the columns that are read of the rows below
+abbrev pub StandsOverRows : List ℕ → Option Grouping → Type 0
+StandsOverRows read None = ⊤
+StandsOverRows read (Some g) = IsOverGroups read 0 g
+
+-- over a plan of which these columns are read, the plan of the rows that result columns are computed on, and the columns of these:
+-- it is the same, or that of groups that HAVING keeps
+abbrev pub IsOverRows : List ℕ → Option Grouping → PlanData → List ℕ → PlanData → Type 0
+IsOverRows read None below known plan = (known ≡ read) × (plan ≡ below)
+IsOverRows read (Some g) below known plan = (known ≡ group_columns g) × IsGroupedOver read 0 g below plan
+
+-- a plan of FROM and WHERE, one of the rows that result columns are computed on over it, and result columns over these
 pub record IsMadeOver (input : Input) (s : Select) (order : List Key) (plan : PlanData) (es : List Term) : Type 0 where
   pub read : List ℕ
   pub are_read : AreRead read (terms_in (input_from input) s order)
-  pub plan_is : IsPlanOver input read s.condition plan
-  pub columns_are : AllZip (StandsOver read 0) es s.columns
+  pub below : PlanData
+  pub below_is : IsPlanOver input read s.condition below
+  pub columns : List ℕ
+  pub rows_are : IsOverRows read s.grouping below columns plan
+  pub columns_are : AllZip (StandsOver columns 0) es s.columns
 
 -- these columns of each row of the table
 pub record IsScanned (input : Input) (s : Select) (order : List Key) (limit : Option ℤ) (offset : ℤ) (at : ℕ) (places : List ℕ) : Type 0 where
@@ -64,7 +75,7 @@ pub record IsSelected (input : Input) (s : Select) (order : List Key) (limit : O
 pub record IsPutInOrder (input : Input) (s : Select) (order : List Key) (limit : Option ℤ) (offset : ℤ) (selection : SortedData) : Type 0 where
   pub all : s.distinct ≡ false
   pub made : IsMadeOver input s order selection.plan selection.columns
-  pub order_is : AllZip (KeyStandsOver made.read) selection.order order
+  pub order_is : AllZip (KeyStandsOver made.columns) selection.order order
   pub limit_is : selection.limit ≡ limit
   pub offset_is : selection.offset ≡ offset
 

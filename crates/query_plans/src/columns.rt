@@ -3,12 +3,13 @@ ghost use Rattle.std.specs.Prelude.{◌≡◌, ◌++◌, IfOk, OnOk, flat_map, m
 ghost use Rattle.expr.specs.Columns.{columns_of};
 ghost use Rattle.meaning.specs.Hits.{key_terms, order_terms};
 ghost use Rattle.order_keys.specs.KeyView.{key_of, key_term_of};
-ghost use Rattle.query_plans.specs.Read.{AreRead, terms_in};
+ghost use Rattle.query_plans.specs.Read.{AreRead, row_terms, terms_in};
 ghost use Rattle.query_trees.specs.SelectView.{select_of};
 ghost use Rattle.std.specs.List.Sorted.{IsStrictlyIncreasing};
 ghost use Rattle.table_plans.specs.Input.{from_of, input_from};
 ghost use Rattle.table_plans.specs.Planned.{on_terms};
 
+use group_plans::push_group_columns;
 use order_keys::{Key, KeyTerm};
 use plan_terms::{push_columns, push_columns_of_all, read_columns};
 use query_trees::Select;
@@ -35,6 +36,21 @@ fn push_order(order: &[Key], out: &mut Vec<usize>) -> Result<(), AllocError>
     Ok(())
 }
 
+/// Puts the columns that a SELECT names on the rows of FROM behind WHERE at the end of a list: those of GROUP BY and of the arguments
+/// of aggregates where there are groups, else those of the result columns and of ORDER BY.
+fn push_row_columns(select: &Select, order: &[Key], out: &mut Vec<usize>) -> Result<(), AllocError>
+    ensures { OnOk result (out.new.items ≡ out.old.items
+        ++ flat_map columns_of (row_terms (select_of select.now).grouping ((select_of select.now).columns ++ order_terms (map key_of order.now)))) }
+{
+    match &select.grouping {
+        Some(grouping) => push_group_columns(grouping, out),
+        None => {
+            push_columns_of_all(select.columns.as_slice(), out)?;
+            push_order(order, out)
+        }
+    }
+}
+
 /// Puts the columns that the ON of each of these tables names at the end of a list.
 fn push_on(tables: &[JoinedTable], out: &mut Vec<usize>) -> Result<(), AllocError>
     ensures { OnOk result (out.new.items ≡ out.old.items ++ flat_map columns_of (on_terms (from_of tables.now))) }
@@ -45,7 +61,7 @@ fn push_on(tables: &[JoinedTable], out: &mut Vec<usize>) -> Result<(), AllocErro
     Ok(())
 }
 
-/// The columns that a SELECT, its ORDER BY and the ON of each of its tables name, each once and in their order.
+/// The columns that a SELECT, its ORDER BY and the ON of each of its tables name on the rows of FROM, each once and in their order.
 pub(crate) fn columns_read(
     alloc: Global,
     input: &Input,
@@ -57,8 +73,7 @@ pub(crate) fn columns_read(
 {
     let mut named = Vec::new(alloc);
     push_columns(&select.condition, &mut named)?;
-    push_columns_of_all(select.columns.as_slice(), &mut named)?;
-    push_order(order, &mut named)?;
+    push_row_columns(select, order, &mut named)?;
     push_on(input.tables.as_slice(), &mut named)?;
     Ok(read_columns(named))
 }

@@ -1,13 +1,15 @@
 //! SELECT DISTINCT.
-ghost use Rattle.std.specs.Prelude.{◌≡◌, IfOk, MatchOption, map, true};
+ghost use Rattle.std.specs.Prelude.{◌≡◌, ◌++◌, IfOk, MatchOption, map, true};
 ghost use Rattle.distinct_results.specs.Permitted.{AreResults, IsResult};
 ghost use Rattle.distinct_results.specs.Sorted.{result_key};
+ghost use Rattle.meaning.specs.Hits.{order_terms};
 ghost use Rattle.meaning.specs.Query as query;
 ghost use Rattle.order_keys.specs.KeyView.{key_of, key_term_of};
 ghost use Rattle.query_plans.specs.Answers.{planned_data};
 ghost use Rattle.query_plans.specs.Made.{IsMade};
+ghost use Rattle.query_plans.specs.Served.{AreOfGroups};
 ghost use Rattle.query_trees.specs.SelectView.{select_of};
-ghost use Rattle.table_plans.specs.InnerJoins.{AreInnerJoins};
+ghost use Rattle.table_plans.specs.TableJoins.{AreTableJoins};
 ghost use Rattle.table_plans.specs.Input.{input_from};
 
 use crate::Planned;
@@ -47,8 +49,8 @@ fn result_keys(alloc: Global, order: &[Key]) -> Result<Option<Vec<ResultKey>>, A
     Ok(Some(keys))
 }
 
-/// The plan of a SELECT DISTINCT on the rows of FROM, `None` where ORDER BY has a term that is no result
-/// column. (SELECT, "Removal of duplicate rows (DISTINCT processing)")
+/// The plan of a SELECT DISTINCT without windows, `None` where ORDER BY has a term that is no result column, or where over groups
+/// something else than the values of a group's row is named. (SELECT, "Removal of duplicate rows (DISTINCT processing)")
 pub(crate) fn distinct_of(
     alloc: Global,
     input: &Input,
@@ -58,8 +60,9 @@ pub(crate) fn distinct_of(
     offset: i64,
 ) -> Result<Option<Planned>, AllocError>
     requires once_each { select.now.distinct ≡ true }
-    requires inner { AreInnerJoins (input_from input.now) }
-    ensures { IfOk result (λ planned. MatchOption planned (¬ AreResults (map key_of order.now))
+    requires inner { AreTableJoins (input_from input.now) }
+    ensures { IfOk result (λ planned. MatchOption planned (¬ (AreResults (map key_of order.now)
+        × AreOfGroups (select_of select.now).grouping ((select_of select.now).columns ++ order_terms (map key_of order.now))))
         (λ p. IsMade input.now (select_of select.now) (map key_of order.now) limit offset (planned_data p))) }
 {
     let keys = result_keys(alloc, order)?;
@@ -67,7 +70,11 @@ pub(crate) fn distinct_of(
         None => return Ok(None),
         Some(keys) => keys,
     };
-    let base = base_of(alloc, input, select, order)?;
+    let found = base_of(alloc, input, select, order)?;
+    let base = match found {
+        None => return Ok(None),
+        Some(base) => base,
+    };
     if order.is_empty() {
         return Ok(Some(Planned::Distinct(Selection {
             plan: base.plan,

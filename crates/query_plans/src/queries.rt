@@ -1,15 +1,16 @@
 //! The plan of a query.
-ghost use Rattle.std.specs.Prelude.{◌≡◌, IfOk, List, MatchBool, MatchOption, false, map, ⊤};
+ghost use Rattle.std.specs.Prelude.{◌≡◌, ◌++◌, IfOk, List, [], MatchBool, MatchOption, false, map, ⊤};
+ghost use Rattle.meaning.specs.Hits.{order_terms};
 ghost use Rattle.meaning.specs.Typed.{IsTyped};
 ghost use Rattle.order_keys.specs.KeyView.{key_of};
 ghost use Rattle.query_plans.specs.Answers.{IsPlanFor, IsPlannedOver, planned_data};
-ghost use Rattle.query_plans.specs.Made.{HasRowsAlone, IsMade};
-ghost use Rattle.query_plans.specs.Served.{IsServed};
+ghost use Rattle.query_plans.specs.Made.{IsMade};
+ghost use Rattle.query_plans.specs.Served.{AreOfGroups, IsServed};
 ghost use Rattle.query_trees.specs.SelectView.{select_of};
 ghost use Rattle.tables.specs.ColumnTypes.{column_types};
 ghost use Rattle.tables.specs.TableData.{TableData};
 ghost use Rattle.statement_names.specs.NamedView.{query_data};
-ghost use Rattle.table_plans.specs.InnerJoins.{AreInnerJoins};
+ghost use Rattle.table_plans.specs.TableJoins.{AreTableJoins};
 ghost use Rattle.table_plans.specs.Input.{input_from};
 
 use crate::Planned;
@@ -26,18 +27,15 @@ use statement_names::Query;
 use std::alloc::{AllocError, Global};
 use table_plans::{Input, input_of};
 
-/// Whether a SELECT has neither groups nor windows.
-fn has_rows_alone(select: &Select) -> bool
-    ensures { MatchBool result (HasRowsAlone (select_of select.now)) (¬ HasRowsAlone (select_of select.now)) }
+/// Whether a SELECT has no windows.
+fn is_windowless(select: &Select) -> bool
+    ensures { MatchBool result ((select_of select.now).windows ≡ []) (¬ ((select_of select.now).windows ≡ [])) }
 {
-    if select.grouping.is_some() {
-        return false;
-    }
     let calls = select.windows.as_slice();
     calls.is_empty()
 }
 
-/// The plan of a SELECT whose conditions and result columns are computed on the rows of FROM.
+/// The plan of a SELECT without windows and DISTINCT, `None` where over groups something else than the values of a group's row is named.
 fn selection_of(
     alloc: Global,
     input: &Input,
@@ -45,32 +43,42 @@ fn selection_of(
     order: &[Key],
     limit: Option<i64>,
     offset: i64,
-) -> Result<Planned, AllocError>
+) -> Result<Option<Planned>, AllocError>
     requires all { select.now.distinct ≡ false }
-    requires inner { AreInnerJoins (input_from input.now) }
-    ensures { IfOk result (λ p. IsMade input.now (select_of select.now) (map key_of order.now) limit offset (planned_data p)) }
+    requires inner { AreTableJoins (input_from input.now) }
+    ensures { IfOk result (λ planned. MatchOption planned
+        (¬ AreOfGroups (select_of select.now).grouping ((select_of select.now).columns ++ order_terms (map key_of order.now)))
+        (λ p. IsMade input.now (select_of select.now) (map key_of order.now) limit offset (planned_data p))) }
 {
-    let base = base_of(alloc, input, select, order)?;
+    let found = base_of(alloc, input, select, order)?;
+    let base = match found {
+        None => return Ok(None),
+        Some(base) => base,
+    };
     if order.is_empty() {
-        return Ok(Planned::Rows(Selection {
+        return Ok(Some(Planned::Rows(Selection {
             plan: base.plan,
             columns: base.columns,
             limit,
             offset,
-        }));
+        })));
     }
     let keys = keys_over(alloc, base.read.as_slice(), order)?;
-    let order = keys.unwrap();
-    Ok(Planned::Sorted(SortedSelection {
+    let order = match keys {
+        None => return Ok(None),
+        Some(keys) => keys,
+    };
+    Ok(Some(Planned::Sorted(SortedSelection {
         plan: base.plan,
         columns: base.columns,
         order,
         limit,
         offset,
-    }))
+    })))
 }
 
-/// The plan of a SELECT without DISTINCT, the shortest that there is.
+/// The plan of a SELECT without windows and DISTINCT, the shortest that there is, `None` where over groups something else than the
+/// values of a group's row is named.
 fn planned_of(
     alloc: Global,
     input: &Input,
@@ -78,14 +86,16 @@ fn planned_of(
     order: &[Key],
     limit: Option<i64>,
     offset: i64,
-) -> Result<Planned, AllocError>
+) -> Result<Option<Planned>, AllocError>
     requires all { select.now.distinct ≡ false }
-    requires inner { AreInnerJoins (input_from input.now) }
-    ensures { IfOk result (λ p. IsMade input.now (select_of select.now) (map key_of order.now) limit offset (planned_data p)) }
+    requires inner { AreTableJoins (input_from input.now) }
+    ensures { IfOk result (λ planned. MatchOption planned
+        (¬ AreOfGroups (select_of select.now).grouping ((select_of select.now).columns ++ order_terms (map key_of order.now)))
+        (λ p. IsMade input.now (select_of select.now) (map key_of order.now) limit offset (planned_data p))) }
 {
     let scan = scan_of(alloc, input, select, order, limit, offset)?;
     match scan {
-        Some(planned) => Ok(planned),
+        Some(planned) => Ok(Some(planned)),
         None => selection_of(alloc, input, select, order, limit, offset),
     }
 }
@@ -105,7 +115,7 @@ pub fn plan(alloc: Global, query: &Query) -> Result<Option<Planned>, AllocError>
         None => return Ok(None),
         Some(input) => input,
     };
-    if !has_rows_alone(&single.select) {
+    if !is_windowless(&single.select) {
         return Ok(None);
     }
     let order = query.order.as_slice();
@@ -128,5 +138,5 @@ pub fn plan(alloc: Global, query: &Query) -> Result<Option<Planned>, AllocError>
         query.limit,
         query.offset,
     )?;
-    Ok(Some(planned))
+    Ok(planned)
 }

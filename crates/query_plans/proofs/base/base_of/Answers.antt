@@ -1,10 +1,10 @@
-use Rattle.std.proofs.Common.{◌≡◌, ◌∙◌, All, List, map, refl, subst, sym}
+use Rattle.std.proofs.Common.{All, List, map, refl, subst, sym}
 use Rattle.std.specs.List.{AllZip}
 use Rattle.expr.specs.View as expressions
 use Rattle.order_keys.specs.KeyView.{key_of}
 use Rattle.plan_terms.specs.Over.{IsOver, StandsOver}
 use Rattle.plans.specs.PlanView.{plan_data}
-use Rattle.query_plans.proofs.QueryLemmas.{columns_over, condition_over, joins_over, joins_parted, made_of}
+use Rattle.query_plans.proofs.QueryLemmas.{columns_over, condition_over, groups_over, joins_over, joins_parted, made_of}
 use Rattle.query_plans.proofs.ServedLemmas.{is_there}
 use Rattle.query_trees.specs.SelectView.{select_of}
 use Rattle.query_trees.specs.TermView.{term}
@@ -18,8 +18,8 @@ plan_of-requires c = record {
   parted = joins_parted (input_from c.args.input.now) c.in_ok-read.read.items c.as_slice.result.now c.in_ok-read.ensures.once c.as_slice.ensures.value;
 }
 
-pub unwrap-plan-requires : goal.unwrap-plan-requires
-unwrap-plan-requires c =
+pub unwrap-below-requires : goal.unwrap-below-requires
+unwrap-below-requires c =
     let from = input_from c.args.input.now in
     let s = select_of c.args.select.now in
     let order = map key_of c.args.order.now in
@@ -28,22 +28,29 @@ unwrap-plan-requires c =
       joins_over from s order c.in_ok-read.read.items c.in_ok-read.ensures.read c.as_slice.result.now c.as_slice.ensures.value c.requires,
     )
 
-pub unwrap-columns-requires : goal.unwrap-columns-requires
-unwrap-columns-requires c =
-    is_there c.in_ok-shown.shown (All (IsOver c.as_slice-2.result.now 0) (map term c.as_slice-3.result.now)) _ c.in_ok-shown.ensures.over
+pub returns-in-None : goal.returns-in-None
+returns-in-None c = λ of.
+    (rw c.in-None.is at c.in_ok-over.ensures.over)
+    (groups_over (input_from c.args.input.now) (select_of c.args.select.now) (map key_of c.args.order.now) c.in_ok-read.read.items c.in_ok-read.ensures.read
+    c.in_ok-read.read.items refl of)
+
+pub returns-in-None-shown : goal.returns-in-None-shown
+returns-in-None-shown c = λ of.
+    (rw c.in-None-shown.is at c.in_ok-shown.ensures.over)
     (subst (λ (ts : List Term). All (IsOver c.as_slice-2.result.now 0) (map term ts)) (sym c.as_slice-3.ensures.value)
     (columns_over (input_from c.args.input.now) (select_of c.args.select.now) (map key_of c.args.order.now) c.in_ok-read.read.items c.in_ok-read.ensures.read
-    c.as_slice-2.result.now c.as_slice-2.ensures.value))
+    c.in_ok-read.read.items refl c.in-Some.rows.read.items c.as_slice-2.result.now (plan_data c.unwrap-below.result) (plan_data c.in-Some.rows.plan)
+    (rw c.in-Some.is at c.in_ok-over.ensures.rows) c.as_slice-2.ensures.value of))
 
 pub returns : goal.returns
 unfolding made_of
 returns c =
-    let stand = rw c.unwrap-columns.ensures at c.in_ok-shown.ensures.stand in (
-      made_of c.args.input.now (select_of c.args.select.now) (map key_of c.args.order.now)
-          (plan_data c.unwrap-plan.result) (map expressions.term c.unwrap-columns.result.items)
-          c.in_ok-read.read.items c.as_slice.result.now c.as_slice-2.result.now c.in_ok-read.ensures.read
-          c.as_slice.ensures.value (rw c.unwrap-plan.ensures at c.in_ok-found.ensures.plan) c.as_slice-2.ensures.value
-          (subst (λ (ts : List Term). AllZip (StandsOver c.as_slice-2.result.now 0) (map expressions.term c.unwrap-columns.result.items) (map term ts))
+    let stand = rw c.in-Some-shown.is at c.in_ok-shown.ensures.stand in (
+      made_of c.args.input.now (select_of c.args.select.now) (map key_of c.args.order.now) c.in_ok-read.read.items c.as_slice.result.now
+          (plan_data c.unwrap-below.result) c.in-Some.rows.read.items c.as_slice-2.result.now (plan_data c.in-Some.rows.plan)
+          (map expressions.term c.in-Some-shown.columns.items) c.in_ok-read.ensures.read c.as_slice.ensures.value
+          (rw c.unwrap-below.ensures at c.in_ok-found.ensures.plan) (rw c.in-Some.is at c.in_ok-over.ensures.rows) c.as_slice-2.ensures.value
+          (subst (λ (ts : List Term). AllZip (StandsOver c.as_slice-2.result.now 0) (map expressions.term c.in-Some-shown.columns.items) (map term ts))
           c.as_slice-3.ensures.value stand),
       refl,
     )

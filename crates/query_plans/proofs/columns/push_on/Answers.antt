@@ -1,10 +1,4 @@
-use Rattle.std.proofs.Common.{◌≡◌, ◌++◌, List, flat_map, subst}
-use Rattle.std.proofs.lemmas.List.{take_all}
-use Rattle.expr.specs.Columns.{columns_of}
 use Rattle.query_plans.proofs.ReadLemmas.{on_more}
-use Rattle.table_plans.specs.Input.{from_of}
-use Rattle.table_plans.specs.Planned.{on_terms}
-use Rattle.table_plans.specs.declared.inputs.JoinedTable.{JoinedTable}
 use Rattle.query_plans.proofs.columns.push_on.Goals as goal
 
 pub loop-table-preserved : goal.loop-table-preserved
