@@ -11,32 +11,31 @@ use Rattle.pager.proofs.CallLemmas.{SameImage-trans}
 use Rattle.image.specs.declared.kind.TreeKind.TheVariants as kind
 use Rattle.image.specs.Cell.{CellData}
 use Rattle.image.specs.Pages.{IsNumber, Pages, WhereSteady, pages_seen}
-use Rattle.image.specs.Shape.{places_under}
+use Rattle.image.specs.Shape.{IsTreeAt, places_under}
 use Rattle.image.specs.Tree.{ArePlacesOf, Place}
-use Rattle.image.proofs.CellLemmas.{one_cell}
 use Rattle.image.proofs.ListLemmas.{cons_cases, get_contains, in_head, in_none, in_tail}
 use Rattle.btree.proofs.SeenLemmas.{same_pages, still_steady}
 use Rattle.expr.specs.Term.{Term}
 use Rattle.wanted_entries.proofs.BagLemmas.{same}
 use Rattle.wanted_entries.proofs.KeptLemmas.{in_map, kept_first, left_first}
-use Rattle.wanted_entries.specs.Wanted.{KeyedRow, entry_of, wanted}
+use Rattle.wanted_entries.specs.Wanted.{IndexedPlaces, KeyedRow, entry_of, wanted}
 use Rattle.tree_walk.specs.Counts.{counted}
+use Rattle.tree_walk.proofs.KindLemmas.{one_entry}
 use Rattle.cursor.specs.declared.cursor.Cursor.{Cursor}
 use Rattle.cursor.specs.Calls.{HasFailed, HasStepped, IsOpenedAt}
 use Rattle.cursor.specs.Listing.{IsAt, IsEntry}
 use Rattle.cursor.specs.Search.{IsSearchableIndex}
-use Rattle.tables.specs.TableData.{TableData}
-use Rattle.stored_rows.specs.Stored.{IsRowOf}
+use Rattle.tables.specs.TableData.{IsKeyWithin, RowKeyData, TableData}
 use Rattle.index_rows.specs.declared.index.TableIndex.{TableIndex}
 use Rattle.index_rows.specs.Checked.{IsCheckedTable, IsCheckedTableIndex}
 use Rattle.index_rows.specs.Compared.{IsDifferentIndex, IsIndexOf}
 use Rattle.entry_prefixes.specs.Entries.{HoldsEntries}
 use Rattle.entry_prefixes.proofs.EntryLemmas.{holds_entries, in_order, same_entries, searchable, values}
 use Rattle.entry_prefixes.proofs.ListLemmas.{get_of, mapped_at}
-use Rattle.index_rows.specs.Entries.{indexed}
+use Rattle.index_rows.specs.Entries.{TellsRow, indexed_by, width_by}
 use Rattle.index_rows.specs.Kept.{condition_of, keeps_row}
-use Rattle.index_rows.specs.Rows.{HoldsKeyedRows, StoresKeyedRow}
-use Rattle.index_rows.proofs.RowLemmas.{holds_keyed, once_wanted, one_keyed_rows, rows, stored}
+use Rattle.index_rows.specs.Rows.{HoldsTableRows, IsKeyedRow, kind_of}
+use Rattle.index_rows.proofs.RowLemmas.{StoresBy, TableRows, once_wanted, one_wanted, table_rows, tree_at}
 use Rattle.index_rows.proofs.StandLemmas.{at_now}
 
 -- ---- the definitions alone
@@ -45,156 +44,168 @@ use Rattle.index_rows.proofs.StandLemmas.{at_now}
 abbrev pub kept_rows : Option Term → List KeyedRow → List KeyedRow
 kept_rows condition keyed = filter (λ k. keeps_row condition k.row) keyed
 
-module _ (pages : Pages) (table : TableData) (columns : List ℕ) (condition : Option Term) (root : ℕ) where
+module _ (pages : Pages) (table : TableData) (index : IndexedPlaces) (condition : Option Term) (root : ℕ) where
   -- wanted entries that are as many as the index has, and each of which it has, are its entries
-  pub is_index : (keyed : List KeyedRow) (entries : List Row) → HoldsKeyedRows pages table keyed → HoldsEntries pages root entries
-      → length entries ≤ length (kept_rows condition keyed)
-      → ((k : KeyedRow) → Contains (kept_rows condition keyed) k → Contains entries (entry_of (indexed columns) k))
-      → IsIndexOf pages table columns condition root
-  is_index keyed entries keyed_are entries_are few found =
-      let long = length-map (kept_rows condition keyed) (entry_of (indexed columns)) in
-      let bag = same (map (entry_of (indexed columns)) (kept_rows condition keyed)) entries
-      (once_wanted pages table columns keyed keyed_are (keeps_row condition)) (λ entry h. each_found entry h) (omega (arith, long, few)) in
+  pub is_index : TellsRow table.key index → (keyed : List KeyedRow) (entries : List Row) → HoldsTableRows table.key pages table keyed
+      → HoldsEntries pages root entries → length entries ≤ length (kept_rows condition keyed)
+      → ((k : KeyedRow) → Contains (kept_rows condition keyed) k → Contains entries (entry_of index k))
+      → IsIndexOf pages table index condition root
+  is_index tells keyed entries keyed_are entries_are few found =
+      let long = length-map (kept_rows condition keyed) (entry_of index) in
+      let bag = same (map (entry_of index) (kept_rows condition keyed)) entries
+      (once_wanted table.key pages table index tells keyed keyed_are (keeps_row condition)) (λ entry h. each_found entry h) (omega (arith, long, few)) in
       record {
         rows = keyed;
         entries = entries;
         rows_are = keyed_are;
         entries_are = entries_are;
-        same = IsPermutation-sym (map (entry_of (indexed columns)) (kept_rows condition keyed)) entries bag;
+        same = IsPermutation-sym (map (entry_of index) (kept_rows condition keyed)) entries bag;
       }
     where
-      each_found : (entry : Row) → Contains (map (entry_of (indexed columns)) (kept_rows condition keyed)) entry → Contains entries entry
+      each_found : (entry : Row) → Contains (map (entry_of index) (kept_rows condition keyed)) entry → Contains entries entry
       each_found entry h =
-          let x = mapped_at (entry_of (indexed columns)) (kept_rows condition keyed) h.0 entry
-          (get_of (map (entry_of (indexed columns)) (kept_rows condition keyed)) entry h) in
+          let x = mapped_at (entry_of index) (kept_rows condition keyed) h.0 entry
+          (get_of (map (entry_of index) (kept_rows condition keyed)) entry h) in
           subst (λ (e : Row). Contains entries e) x.is (found x.x (get_contains (kept_rows condition keyed) h.0 x.x x.at))
 
   -- an index that lacks a wanted entry, or has another number of them, differs
-  pub lacks : (keyed : List KeyedRow) (entries : List Row) → HoldsKeyedRows pages table keyed → HoldsEntries pages root entries
-      → (k : KeyedRow) → Contains (kept_rows condition keyed) k → ¬ Contains entries (entry_of (indexed columns) k)
-      → IsDifferentIndex pages table columns condition root
+  pub lacks : (keyed : List KeyedRow) (entries : List Row) → HoldsTableRows table.key pages table keyed → HoldsEntries pages root entries
+      → (k : KeyedRow) → Contains (kept_rows condition keyed) k → ¬ Contains entries (entry_of index k)
+      → IsDifferentIndex pages table index condition root
   lacks keyed entries keyed_are entries_are k among none = record {
     rows = keyed;
     entries = entries;
     rows_are = keyed_are;
     entries_are = entries_are;
-    differ = λ bag. none (Contains-permutation (wanted (indexed columns) (keeps_row condition) keyed) entries (entry_of (indexed columns) k)
-        (IsPermutation-sym entries (wanted (indexed columns) (keeps_row condition) keyed) bag)
-        (in_map (entry_of (indexed columns)) (kept_rows condition keyed) k among));
+    differ = λ bag. none (Contains-permutation (wanted index (keeps_row condition) keyed) entries (entry_of index k)
+        (IsPermutation-sym entries (wanted index (keeps_row condition) keyed) bag)
+        (in_map (entry_of index) (kept_rows condition keyed) k among));
   }
 
-  pub other_count : (keyed : List KeyedRow) (entries : List Row) → HoldsKeyedRows pages table keyed → HoldsEntries pages root entries
-      → length (kept_rows condition keyed) ≢ length entries → IsDifferentIndex pages table columns condition root
+  pub other_count : (keyed : List KeyedRow) (entries : List Row) → HoldsTableRows table.key pages table keyed → HoldsEntries pages root entries
+      → length (kept_rows condition keyed) ≢ length entries → IsDifferentIndex pages table index condition root
   other_count keyed entries keyed_are entries_are differ = record {
     rows = keyed;
     entries = entries;
     rows_are = keyed_are;
     entries_are = entries_are;
     differ = λ bag.
-        let long = length_permutation entries (wanted (indexed columns) (keeps_row condition) keyed) bag in
-        differ (sym (length-map (kept_rows condition keyed) (entry_of (indexed columns))) ∙ long);
+        let long = length_permutation entries (wanted index (keeps_row condition) keyed) bag in
+        differ (sym (length-map (kept_rows condition keyed) (entry_of index)) ∙ long);
   }
 
   -- an index isn't both
-  pub not_different : IsIndexOf pages table columns condition root → ¬ IsDifferentIndex pages table columns condition root
+  pub not_different : IsIndexOf pages table index condition root → ¬ IsDifferentIndex pages table index condition root
   not_different is different =
-      let same_rows = one_keyed_rows pages table is.rows different.rows is.rows_are different.rows_are in
-      different.differ (subst (λ (l : List KeyedRow). IsPermutation different.entries (wanted (indexed columns) (keeps_row condition) l)) same_rows
-      (IsPermutation-trans different.entries is.entries (wanted (indexed columns) (keeps_row condition) is.rows)
-      (same_entries pages root different.entries is.entries different.entries_are is.entries_are) is.same))
+      different.differ
+      (IsPermutation-trans different.entries is.entries (wanted index (keeps_row condition) different.rows)
+      (same_entries pages root different.entries is.entries different.entries_are is.entries_are)
+      (IsPermutation-trans is.entries (wanted index (keeps_row condition) is.rows) (wanted index (keeps_row condition) different.rows) is.same
+      (one_wanted table.key pages table index (keeps_row condition) is.rows different.rows is.rows_are different.rows_are)))
 
 -- ---- the loop over the rows
 
 -- a cell is the first of these rows, and the others stand at these places
-pub record BeginsKeyed (pages : Pages) (table : TableData) (cell : CellData) (rest : List KeyedRow) (others : List Place) : Type 0 where
+pub record BeginsKeyed (key : RowKeyData) (pages : Pages) (table : TableData) (cell : CellData) (rest : List KeyedRow) (others : List Place) : Type 0 where
   pub keyed : KeyedRow
   pub more : List KeyedRow
-  pub is : IsRowOf pages table cell keyed.row
-  pub keyed_is : keyed ≡ record { rowid = cell.rowid; row = keyed.row }
+  pub is : IsKeyedRow key pages table cell keyed
   pub rest_is : rest ≡ keyed ∷ more
-  pub stored_are : AllZip (StoresKeyedRow pages table) others more
+  pub stored_are : AllZip (StoresBy key pages table) others more
 
-pub begins_keyed : (pages : Pages) (table : TableData) (cell : CellData) (places : List Place) (rest : List KeyedRow)
-    → AllZip (StoresKeyedRow pages table) places rest → IsEntry pages kind.Table places (Some cell) → BeginsKeyed pages table cell rest (drop 1 places)
-begins_keyed pages table cell [] rest stored_are entry = absurd cc
-begins_keyed pages table cell (place ∷ places) [] stored_are entry = absurd stored_are
-begins_keyed pages table cell (place ∷ places) (keyed ∷ more) stored_are entry =
-    let same = one_cell pages place stored_are.0.cell cell stored_are.0.at entry in
-    let rowid : keyed.rowid ≡ cell.rowid = stored_are.0.rowid_is ∙ ap (λ (c : CellData). c.rowid) same in
+pub begins_keyed : (key : RowKeyData) (pages : Pages) (table : TableData) (cell : CellData) (places : List Place) (rest : List KeyedRow)
+    → AllZip (StoresBy key pages table) places rest → IsEntry pages (kind_of key) places (Some cell) → BeginsKeyed key pages table cell rest (drop 1 places)
+begins_keyed key pages table cell [] rest stored_are entry = absurd cc
+begins_keyed key pages table cell (place ∷ places) [] stored_are entry = absurd stored_are
+begins_keyed key pages table cell (place ∷ places) (keyed ∷ more) stored_are entry =
+    let same = one_entry pages (kind_of key) place stored_are.0.cell cell stored_are.0.at entry in
     record {
       keyed = keyed;
       more = more;
-      is = subst (λ (c : CellData). IsRowOf pages table c keyed.row) same stored_are.0.is;
-      keyed_is = λ k. record { rowid = rowid k; row = keyed.row };
+      is = subst (λ (c : CellData). IsKeyedRow key pages table c keyed) same stored_are.0.is;
       rest_is = refl;
       stored_are = stored_are.1;
     }
 
-no_keyed : (pages : Pages) (table : TableData) (places : List Place) (rest : List KeyedRow)
-    → AllZip (StoresKeyedRow pages table) places rest → IsEntry pages kind.Table places None → rest ≡ []
-no_keyed pages table [] [] stored_are entry = refl
-no_keyed pages table [] (keyed ∷ rest) stored_are entry = absurd stored_are
-no_keyed pages table (place ∷ places) rest stored_are entry = absurd entry
+no_keyed : (key : RowKeyData) (pages : Pages) (table : TableData) (places : List Place) (rest : List KeyedRow)
+    → AllZip (StoresBy key pages table) places rest → IsEntry pages (kind_of key) places None → rest ≡ []
+no_keyed key pages table [] [] stored_are entry = refl
+no_keyed key pages table [] (keyed ∷ rest) stored_are entry = absurd stored_are
+no_keyed key pages table (place ∷ places) rest stored_are entry = absurd entry
 
 -- what the cursor says of the cell that it stands at
-abbrev pub TellsCell : Cursor → Option CellData → Type 0
-TellsCell cursor cell = (pages : Pages) (levels : ℕ) (places : List Place) (asked budget : ℕ) → IsAt pages kind.Table levels cursor places asked budget
-    → IsEntry pages kind.Table places cell
+abbrev pub TellsCell : RowKeyData → Cursor → Option CellData → Type 0
+TellsCell key cursor cell = (pages : Pages) (levels : ℕ) (places : List Place) (asked budget : ℕ) → IsAt pages (kind_of key) levels cursor places asked budget
+    → IsEntry pages (kind_of key) places cell
 
 -- Each row that the condition keeps is still to come, or the index has the entry that it wants; and so many of them were
 -- counted.
-pub record StandsBefore (pages : Pages) (table : TableData) (columns : List ℕ) (condition : Option Term) (keyed : List KeyedRow) (entries : List Row)
+pub record StandsBefore (pages : Pages) (table : TableData) (index : IndexedPlaces) (condition : Option Term) (keyed : List KeyedRow) (entries : List Row)
     (levels : ℕ) (cursor : Cursor) (asked kept : ℕ) : Type 0 where
   pub rest : List KeyedRow
   pub places : List Place
   pub budget : ℕ
   pub passed : ℕ
-  pub at : IsAt pages kind.Table levels cursor places asked budget
-  pub stored_are : AllZip (StoresKeyedRow pages table) places rest
+  pub at : IsAt pages (kind_of table.key) levels cursor places asked budget
+  pub stored_are : AllZip (StoresBy table.key pages table) places rest
   pub among : (k : KeyedRow) → Contains (kept_rows condition rest) k → Contains (kept_rows condition keyed) k
   pub found : (k : KeyedRow) → Contains (kept_rows condition keyed) k
-      → Contains (kept_rows condition rest) k ⊎ Contains entries (entry_of (indexed columns) k)
+      → Contains (kept_rows condition rest) k ⊎ Contains entries (entry_of index k)
   pub many : passed + length (kept_rows condition rest) ≡ length (kept_rows condition keyed)
   pub kept_are : kept ≡ counted passed
 
 -- the entries of an index that was checked
-module _ (pages : Pages) (index : TableIndex) (count : ℕ) (checked : IsCheckedTableIndex pages index count) where
+module _ (pages : Pages) (table : TableData) (index : TableIndex) (count : ℕ) (checked : IsCheckedTableIndex pages table index count) where
+  abbrev pub width : ℕ
+  width = width_by table.key (indexed_by index)
+
   abbrev pub places_of_index : List Place
   places_of_index = places_under pages kind.Index checked.counts.levels index.root
 
   abbrev pub entries_of_index : List Row
-  entries_of_index = map (values pages (length index.places.now + 1) index.descends.now index.root checked.counts checked.number checked.tree) places_of_index
+  entries_of_index = map (values pages width index.descends.now index.root checked.counts checked.number checked.tree) places_of_index
 
   pub holds_of_index : HoldsEntries pages index.root entries_of_index
-  holds_of_index = holds_entries pages (length index.places.now + 1) index.descends.now index.root checked.counts checked.number checked.tree
+  holds_of_index = holds_entries pages width index.descends.now index.root checked.counts checked.number checked.tree
 
   pub places_are : ArePlacesOf pages kind.Index index.root places_of_index
-  places_are = (in_order pages (length index.places.now + 1) index.descends.now index.root checked.counts checked.number checked.tree).cells
+  places_are = (in_order pages width index.descends.now index.root checked.counts checked.number checked.tree).cells
 
   pub counted_are : count ≡ counted (length places_of_index)
   counted_are = checked.entries_are ∙ checked.tree.counts_are.cells_is
+
+-- the rows of a table that was checked
+abbrev pub its_rows : (pages : Pages) (table : TableData) → IsKeyWithin table.key (length table.columns) → (one : IsCheckedTable pages table)
+    → TableRows table.key pages table one.counts.levels
+its_rows pages table within one = table_rows table.key pages table one.counts within one.tree
+
+abbrev pub its_tree : (pages : Pages) (table : TableData) (one : IsCheckedTable pages table) → IsTreeAt pages (kind_of table.key) one.counts.levels table.root
+its_tree pages table one = tree_at table.key pages table one.counts one.number one.tree
 
 -- what the loop keeps
 pub record Comparing (start now : PagerState) (table : TableData) (index : TableIndex) (m : ℕ) (cursor : Cursor) (kept : ℕ) : Type 0 where
   pub stays : SameImage start now
   pub failures : now.source.failures ≡ start.source.failures
-  pub compares : WhereSteady start (λ pages. (one : IsCheckedTable pages table) (other : IsCheckedTableIndex pages index m)
-      → StandsBefore pages table index.places.now (condition_of index) (rows pages table one.counts one.tree) (entries_of_index pages index m other)
+  pub within : IsKeyWithin table.key (length table.columns)
+  pub compares : WhereSteady start (λ pages. (one : IsCheckedTable pages table) (other : IsCheckedTableIndex pages table index m)
+      → StandsBefore pages table (indexed_by index) (condition_of index) (its_rows pages table within one).rows (entries_of_index pages table index m other)
       one.counts.levels cursor now.asked kept)
 
 -- a cursor at the first cell
 pub opened : (start now : PagerState) (table : TableData) (index : TableIndex) (m : ℕ) (cursor : Cursor) → SameImage start now
-    → now.source.failures ≡ start.source.failures → IsOpenedAt start now kind.Table table.root cursor → Comparing start now table index m cursor 0
-opened start now table index m cursor stays failures is = record {
+    → now.source.failures ≡ start.source.failures → IsKeyWithin table.key (length table.columns)
+    → IsOpenedAt start now (kind_of table.key) table.root cursor → Comparing start now table index m cursor 0
+opened start now table index m cursor stays failures within is = record {
   stays = stays;
   failures = failures;
+  within = within;
   compares = λ steady one other. record {
-    rest = rows (pages_seen start) table one.counts one.tree;
-    places = places_under (pages_seen start) kind.Table one.counts.levels table.root;
+    rest = (its_rows (pages_seen start) table within one).rows;
+    places = places_under (pages_seen start) (kind_of table.key) one.counts.levels table.root;
     budget = _;
     passed = 0;
-    at = is.lists steady one.counts.levels (record { few = one.tree.few; number = one.number; shape = one.tree.shape });
-    stored_are = stored (pages_seen start) table one.counts one.tree;
+    at = is.lists steady one.counts.levels (its_tree (pages_seen start) table one);
+    stored_are = (its_rows (pages_seen start) table within one).stored;
     among = λ k h. h;
     found = λ k h. inl h;
     many = omega arith;
@@ -204,21 +215,21 @@ opened start now table index m cursor stays failures is = record {
 
 module _ (start now : PagerState) (table : TableData) (index : TableIndex) (m : ℕ) (cursor : Cursor) (kept : ℕ)
     (s : Comparing start now table index m cursor kept) where
-  module _ (steady : IsTrue start.source.steady) (one : IsCheckedTable (pages_seen start) table) (other : IsCheckedTableIndex (pages_seen start) index m) where
+  module _ (steady : IsTrue start.source.steady) (one : IsCheckedTable (pages_seen start) table) (other : IsCheckedTableIndex (pages_seen start) table index m) where
     abbrev condition : Option Term
     condition = condition_of index
 
     abbrev keyed : List KeyedRow
-    keyed = rows (pages_seen start) table one.counts one.tree
+    keyed = (its_rows (pages_seen start) table s.within one).rows
 
     abbrev entries : List Row
-    entries = entries_of_index (pages_seen start) index m other
+    entries = entries_of_index (pages_seen start) table index m other
 
-    abbrev here : StandsBefore (pages_seen start) table index.places.now condition keyed entries one.counts.levels cursor now.asked kept
+    abbrev here : StandsBefore (pages_seen start) table (indexed_by index) condition keyed entries one.counts.levels cursor now.asked kept
     here = s.compares steady one other
 
     -- the cursor has a cell or an end
-    pub never_ends : ((pages : Pages) (levels : ℕ) (places : List Place) (asked budget : ℕ) → IsAt pages kind.Table levels cursor places asked budget → ⊥) → ⊥
+    pub never_ends : ((pages : Pages) (levels : ℕ) (places : List Place) (asked budget : ℕ) → IsAt pages (kind_of table.key) levels cursor places asked budget → ⊥) → ⊥
     never_ends none = none _ _ _ _ _ here.at
 
     -- what the index's cells are, by the pages that were read since
@@ -226,18 +237,18 @@ module _ (start now : PagerState) (table : TableData) (index : TableIndex) (m : 
     number_now = subst (λ (p : Pages). IsNumber p index.root) (sym (same_pages _ _ s.stays)) other.number
 
     abbrev pub its_places : List Place
-    its_places = places_of_index (pages_seen start) index m other
+    its_places = places_of_index (pages_seen start) table index m other
 
     pub places_now : ArePlacesOf (pages_seen now) kind.Index index.root its_places
-    places_now = subst (λ (p : Pages). ArePlacesOf p kind.Index index.root its_places) (sym (same_pages _ _ s.stays)) (places_are (pages_seen start) index m other)
+    places_now = subst (λ (p : Pages). ArePlacesOf p kind.Index index.root its_places) (sym (same_pages _ _ s.stays)) (places_are (pages_seen start) table index m other)
 
     -- how many rows the condition keeps
     abbrev pub kept_many : ℕ
     kept_many = length (kept_rows condition keyed)
 
-    module _ (told : TellsCell cursor None) where
+    module _ (told : TellsCell table.key cursor None) where
       none_left : here.rest ≡ []
-      none_left = no_keyed (pages_seen start) table here.places here.rest here.stored_are (told _ _ _ _ _ here.at)
+      none_left = no_keyed table.key (pages_seen start) table here.places here.rest here.stored_are (told _ _ _ _ _ here.at)
 
       no_kept : kept_rows condition here.rest ≡ []
       no_kept = ap (λ (l : List KeyedRow). kept_rows condition l) none_left
@@ -248,45 +259,45 @@ module _ (start now : PagerState) (table : TableData) (index : TableIndex) (m : 
       pub all_counted : kept ≡ counted kept_many
       all_counted = here.kept_are ∙ ap counted all_passed
 
-      pub all_found : kept_many ≡ length its_places → IsIndexOf (pages_seen start) table index.places.now condition index.root
+      pub all_found : kept_many ≡ length its_places → IsIndexOf (pages_seen start) table (indexed_by index) condition index.root
       all_found as_many =
-          let long = length-map its_places (values (pages_seen start) (length index.places.now + 1) index.descends.now index.root other.counts other.number other.tree) in
-          is_index (pages_seen start) table index.places.now condition index.root keyed entries (holds_keyed (pages_seen start) table one.counts one.tree)
-          (holds_of_index (pages_seen start) index m other) (omega (arith, long, as_many))
+          let long = length-map its_places (values (pages_seen start) (width_by table.key (indexed_by index)) index.descends.now index.root other.counts other.number other.tree) in
+          is_index (pages_seen start) table (indexed_by index) condition index.root other.tells keyed entries (its_rows (pages_seen start) table s.within one).holds
+          (holds_of_index (pages_seen start) table index m other) (omega (arith, long, as_many))
           (λ k h. ⊎_elim (λ (left : Contains (kept_rows condition here.rest) k). absurd (in_none k (subst (λ (l : List KeyedRow). Contains l k) no_kept left)))
-          (λ (there : Contains entries (entry_of (indexed index.places.now) k)). there) (here.found k h))
+          (λ (there : Contains entries (entry_of (indexed_by index) k)). there) (here.found k h))
 
-      pub not_as_many : kept_many ≢ length its_places → IsDifferentIndex (pages_seen start) table index.places.now condition index.root
+      pub not_as_many : kept_many ≢ length its_places → IsDifferentIndex (pages_seen start) table (indexed_by index) condition index.root
       not_as_many differ =
-          let long = length-map its_places (values (pages_seen start) (length index.places.now + 1) index.descends.now index.root other.counts other.number other.tree) in
-          other_count (pages_seen start) table index.places.now condition index.root keyed entries (holds_keyed (pages_seen start) table one.counts one.tree)
-          (holds_of_index (pages_seen start) index m other) (λ e. differ (e ∙ long))
+          let long = length-map its_places (values (pages_seen start) (width_by table.key (indexed_by index)) index.descends.now index.root other.counts other.number other.tree) in
+          other_count (pages_seen start) table (indexed_by index) condition index.root keyed entries (its_rows (pages_seen start) table s.within one).holds
+          (holds_of_index (pages_seen start) table index m other) (λ e. differ (e ∙ long))
 
     -- what a look-up stands on
     pub search_now : IsSearchableIndex (pages_seen now) index.descends.now
-        (values (pages_seen start) (length index.places.now + 1) index.descends.now index.root other.counts other.number other.tree) other.counts.levels index.root
+        (values (pages_seen start) (width_by table.key (indexed_by index)) index.descends.now index.root other.counts other.number other.tree) other.counts.levels index.root
     search_now = subst (λ (p : Pages). IsSearchableIndex p index.descends.now
-        (values (pages_seen start) (length index.places.now + 1) index.descends.now index.root other.counts other.number other.tree) other.counts.levels index.root)
+        (values (pages_seen start) (width_by table.key (indexed_by index)) index.descends.now index.root other.counts other.number other.tree) other.counts.levels index.root)
         (sym (same_pages _ _ s.stays))
-        (searchable (pages_seen start) (length index.places.now + 1) index.descends.now index.root other.counts other.number other.tree)
+        (searchable (pages_seen start) (width_by table.key (indexed_by index)) index.descends.now index.root other.counts other.number other.tree)
 
-    module _ (cell : CellData) (told : TellsCell cursor (Some cell)) where
-      abbrev first : BeginsKeyed (pages_seen start) table cell here.rest (drop 1 here.places)
-      first = begins_keyed (pages_seen start) table cell here.places here.rest here.stored_are (told _ _ _ _ _ here.at)
+    module _ (cell : CellData) (told : TellsCell table.key cursor (Some cell)) where
+      abbrev first : BeginsKeyed table.key (pages_seen start) table cell here.rest (drop 1 here.places)
+      first = begins_keyed table.key (pages_seen start) table cell here.places here.rest here.stored_are (told _ _ _ _ _ here.at)
 
-      pub row_now : IsRowOf (pages_seen now) table cell first.keyed.row
-      row_now = subst (λ (p : Pages). IsRowOf p table cell first.keyed.row) (sym (same_pages _ _ s.stays)) first.is
+      pub row_now : IsKeyedRow table.key (pages_seen now) table cell first.keyed
+      row_now = subst (λ (p : Pages). IsKeyedRow table.key p table cell first.keyed) (sym (same_pages _ _ s.stays)) first.is
 
       -- whether the index has the entry that the row wants, as a look-up tells it
       abbrev pub IsThereNow : Type 0
-      IsThereNow = Contains (map (values (pages_seen start) (length index.places.now + 1) index.descends.now index.root other.counts other.number other.tree)
+      IsThereNow = Contains (map (values (pages_seen start) (width_by table.key (indexed_by index)) index.descends.now index.root other.counts other.number other.tree)
           (places_under (pages_seen now) kind.Index other.counts.levels index.root))
-          (entry_of (indexed index.places.now) (record { rowid = cell.rowid; row = first.keyed.row }))
+          (entry_of (indexed_by index) first.keyed)
 
-      same_there : IsThereNow ≡ Contains entries (entry_of (indexed index.places.now) first.keyed)
-      same_there = λ k. Contains (map (values (pages_seen start) (length index.places.now + 1) index.descends.now index.root other.counts other.number other.tree)
+      same_there : IsThereNow ≡ Contains entries (entry_of (indexed_by index) first.keyed)
+      same_there = λ k. Contains (map (values (pages_seen start) (width_by table.key (indexed_by index)) index.descends.now index.root other.counts other.number other.tree)
           (places_under (same_pages _ _ s.stays k) kind.Index other.counts.levels index.root))
-          (entry_of (indexed index.places.now) (sym first.keyed_is k))
+          (entry_of (indexed_by index) first.keyed)
 
       -- whether the condition keeps the row
       abbrev pub keeps_now : Bool
@@ -304,33 +315,33 @@ module _ (start now : PagerState) (table : TableData) (index : TableIndex) (m : 
       first_among keeps = here.among first.keyed (subst (λ (l : List KeyedRow). Contains l first.keyed) (sym (kept_is keeps))
           (in_head first.keyed (kept_rows condition first.more)))
 
-      pub not_there : keeps_now ≡ true → ¬ IsThereNow → IsDifferentIndex (pages_seen start) table index.places.now condition index.root
-      not_there keeps none = lacks (pages_seen start) table index.places.now condition index.root keyed entries
-          (holds_keyed (pages_seen start) table one.counts one.tree) (holds_of_index (pages_seen start) index m other) first.keyed (first_among keeps)
+      pub not_there : keeps_now ≡ true → ¬ IsThereNow → IsDifferentIndex (pages_seen start) table (indexed_by index) condition index.root
+      not_there keeps none = lacks (pages_seen start) table (indexed_by index) condition index.root keyed entries
+          (its_rows (pages_seen start) table s.within one).holds (holds_of_index (pages_seen start) table index m other) first.keyed (first_among keeps)
           (λ h. none (subst (λ (t : Type 0). t) (sym same_there) h))
 
       -- the cursor stands where it stood, once the index was read
       module _ (read : PagerState) (reads : SameImage now read) where
-        still_there : IsAt (pages_seen read) kind.Table one.counts.levels cursor here.places read.asked (read.asked + here.budget)
-        still_there = subst (λ (p : Pages). IsAt p kind.Table one.counts.levels cursor here.places read.asked (read.asked + here.budget))
+        still_there : IsAt (pages_seen read) (kind_of table.key) one.counts.levels cursor here.places read.asked (read.asked + here.budget)
+        still_there = subst (λ (p : Pages). IsAt p (kind_of table.key) one.counts.levels cursor here.places read.asked (read.asked + here.budget))
             (sym (same_pages _ _ (SameImage-trans _ _ _ s.stays reads)))
-            (at_now (pages_seen start) kind.Table one.counts.levels cursor here.places now.asked here.budget read.asked here.at)
+            (at_now (pages_seen start) (kind_of table.key) one.counts.levels cursor here.places now.asked here.budget read.asked here.at)
 
         steady_read : IsTrue read.source.steady
         steady_read = still_steady _ _ (SameImage-trans _ _ _ s.stays reads) steady
 
         pub stopped : (next : Cursor) (e : Fault) → HasFailed read cursor next e → IsReadFault e
-        stopped next e failed = failed.sound steady_read kind.Table one.counts.levels here.places _ still_there
+        stopped next e failed = failed.sound steady_read (kind_of table.key) one.counts.levels here.places _ still_there
 
         module _ (then : PagerState) (next : Cursor) (stepped : HasStepped read then cursor next) where
-          next_at : IsAt (pages_seen start) kind.Table one.counts.levels next (drop 1 here.places) then.asked (read.asked + here.budget)
-          next_at = subst (λ (p : Pages). IsAt p kind.Table one.counts.levels next (drop 1 here.places) then.asked (read.asked + here.budget))
+          next_at : IsAt (pages_seen start) (kind_of table.key) one.counts.levels next (drop 1 here.places) then.asked (read.asked + here.budget)
+          next_at = subst (λ (p : Pages). IsAt p (kind_of table.key) one.counts.levels next (drop 1 here.places) then.asked (read.asked + here.budget))
               (same_pages _ _ (SameImage-trans _ _ _ s.stays reads))
-              (stepped.lists steady_read kind.Table one.counts.levels here.places (read.asked + here.budget) still_there).0
+              (stepped.lists steady_read (kind_of table.key) one.counts.levels here.places (read.asked + here.budget) still_there).0
 
           -- a row that is kept was found
           pub one_further : keeps_now ≡ true → IsThereNow → (counts : ℕ) → counts ≡ min (kept + 1) (2 ^ 64 - 1)
-              → StandsBefore (pages_seen start) table index.places.now condition keyed entries one.counts.levels next then.asked counts
+              → StandsBefore (pages_seen start) table (indexed_by index) condition keyed entries one.counts.levels next then.asked counts
           one_further keeps there counts is = record {
             rest = first.more;
             places = drop 1 here.places;
@@ -341,7 +352,7 @@ module _ (start now : PagerState) (table : TableData) (index : TableIndex) (m : 
             among = λ k h. here.among k (subst (λ (l : List KeyedRow). Contains l k) (sym (kept_is keeps)) (in_tail first.keyed k (kept_rows condition first.more) h));
             found = λ k h. ⊎_elim
                 (λ (left : Contains (kept_rows condition here.rest) k). ⊎_elim
-                (λ (e : first.keyed ≡ k). inr (subst (λ (z : KeyedRow). Contains entries (entry_of (indexed index.places.now) z)) e (subst (λ (t : Type 0). t) same_there there)))
+                (λ (e : first.keyed ≡ k). inr (subst (λ (z : KeyedRow). Contains entries (entry_of (indexed_by index) z)) e (subst (λ (t : Type 0). t) same_there there)))
                 (λ (later : Contains (kept_rows condition first.more) k). inl later)
                 (cons_cases first.keyed k (kept_rows condition first.more) (subst (λ (l : List KeyedRow). Contains l k) (kept_is keeps) left)))
                 inr
@@ -352,7 +363,7 @@ module _ (start now : PagerState) (table : TableData) (index : TableIndex) (m : 
 
           -- a row that isn't kept was passed over
           pub passed_over : keeps_now ≡ false → (counts : ℕ) → counts ≡ kept
-              → StandsBefore (pages_seen start) table index.places.now condition keyed entries one.counts.levels next then.asked counts
+              → StandsBefore (pages_seen start) table (indexed_by index) condition keyed entries one.counts.levels next then.asked counts
           passed_over left counts is = record {
             rest = first.more;
             places = drop 1 here.places;

@@ -1,3 +1,4 @@
+pub mod ListLemmas
 pub mod ConditionLemmas
 pub mod CountLemmas
 pub mod StandLemmas

@@ -1,31 +1,54 @@
--- The rows of a table that was checked, each with its rowid, and the entries that they want.
-use Rattle.std.proofs.Common.{◌≡◌, ◌<◌, ◌≤◌, ◌<ℤ◌, ◌++◌, ℕ, ℤ, All, Bool, List, [], ◌∷◌, Some, length, map, slice_get, refl, sym, ◌∙◌, ap, subst, ⊎_elim, arith}
-use Rattle.std.specs.List.{AllZip}
+-- The rows of a table that was checked, each with its rowid where it has one, and the entries that they want.
+use Rattle.std.proofs.Common.{◌≡◌, ◌<◌, ◌≤◌, ◌<ℤ◌, ◌++◌, ℕ, ℤ, All, Bool, true, false, Contains, IsPermutation, List, [], ◌∷◌, Option, Some, length, map, slice_get, slice_index_or, refl, sym, ◌∙◌, ap, subst, ⊎_elim, arith}
+use Rattle.std.specs.List.{AllZip, filter}
+use Rattle.std.specs.Ordering.{is_lt}
+use Rattle.std.specs.declared.cmp.Ordering.{Ordering}
+use Rattle.std.specs.declared.cmp.Ordering.TheVariants.{Less, Equal, Greater}
 use Rattle.std.proofs.lemmas.Bool.{cases_lt}
 use Rattle.std.proofs.lemmas.Int.{ints}
-use Rattle.std.proofs.lemmas.List.{length-map}
+use Rattle.std.proofs.lemmas.List.{length-map, map-append}
 use Rattle.std.proofs.lemmas.List.Elements.{All-head, All-tail}
-use Rattle.values.specs.Datum.{int}
+use Rattle.std.proofs.lemmas.List.Sorted.{IsPermutation-map, IsPermutation-refl}
+use Rattle.values.specs.Datum.{Datum, int, null}
 use Rattle.values.specs.Row.{Row}
-use Rattle.image.specs.declared.kind.TreeKind.TheVariants.{Table}
+use Rattle.image.specs.declared.kind.TreeKind.TheVariants.{Index, Table}
 use Rattle.image.specs.Cell.{CellData}
-use Rattle.image.specs.Pages.{Pages}
-use Rattle.image.specs.Shape.{places_under}
-use Rattle.image.specs.Tree.{Place}
+use Rattle.image.specs.Pages.{IsNumber, Pages}
+use Rattle.image.specs.Shape.{IsTreeAt, places_under}
+use Rattle.image.specs.Tree.{IsEntryAt, Place}
 use Rattle.image.proofs.CellLemmas.{one_cell}
+use Rattle.image.proofs.ListLemmas.{in_none}
 use Rattle.image.proofs.TableLemmas.{rows_of}
+use Rattle.index_entries.specs.Entries.{HasRecord}
+use Rattle.key_ranges.specs.Ranges.{key_cmp}
+use Rattle.key_ranges.proofs.RunLemmas.{key_never}
 use Rattle.wanted_entries.specs.Bags.{IsOnce}
-use Rattle.wanted_entries.specs.Wanted.{KeyedRow, entry_of, row_key, values_at, wanted}
+use Rattle.wanted_entries.specs.Wanted.{IndexedPlaces, KeyedRow, entry_of, row_key, values_at, wanted}
 use Rattle.wanted_entries.proofs.KeptLemmas.{once_kept}
+use Rattle.expr.proofs.BagLemmas.{IsPermutation-filter}
 use Rattle.tree_walk.specs.declared.counts.TreeCounts.{TreeCounts}
-use Rattle.tables.specs.TableData.{TableData}
+use Rattle.tree_walk.proofs.KindLemmas.{one_entry}
+use Rattle.index_walk.proofs.EntryLemmas.{entry_at_place}
+use Rattle.tables.specs.TableData.{IsKeyWithin, RowKeyData, TableData}
 use Rattle.tables.proofs.ZipLemmas.{zip_same}
 use Rattle.stored_rows.specs.Stored.{HoldsRow, IsRowOf}
+use Rattle.stored_rows.proofs.FilledLemmas.{fills_same}
 use Rattle.stored_rows.proofs.OneLemmas.{one_places, one_row}
 use Rattle.table_walk.specs.Checked.{IsCheckedTree}
-use Rattle.index_rows.specs.Entries.{indexed}
-use Rattle.index_rows.specs.Rows.{HoldsKeyedRows, StoresKeyedRow}
-use Rattle.entry_prefixes.proofs.ListLemmas.{beside, mapped_at}
+use Rattle.primary_rows.specs.Firsts.{firsts}
+use Rattle.primary_rows.specs.Order.{key_order, primary_of}
+use Rattle.primary_rows.specs.Rows.{IsPrimaryRow}
+use Rattle.primary_rows.proofs.FirstLemmas.{only_firsts}
+use Rattle.primary_walk.specs.Checked.{IsCheckedPrimary, StoresPrimaryRow, key_of_row}
+use Rattle.primary_walk.proofs.HeldLemmas.{rows_held, rows_stand}
+use Rattle.primary_walk.proofs.RowLemmas.{one_values}
+use Rattle.index_rows.specs.Checked.{IsCheckedBy}
+use Rattle.index_rows.specs.Entries.{TellsRow}
+use Rattle.index_rows.specs.Rows.{HoldsKeyedRows, HoldsRowlessRows, HoldsTableRows, IsKeyedRow, StoresKeyedRow, kind_of, rowless}
+use Rattle.index_rows.proofs.ListLemmas.{agree_on, ascend_at, map_agreeing, number_in}
+use Rattle.entry_prefixes.proofs.ListLemmas.{beside, get_of, mapped_at, same_values}
+
+-- ---- rows with rowids
 
 -- the last value of an entry is the rowid
 last_same : (xs ys : Row) (p q : ℤ) → length xs ≡ length ys → xs ++ int p ∷ [] ≡ ys ++ int q ∷ [] → p ≡ q
@@ -36,58 +59,59 @@ last_same (x ∷ xs) (y ∷ ys) p q long e =
     let f : x ∷ (xs ++ int p ∷ []) ≡ y ∷ (ys ++ int q ∷ []) = e in
     last_same xs ys p q (omega (arith, long)) cc
 
-same_rowid : (columns : List ℕ) (a b : KeyedRow) (p q : ℤ) → a.rowid ≡ Some p → b.rowid ≡ Some q
-    → entry_of (indexed columns) a ≡ entry_of (indexed columns) b → p ≡ q
-same_rowid columns a b p q is_p is_q e =
-    last_same (values_at a.row columns) (values_at b.row columns) p q
-    (length-map columns _ ∙ sym (length-map columns _))
-    (ap (λ (o : _). values_at a.row columns ++ row_key [] o a.row) (sym is_p) ∙ e ∙ ap (λ (o : _). values_at b.row columns ++ row_key [] o b.row) is_q)
+same_rowid : (index : IndexedPlaces) (a b : KeyedRow) (p q : ℤ) → a.rowid ≡ Some p → b.rowid ≡ Some q
+    → entry_of index a ≡ entry_of index b → p ≡ q
+same_rowid index a b p q is_p is_q e =
+    last_same (values_at a.row index.columns) (values_at b.row index.columns) p q
+    (length-map index.columns _ ∙ sym (length-map index.columns _))
+    (ap (λ (o : _). values_at a.row index.columns ++ row_key index.others o a.row) (sym is_p) ∙ e
+    ∙ ap (λ (o : _). values_at b.row index.columns ++ row_key index.others o b.row) is_q)
 
 never_before : (p q : ℤ) → p ≡ q → p <ℤ q → ⊥
 never_before p q e less = let f : q <ℤ q = subst (λ (z : ℤ). z <ℤ q) e less in omega (arith, ints)
 
+-- elements none of which stands before itself stand once
+once_from : {X : Type 0} (xs : List X) → ((i j : ℕ) (x : X) → i < j → slice_get xs i ≡ Some x → slice_get xs j ≡ Some x → ⊥) → IsOnce xs
+once_from xs never i j x at_i at_j = ⊎_elim
+    (λ (less : i < j). absurd (never i j x less at_i at_j))
+    (λ (least : j ≤ i). ⊎_elim
+    (λ (less : j < i). absurd (never j i x less at_j at_i))
+    (λ (most : i ≤ j). omega arith)
+    (cases_lt j i))
+    (cases_lt i j)
+
 module _ (pages : Pages) (table : TableData) where
   -- rows of one place are one
-  pub one_keyed : (place : Place) (a b : KeyedRow) → StoresKeyedRow pages table place a → StoresKeyedRow pages table place b → a ≡ b
+  one_keyed : (place : Place) (a b : KeyedRow) → StoresKeyedRow pages table place a → StoresKeyedRow pages table place b → a ≡ b
   one_keyed place a b one other =
       let same = one_cell pages place one.cell other.cell one.at other.at in
       let rowid : a.rowid ≡ b.rowid = one.rowid_is ∙ ap (λ (c : CellData). c.rowid) same ∙ sym other.rowid_is in
       let row : a.row ≡ b.row = one_row pages table other.cell a.row b.row (subst (λ (c : CellData). IsRowOf pages table c a.row) same one.is) other.is in
       λ k. record { rowid = rowid k; row = row k }
 
-  pub one_keyed_rows : (a b : List KeyedRow) → HoldsKeyedRows pages table a → HoldsKeyedRows pages table b → a ≡ b
+  one_keyed_rows : (a b : List KeyedRow) → HoldsKeyedRows pages table a → HoldsKeyedRows pages table b → a ≡ b
   one_keyed_rows a b one other =
       let places = one_places pages table.root one.places other.places one.cells other.cells in
       zip_same (StoresKeyedRow pages table) one_keyed other.places a b
       (subst (λ (l : List Place). AllZip (StoresKeyedRow pages table) l a) places one.rows_are) other.rows_are
 
   -- the entries that rows want differ
-  module _ (columns : List ℕ) (rows : List KeyedRow) (holds : HoldsKeyedRows pages table rows) where
-    not_before : (i j : ℕ) (entry : Row) → i < j → slice_get (map (entry_of (indexed columns)) rows) i ≡ Some entry
-        → slice_get (map (entry_of (indexed columns)) rows) j ≡ Some entry → ⊥
+  module _ (index : IndexedPlaces) (rows : List KeyedRow) (holds : HoldsKeyedRows pages table rows) where
+    not_before : (i j : ℕ) (entry : Row) → i < j → slice_get (map (entry_of index) rows) i ≡ Some entry
+        → slice_get (map (entry_of index) rows) j ≡ Some entry → ⊥
     not_before i j entry less at_i at_j =
-        let x = mapped_at (entry_of (indexed columns)) rows i entry at_i in
-        let y = mapped_at (entry_of (indexed columns)) rows j entry at_j in
+        let x = mapped_at (entry_of index) rows i entry at_i in
+        let y = mapped_at (entry_of index) rows j entry at_j in
         let p = beside (StoresKeyedRow pages table) holds.places rows i x.x holds.rows_are x.at in
         let q = beside (StoresKeyedRow pages table) holds.places rows j y.x holds.rows_are y.at in
         let a = p.holds.at.is in
         let b = q.holds.at.is in
         never_before a.rowid b.rowid
-        (same_rowid columns x.x y.x a.rowid b.rowid (p.holds.rowid_is ∙ a.has_rowid) (q.holds.rowid_is ∙ b.has_rowid) (x.is ∙ sym y.is))
+        (same_rowid index x.x y.x a.rowid b.rowid (p.holds.rowid_is ∙ a.has_rowid) (q.holds.rowid_is ∙ b.has_rowid) (x.is ∙ sym y.is))
         (holds.cells.ascend i j p.x q.x a.rowid b.rowid less p.at q.at (p.holds.cell, a, a.has_rowid) (q.holds.cell, b, b.has_rowid))
 
-    once_entries : IsOnce (map (entry_of (indexed columns)) rows)
-    once_entries i j entry at_i at_j = ⊎_elim
-        (λ (less : i < j). absurd (not_before i j entry less at_i at_j))
-        (λ (least : j ≤ i). ⊎_elim
-        (λ (less : j < i). absurd (not_before j i entry less at_j at_i))
-        (λ (most : i ≤ j). omega arith)
-        (cases_lt j i))
-        (cases_lt i j)
-
-    -- also where a condition leaves rows out
-    pub once_wanted : (keeps : Row → Bool) → IsOnce (wanted (indexed columns) keeps rows)
-    once_wanted keeps = once_kept (entry_of (indexed columns)) (λ keyed. keeps keyed.row) rows once_entries
+    once_entries : IsOnce (map (entry_of index) rows)
+    once_entries = once_from (map (entry_of index) rows) not_before
 
   -- the rows at places at which rows are
   record AreKeyed (places : List Place) : Type 0 where
@@ -104,20 +128,165 @@ module _ (pages : Pages) (table : TableData) where
         stored = (record { cell = first.stores.cell; at = first.stores.at; is = first.stores.is; rowid_is = refl }, others.stored);
       }
 
-  module _ (counts : TreeCounts) (checked : IsCheckedTree pages table counts) where
-    chosen : AreKeyed (places_under pages Table counts.levels table.root)
-    chosen = keyed_at (places_under pages Table counts.levels table.root) checked.rows
+-- ---- rows without rowids
 
-    pub rows : List KeyedRow
-    rows = chosen.rows
+-- what an entry has tells each column of the key
+key_told : (key : RowKeyData) (index : IndexedPlaces) → TellsRow key index → (c : ℕ) → Contains (firsts [] (primary_of key)) c
+    → Contains (index.columns ++ index.others) c
+key_told (RowKeyData.Rowid place) index tells c h = absurd (in_none c h)
+key_told (RowKeyData.Primary places) index tells c h =
+    tells c (number_in places c (only_firsts [] places h.0 c (get_of (firsts [] places) c h)))
 
-    pub stored : AllZip (StoresKeyedRow pages table) (places_under pages Table counts.levels table.root) rows
-    unfolding rows
-    stored = chosen.stored
+less_of : (o : Ordering) → is_lt o ≡ true → o ≡ Less
+less_of Less e = refl
+less_of Equal e = let f : false ≡ true = e in cc
+less_of Greater e = let f : false ≡ true = e in cc
 
-    pub holds_keyed : HoldsKeyedRows pages table rows
-    holds_keyed = record {
-      places = places_under pages Table counts.levels table.root;
-      cells = rows_of pages table.root counts.levels checked.shape checked.sound.order;
-      rows_are = stored;
+module _ (pages : Pages) (table : TableData) where
+  -- rows of one place are one
+  one_primary : (place : Place) (a b : Row) → StoresPrimaryRow pages table place a → StoresPrimaryRow pages table place b → a ≡ b
+  one_primary place a b one other =
+      let same = one_entry pages Index place one.has.cell other.has.cell
+      (entry_at_place pages one.level place.page place.index one.has.cell one.page one.has.is)
+      (entry_at_place pages other.level place.page place.index other.has.cell other.page other.has.is) in
+      let values = one_values pages other.has.cell one.values other.values (subst (λ (c : CellData). HasRecord pages c one.values) same one.has.has) other.has.has in
+      let makes = subst (λ (v : List Datum). IsPrimaryRow table v a) values one.makes in
+      fills_same a b (makes.told ∙ sym other.makes.told)
+
+  one_rowless : (a b : List KeyedRow) → HoldsRowlessRows pages table a → HoldsRowlessRows pages table b → IsPermutation a b
+  one_rowless a b one other =
+      let x = one.holds in
+      let y = other.holds in
+      let bag = same_values (StoresPrimaryRow pages table) one_primary x.places y.places one.values other.values x.rows_are y.rows_are x.cells.once y.cells.once
+      (λ place h. y.cells.complete place (x.cells.sound place h)) (λ place h. x.cells.complete place (y.cells.sound place h)) in
+      subst (λ (l : List KeyedRow). IsPermutation l b) (sym one.rows_are)
+      (subst (λ (l : List KeyedRow). IsPermutation (map rowless one.values) l) (sym other.rows_are) (IsPermutation-map rowless one.values other.values bag))
+
+  module _ (index : IndexedPlaces) (tells : TellsRow table.key index) where
+    -- rows that want one entry have one key
+    same_key : (a b : Row) → entry_of index (rowless a) ≡ entry_of index (rowless b) → key_of_row table a ≡ key_of_row table b
+    same_key a b e =
+        let f : ℕ → Datum = λ at. slice_index_or a at null in
+        let g : ℕ → Datum = λ at. slice_index_or b at null in
+        let all : map f (index.columns ++ index.others) ≡ map g (index.columns ++ index.others) =
+        map-append f index.columns index.others ∙ e ∙ sym (map-append g index.columns index.others) in
+        map_agreeing f g (key_order table)
+        (λ c h. agree_on f g (index.columns ++ index.others) all c (key_told table.key index tells c h))
+
+    module _ (rows : List KeyedRow) (holds : HoldsRowlessRows pages table rows) where
+      abbrev its : List Row
+      its = holds.values
+
+      never_same : (i j : ℕ) (entry : Row) → i < j → slice_get (map (entry_of index) (map rowless its)) i ≡ Some entry
+          → slice_get (map (entry_of index) (map rowless its)) j ≡ Some entry → ⊥
+      never_same i j entry less at_i at_j =
+          let x = mapped_at (entry_of index) (map rowless its) i entry at_i in
+          let y = mapped_at (entry_of index) (map rowless its) j entry at_j in
+          let p = mapped_at rowless its i x.x x.at in
+          let q = mapped_at rowless its j y.x y.at in
+          let one : entry_of index (rowless p.x) ≡ entry_of index (rowless q.x) =
+          ap (entry_of index) p.is ∙ x.is ∙ sym y.is ∙ sym (ap (entry_of index) q.is) in
+          let key : key_of_row table p.x ≡ key_of_row table q.x = same_key p.x q.x one in
+          let before = less_of (key_cmp [] (key_of_row table p.x) (key_of_row table q.x))
+          (ascend_at [] (key_of_row table) its i j p.x q.x holds.holds.ascend less p.at q.at) in
+          key_never [] (key_of_row table q.x) (subst (λ (k : List Datum). key_cmp [] k (key_of_row table q.x) ≡ Less) key before)
+
+      once_rowless : IsOnce (map (entry_of index) rows)
+      once_rowless = subst (λ (l : List KeyedRow). IsOnce (map (entry_of index) l)) (sym holds.rows_are)
+          (once_from (map (entry_of index) (map rowless its)) never_same)
+
+-- ---- rows of either kind
+
+-- the rows that a table holds are one bag
+pub one_bag : (key : RowKeyData) (pages : Pages) (table : TableData) (a b : List KeyedRow) → HoldsTableRows key pages table a
+    → HoldsTableRows key pages table b → IsPermutation a b
+one_bag (RowKeyData.Rowid place) pages table a b one other =
+    subst (λ (l : List KeyedRow). IsPermutation a l) (one_keyed_rows pages table a b one other) (IsPermutation-refl a)
+one_bag (RowKeyData.Primary places) pages table a b one other = one_rowless pages table a b one other
+
+-- so are the entries that they want
+pub one_wanted : (key : RowKeyData) (pages : Pages) (table : TableData) (index : IndexedPlaces) (keeps : Row → Bool) (a b : List KeyedRow)
+    → HoldsTableRows key pages table a → HoldsTableRows key pages table b → IsPermutation (wanted index keeps a) (wanted index keeps b)
+one_wanted key pages table index keeps a b one other =
+    IsPermutation-map (entry_of index) (filter (λ keyed. keeps keyed.row) a) (filter (λ keyed. keeps keyed.row) b)
+    (IsPermutation-filter (λ keyed. keeps keyed.row) a b (one_bag key pages table a b one other))
+
+once_of : (key : RowKeyData) (pages : Pages) (table : TableData) (index : IndexedPlaces) → TellsRow table.key index → (rows : List KeyedRow)
+    → HoldsTableRows key pages table rows → IsOnce (map (entry_of index) rows)
+once_of (RowKeyData.Rowid place) pages table index tells rows holds = once_entries pages table index rows holds
+once_of (RowKeyData.Primary places) pages table index tells rows holds = once_rowless pages table index tells rows holds
+
+-- they differ, also where a condition leaves rows out
+pub once_wanted : (key : RowKeyData) (pages : Pages) (table : TableData) (index : IndexedPlaces) → TellsRow table.key index → (rows : List KeyedRow)
+    → HoldsTableRows key pages table rows → (keeps : Row → Bool) → IsOnce (wanted index keeps rows)
+once_wanted key pages table index tells rows holds keeps =
+    once_kept (entry_of index) (λ keyed. keeps keyed.row) rows (once_of key pages table index tells rows holds)
+
+-- the cell at a place of a table's tree is this row
+pub record StoresBy (key : RowKeyData) (pages : Pages) (table : TableData) (place : Place) (keyed : KeyedRow) : Type 0 where
+  pub cell : CellData
+  pub at : IsEntryAt pages (kind_of key) place cell
+  pub is : IsKeyedRow key pages table cell keyed
+
+-- the rows of a table, and the places of its tree at which they stand
+pub record TableRows (key : RowKeyData) (pages : Pages) (table : TableData) (levels : ℕ) : Type 0 where
+  pub rows : List KeyedRow
+  pub holds : HoldsTableRows key pages table rows
+  pub stored : AllZip (StoresBy key pages table) (places_under pages (kind_of key) levels table.root) rows
+
+stored_by_rowid : (at : Option ℕ) (pages : Pages) (table : TableData) (places : List Place) (rows : List KeyedRow)
+    → AllZip (StoresKeyedRow pages table) places rows → AllZip (StoresBy (RowKeyData.Rowid at) pages table) places rows
+stored_by_rowid at pages table [] [] all = tt
+stored_by_rowid at pages table [] (row ∷ rows) all = absurd all
+stored_by_rowid at pages table (place ∷ places) [] all = absurd all
+stored_by_rowid at pages table (place ∷ places) (row ∷ rows) all =
+    (record { cell = all.0.cell; at = all.0.at; is = (all.0.is, all.0.rowid_is) }, stored_by_rowid at pages table places rows all.1)
+
+stored_rowless : (ats : List ℕ) (pages : Pages) (table : TableData) (places : List Place) (rows : List Row)
+    → AllZip (StoresPrimaryRow pages table) places rows → AllZip (StoresBy (RowKeyData.Primary ats) pages table) places (map rowless rows)
+stored_rowless ats pages table [] [] all = tt
+stored_rowless ats pages table [] (row ∷ rows) all = absurd all
+stored_rowless ats pages table (place ∷ places) [] all = absurd all
+stored_rowless ats pages table (place ∷ places) (row ∷ rows) all =
+    let first = all.0 in (
+      record {
+        cell = first.has.cell;
+        at = entry_at_place pages first.level place.page place.index first.has.cell first.page first.has.is;
+        is = (record { values = first.values; has = first.has.has; makes = first.makes }, refl);
+      },
+      stored_rowless ats pages table places rows all.1,
+    )
+
+rowid_rows : (at : Option ℕ) (pages : Pages) (table : TableData) (counts : TreeCounts) → IsCheckedTree pages table counts
+    → TableRows (RowKeyData.Rowid at) pages table counts.levels
+rowid_rows at pages table counts checked =
+    let chosen = keyed_at pages table (places_under pages Table counts.levels table.root) checked.rows in
+    record {
+      rows = chosen.rows;
+      holds = record {
+        places = places_under pages Table counts.levels table.root;
+        cells = rows_of pages table.root counts.levels checked.shape checked.sound.order;
+        rows_are = chosen.stored;
+      };
+      stored = stored_by_rowid at pages table (places_under pages Table counts.levels table.root) chosen.rows chosen.stored;
     }
+
+rowless_rows : (ats : List ℕ) (pages : Pages) (table : TableData) (counts : TreeCounts) → IsKeyWithin table.key (length table.columns)
+    → IsCheckedPrimary pages table counts → TableRows (RowKeyData.Primary ats) pages table counts.levels
+rowless_rows ats pages table counts within checked =
+    let held = rows_held pages table within counts checked in
+    record {
+      rows = map rowless held.0;
+      holds = record { values = held.0; holds = held.1; rows_are = refl };
+      stored = stored_rowless ats pages table (places_under pages Index counts.levels table.root) held.0 (rows_stand pages table within counts checked);
+    }
+
+pub table_rows : (key : RowKeyData) (pages : Pages) (table : TableData) (counts : TreeCounts) → IsKeyWithin table.key (length table.columns)
+    → IsCheckedBy key pages table counts → TableRows key pages table counts.levels
+table_rows (RowKeyData.Rowid place) pages table counts within checked = rowid_rows place pages table counts checked
+table_rows (RowKeyData.Primary places) pages table counts within checked = rowless_rows places pages table counts within checked
+
+pub tree_at : (key : RowKeyData) (pages : Pages) (table : TableData) (counts : TreeCounts) → IsNumber pages table.root
+    → IsCheckedBy key pages table counts → IsTreeAt pages (kind_of key) counts.levels table.root
+tree_at (RowKeyData.Rowid place) pages table counts number checked = record { few = checked.few; number = number; shape = checked.shape }
+tree_at (RowKeyData.Primary places) pages table counts number checked = record { few = checked.tree.few; number = number; shape = checked.tree.shape }

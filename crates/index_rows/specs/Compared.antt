@@ -1,28 +1,27 @@
 -- Whether an index has the entries that its table's rows want. (Database File Format, section 2.3 "Representation Of SQL
--- Indices"; Partial Indexes; the faults of docs/FAULTS.md)
+-- Indices", and section 2.4 "Representation Of WITHOUT ROWID Tables"; Partial Indexes; the faults of docs/FAULTS.md)
 use Rattle.std.specs.Prelude.{ℕ, IsPermutation, List, Option}
 use Rattle.values.specs.Row.{Row}
 use Rattle.image.specs.Pages.{Pages}
 use Rattle.expr.specs.Term.{Term}
-use Rattle.wanted_entries.specs.Wanted.{IsDifferent, KeyedRow, wanted}
+use Rattle.wanted_entries.specs.Wanted.{IndexedPlaces, IsDifferent, KeyedRow, wanted}
 use Rattle.tables.specs.TableData.{TableData}
 use Rattle.entry_prefixes.specs.Entries.{HoldsEntries}
-use Rattle.index_rows.specs.Entries.{indexed}
 use Rattle.index_rows.specs.Kept.{keeps_row}
-use Rattle.index_rows.specs.Rows.{HoldsKeyedRows}
+use Rattle.index_rows.specs.Rows.{HoldsTableRows}
 
 -- the index of these columns has exactly the entries that those rows of the table want which its condition keeps
-pub record IsIndexOf (pages : Pages) (table : TableData) (columns : List ℕ) (condition : Option Term) (root : ℕ) : Type 0 where
+pub record IsIndexOf (pages : Pages) (table : TableData) (index : IndexedPlaces) (condition : Option Term) (root : ℕ) : Type 0 where
   pub rows : List KeyedRow
   pub entries : List Row
-  pub rows_are : HoldsKeyedRows pages table rows
+  pub rows_are : HoldsTableRows table.key pages table rows
   pub entries_are : HoldsEntries pages root entries
-  pub same : IsPermutation entries (wanted (indexed columns) (keeps_row condition) rows)
+  pub same : IsPermutation entries (wanted index (keeps_row condition) rows)
 
 -- it hasn't: IndexDiffers
-pub record IsDifferentIndex (pages : Pages) (table : TableData) (columns : List ℕ) (condition : Option Term) (root : ℕ) : Type 0 where
+pub record IsDifferentIndex (pages : Pages) (table : TableData) (index : IndexedPlaces) (condition : Option Term) (root : ℕ) : Type 0 where
   pub rows : List KeyedRow
   pub entries : List Row
-  pub rows_are : HoldsKeyedRows pages table rows
+  pub rows_are : HoldsTableRows table.key pages table rows
   pub entries_are : HoldsEntries pages root entries
-  pub differ : IsDifferent (indexed columns) (keeps_row condition) rows entries
+  pub differ : IsDifferent index (keeps_row condition) rows entries

@@ -6,8 +6,8 @@ use Rattle.expr.specs.Meaning.{exact}
 use Rattle.expr.specs.Term.{Term}
 use Rattle.expr.specs.View.{term}
 use Rattle.index_rows.specs.declared.index.TableIndex.{TableIndex}
-use Rattle.index_rows.specs.declared.entries.Lookup.{Lookup}
-use Rattle.index_rows.specs.declared.entries.Lookup.TheVariants.{Found, LeftOut, Missing}
+use Rattle.index_rows.specs.declared.searches.Lookup.{Lookup}
+use Rattle.index_rows.specs.declared.searches.Lookup.TheVariants.{Found, LeftOut, Missing}
 
 -- Those of which the condition is true; where it has no value it isn't.
 abbrev pub keeps_row : Option Term → Row → Bool

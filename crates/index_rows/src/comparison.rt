@@ -6,17 +6,21 @@ ghost use Rattle.image.specs.Pages.{IsNumber, WhereSteady, pages_seen};
 ghost use Rattle.image.specs.Tree.{ArePlacesOf, Place};
 ghost use Rattle.tree_walk.specs.Counts.{counted};
 ghost use Rattle.table_walk.specs.Walked.{IsWalkFault};
+ghost use Rattle.tables.specs.RowKeyView.{row_key_of};
 ghost use Rattle.index_rows.specs.Checked.{IsCheckedTable, IsCheckedTableIndex};
 ghost use Rattle.index_rows.specs.Compared.{IsDifferentIndex, IsIndexOf};
+ghost use Rattle.index_rows.specs.Entries.{indexed_by};
 ghost use Rattle.index_rows.specs.Kept.{condition_of};
+ghost use Rattle.index_rows.specs.Rows.{kind_of};
 
-use crate::entries::{Lookup, look_up};
 use crate::index::TableIndex;
+use crate::searches::{Lookup, look_up};
 use cursor::Cursor;
 use image::TreeKind;
 use pager::{Pager, Source};
+use primary_rows::RecordOrder;
 use std::alloc::Global;
-use tables::Table;
+use tables::{RowKey, Table};
 use values::Fault;
 
 /// Whether so many rows are as many as the entries of an index, by their counts, which stay at the greatest number.
@@ -30,10 +34,20 @@ fn are_as_many<S: Source>(pager: &Pager<S>, rows: u64, entries: u64) -> bool
     rows == entries && rows <= most
 }
 
+/// The kind of the tree of a table whose rows are found so.
+fn tree_kind(key: &RowKey) -> TreeKind
+    ensures { result ≡ kind_of (row_key_of key.now) }
+{
+    match key {
+        RowKey::Rowid(_) => TreeKind::Table,
+        RowKey::Primary(_) => TreeKind::Index,
+    }
+}
+
 /// Whether an index has exactly the entries that those rows of its table want which its condition keeps, where the trees of
 /// both were checked and the index has so many entries. Each wanted entry is looked up: they differ from one another, so that
 /// where there are as many entries these are the wanted ones. (Database File Format, section 2.3 "Representation Of SQL
-/// Indices"; Partial Indexes)
+/// Indices", and section 2.4 "Representation Of WITHOUT ROWID Tables"; Partial Indexes)
 ///
 /// # Errors
 ///
@@ -45,14 +59,16 @@ pub fn is_index_of<S: Source>(
     index: &TableIndex<'_>,
     entries: u64,
 ) -> Result<bool, Fault>
-    ensures same { WhereSteady pager.old.state (λ pages. IsCheckedTable pages table.now → IsCheckedTableIndex pages index.now entries
-        → MatchResult result (λ same. (IsTrue same → IsIndexOf pages table.now index.now.places.now (condition_of index.now) index.now.root)
-        × (¬ IsTrue same → IsDifferentIndex pages table.now index.now.places.now (condition_of index.now) index.now.root)) IsReadFault) }
+    ensures same { WhereSteady pager.old.state (λ pages. IsCheckedTable pages table.now → IsCheckedTableIndex pages table.now index.now entries
+        → MatchResult result (λ same. (IsTrue same → IsIndexOf pages table.now (indexed_by index.now) (condition_of index.now) index.now.root)
+        × (¬ IsTrue same → IsDifferentIndex pages table.now (indexed_by index.now) (condition_of index.now) index.now.root)) IsReadFault) }
     ensures only { IfErr result IsWalkFault }
     ensures reads { ReadsPages result pager.old.state pager.new.state }
 {
     let root = table.root();
-    let mut cursor = Cursor::first(alloc, pager, TreeKind::Table, root)?;
+    let order = RecordOrder::of(alloc, table)?;
+    let kind = tree_kind(table.key());
+    let mut cursor = Cursor::first(alloc, pager, kind, root)?;
     let mut kept: u64 = 0;
     loop {
         // A cell that was checked is there again, unless the source has changed.
@@ -62,7 +78,7 @@ pub fn is_index_of<S: Source>(
         let Some(cell) = entry else {
             return Ok(are_as_many(pager, kept, entries));
         };
-        match look_up(alloc, pager, table, &cell, index)? {
+        match look_up(alloc, pager, table, &order, &cell, index)? {
             Lookup::LeftOut => {}
             Lookup::Found => kept = kept.saturating_add(1),
             Lookup::Missing => return Ok(false),

@@ -1,28 +1,21 @@
 //! The entry that a row of a table wants in an index.
-ghost use Rattle.std.specs.Prelude.{◌≡◌, ◌↔◌, ℕ, Contains, IfErr, IfOk, IsTrue, List, MatchResult, map, slice_index_or};
+ghost use Rattle.std.specs.Prelude.{◌≡◌, ◌↔◌, ◌++◌, ℕ, Contains, IfErr, IfOk, IsTrue, List, MatchResult, OnOk, map, slice_index_or};
 ghost use Rattle.values.specs.Datum.{Datum, datum_of, null};
-ghost use Rattle.values.specs.Row.{Row};
 ghost use Rattle.pager.specs.Calls.{IsReadFault, ReadsPages};
 ghost use Rattle.image.specs.declared.kind.TreeKind.TheVariants.{Index};
 ghost use Rattle.image.specs.Pages.{WhereSteady};
 ghost use Rattle.image.specs.Shape.{places_under};
 ghost use Rattle.image.specs.Tree.{Place};
-ghost use Rattle.btree.specs.Views.{cell_data};
 ghost use Rattle.wanted_entries.specs.Wanted.{entry_of, values_at};
 ghost use Rattle.cursor.specs.Search.{IsIndexFault, IsSearchableIndex};
-ghost use Rattle.stored_rows.specs.Stored.{IsRowOf};
-ghost use Rattle.table_walk.specs.Walked.{IsWalkFault};
-ghost use Rattle.index_rows.specs.Entries.{indexed};
-ghost use Rattle.index_rows.specs.Kept.{Tells, condition_of, keeps_row};
+ghost use Rattle.index_rows.specs.Entries.{indexed_by};
+ghost use Rattle.index_rows.specs.Rows.{rowless};
 
-use crate::conditions::is_kept;
 use crate::index::TableIndex;
-use btree::Cell;
 use entry_rows::has_entry;
 use pager::{Pager, Source};
 use std::alloc::{AllocError, Global};
-use stored_rows::{RowView, payload_of, read_row};
-use tables::Table;
+use stored_rows::RowView;
 use values::{Fault, Row, Value};
 
 /// The value of a column of a row, NULL where the row lacks it.
@@ -36,30 +29,37 @@ fn value_at(alloc: Global, row: &RowView<'_>, place: usize) -> Result<Value, All
     }
 }
 
-/// The values of the indexed columns of a row, NULL for one that the row lacks.
-fn indexed_values(alloc: Global, row: &RowView<'_>, places: &[usize]) -> Result<Row, AllocError>
-    ensures { IfOk result (λ values. values ≡ values_at row.now places.now) }
+/// Puts the values of these columns of a row behind others, NULL for one that the row lacks.
+fn push_values(
+    alloc: Global,
+    entry: &mut Row,
+    row: &RowView<'_>,
+    places: &[usize],
+) -> Result<(), AllocError>
+    ensures { OnOk result (entry.new ≡ entry.old ++ values_at row.now places.now) }
 {
-    let mut values = Row::new(alloc);
     for i in 0..places.len() {
         let value = value_at(alloc, row, places[i])?;
-        values.push(value)?;
+        entry.push(value)?;
     }
-    Ok(values)
+    Ok(())
 }
 
-/// The entry that a row wants in an index of these columns.
+/// The entry that a row wants in an index: the values of the columns, and behind them its rowid, or without one those of the
+/// columns that the index has there.
 fn wanted_entry(
     alloc: Global,
     row: &RowView<'_>,
     rowid: Option<i64>,
-    places: &[usize],
+    index: &TableIndex<'_>,
 ) -> Result<Row, AllocError>
-    ensures { IfOk result (λ entry. entry ≡ entry_of (indexed places.now) (record { rowid = rowid; row = row.now })) }
+    ensures { IfOk result (λ entry. entry ≡ entry_of (indexed_by index.now) (record { rowid = rowid; row = row.now })) }
 {
-    let mut entry = indexed_values(alloc, row, places)?;
-    if let Some(rowid) = rowid {
-        entry.push(Value::Int(rowid))?;
+    let mut entry = Row::new(alloc);
+    push_values(alloc, &mut entry, row, index.places)?;
+    match rowid {
+        Some(rowid) => entry.push(Value::Int(rowid))?,
+        None => push_values(alloc, &mut entry, row, index.others)?,
     }
     Ok(entry)
 }
@@ -80,52 +80,65 @@ pub fn has_wanted<S: Source>(
     ensures found { WhereSteady pager.old.state (λ pages. (values : Place → List Datum) (levels : ℕ)
         → IsSearchableIndex pages index.now.descends.now values levels index.now.root
         → MatchResult result (λ found. IsTrue found ↔ Contains (map values (places_under pages Index levels index.now.root))
-        (entry_of (indexed index.now.places.now) (record { rowid = rowid; row = row.now }))) IsReadFault) }
+        (entry_of (indexed_by index.now) (record { rowid = rowid; row = row.now }))) IsReadFault) }
     ensures only { IfErr result (IsIndexFault index.now.root) }
     ensures reads { ReadsPages result pager.old.state pager.new.state }
 {
-    let wanted = wanted_entry(alloc, row, rowid, index.places)?;
+    let wanted = wanted_entry(alloc, row, rowid, index)?;
     has_entry(alloc, pager, index.root, index.descends, &wanted)
 }
 
-/// What an index has of a row of its table.
-pub(crate) enum Lookup {
-    /// Its condition leaves the row out.
-    LeftOut,
-    /// It keeps the row, and has the entry that it wants.
-    Found,
-    /// It keeps the row, and has no such entry.
-    Missing,
+/// A copy of a value of a row, NULL where the row lacks it.
+fn copy_at(alloc: Global, row: &[Value], place: usize) -> Result<Value, AllocError>
+    ensures { IfOk result (λ value. datum_of value ≡ slice_index_or (map datum_of row.now) place null) }
+{
+    match row.get(place) {
+        Some(value) => value.as_ref().to_value(alloc),
+        None => Ok(Value::Null),
+    }
 }
 
-/// Looks up the entry that a row of a table wants in an index, where the index keeps the row, which a cell of the table is.
-///
-/// # Errors
-///
-/// Those of `has_wanted`, and of a cell that is no row of the table.
-pub(crate) fn look_up<S: Source>(
+/// Puts copies of the values of these columns of a row behind others, NULL for one that the row lacks.
+fn push_copies(
+    alloc: Global,
+    entry: &mut Row,
+    row: &[Value],
+    places: &[usize],
+) -> Result<(), AllocError>
+    ensures { OnOk result (entry.new ≡ entry.old ++ values_at (map datum_of row.now) places.now) }
+{
+    for i in 0..places.len() {
+        let value = copy_at(alloc, row, places[i])?;
+        entry.push(value)?;
+    }
+    Ok(())
+}
+
+/// The entry that a row without a rowid wants in an index.
+fn copied_entry(alloc: Global, row: &[Value], index: &TableIndex<'_>) -> Result<Row, AllocError>
+    ensures { IfOk result (λ entry. entry ≡ entry_of (indexed_by index.now) (rowless (map datum_of row.now))) }
+{
+    let mut entry = Row::new(alloc);
+    push_copies(alloc, &mut entry, row, index.places)?;
+    push_copies(alloc, &mut entry, row, index.others)?;
+    Ok(entry)
+}
+
+/// Whether an index has the entry that a row without a rowid wants. (Database File Format, section 2.4 "Representation Of WITHOUT
+/// ROWID Tables")
+pub(crate) fn has_copied<S: Source>(
     alloc: Global,
     pager: &mut Pager<S>,
-    table: &Table,
-    cell: &Cell<'_>,
+    row: &[Value],
     index: &TableIndex<'_>,
-) -> Result<Lookup, Fault>
-    ensures found { WhereSteady pager.old.state (λ pages. (row : Row) (values : Place → List Datum) (levels : ℕ)
-        → IsRowOf pages table.now (cell_data cell.now) row → IsSearchableIndex pages index.now.descends.now values levels index.now.root
-        → MatchResult result (λ found. Tells found (keeps_row (condition_of index.now) row)
-        (Contains (map values (places_under pages Index levels index.now.root))
-        (entry_of (indexed index.now.places.now) (record { rowid = cell.now.rowid; row = row })))) IsReadFault) }
-    ensures only { IfErr result IsWalkFault }
+) -> Result<bool, Fault>
+    ensures found { WhereSteady pager.old.state (λ pages. (values : Place → List Datum) (levels : ℕ)
+        → IsSearchableIndex pages index.now.descends.now values levels index.now.root
+        → MatchResult result (λ found. IsTrue found ↔ Contains (map values (places_under pages Index levels index.now.root))
+        (entry_of (indexed_by index.now) (rowless (map datum_of row.now)))) IsReadFault) }
+    ensures only { IfErr result (IsIndexFault index.now.root) }
     ensures reads { ReadsPages result pager.old.state pager.new.state }
 {
-    let bytes = payload_of(alloc, pager, cell, table.root())?;
-    let row = read_row(alloc, table, cell.rowid, bytes.as_slice(), table.root())?;
-    if !is_kept(alloc, index.condition, &row)? {
-        return Ok(Lookup::LeftOut);
-    }
-    if has_wanted(alloc, pager, &row, cell.rowid, index)? {
-        Ok(Lookup::Found)
-    } else {
-        Ok(Lookup::Missing)
-    }
+    let wanted = copied_entry(alloc, row, index)?;
+    has_entry(alloc, pager, index.root, index.descends, &wanted)
 }

@@ -1,41 +1,67 @@
 -- From what was checked to the tables that the pages have.
-use Rattle.std.proofs.Common.{◌≡◌, ℕ, zero, suc, refl, All, Contains, List, [], ◌∷◌, arith, subst, sym, inl, inr}
+use Rattle.std.proofs.Common.{◌≡◌, ℕ, zero, suc, refl, All, Contains, List, [], ◌∷◌, length, arith, subst, sym, inl, inr}
 use Rattle.std.specs.List.{AllZip}
 use Rattle.std.proofs.lemmas.List.Elements.{All-cons, All-nil}
 use Rattle.values.specs.declared.fault.Fault.{Fault}
-use Rattle.values.specs.declared.fault.Fault.TheVariants.{ReadFailed, NoMemory, PageUse, BadFreelist, SchemaRow, SchemaText, UnsupportedObject, IndexDiffers, NotUnique, NotYet}
+use Rattle.values.specs.declared.fault.Fault.TheVariants.{ReadFailed, NoMemory, PageUse, BadFreelist, SchemaRow, SchemaText, UnsupportedObject, IndexDiffers, NotUnique}
 use Rattle.image.specs.Pages.{Pages}
 use Rattle.image.specs.Tree.{Place}
 use Rattle.page_use.specs.Marks.{IsUseFault}
 use Rattle.values.specs.Row.{Row}
-use Rattle.tables.specs.TableData.{TableData, schema_table}
+use Rattle.tables.specs.TableData.{IsKeyWithin, RowKeyData, TableData, schema_table}
 use Rattle.tree_walk.specs.declared.counts.TreeCounts.{TreeCounts}
 use Rattle.catalog.proofs.LawLemmas.{row_of_table}
 use Rattle.catalog.specs.CatalogData.{CatalogData}
 use Rattle.catalog.specs.Refused.{IsRefused}
-use Rattle.integrity.specs.Checked.{HasCause, HaveRowids, IsCheckFault, IsTableOf, said}
-use Rattle.table_walk.specs.Checked.{IsCheckedTree, IsStoredTable}
+use Rattle.integrity.specs.Checked.{HasCause, IsCheckFault, IsTableOf, said}
 use Rattle.integrity.specs.Denotes.{HasCatalog, HasTables}
-use Rattle.stored_rows.specs.RowFaults.{IsBrokenTable}
+use Rattle.integrity.specs.Tables.{IsAnyBroken, IsAnyChecked, IsAnyStored, IsStoredBy, IsStoredPrimary}
+use Rattle.index_rows.specs.Checked.{IsCheckedBy}
+use Rattle.primary_walk.specs.Checked.{IsCheckedPrimary}
+use Rattle.primary_walk.proofs.HeldLemmas.{rows_held, rows_stand}
 use Rattle.stored_rows.specs.Stored.{HoldsRows, StoresRow}
 use Rattle.table_walk.specs.Walked.{IsWalkFault}
 use Rattle.table_walk.proofs.CheckedLemmas.{stored_table}
+use Rattle.image.proofs.ListLemmas.{in_head, in_tail}
+use Rattle.integrity.proofs.OwnerLemmas.{within_key}
 
 module _ (pages : Pages) where
-  pub stored_tables : (tables : List TableData) (trees : List TreeCounts) → AllZip (IsCheckedTree pages) tables trees → All (IsStoredTable pages) tables
-  stored_tables [] [] all = All-nil (IsStoredTable pages)
-  stored_tables [] (counts ∷ trees) all = absurd all
-  stored_tables (table ∷ tables) [] all = absurd all
-  stored_tables (table ∷ tables) (counts ∷ trees) all =
-      All-cons (IsStoredTable pages) table tables (stored_table pages table counts all.0) (stored_tables tables trees all.1)
+  -- a table that was checked is stored
+  stored_primary : (table : TableData) (counts : TreeCounts) → IsKeyWithin table.key (length table.columns) → IsCheckedPrimary pages table counts
+      → IsStoredPrimary pages table
+  stored_primary table counts within checked =
+      let held = rows_held pages table within counts checked in
+      record {
+        levels = counts.levels;
+        rows = held.0;
+        few = checked.tree.few;
+        shape = checked.tree.shape;
+        rows_are = rows_stand pages table within counts checked;
+        holds = held.1;
+        fit = held.2;
+      }
+
+  stored_by : (key : RowKeyData) (table : TableData) (counts : TreeCounts) → IsKeyWithin table.key (length table.columns)
+      → IsCheckedBy key pages table counts → IsStoredBy key pages table
+  stored_by (RowKeyData.Rowid place) table counts within checked = stored_table pages table counts checked
+  stored_by (RowKeyData.Primary places) table counts within checked = stored_primary table counts within checked
+
+  stored_tables : (tables : List TableData) (trees : List TreeCounts) → ((table : TableData) → Contains tables table → IsKeyWithin table.key (length table.columns))
+      → AllZip (IsAnyChecked pages) tables trees → All (IsAnyStored pages) tables
+  stored_tables [] [] within all = All-nil (IsAnyStored pages)
+  stored_tables [] (counts ∷ trees) within all = absurd all
+  stored_tables (table ∷ tables) [] within all = absurd all
+  stored_tables (table ∷ tables) (counts ∷ trees) within all =
+      All-cons (IsAnyStored pages) table tables (stored_by table.key table counts (within table (in_head table tables)) all.0)
+      (stored_tables tables trees (λ other h. within other (in_tail table other tables h)) all.1)
 
   pub has_tables : (rows : List Row) (catalog : CatalogData) (trees : List TreeCounts) → HasCatalog pages rows catalog
-      → AllZip (IsCheckedTree pages) catalog.tables trees → HasTables pages catalog.tables
+      → AllZip (IsAnyChecked pages) catalog.tables trees → HasTables pages catalog.tables
   has_tables rows catalog trees has checked = record {
     schema = rows;
     indexes = catalog.indexes;
     catalog = has;
-    stored = stored_tables catalog.tables trees checked;
+    stored = stored_tables catalog.tables trees (within_key pages.count rows catalog has.says) checked;
   }
 
   -- the place of a row
@@ -60,19 +86,15 @@ module _ (pages : Pages) where
         let at = place_of has.stored.places rows from.0 has.stored.rows_are from.1 in
         said at.0 from.0 (has.stored.cells.cells.sound at.0 at.1) at.2 from.2
 
-    pub broken_table : (table : TableData) (fault : Fault) → Contains catalog.tables table → IsBrokenTable pages table fault
+    pub broken_table : (table : TableData) (fault : Fault) → Contains catalog.tables table → IsAnyBroken pages table fault
         → HasCause pages fault
-    broken_table table fault among broken = inr (inl (inl (table, table_of table among, broken)))
-
-    -- a catalog that has a table without rowids isn't served
-    pub has_rowless : ¬ HaveRowids catalog → HasCause pages NotYet
-    has_rowless some = inr (inr (refl, record { rows = rows; catalog = catalog; has = has; some = some }))
+    broken_table table fault among broken = inr (inl (table, table_of table among, broken))
 
   -- rows that were refused have the condition that a fault says
   pub refused_rows : (rows : List Row) → HoldsRows pages schema_table rows → (fault : Fault) → IsRefused pages.count rows fault
       → HasCause pages fault
   refused_rows rows stored NoMemory is = inl (inr refl)
-  refused_rows rows stored fault is = inr (inl (inr (inr (inl (rows, stored, is)))))
+  refused_rows rows stored fault is = inr (inr (inr (inl (rows, stored, is))))
 
 pub refused_here : (n m : ℕ) (rows others : List Row) (fault : Fault) → n ≡ m → rows ≡ others → IsRefused n rows fault
     → IsRefused m others fault
@@ -98,7 +120,6 @@ use_only BadFreelist h = tt
 use_only fault h = absurd h
 
 pub walk_only : (fault : Fault) → IsWalkFault fault → IsCheckFault fault
-walk_only NotYet h = tt
 walk_only (PageUse n) h = tt
 walk_only BadFreelist h = tt
 walk_only SchemaRow h = tt

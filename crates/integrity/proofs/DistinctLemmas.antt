@@ -6,6 +6,8 @@ use Rattle.pager.specs.Calls.{IsReadFault}
 use Rattle.pager.specs.PagerState.{PagerState}
 use Rattle.image.specs.Pages.{IsNumber, Pages, pages_seen}
 use Rattle.indexes.specs.IndexData.{IndexData}
+use Rattle.tables.specs.TableData.{RowKeyData, TableData}
+use Rattle.index_rows.specs.Entries.{width_by}
 use Rattle.tree_walk.specs.declared.counts.TreeCounts.{TreeCounts}
 use Rattle.tree_walk.specs.Used.{IsTreeTwice}
 use Rattle.index_walk.specs.declared.tree.EntryWidths.{EntryWidths}
@@ -16,18 +18,22 @@ use Rattle.entry_prefixes.specs.declared.counting.Prefixes.{Prefixes}
 use Rattle.entry_prefixes.specs.Entries.{HoldsEntries}
 use Rattle.entry_prefixes.specs.Prefixes.{HasPrefixes}
 use Rattle.entry_prefixes.specs.Repeats.{HasRepeats, IsUniqueIndex}
-use Rattle.integrity.specs.Indexes.{HasDistinct, IsBrokenIndexTree, IsCheckedIndexTree, IsIndexCheckFault, descends_of, places_of, width_of}
+use Rattle.integrity.specs.Indexes.{HasDistinct, IsBrokenIndexTree, IsCheckedIndexTree, IsIndexCheckFault, columns_of, descends_of, places_of, width_of}
 use Rattle.integrity.specs.Used.{index_tree_of}
 
 module _ (pages : Pages) (index : IndexData) (root width : ℕ) (root_is : root ≡ index.root) (width_is : width ≡ length (places_of index)) where
+  wide : (key : RowKeyData) → width ≤ width_by key (columns_of index)
+  wide (RowKeyData.Rowid place) = omega (arith, width_is)
+  wide (RowKeyData.Primary places) = omega (arith, width_is)
+
   -- what is told of an index whose tree was checked
   pub told_of_index : (told : Prefixes → Type 0) (result : Result Prefixes Fault)
       → ((many : ℕ) (descends : List Bool) (counts : TreeCounts) → width ≤ many → IsNumber pages root → IsCheckedIndex pages (exactly many) descends root counts
       → MatchResult result told IsReadFault)
-      → (counts : TreeCounts) → IsNumber pages index.root → IsCheckedIndexTree pages index counts → MatchResult result told IsReadFault
-  told_of_index told result each counts number checked =
-      each (width_of index) (descends_of index) counts (omega (arith, width_is)) (subst (λ (n : ℕ). IsNumber pages n) (sym root_is) number)
-      (subst (λ (n : ℕ). IsCheckedIndex pages (exactly (width_of index)) (descends_of index) n counts) (sym root_is) checked)
+      → (table : TableData) (counts : TreeCounts) → IsNumber pages index.root → IsCheckedIndexTree pages table index counts → MatchResult result told IsReadFault
+  told_of_index told result each table counts number checked =
+      each (width_of table index) (descends_of index) counts (wide table.key) (subst (λ (n : ℕ). IsNumber pages n) (sym root_is) number)
+      (subst (λ (n : ℕ). IsCheckedIndex pages (exactly (width_of table index)) (descends_of index) n counts) (sym root_is) checked)
 
   module _ (prefixes : Prefixes) (has : HasPrefixes pages root width prefixes) where
     here : HoldsEntries pages index.root has.entries
@@ -45,16 +51,16 @@ module _ (pages : Pages) (index : IndexData) (root width : ℕ) (root_is : root 
         (record { entries = has.entries; entries_are = here; repeated = has.repeated.0 t })
 
 -- the conditions on an index's tree, and the faults of its walk, are among those of an index alone
-alone_of : (pages : Pages) (index : IndexData) (fault : Fault) → IsBrokenIndex pages (exactly (width_of index)) (descends_of index) index.root fault
-    → IsBrokenIndexTree pages index fault
-alone_of pages index (NotUnique name) (inl tree) = absurd tree
-alone_of pages index (NotUnique name) (inr (inl entry)) = absurd (by_case entry.broken)
+alone_of : (pages : Pages) (table : TableData) (index : IndexData) (fault : Fault) → IsBrokenIndex pages (exactly (width_of table index)) (descends_of index) index.root fault
+    → IsBrokenIndexTree pages table index fault
+alone_of pages table index (NotUnique name) (inl tree) = absurd tree
+alone_of pages table index (NotUnique name) (inr (inl entry)) = absurd (by_case entry.broken)
   where
-    by_case : BreaksIndexEntry pages (exactly (width_of index)) entry.level entry.n (NotUnique name) → ⊥
+    by_case : BreaksIndexEntry pages (exactly (width_of table index)) entry.level entry.n (NotUnique name) → ⊥
     by_case (inl broken) = absurd broken
     by_case (inr other) = let e : NotUnique name ≡ BadRecord entry.n = other.0 in cc
-alone_of pages index (NotUnique name) (inr (inr order)) = absurd order
-alone_of pages index fault h = h
+alone_of pages table index (NotUnique name) (inr (inr order)) = absurd order
+alone_of pages table index fault h = h
 
 pub walk_alone : (fault : Fault) → IsIndexWalkFault fault → IsIndexCheckFault fault
 walk_alone (NotUnique name) h = absurd h
@@ -64,18 +70,18 @@ abbrev HasWalkCause : Pages → List Bool → Fault → EntryWidths → List Boo
 HasWalkCause pages marks fault widths descends root =
     IsReadFault fault ⊎ IsBrokenIndex pages widths descends root fault ⊎ IsTreeTwice pages (index_tree root) marks fault
 
-pub told_alone : (state : PagerState) (index : IndexData) (widths : EntryWidths) (root : ℕ) (descends marks : List Bool) (result : Result TreeCounts Fault)
+pub told_alone : (state : PagerState) (table : TableData) (index : IndexData) (widths : EntryWidths) (root : ℕ) (descends marks : List Bool) (result : Result TreeCounts Fault)
     → MatchResult result (HasCheckedIndex state widths descends root) (IsIndexFailure state widths descends root marks)
-    → widths ≡ exactly (width_of index) → descends ≡ descends_of index → root ≡ index.root → IsTrue state.source.steady
-    → IfErr result (λ e. IsReadFault e ⊎ IsBrokenIndexTree (pages_seen state) index e ⊎ IsTreeTwice (pages_seen state) (index_tree_of index) marks e)
-told_alone state index widths root descends marks (Ok counts) told widths_is descends_is root_is steady = tt
-told_alone state index widths root descends marks (Err fault) told widths_is descends_is root_is steady =
-    by_case (subst (HasWalkCause (pages_seen state) marks fault (exactly (width_of index)) (descends_of index)) root_is
-    (subst (λ (d : List Bool). HasWalkCause (pages_seen state) marks fault (exactly (width_of index)) d root) descends_is
+    → widths ≡ exactly (width_of table index) → descends ≡ descends_of index → root ≡ index.root → IsTrue state.source.steady
+    → IfErr result (λ e. IsReadFault e ⊎ IsBrokenIndexTree (pages_seen state) table index e ⊎ IsTreeTwice (pages_seen state) (index_tree_of index) marks e)
+told_alone state table index widths root descends marks (Ok counts) told widths_is descends_is root_is steady = tt
+told_alone state table index widths root descends marks (Err fault) told widths_is descends_is root_is steady =
+    by_case (subst (HasWalkCause (pages_seen state) marks fault (exactly (width_of table index)) (descends_of index)) root_is
+    (subst (λ (d : List Bool). HasWalkCause (pages_seen state) marks fault (exactly (width_of table index)) d root) descends_is
     (subst (λ (w : EntryWidths). HasWalkCause (pages_seen state) marks fault w descends root) widths_is (told.cause steady))))
   where
-    by_case : HasWalkCause (pages_seen state) marks fault (exactly (width_of index)) (descends_of index) index.root
-        → IsReadFault fault ⊎ IsBrokenIndexTree (pages_seen state) index fault ⊎ IsTreeTwice (pages_seen state) (index_tree_of index) marks fault
+    by_case : HasWalkCause (pages_seen state) marks fault (exactly (width_of table index)) (descends_of index) index.root
+        → IsReadFault fault ⊎ IsBrokenIndexTree (pages_seen state) table index fault ⊎ IsTreeTwice (pages_seen state) (index_tree_of index) marks fault
     by_case (inl read) = inl read
-    by_case (inr (inl broken)) = inr (inl (alone_of (pages_seen state) index fault broken))
+    by_case (inr (inl broken)) = inr (inl (alone_of (pages_seen state) table index fault broken))
     by_case (inr (inr again)) = inr (inr again)

@@ -1,20 +1,24 @@
 -- Indexes and tables whose trees were checked, as they are held against one another.
-use Rattle.std.proofs.Common.{◌≡◌, ℕ, zero, suc, ◌+◌, All, Bool, Contains, List, [], ◌∷◌, Option, length, sym, subst, arith}
+use Rattle.std.proofs.Common.{◌≡◌, ℕ, zero, suc, All, Bool, Contains, List, [], ◌∷◌, Option, sym, subst, arith}
 use Rattle.std.specs.List.{AllZip}
 use Rattle.std.proofs.lemmas.List.Elements.{All-cons, All-head, All-nil, All-tail}
 use Rattle.image.specs.Pages.{IsNumber, Pages}
+use Rattle.wanted_entries.specs.Wanted.{IndexedPlaces}
 use Rattle.expr.specs.Term.{Term}
 use Rattle.indexes.specs.IndexData.{IndexData}
+use Rattle.schema.specs.Names.{IsSameName}
 use Rattle.tables.specs.TableData.{TableData}
 use Rattle.tree_walk.specs.declared.counts.TreeCounts.{TreeCounts}
-use Rattle.table_walk.specs.Checked.{IsCheckedTree}
 use Rattle.index_walk.specs.Widths.{exactly}
 use Rattle.index_walk.specs.Checked.{IsCheckedIndex}
 use Rattle.index_rows.specs.declared.index.TableIndex.{TableIndex}
 use Rattle.index_rows.specs.Checked.{IsCheckedTable, IsCheckedTableIndex}
 use Rattle.index_rows.specs.Compared.{IsDifferentIndex, IsIndexOf}
+use Rattle.index_rows.specs.Entries.{TellsRow, indexed_by, width_by}
 use Rattle.index_rows.specs.Kept.{condition_of}
-use Rattle.integrity.specs.Indexes.{IsCheckedIndexTree, IsCheckedIndexWith, IsCheckedWith, descends_of, places_of}
+use Rattle.integrity.specs.declared.index_trees.IndexCounts.{IndexCounts}
+use Rattle.integrity.specs.Indexes.{IsCheckedIndexOf, IsCheckedIndexTree, IsCheckedIndexWith, IsCheckedWith, columns_of, descends_of, places_of}
+use Rattle.integrity.specs.Tables.{IsAnyChecked}
 
 -- what holds of all elements holds of one of them
 pub all_in : {A : Type 0} (P : A → Type 0) (xs : List A) (x : A) → All P xs → Contains xs x → P x
@@ -24,7 +28,7 @@ all_in P (y ∷ xs) x all (suc k, within, at) = all_in P xs x (All-tail P y xs a
 
 -- the trees of tables were checked
 checked_tables : (pages : Pages) (tables : List TableData) (trees : List TreeCounts) → All (λ table. IsNumber pages table.root) tables
-    → AllZip (IsCheckedTree pages) tables trees → All (IsCheckedTable pages) tables
+    → AllZip (IsAnyChecked pages) tables trees → All (IsCheckedTable pages) tables
 checked_tables pages [] trees numbers all = All-nil (IsCheckedTable pages)
 checked_tables pages (table ∷ tables) [] numbers all = absurd all
 checked_tables pages (table ∷ tables) (counts ∷ trees) numbers all =
@@ -34,45 +38,64 @@ checked_tables pages (table ∷ tables) (counts ∷ trees) numbers all =
 
 -- the same of the pages of an image that was read since
 pub tables_now : (was now : Pages) (tables others : List TableData) (trees : List TreeCounts) → now ≡ was → others ≡ tables
-    → All (λ table. IsNumber was table.root) tables → AllZip (IsCheckedTree was) others trees → All (IsCheckedTable now) others
+    → All (λ table. IsNumber was table.root) tables → AllZip (IsAnyChecked was) others trees → All (IsCheckedTable now) others
 tables_now was now tables others trees same are numbers checked =
     subst (λ (l : List TableData). All (IsCheckedTable now) l) (sym are)
     (subst (λ (p : Pages). All (IsCheckedTable p) tables) (sym same)
-    (checked_tables was tables trees numbers (subst (λ (l : List TableData). AllZip (IsCheckedTree was) l trees) are checked)))
+    (checked_tables was tables trees numbers (subst (λ (l : List TableData). AllZip (IsAnyChecked was) l trees) are checked)))
 
-pub checked_with : (was now : Pages) (table : TableData) (index : IndexData) (entries : ℕ) → was ≡ now
-    → IsCheckedTable was table → IsCheckedIndexWith was index entries → IsCheckedWith now table index entries
-checked_with was now table index entries same checked held =
-    subst (λ (p : Pages). IsCheckedWith p table index entries) same (record { table_is = checked; index_is = held })
+-- of the tables that table which has the name of an index's is its own
+pub checked_with : (was now : Pages) (tables : List TableData) (table : TableData) (index : IndexData) (entries : ℕ) → was ≡ now
+    → IsCheckedTable was table → IsCheckedIndexWith was tables index entries → Contains tables table → IsSameName index.table table.name
+    → IsCheckedWith now table index entries
+checked_with was now tables table index entries same checked held among owner =
+    let its = held.owned.alone table among owner in
+    subst (λ (p : Pages). IsCheckedWith p table index entries) same (record {
+      table_is = checked;
+      counts = held.counts;
+      number = held.number;
+      tree = subst (λ (t : TableData). IsCheckedIndexTree was t index held.counts) (sym its) held.tree;
+      entries_are = held.entries_are;
+      tells = subst (λ (t : TableData). TellsRow t.key (columns_of index)) (sym its) held.owned.tells;
+    })
 
-pub index_with : (was now : Pages) (index : IndexData) (counts : TreeCounts) (entries : ℕ) → was ≡ now
-    → entries ≡ counts.cells → IsNumber was index.root → IsCheckedIndexTree was index counts → IsCheckedIndexWith now index entries
-index_with was now index counts entries same entries_are number tree =
-    subst (λ (p : Pages). IsCheckedIndexWith p index entries) same
-    (record { counts = counts; number = number; tree = tree; entries_are = entries_are })
+pub index_with : (was now : Pages) (tables : List TableData) (index : IndexData) (counts : IndexCounts) (entries : ℕ) → was ≡ now
+    → entries ≡ counts.tree.cells → IsNumber was index.root → IsCheckedIndexOf was tables index counts → IsCheckedIndexWith now tables index entries
+index_with was now tables index counts entries same entries_are number checked =
+    subst (λ (p : Pages). IsCheckedIndexWith p tables index entries) same (record {
+      owned = checked.owned;
+      counts = counts.tree;
+      number = number;
+      tree = checked.checked.tree;
+      entries_are = entries_are;
+    })
 
 -- what is known of an index's columns in memory is known of the index
-module _ (pages : Pages) (index : IndexData) (its : TableIndex) where
-  pub its_columns : (entries : ℕ) → its.root ≡ index.root → its.places.now ≡ places_of index → its.descends.now ≡ descends_of index
-      → IsCheckedIndexWith pages index entries → IsCheckedTableIndex pages its entries
-  its_columns entries root places descends checked = record {
+module _ (pages : Pages) (table : TableData) (index : IndexData) (its : TableIndex) (root : its.root ≡ index.root)
+    (places : its.places.now ≡ places_of index) (others : its.others.now ≡ index.others) where
+  columns : indexed_by its ≡ columns_of index
+  columns = λ k. record { columns = places k; others = others k }
+
+  pub its_columns : (entries : ℕ) → its.descends.now ≡ descends_of index → IsCheckedWith pages table index entries
+      → IsCheckedTableIndex pages table its entries
+  its_columns entries descends checked = record {
     counts = checked.counts;
     number = subst (λ (n : ℕ). IsNumber pages n) (sym root) checked.number;
-    tree = subst (λ (n : ℕ). IsCheckedIndex pages (exactly (length its.places.now + 1)) its.descends.now n checked.counts) (sym root)
-        (subst (λ (d : List Bool). IsCheckedIndex pages (exactly (length its.places.now + 1)) d index.root checked.counts) (sym descends)
-        (subst (λ (l : List ℕ). IsCheckedIndex pages (exactly (length l + 1)) (descends_of index) index.root checked.counts) (sym places) checked.tree));
+    tree = subst (λ (n : ℕ). IsCheckedIndex pages (exactly (width_by table.key (indexed_by its))) its.descends.now n checked.counts) (sym root)
+        (subst (λ (d : List Bool). IsCheckedIndex pages (exactly (width_by table.key (indexed_by its))) d index.root checked.counts) (sym descends)
+        (subst (λ (c : IndexedPlaces). IsCheckedIndex pages (exactly (width_by table.key c)) (descends_of index) index.root checked.counts) (sym columns) checked.tree));
     entries_are = checked.entries_are;
+    tells = subst (λ (c : IndexedPlaces). TellsRow table.key c) (sym columns) checked.tells;
   }
 
-  module _ (table : TableData) (root : its.root ≡ index.root) (places : its.places.now ≡ places_of index)
-      (condition : condition_of its ≡ index.condition) where
-    pub its_index : IsIndexOf pages table its.places.now (condition_of its) its.root → IsIndexOf pages table (places_of index) index.condition index.root
-    its_index is = subst (λ (n : ℕ). IsIndexOf pages table (places_of index) index.condition n) root
-        (subst (λ (c : Option Term). IsIndexOf pages table (places_of index) c its.root) condition
-        (subst (λ (l : List ℕ). IsIndexOf pages table l (condition_of its) its.root) places is))
+  module _ (condition : condition_of its ≡ index.condition) where
+    pub its_index : IsIndexOf pages table (indexed_by its) (condition_of its) its.root → IsIndexOf pages table (columns_of index) index.condition index.root
+    its_index is = subst (λ (n : ℕ). IsIndexOf pages table (columns_of index) index.condition n) root
+        (subst (λ (c : Option Term). IsIndexOf pages table (columns_of index) c its.root) condition
+        (subst (λ (l : IndexedPlaces). IsIndexOf pages table l (condition_of its) its.root) columns is))
 
-    pub different_index : IsDifferentIndex pages table its.places.now (condition_of its) its.root
-        → IsDifferentIndex pages table (places_of index) index.condition index.root
-    different_index is = subst (λ (n : ℕ). IsDifferentIndex pages table (places_of index) index.condition n) root
-        (subst (λ (c : Option Term). IsDifferentIndex pages table (places_of index) c its.root) condition
-        (subst (λ (l : List ℕ). IsDifferentIndex pages table l (condition_of its) its.root) places is))
+    pub different_index : IsDifferentIndex pages table (indexed_by its) (condition_of its) its.root
+        → IsDifferentIndex pages table (columns_of index) index.condition index.root
+    different_index is = subst (λ (n : ℕ). IsDifferentIndex pages table (columns_of index) index.condition n) root
+        (subst (λ (c : Option Term). IsDifferentIndex pages table (columns_of index) c its.root) condition
+        (subst (λ (l : IndexedPlaces). IsDifferentIndex pages table l (condition_of its) its.root) columns is))

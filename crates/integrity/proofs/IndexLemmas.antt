@@ -20,7 +20,7 @@ use Rattle.entry_prefixes.proofs.EntryLemmas.{still_repeated}
 use Rattle.entry_prefixes.specs.Repeats.{IsUniqueIndex}
 use Rattle.integrity.specs.Checked.{HasBrokenIndex, HasCause, IsCheckFault}
 use Rattle.integrity.specs.Denotes.{HasCatalog}
-use Rattle.integrity.specs.Indexes.{AreBrokenEntries, AreItsEntries, IsBrokenIndexTree, IsCheckedIndexOf, IsIndexCheckFault, IsTableIndex, places_of}
+use Rattle.integrity.specs.Indexes.{AreBrokenEntries, AreItsEntries, IsBrokenIndexTree, IsCheckedAlone, IsCheckedIndexOf, IsIndexCheckFault, IsTableIndex, columns_of, places_of}
 use Rattle.integrity.proofs.OneLemmas.{same_catalog}
 
 -- the faults of the check of an index alone are those of a check
@@ -70,45 +70,50 @@ index_roots state count rows catalog same says = numbers catalog.indexes (roots_
 
 module _ (pages : Pages) (rows : List Row) (catalog : CatalogData) (has : HasCatalog pages rows catalog) where
   -- an index's tree has a fault's condition
-  pub broken_index_tree : (index : IndexData) (fault : Fault) → Contains catalog.indexes index → IsBrokenIndexTree pages index fault
-      → HasCause pages fault
-  broken_index_tree index fault among broken =
-      inr (inl (inr (inr (inr (inl (index, record { rows = rows; catalog = catalog; has = has; is_index = among }, broken))))))
+  pub broken_index_tree : (table : TableData) (index : IndexData) (fault : Fault) → Contains catalog.tables table → Contains catalog.indexes index
+      → IsSameName index.table table.name → IsBrokenIndexTree pages table index fault → HasCause pages fault
+  broken_index_tree table index fault among_tables among owner broken =
+      inr (inr (inr (inr (inl (
+        table,
+        index,
+        record { rows = rows; catalog = catalog; has = has; is_index = among; is_table = among_tables; owner = owner },
+        broken,
+      )))))
 
   -- and so its entries
   pub broken_entries : (table : TableData) (index : IndexData) (fault : Fault) → Contains catalog.tables table → Contains catalog.indexes index
       → IsSameName index.table table.name → AreBrokenEntries pages table index fault → HasCause pages fault
   broken_entries table index fault among_tables among owner broken =
-      inr (inl (inr (inr (inr (inr (
+      inr (inr (inr (inr (inr (
         table,
         index,
         record { rows = rows; catalog = catalog; has = has; is_index = among; is_table = among_tables; owner = owner },
         broken,
-      ))))))
+      )))))
 
   -- the tree of one of the indexes was checked
-  checked_in : (indexes : List IndexData) (counted : List IndexCounts) (index : IndexData) → AllZip (IsCheckedIndexOf pages) indexes counted
-      → Contains indexes index → (counts : IndexCounts) × IsCheckedIndexOf pages index counts
+  checked_in : (indexes : List IndexData) (counted : List IndexCounts) (index : IndexData) → AllZip (IsCheckedIndexOf pages catalog.tables) indexes counted
+      → Contains indexes index → (counts : IndexCounts) × IsCheckedIndexOf pages catalog.tables index counts
   checked_in [] trees index checked (k, within, at) = absurd (omega (arith, within))
   checked_in (i ∷ indexes) [] index checked at = absurd checked
   checked_in (i ∷ indexes) (c ∷ trees) index checked (zero, within, at) =
-      (c, subst (λ (x : IndexData). IsCheckedIndexOf pages x c) at checked.0)
+      (c, subst (λ (x : IndexData). IsCheckedIndexOf pages catalog.tables x c) at checked.0)
   checked_in (i ∷ indexes) (c ∷ trees) index checked (suc k, within, at) = checked_in indexes trees index checked.1 (k, omega (arith, within), at)
 
   unbroken_entries : (table : TableData) (index : IndexData) → AreItsEntries pages table index → (fault : Fault)
       → AreBrokenEntries pages table index fault → ⊥
   unbroken_entries table index its (IndexDiffers name) (named, differs) =
-      not_different pages table (places_of index) index.condition index.root its differs
+      not_different pages table (columns_of index) index.condition index.root its differs
   unbroken_entries table index its fault broken = absurd broken
 
   -- nothing is broken of an index that was checked alone
-  unbroken_alone : (index : IndexData) (counts : IndexCounts) → IsCheckedIndexOf pages index counts → (fault : Fault)
-      → IsBrokenIndexTree pages index fault → ⊥
-  unbroken_alone index counts checked (NotUnique name) (named, is_unique, repeats) =
+  unbroken_alone : (table : TableData) (index : IndexData) (counts : IndexCounts) → IsCheckedAlone pages table index counts → (fault : Fault)
+      → IsBrokenIndexTree pages table index fault → ⊥
+  unbroken_alone table index counts checked (NotUnique name) (named, is_unique, repeats) =
       let columns = length (places_of index) in
       let unique : IsUniqueIndex pages index.root columns = checked.unique is_unique in
       unique.unique (still_repeated pages index.root unique.entries repeats.entries unique.entries_are repeats.entries_are columns repeats.repeated)
-  unbroken_alone index counts checked fault broken = unbroken_index pages _ _ index.root counts.tree checked.tree fault broken
+  unbroken_alone table index counts checked fault broken = unbroken_index pages _ _ index.root counts.tree checked.tree fault broken
 
   -- the catalog's indexes are the image's
   table_index : (table : TableData) (index : IndexData) → IsTableIndex pages table index
@@ -126,12 +131,13 @@ module _ (pages : Pages) (rows : List Row) (catalog : CatalogData) (has : HasCat
   its_entries each table index is = let among = table_index table index is in each table index among.0 among.1 is.owner
 
   -- nothing is broken of indexes whose trees and entries were checked
-  pub unbroken_indexes : (counted : List IndexCounts) → AllZip (IsCheckedIndexOf pages) catalog.indexes counted
+  pub unbroken_indexes : (counted : List IndexCounts) → AllZip (IsCheckedIndexOf pages catalog.tables) catalog.indexes counted
       → ((table : TableData) (index : IndexData) → IsTableIndex pages table index → AreItsEntries pages table index)
       → (fault : Fault) → HasBrokenIndex pages fault → ⊥
-  unbroken_indexes trees checked its fault (inl (index, is, broken)) =
-      let same = same_catalog pages is.rows rows is.catalog catalog is.has has in
-      let found = checked_in catalog.indexes trees index checked (subst (λ (c : CatalogData). Contains c.indexes index) same is.is_index) in
-      unbroken_alone index found.0 found.1 fault broken
+  unbroken_indexes trees checked its fault (inl (table, index, is, broken)) =
+      let among = table_index table index is in
+      let found = checked_in catalog.indexes trees index checked among.1 in
+      let same = found.1.owned.alone table among.0 is.owner in
+      unbroken_alone found.1.owned.table index found.0 found.1.checked fault (subst (λ (t : TableData). IsBrokenIndexTree pages t index fault) same broken)
   unbroken_indexes trees checked its fault (inr (table, index, is, broken)) =
       unbroken_entries table index (its table index is) fault broken

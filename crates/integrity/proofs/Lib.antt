@@ -1,3 +1,5 @@
+pub mod TableLemmas
+pub mod OwnerLemmas
 pub mod CheckedLemmas
 pub mod ListLemmas
 pub mod ZipLemmas

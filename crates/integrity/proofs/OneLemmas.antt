@@ -10,7 +10,6 @@ use Rattle.catalog.specs.Refused.{IsBrokenSchema}
 use Rattle.catalog.specs.Says.{IsCatalog}
 use Rattle.stored_rows.specs.Stored.{HoldsRows}
 use Rattle.stored_rows.proofs.OneLemmas.{one_rows}
-use Rattle.integrity.specs.Checked.{HaveRowids, IsBeyond}
 use Rattle.integrity.specs.Denotes.{HasCatalog}
 
 module _ (pages : Pages) where
@@ -26,7 +25,3 @@ module _ (pages : Pages) where
         let same = one_rows pages schema_table others rows stored has.stored in
         no_broken_schema pages.count rows catalog has.says fault
         (subst (λ (l : List Row). IsBrokenSchema pages.count l fault) same broken)
-
-    pub all_served : HaveRowids catalog → ¬ IsBeyond pages
-    all_served rowids beyond =
-        beyond.some (subst (λ (c : CatalogData). HaveRowids c) (same_catalog rows beyond.rows catalog beyond.catalog has beyond.has) rowids)

@@ -23,7 +23,7 @@ use Rattle.tree_walk.proofs.UsedLemmas.{done_on_later}
 use Rattle.integrity.specs.Checked.{IsMisused, empty_catalog}
 use Rattle.integrity.specs.Denotes.{HasCatalog}
 use Rattle.integrity.specs.Used.{AreTreesComing, AreTreesGone, AreTreesTwice, MarksTrees, index_tree_of, users_of}
-use Rattle.table_walk.specs.Checked.{tree_of}
+use Rattle.integrity.specs.Tables.{any_tree}
 use Rattle.integrity.proofs.ListLemmas.{get_behind, get_cases}
 use Rattle.integrity.proofs.OneLemmas.{same_catalog}
 
@@ -127,16 +127,16 @@ module _ (pages : Pages) (catalog : CatalogData) where
   index_trees = map index_tree_of catalog.indexes
 
   abbrev table_trees : List TreeData
-  table_trees = map tree_of catalog.tables
+  table_trees = map any_tree catalog.tables
 
-  schema_coming : (n : ℕ) (marks : List Bool) → marks ≡ replicate n false → IsTreeComing pages users [] 0 (tree_of schema_table) marks
+  schema_coming : (n : ℕ) (marks : List Bool) → marks ≡ replicate n false → IsTreeComing pages users [] 0 (any_tree schema_table) marks
   schema_coming n marks blank = record {
     is_tree = refl;
     marks_are = subst (λ (m : List Bool). AreTreeMarks pages users [] m) (sym blank) (none_gone pages users n);
     new = λ h. omega (arith, h.1);
   }
 
-  tables_coming : (now : List Use) (marks : List Bool) → IsTreeGone pages users [] 0 (tree_of schema_table) now marks → AreTreesComing pages users now 1 table_trees marks
+  tables_coming : (now : List Use) (marks : List Bool) → IsTreeGone pages users [] 0 (any_tree schema_table) now marks → AreTreesComing pages users now 1 table_trees marks
   tables_coming now marks first = record {
     stand = λ k tree at.
         let behind : suc k ≡ 1 + k = omega arith in
@@ -159,12 +159,12 @@ module _ (pages : Pages) (catalog : CatalogData) where
     new = gone.new;
   }
 
-  module _ (first : List Use) (marks : List Bool) (first_gone : IsTreeGone pages users [] 0 (tree_of schema_table) first marks)
+  module _ (first : List Use) (marks : List Bool) (first_gone : IsTreeGone pages users [] 0 (any_tree schema_table) first marks)
       (middle : List Use) (between : List Bool) (tables_gone : AreTreesGone pages users first 1 table_trees middle between)
       (now : List Use) (later : List Bool) (indexes_gone : AreTreesGone pages users middle (1 + length table_trees) index_trees now later) where
     done_at : (t : ℕ) (tree : TreeData) → slice_get users.trees t ≡ Some tree → (n : ℕ) → Reaches pages tree.kind tree.root n → IsDoneOn pages users now n
     done_at zero tree at n reaches =
-        let same : tree_of schema_table ≡ tree = cc in
+        let same : any_tree schema_table ≡ tree = cc in
         done_on_later pages users middle now indexes_gone.kept n
         (done_on_later pages users first middle tables_gone.kept n
         (first_gone.each n (subst (λ (t : TreeData). Reaches pages t.kind t.root n) (sym same) reaches)))
@@ -202,9 +202,9 @@ module _ (pages : Pages) (catalog : CatalogData) where
   -- what uses pages where there are no tables uses them where there are
   is_tree_too : (tree : TreeData) → Contains (users_of pages empty_catalog).trees tree → Contains users.trees tree
   is_tree_too tree h = ⊎_elim
-      (λ (e : tree_of schema_table ≡ tree). subst (λ (t : TreeData). Contains users.trees t) e (in_head (tree_of schema_table) (map tree_of catalog.tables ++ index_trees)))
+      (λ (e : any_tree schema_table ≡ tree). subst (λ (t : TreeData). Contains users.trees t) e (in_head (any_tree schema_table) (map any_tree catalog.tables ++ index_trees)))
       (λ (none : Contains [] tree). absurd (in_none tree none))
-      (cons_cases (tree_of schema_table) tree [] h)
+      (cons_cases (any_tree schema_table) tree [] h)
 
   no_table : (k : ℕ) (tree : TreeData) → slice_get [] k ≡ Some tree → ⊥
   no_table k tree e = cc
@@ -246,8 +246,8 @@ module _ (pages : Pages) (catalog : CatalogData) where
     misused BadFreelist broken = broken
     misused _ broken = absurd broken
 
-    module _ (n : ℕ) (blank marks : List Bool) (is : blank ≡ replicate n false) (walked : MarksTree pages (tree_of schema_table) blank marks) where
-      first : (now : List Use) × IsTreeGone pages users [] 0 (tree_of schema_table) now marks
+    module _ (n : ℕ) (blank marks : List Bool) (is : blank ≡ replicate n false) (walked : MarksTree pages (any_tree schema_table) blank marks) where
+      first : (now : List Use) × IsTreeGone pages users [] 0 (any_tree schema_table) now marks
       first = walked users [] 0 (schema_coming n blank is)
 
       twice_misused : (m : ℕ) → IsUsedTwice pages users m → IsMisused pages (PageUse m)
@@ -293,7 +293,7 @@ module _ (pages : Pages) (catalog : CatalogData) where
     no_misuse free once _ broken = broken
 
 -- the schema's tree has a page that is used twice
-pub schema_twice : (pages : Pages) (n : ℕ) (marks : List Bool) → marks ≡ replicate n false → (fault : Fault) → IsTreeTwice pages (tree_of schema_table) marks fault
+pub schema_twice : (pages : Pages) (n : ℕ) (marks : List Bool) → marks ≡ replicate n false → (fault : Fault) → IsTreeTwice pages (any_tree schema_table) marks fault
     → IsMisused pages fault
 schema_twice pages n marks blank (PageUse m) twice = inl (twice (users_of pages empty_catalog) [] 0 (schema_coming pages empty_catalog n marks blank))
 schema_twice pages n marks blank _ twice = absurd twice

@@ -5,7 +5,7 @@ use Rattle.values.specs.declared.fault.Fault.{Fault}
 use Rattle.values.specs.Row.{Row}
 use Rattle.image.specs.Pages.{Pages}
 use Rattle.image.specs.Tree.{Place}
-use Rattle.tables.specs.TableData.{TableData, schema_table}
+use Rattle.tables.specs.TableData.{RowKeyData, TableData, schema_table}
 use Rattle.catalog.proofs.LawLemmas.{said_of_them}
 use Rattle.catalog.specs.CatalogData.{CatalogData}
 use Rattle.catalog.specs.Refused.{IsBrokenSchema}
@@ -15,7 +15,10 @@ use Rattle.stored_rows.specs.Stored.{HoldsRows, StoresRow}
 use Rattle.stored_rows.proofs.OneLemmas.{one_stored}
 use Rattle.table_walk.specs.Checked.{IsCheckedTree}
 use Rattle.table_walk.proofs.CheckedLemmas.{rows_fit, unbroken_table}
+use Rattle.index_rows.specs.Checked.{IsCheckedBy}
+use Rattle.primary_walk.proofs.UnbrokenLemmas.{unbroken}
 use Rattle.integrity.specs.Denotes.{HasCatalog}
+use Rattle.integrity.specs.Tables.{IsAnyBroken, IsAnyChecked, IsBrokenBy}
 use Rattle.integrity.specs.Checked.{HasBrokenIndex, IsBrokenImage, IsMisused, said, schema}
 
 module _ (pages : Pages) where
@@ -40,18 +43,24 @@ module _ (pages : Pages) where
       let less = found.1 in
       (suc found.0, omega (arith, less), found.2)
 
+  -- nothing is broken of a table that was checked
+  unbroken_by : (key : RowKeyData) (table : TableData) (counts : TreeCounts) → IsCheckedBy key pages table counts → (fault : Fault)
+      → IsBrokenBy key pages table fault → ⊥
+  unbroken_by (RowKeyData.Rowid place) table counts checked fault broken = unbroken_table pages table counts checked fault broken
+  unbroken_by (RowKeyData.Primary places) table counts checked fault broken = unbroken pages table counts checked fault broken
+
   -- the tree of one of the tables was checked
-  checked_in : (tables : List TableData) (trees : List TreeCounts) (table : TableData) → AllZip (IsCheckedTree pages) tables trees
-      → Contains tables table → (counts : TreeCounts) × IsCheckedTree pages table counts
+  checked_in : (tables : List TableData) (trees : List TreeCounts) (table : TableData) → AllZip (IsAnyChecked pages) tables trees
+      → Contains tables table → (counts : TreeCounts) × IsAnyChecked pages table counts
   checked_in [] trees table checked (k, within, at) = absurd (omega (arith, within))
   checked_in (t ∷ tables) [] table checked at = absurd checked
   checked_in (t ∷ tables) (c ∷ trees) table checked (zero, within, at) =
-      (c, subst (λ (x : TableData). IsCheckedTree pages x c) at checked.0)
+      (c, subst (λ (x : TableData). IsAnyChecked pages x c) at checked.0)
   checked_in (t ∷ tables) (c ∷ trees) table checked (suc k, within, at) = checked_in tables trees table checked.1 (k, omega (arith, within), at)
 
   -- nothing is broken where the trees were checked, no page is misused, the schema's rows are sound and so are the indexes
   pub unbroken_image : (rows : List Row) (catalog : CatalogData) (trees : List TreeCounts) (counts : TreeCounts)
-      → IsCheckedTree pages schema_table counts → HasCatalog pages rows catalog → AllZip (IsCheckedTree pages) catalog.tables trees
+      → IsCheckedTree pages schema_table counts → HasCatalog pages rows catalog → AllZip (IsAnyChecked pages) catalog.tables trees
       → ((fault : Fault) → ¬ IsMisused pages fault)
       → ((others : List Row) → HoldsRows pages schema_table others → (fault : Fault) → ¬ IsBrokenSchema pages.count others fault)
       → ((fault : Fault) → ¬ HasBrokenIndex pages fault)
@@ -65,4 +74,4 @@ module _ (pages : Pages) where
   unbroken_image rows catalog trees counts tree has checked free sound indexed fault (inl (table, said place row is_place is says, broken)) =
       let among = row_at has.stored.places rows place row has.stored.rows_are is (has.stored.cells.cells.complete place is_place) in
       let found = checked_in catalog.tables trees table checked (said_of_them pages.count rows catalog has.says row among table says) in
-      unbroken_table pages table found.0 found.1 fault broken
+      unbroken_by table.key table found.0 found.1 fault broken

@@ -3,7 +3,7 @@
 use Rattle.std.specs.Prelude.{◌≡◌, ◌⊎◌, All, List, []}
 use Rattle.std.specs.List.{AllZip}
 use Rattle.values.specs.declared.fault.Fault.{Fault}
-use Rattle.values.specs.declared.fault.Fault.TheVariants.{BadPage, BadChain, PageUse, BadFreelist, BadOrder, BadDepth, BadRecord, FloatValue, BadText, SchemaRow, SchemaText, UnsupportedObject, ValueBreaksColumn, IndexDiffers, NotUnique, NotYet}
+use Rattle.values.specs.declared.fault.Fault.TheVariants.{BadPage, BadChain, PageUse, BadFreelist, BadOrder, BadDepth, BadRecord, FloatValue, BadText, SchemaRow, SchemaText, UnsupportedObject, ValueBreaksColumn, IndexDiffers, NotUnique}
 use Rattle.pager.specs.Calls.{IsReadFault}
 use Rattle.pager.specs.PagerState.{IsPageNumber, PagerState}
 use Rattle.image.specs.declared.kind.TreeKind.TheVariants.{Table}
@@ -15,18 +15,17 @@ use Rattle.page_use.specs.Free.{header_on}
 use Rattle.page_use.specs.Marks.{IsUsedTwice}
 use Rattle.values.specs.Row.{Row}
 use Rattle.schema.specs.Rows.{SaysTable}
-use Rattle.tables.specs.TableData.{HasRowids, TableData, schema_table}
+use Rattle.tables.specs.TableData.{TableData, schema_table}
 use Rattle.indexes.specs.IndexData.{IndexData}
 use Rattle.catalog.specs.CatalogData.{CatalogData}
 use Rattle.catalog.specs.Refused.{IsBrokenSchema}
 use Rattle.tree_walk.specs.declared.counts.TreeCounts.{TreeCounts}
-use Rattle.table_walk.specs.Checked.{IsCheckedTree}
 use Rattle.table_walk.specs.Walked.{IsWalkFault}
 use Rattle.integrity.specs.declared.index_trees.IndexCounts.{IndexCounts}
 use Rattle.integrity.specs.Denotes.{HasCatalog, HasTables}
-use Rattle.integrity.specs.Indexes.{AreBrokenEntries, AreItsEntries, IsBrokenIndexTree, IsCheckedIndexOf, IsImageIndex, IsTableIndex}
+use Rattle.integrity.specs.Indexes.{AreBrokenEntries, AreItsEntries, IsBrokenIndexTree, IsCheckedIndexOf, IsTableIndex}
+use Rattle.integrity.specs.Tables.{IsAnyBroken, IsAnyChecked}
 use Rattle.integrity.specs.Used.{users_of}
-use Rattle.stored_rows.specs.RowFaults.{IsBrokenTable}
 use Rattle.stored_rows.specs.Stored.{HoldsRows, StoresRow}
 
 -- the tables and indexes that an image has, and what the check counts of each
@@ -57,33 +56,18 @@ IsMisused pages _ = ⊥
 
 -- an index of the image has it, in its tree or in its entries
 abbrev pub HasBrokenIndex : Pages → Fault → Type 0
-HasBrokenIndex pages fault = ((index : IndexData) × IsImageIndex pages index × IsBrokenIndexTree pages index fault)
+HasBrokenIndex pages fault = ((table : TableData) × (index : IndexData) × IsTableIndex pages table index × IsBrokenIndexTree pages table index fault)
     ⊎ ((table : TableData) × (index : IndexData) × IsTableIndex pages table index × AreBrokenEntries pages table index fault)
 
 -- one of the tables has the condition that a fault says is broken, or the use of pages has, or the schema's rows have, or one
 -- of the indexes
 abbrev pub IsBrokenImage : Pages → Fault → Type 0
-IsBrokenImage pages fault = ((table : TableData) × IsTableOf pages table × IsBrokenTable pages table fault) ⊎ IsMisused pages fault
+IsBrokenImage pages fault = ((table : TableData) × IsTableOf pages table × IsAnyBroken pages table fault) ⊎ IsMisused pages fault
     ⊎ ((rows : List Row) × HoldsRows pages schema_table rows × IsBrokenSchema pages.count rows fault) ⊎ HasBrokenIndex pages fault
-
--- a catalog of tables with rowids alone: how the rows of others are stored isn't told yet
-abbrev pub HaveRowids : CatalogData → Type 0
-HaveRowids catalog = All HasRowids catalog.tables
-
--- What isn't served yet: a table without rowids.
-pub record IsBeyond (pages : Pages) : Type 0 where
-  pub rows : List Row
-  pub catalog : CatalogData
-  pub has : HasCatalog pages rows catalog
-  pub some : ¬ HaveRowids catalog
-
--- The condition of an image that a fault of the check says is broken, or why the image isn't served yet.
-abbrev pub IsCheckCause : Pages → Fault → Type 0
-IsCheckCause pages fault = IsBrokenImage pages fault ⊎ ((fault ≡ NotYet) × IsBeyond pages)
 
 -- why a check answers a fault
 abbrev pub HasCause : Pages → Fault → Type 0
-HasCause pages fault = IsReadFault fault ⊎ IsCheckCause pages fault
+HasCause pages fault = IsReadFault fault ⊎ IsBrokenImage pages fault
 
 -- the faults whose conditions the check examines
 abbrev pub IsExamined : Fault → Type 0
@@ -106,7 +90,6 @@ IsExamined _ = ⊥
 
 -- the faults of the check of an image
 abbrev pub IsCheckFault : Fault → Type 0
-IsCheckFault NotYet = Unit {0}
 IsCheckFault (PageUse _) = Unit {0}
 IsCheckFault BadFreelist = Unit {0}
 IsCheckFault SchemaRow = Unit {0}
@@ -117,15 +100,14 @@ IsCheckFault (NotUnique _) = Unit {0}
 IsCheckFault fault = IsWalkFault fault
 
 -- An image was checked: these are its tables and indexes, with what was counted of each, and each index has just the entries
--- that its table's rows want; none of the conditions that are examined is broken, and it has nothing that isn't served yet.
+-- that its table's rows want; none of the conditions that are examined is broken.
 pub record HasCheckedImage (pager : PagerState) (checked : CheckedData) : Type 0 where
   pub roots : All (λ table. IsPageNumber pager table.root) checked.tables
   pub tables : WhereSteady pager (λ pages. HasTables pages checked.tables)
-  pub trees : WhereSteady pager (λ pages. AllZip (IsCheckedTree pages) checked.tables checked.trees)
-  pub index_counts : WhereSteady pager (λ pages. AllZip (IsCheckedIndexOf pages) checked.indexes checked.index_counts)
+  pub trees : WhereSteady pager (λ pages. AllZip (IsAnyChecked pages) checked.tables checked.trees)
+  pub index_counts : WhereSteady pager (λ pages. AllZip (IsCheckedIndexOf pages checked.tables) checked.indexes checked.index_counts)
   pub entries : WhereSteady pager (λ pages. (table : TableData) (index : IndexData) → IsTableIndex pages table index → AreItsEntries pages table index)
   pub unbroken : WhereSteady pager (λ pages. (fault : Fault) → IsExamined fault → ¬ IsBrokenImage pages fault)
-  pub served : WhereSteady pager (λ pages. ¬ IsBeyond pages)
 
 -- why it was not
 pub record IsCheckFailure (pager : PagerState) (fault : Fault) : Type 0 where

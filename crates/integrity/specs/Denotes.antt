@@ -9,7 +9,7 @@ use Rattle.indexes.specs.IndexData.{IndexData}
 use Rattle.catalog.specs.CatalogData.{CatalogData}
 use Rattle.catalog.specs.Says.{IsCatalog}
 use Rattle.stored_rows.specs.Stored.{Fits, HoldsRows}
-use Rattle.table_walk.specs.Checked.{IsStoredTable}
+use Rattle.integrity.specs.Tables.{HoldsAnyRows, IsAnyStored}
 
 -- the schema's own table has these rows, whose values are of its columns, and they say this catalog
 pub record HasCatalog (pages : Pages) (rows : List Row) (catalog : CatalogData) : Type 0 where
@@ -21,7 +21,7 @@ pub record HasCatalog (pages : Pages) (rows : List Row) (catalog : CatalogData) 
 pub record Denotes (image : List ℕ) (tables : List TableData) (db : Database) : Type 0 where
   pub indexes : List IndexData
   pub catalog : HasCatalog (pages_of image) db.schema (record { tables = tables; indexes = indexes })
-  pub rows : AllZip (HoldsRows (pages_of image)) tables db.tables
+  pub rows : AllZip (HoldsAnyRows (pages_of image)) tables db.tables
   pub fit : AllZip (λ table. All (Fits table)) tables db.tables
 
 -- the tables of the pages, each with its rows
@@ -29,4 +29,4 @@ pub record HasTables (pages : Pages) (tables : List TableData) : Type 0 where
   pub schema : List Row
   pub indexes : List IndexData
   pub catalog : HasCatalog pages schema (record { tables = tables; indexes = indexes })
-  pub stored : All (IsStoredTable pages) tables
+  pub stored : All (IsAnyStored pages) tables

@@ -1,12 +1,13 @@
 -- The indexes of an image: their trees, and their entries beside the rows of their tables. (Database File Format, section 2.3
--- "Representation Of SQL Indices"; Partial Indexes; CREATE INDEX, "Unique Indexes"; the faults of docs/FAULTS.md)
-use Rattle.std.specs.Prelude.{◌≡◌, ℕ, suc, ◌+◌, Bool, true, false, Contains, List, Some, length, map, slice_get, string_bytes}
+-- "Representation Of SQL Indices", and section 2.4 "Representation Of WITHOUT ROWID Tables"; Partial Indexes; CREATE INDEX, "Unique Indexes"; the faults of docs/FAULTS.md)
+use Rattle.std.specs.Prelude.{◌≡◌, ℕ, suc, Bool, true, false, Contains, List, Some, length, map, slice_get, string_bytes}
 use Rattle.values.specs.declared.fault.Fault.{Fault}
 use Rattle.values.specs.declared.fault.Fault.TheVariants.{IndexDiffers, NotUnique}
 use Rattle.values.specs.Row.{Row}
 use Rattle.create_trees.specs.declared.create.KeyOrder.{KeyOrder}
 use Rattle.create_trees.specs.declared.create.KeyOrder.TheVariants.{Ascending, Descending}
 use Rattle.image.specs.Pages.{IsNumber, Pages}
+use Rattle.wanted_entries.specs.Wanted.{IndexedPlaces}
 use Rattle.schema.specs.Names.{IsSameName}
 use Rattle.tables.specs.TableData.{TableData}
 use Rattle.indexes.specs.IndexData.{IndexData}
@@ -20,6 +21,7 @@ use Rattle.entry_prefixes.specs.Prefixes.{HasCount}
 use Rattle.entry_prefixes.specs.Repeats.{HasRepeats, IsUniqueIndex}
 use Rattle.index_rows.specs.Checked.{IsCheckedTable}
 use Rattle.index_rows.specs.Compared.{IsDifferentIndex, IsIndexOf}
+use Rattle.index_rows.specs.Entries.{TellsRow, width_by}
 use Rattle.integrity.specs.declared.index_trees.IndexCounts.{IndexCounts}
 use Rattle.integrity.specs.Denotes.{HasCatalog}
 
@@ -35,13 +37,25 @@ descends_of index = map (λ c. is_descending c.order) index.columns
 abbrev pub places_of : IndexData → List ℕ
 places_of index = map (λ c. c.place) index.columns
 
--- an entry has the values of the columns, and the rowid behind them
-abbrev pub width_of : IndexData → ℕ
-width_of index = length (places_of index) + 1
+-- they, and the places of the columns that its entries have behind them where the table has no rowids
+abbrev pub columns_of : IndexData → IndexedPlaces
+columns_of index = record { columns = places_of index; others = index.others }
 
--- the tree of an index was checked
-abbrev pub IsCheckedIndexTree : Pages → IndexData → TreeCounts → Type 0
-IsCheckedIndexTree pages index counts = IsCheckedIndex pages (exactly (width_of index)) (descends_of index) index.root counts
+-- how many values an entry has
+abbrev pub width_of : TableData → IndexData → ℕ
+width_of table index = width_by table.key (columns_of index)
+
+-- the tree of an index of a table was checked
+abbrev pub IsCheckedIndexTree : Pages → TableData → IndexData → TreeCounts → Type 0
+IsCheckedIndexTree pages table index counts = IsCheckedIndex pages (exactly (width_of table index)) (descends_of index) index.root counts
+
+-- An index is one of these tables', of that which alone has its table's name; and its entries tell the rows of this table.
+pub record IsOwned (tables : List TableData) (index : IndexData) : Type 0 where
+  pub table : TableData
+  pub is_table : Contains tables table
+  pub owner : IsSameName index.table table.name
+  pub tells : TellsRow table.key (columns_of index)
+  pub alone : (other : TableData) → Contains tables other → IsSameName index.table other.name → other ≡ table
 
 -- its first columns have so many different values, for each number of columns
 pub record HasDistinct (pages : Pages) (index : IndexData) (distinct : List ℕ) : Type 0 where
@@ -50,30 +64,33 @@ pub record HasDistinct (pages : Pages) (index : IndexData) (distinct : List ℕ)
   pub long : length distinct ≡ length (places_of index)
   pub counts : (columns count : ℕ) → slice_get distinct columns ≡ Some count → HasCount entries (suc columns) count
 
--- These are the counts of an index that was checked, no two entries of which agree where it is unique.
-pub record IsCheckedIndexOf (pages : Pages) (index : IndexData) (counts : IndexCounts) : Type 0 where
-  pub tree : IsCheckedIndexTree pages index counts.tree
+-- These are the counts of an index of a table that was checked, no two entries of which agree where it is unique.
+pub record IsCheckedAlone (pages : Pages) (table : TableData) (index : IndexData) (counts : IndexCounts) : Type 0 where
+  pub tree : IsCheckedIndexTree pages table index counts.tree
   pub distinct : HasDistinct pages index counts.distinct.items
   pub unique : index.is_unique ≡ true → IsUniqueIndex pages index.root (length (places_of index))
 
+-- the same of an index of one of these tables
+pub record IsCheckedIndexOf (pages : Pages) (tables : List TableData) (index : IndexData) (counts : IndexCounts) : Type 0 where
+  pub owned : IsOwned tables index
+  pub checked : IsCheckedAlone pages owned.table index counts
+
 -- and has so many entries
-pub record IsCheckedIndexWith (pages : Pages) (index : IndexData) (entries : ℕ) : Type 0 where
+pub record IsCheckedIndexWith (pages : Pages) (tables : List TableData) (index : IndexData) (entries : ℕ) : Type 0 where
+  pub owned : IsOwned tables index
   pub counts : TreeCounts
   pub number : IsNumber pages index.root
-  pub tree : IsCheckedIndexTree pages index counts
+  pub tree : IsCheckedIndexTree pages owned.table index counts
   pub entries_are : entries ≡ counts.cells
 
--- so was that of its table
+-- the trees of an index and of its table were checked
 pub record IsCheckedWith (pages : Pages) (table : TableData) (index : IndexData) (entries : ℕ) : Type 0 where
   pub table_is : IsCheckedTable pages table
-  pub index_is : IsCheckedIndexWith pages index entries
-
--- an index of the image
-pub record IsImageIndex (pages : Pages) (index : IndexData) : Type 0 where
-  pub rows : List Row
-  pub catalog : CatalogData
-  pub has : HasCatalog pages rows catalog
-  pub is_index : Contains catalog.indexes index
+  pub counts : TreeCounts
+  pub number : IsNumber pages index.root
+  pub tree : IsCheckedIndexTree pages table index counts
+  pub entries_are : entries ≡ counts.cells
+  pub tells : TellsRow table.key (columns_of index)
 
 -- an index of the image, and its table
 pub record IsTableIndex (pages : Pages) (table : TableData) (index : IndexData) : Type 0 where
@@ -85,10 +102,10 @@ pub record IsTableIndex (pages : Pages) (table : TableData) (index : IndexData) 
   pub owner : IsSameName index.table table.name
 
 -- the condition on an index's tree, or on its entries beside one another, that a fault says is broken
-abbrev pub IsBrokenIndexTree : Pages → IndexData → Fault → Type 0
-IsBrokenIndexTree pages index (NotUnique name) =
+abbrev pub IsBrokenIndexTree : Pages → TableData → IndexData → Fault → Type 0
+IsBrokenIndexTree pages table index (NotUnique name) =
     (string_bytes name ≡ index.name) × (index.is_unique ≡ true) × HasRepeats pages index.root (length (places_of index))
-IsBrokenIndexTree pages index fault = IsBrokenIndex pages (exactly (width_of index)) (descends_of index) index.root fault
+IsBrokenIndexTree pages table index fault = IsBrokenIndex pages (exactly (width_of table index)) (descends_of index) index.root fault
 
 -- the faults of the check of an index's tree, and of its entries beside one another
 abbrev pub IsIndexCheckFault : Fault → Type 0
@@ -98,9 +115,9 @@ IsIndexCheckFault fault = IsIndexWalkFault fault
 -- the condition on an index's entries beside its table's rows that a fault says is broken
 abbrev pub AreBrokenEntries : Pages → TableData → IndexData → Fault → Type 0
 AreBrokenEntries pages table index (IndexDiffers name) =
-    (string_bytes name ≡ index.name) × IsDifferentIndex pages table (places_of index) index.condition index.root
+    (string_bytes name ≡ index.name) × IsDifferentIndex pages table (columns_of index) index.condition index.root
 AreBrokenEntries pages table index _ = ⊥
 
 -- the index has exactly the entries that the rows of its table want which its condition keeps
 abbrev pub AreItsEntries : Pages → TableData → IndexData → Type 0
-AreItsEntries pages table index = IsIndexOf pages table (places_of index) index.condition index.root
+AreItsEntries pages table index = IsIndexOf pages table (columns_of index) index.condition index.root

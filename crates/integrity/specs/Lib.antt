@@ -1,3 +1,4 @@
+pub mod Tables
 pub mod Denotes
 pub mod Indexes
 pub mod Used

@@ -12,7 +12,7 @@ use Rattle.tables.specs.TableData.{schema_table}
 use Rattle.indexes.specs.IndexData.{IndexData}
 use Rattle.catalog.specs.CatalogData.{CatalogData}
 use Rattle.index_walk.specs.Checked.{index_tree}
-use Rattle.table_walk.specs.Checked.{tree_of}
+use Rattle.integrity.specs.Tables.{any_tree}
 
 abbrev pub index_tree_of : IndexData → TreeData
 index_tree_of index = index_tree index.root
@@ -21,7 +21,7 @@ index_tree_of index = index_tree index.root
 -- freelist
 abbrev pub users_of : Pages → CatalogData → Users
 users_of pages catalog = record {
-  trees = tree_of schema_table ∷ map tree_of catalog.tables ++ map index_tree_of catalog.indexes;
+  trees = any_tree schema_table ∷ map any_tree catalog.tables ++ map index_tree_of catalog.indexes;
   first = (header_on pages).freelist;
 }
 

@@ -1,11 +1,10 @@
 //! The check of a whole image.
-ghost use Rattle.std.specs.Prelude.{◌≡◌, ◌↔◌, All, IsTrue, MatchResult, map};
+ghost use Rattle.std.specs.Prelude.{◌≡◌, MatchResult, map};
 ghost use Rattle.pager.specs.Calls.{ReadsPages};
 ghost use Rattle.catalog.specs.CatalogView.{catalog_data};
 ghost use Rattle.indexes.specs.IndexView.{index_data};
 ghost use Rattle.integrity.specs.CheckedView.{checked_data};
 ghost use Rattle.integrity.specs.Checked.{HasCheckedImage, IsCheckFailure};
-ghost use Rattle.tables.specs.TableData.{HasRowids};
 
 use crate::entries::check_entries;
 use crate::index_trees::{IndexCounts, check_indexes};
@@ -57,23 +56,16 @@ impl Checked {
     }
 }
 
-/// Whether each of the tables has rowids: how the rows of others are stored isn't told yet.
-fn have_rowids(tables: &[Table]) -> bool
-    ensures { IsTrue result ↔ All HasRowids tables.now }
-{
-    tables.iter().all(|table| table.has_rowids())
-}
-
 /// Checks an image: its schema, the tree and the rows of each of its tables, the tree and the entries of each of its indexes,
-/// its freelist, and that each of its pages is used once. (Database File Format, sections 1.5, 1.6 and 2.3; The Schema Table)
+/// its freelist, and that each of its pages is used once. (Database File Format, sections 1.5, 1.6, 2.3 and 2.4; The Schema
+/// Table)
 ///
 /// # Errors
 ///
 /// `BadPage`, `BadChain`, `BadOrder`, `BadDepth`, `BadRecord`, `FloatValue`, `BadText` and `ValueBreaksColumn` where a table
 /// or an index has that condition; `PageUse` of a page that isn't used once, and `BadFreelist`; `SchemaRow`, `SchemaText` and
 /// `UnsupportedObject` where a row of the schema has that condition; `IndexDiffers` of an index that hasn't just the entries
-/// that its table's rows want, and `NotUnique` of a unique one in whose columns two of them agree; `NotYet` where a row of the
-/// schema is that of a table without rowids; `ReadFailed` and `NoMemory`.
+/// that its table's rows want, and `NotUnique` of a unique one in whose columns two of them agree; `ReadFailed` and `NoMemory`.
 pub fn check<S: Source>(alloc: Global, pager: &mut Pager<S>) -> Result<Checked, Fault>
     ensures outcome { MatchResult result (λ c. HasCheckedImage pager.old.state (checked_data c)) (IsCheckFailure pager.old.state) }
     ensures reads { ReadsPages result pager.old.state pager.new.state }
@@ -86,11 +78,8 @@ pub fn check<S: Source>(alloc: Global, pager: &mut Pager<S>) -> Result<Checked, 
     let catalog = Catalog::read(alloc, rows.as_slice(), pages)?;
     let tables = catalog.tables();
     let indexes = catalog.indexes();
-    if !have_rowids(tables) {
-        return Err(Fault::NotYet);
-    }
     let trees = check_tables(alloc, pager, tables, used)?;
-    let index_counts = check_indexes(alloc, pager, indexes, used)?;
+    let index_counts = check_indexes(alloc, pager, tables, indexes, used)?;
     check_rest(pager, used)?;
     let counted = index_counts.as_slice();
     check_entries(alloc, pager, tables, indexes, counted)?;

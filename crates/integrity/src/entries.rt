@@ -42,6 +42,7 @@ fn compare<S: Source>(
     let its = TableIndex {
         root: index.root(),
         places: places.as_slice(),
+        others: index.others(),
         descends: descends.as_slice(),
         condition: index.condition(),
     };
@@ -60,10 +61,10 @@ fn compare_with_table<S: Source>(
     entries: u64,
 ) -> Result<(), Fault>
     ensures entries { WhereSteady pager.old.state (λ pages. All (IsCheckedTable pages) tables.now
-        → IsCheckedIndexWith pages (index_data index.now) entries → OnOk result ((table : TableData) → Contains tables.now table
+        → IsCheckedIndexWith pages tables.now (index_data index.now) entries → OnOk result ((table : TableData) → Contains tables.now table
         → IsSameName (index_data index.now).table table.name → AreItsEntries pages table (index_data index.now))) }
     ensures fault { WhereSteady pager.old.state (λ pages. All (IsCheckedTable pages) tables.now
-        → IsCheckedIndexWith pages (index_data index.now) entries → IfErr result (λ e. IsReadFault e ⊎ ((table : TableData)
+        → IsCheckedIndexWith pages tables.now (index_data index.now) entries → IfErr result (λ e. IsReadFault e ⊎ ((table : TableData)
         × Contains tables.now table × IsSameName (index_data index.now).table table.name × AreBrokenEntries pages table (index_data index.now) e))) }
     ensures only { IfErr result IsCheckFault }
     ensures reads { ReadsPages result pager.old.state pager.new.state }
@@ -87,11 +88,11 @@ pub(crate) fn check_entries<S: Source>(
 ) -> Result<(), Fault>
     requires { All (λ index. IsPageNumber pager.old.state index.root) (map index_data indexes.now) }
     ensures entries { WhereSteady pager.old.state (λ pages. All (IsCheckedTable pages) tables.now
-        → AllZip (IsCheckedIndexOf pages) (map index_data indexes.now) counted.now → OnOk result ((table : TableData) (index : IndexData)
+        → AllZip (IsCheckedIndexOf pages tables.now) (map index_data indexes.now) counted.now → OnOk result ((table : TableData) (index : IndexData)
         → Contains tables.now table → Contains (map index_data indexes.now) index → IsSameName index.table table.name
         → AreItsEntries pages table index)) }
     ensures fault { WhereSteady pager.old.state (λ pages. All (IsCheckedTable pages) tables.now
-        → AllZip (IsCheckedIndexOf pages) (map index_data indexes.now) counted.now → IfErr result (λ e. IsReadFault e
+        → AllZip (IsCheckedIndexOf pages tables.now) (map index_data indexes.now) counted.now → IfErr result (λ e. IsReadFault e
         ⊎ ((table : TableData) × (index : IndexData) × Contains tables.now table × Contains (map index_data indexes.now) index
         × IsSameName index.table table.name × AreBrokenEntries pages table index e))) }
     ensures only { IfErr result IsCheckFault }

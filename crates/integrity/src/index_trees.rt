@@ -1,5 +1,5 @@
 //! The indexes of an image, each alone: its tree, and its entries beside one another.
-ghost use Rattle.std.specs.Prelude.{◌≡◌, ◌⊎◌, true, All, Contains, IfErr, IfOk, MatchResult, OnOk, ◌<◌, length, map};
+ghost use Rattle.std.specs.Prelude.{◌≡◌, ◌⊎◌, true, All, Contains, IfErr, IfNone, IfOk, IfSome, MatchResult, OnOk, ◌<◌, length, map};
 ghost use Rattle.std.specs.List.{AllZip};
 ghost use Rattle.pager.specs.Calls.{IsReadFault, ReadsPages};
 ghost use Rattle.pager.specs.PagerState.{IsPageNumber};
@@ -11,7 +11,9 @@ ghost use Rattle.tree_walk.specs.declared.counts.TreeCounts.{TreeCounts};
 ghost use Rattle.index_walk.specs.Checked.{IsIndexWalkFault};
 ghost use Rattle.entry_prefixes.specs.Repeats.{IsUniqueIndex};
 ghost use Rattle.integrity.specs.Indexes as spec;
-ghost use Rattle.integrity.specs.Indexes.{HasDistinct, IsBrokenIndexTree, IsCheckedIndexOf, IsCheckedIndexTree, IsIndexCheckFault, descends_of};
+ghost use Rattle.schema.specs.Names.{IsSameName};
+ghost use Rattle.tables.specs.TableData.{TableData};
+ghost use Rattle.integrity.specs.Indexes.{HasDistinct, IsBrokenIndexTree, IsCheckedAlone, IsCheckedIndexOf, IsCheckedIndexTree, IsIndexCheckFault, IsOwned, descends_of};
 ghost use Rattle.integrity.specs.Used.{AreTreesTwice, MarksTrees, index_tree_of};
 
 use create_trees::KeyOrder;
@@ -19,7 +21,9 @@ use entry_prefixes::read_prefixes;
 use index_walk::{EntryWidths, IndexTree, check_index};
 use indexes::Index;
 use pager::{Pager, Source};
+use schema::is_same_name;
 use std::alloc::{AllocError, Global};
+use tables::{RowKey, Table};
 use tree_walk::TreeCounts;
 use values::Fault;
 
@@ -61,27 +65,40 @@ pub(crate) fn directions_of(alloc: Global, index: &Index) -> Result<Vec<bool>, A
         .collect(alloc)
 }
 
-/// Checks the tree of an index, and gives its pages and chains their marks.
+/// How many values an entry of an index of a table has: those of the columns, and behind them the rowid, or the rest of the
+/// PRIMARY KEY.
+fn width_of(table: &Table, index: &Index) -> usize
+    ensures { result ≡ spec.width_of table.now (index_data index.now) }
+{
+    let columns = index.columns().len();
+    match table.key() {
+        RowKey::Rowid(_) => columns + 1,
+        RowKey::Primary(_) => columns + index.others().len(),
+    }
+}
+
+/// Checks the tree of an index of a table, and gives its pages and chains their marks.
 fn check_tree<S: Source>(
     alloc: Global,
     pager: &mut Pager<S>,
+    table: &Table,
     index: &Index,
     used: &mut [bool],
 ) -> Result<TreeCounts, Fault>
     requires number { IsPageNumber pager.old.state (index_data index.now).root }
     requires long { pager.old.state.header.pages < length used.old }
-    ensures checked { WhereSteady pager.old.state (λ pages. IfOk result (IsCheckedIndexTree pages (index_data index.now))) }
+    ensures checked { WhereSteady pager.old.state (λ pages. IfOk result (IsCheckedIndexTree pages table.now (index_data index.now))) }
     ensures marks { WhereSteady pager.old.state (λ pages. OnOk result
         (MarksTree pages (index_tree_of (index_data index.now)) used.old used.new)) }
     ensures fault { WhereSteady pager.old.state (λ pages. IfErr result (λ e. IsReadFault e
-        ⊎ IsBrokenIndexTree pages (index_data index.now) e ⊎ IsTreeTwice pages (index_tree_of (index_data index.now)) used.old e)) }
+        ⊎ IsBrokenIndexTree pages table.now (index_data index.now) e ⊎ IsTreeTwice pages (index_tree_of (index_data index.now)) used.old e)) }
     ensures only { IfErr result IsIndexWalkFault }
     ensures reads { ReadsPages result pager.old.state pager.new.state }
 {
     let descends = directions_of(alloc, index)?;
     let tree = IndexTree {
         root: index.root(),
-        widths: EntryWidths::exactly(index.columns().len() + 1),
+        widths: EntryWidths::exactly(width_of(table, index)),
         descends: descends.as_slice(),
     };
     check_index(alloc, pager, &tree, used)
@@ -95,11 +112,11 @@ fn count_distinct<S: Source>(
     pager: &mut Pager<S>,
     index: &Index,
 ) -> Result<Vec<u64>, Fault>
-    ensures counts { WhereSteady pager.old.state (λ pages. (counts : TreeCounts) → IsNumber pages (index_data index.now).root
-        → IsCheckedIndexTree pages (index_data index.now) counts → MatchResult result
+    ensures counts { WhereSteady pager.old.state (λ pages. (table : TableData) (counts : TreeCounts) → IsNumber pages (index_data index.now).root
+        → IsCheckedIndexTree pages table (index_data index.now) counts → MatchResult result
         (λ distinct. HasDistinct pages (index_data index.now) distinct.items × ((index_data index.now).is_unique ≡ true
         → IsUniqueIndex pages (index_data index.now).root (length (spec.places_of (index_data index.now)))))
-        (λ e. IsReadFault e ⊎ IsBrokenIndexTree pages (index_data index.now) e)) }
+        (λ e. IsReadFault e ⊎ IsBrokenIndexTree pages table (index_data index.now) e)) }
     ensures only { IfErr result IsIndexCheckFault }
     ensures reads { ReadsPages result pager.old.state pager.new.state }
 {
@@ -110,50 +127,71 @@ fn count_distinct<S: Source>(
     Ok(prefixes.distinct)
 }
 
-/// Checks an index alone: its tree, whose pages and chains get their marks, and its entries beside one another.
+/// Checks an index of a table alone: its tree, whose pages and chains get their marks, and its entries beside one another.
 fn check_alone<S: Source>(
     alloc: Global,
     pager: &mut Pager<S>,
+    table: &Table,
     index: &Index,
     used: &mut [bool],
 ) -> Result<IndexCounts, Fault>
     requires number { IsPageNumber pager.old.state (index_data index.now).root }
     requires long { pager.old.state.header.pages < length used.old }
-    ensures checked { WhereSteady pager.old.state (λ pages. IfOk result (IsCheckedIndexOf pages (index_data index.now))) }
+    ensures checked { WhereSteady pager.old.state (λ pages. IfOk result (IsCheckedAlone pages table.now (index_data index.now))) }
     ensures marks { WhereSteady pager.old.state (λ pages. OnOk result
         (MarksTree pages (index_tree_of (index_data index.now)) used.old used.new)) }
     ensures fault { WhereSteady pager.old.state (λ pages. IfErr result (λ e. IsReadFault e
-        ⊎ IsBrokenIndexTree pages (index_data index.now) e ⊎ IsTreeTwice pages (index_tree_of (index_data index.now)) used.old e)) }
+        ⊎ IsBrokenIndexTree pages table.now (index_data index.now) e ⊎ IsTreeTwice pages (index_tree_of (index_data index.now)) used.old e)) }
     ensures only { IfErr result IsIndexCheckFault }
     ensures reads { ReadsPages result pager.old.state pager.new.state }
 {
-    let tree = check_tree(alloc, pager, index, used)?;
+    let tree = check_tree(alloc, pager, table, index, used)?;
     let distinct = count_distinct(alloc, pager, index)?;
     Ok(IndexCounts { tree, distinct })
 }
 
-/// Checks each index alone, and gives the pages and chains of their trees their marks.
+/// The table that has the name of an index's.
+fn table_of<'t>(tables: &'t [Table], index: &Index) -> Option<&'t Table>
+    ensures found { IfSome result (λ table. Contains tables.now table.now × IsSameName (index_data index.now).table table.now.name) }
+    ensures none { IfNone result (All (λ table. ¬ IsSameName (index_data index.now).table table.name) tables.now) }
+{
+    for table in tables {
+        if is_same_name(index.table(), table.name()) {
+            return Some(table);
+        }
+    }
+    None
+}
+
+/// Checks each index of these tables alone, and gives the pages and chains of their trees their marks.
 pub(crate) fn check_indexes<S: Source>(
     alloc: Global,
     pager: &mut Pager<S>,
+    tables: &[Table],
     indexes: &[Index],
     used: &mut [bool],
 ) -> Result<Vec<IndexCounts>, Fault>
     requires roots { All (λ index. IsPageNumber pager.old.state index.root) (map index_data indexes.now) }
+    requires owned { All (IsOwned tables.now) (map index_data indexes.now) }
     requires long { pager.old.state.header.pages < length used.old }
     ensures checked { WhereSteady pager.old.state (λ pages. IfOk result (λ counted.
-        AllZip (IsCheckedIndexOf pages) (map index_data indexes.now) counted.items)) }
+        AllZip (IsCheckedIndexOf pages tables.now) (map index_data indexes.now) counted.items)) }
     ensures marks { WhereSteady pager.old.state (λ pages. OnOk result
         (MarksTrees pages (map index_tree_of (map index_data indexes.now)) used.old used.new)) }
     ensures fault { WhereSteady pager.old.state (λ pages. IfErr result (λ e. IsReadFault e
-        ⊎ ((index : IndexData) × Contains (map index_data indexes.now) index × IsBrokenIndexTree pages index e)
+        ⊎ ((table : TableData) × (index : IndexData) × Contains tables.now table × Contains (map index_data indexes.now) index
+        × IsSameName index.table table.name × IsBrokenIndexTree pages table index e)
         ⊎ AreTreesTwice pages (map index_tree_of (map index_data indexes.now)) used.old e)) }
     ensures only { IfErr result IsIndexCheckFault }
     ensures reads { ReadsPages result pager.old.state pager.new.state }
 {
     let mut counted = Vec::with_capacity(alloc, indexes.len())?;
     for index in indexes {
-        let counts = check_alone(alloc, pager, index, used)?;
+        // The schema's rows were read, so that each index has its table.
+        let Some(table) = table_of(tables, index) else {
+            return Err(Fault::SchemaRow);
+        };
+        let counts = check_alone(alloc, pager, table, index, used)?;
         counted.push(counts)?;
     }
     Ok(counted)

@@ -1,8 +1,7 @@
 //! The check of an image. It promises that an image that passes has no condition broken (of its trees' pages, order and
 //! depth, of each chain of overflow pages, of each record, of each value, of the freelist, of the schema's rows, and of the
 //! entries of each index), gives the tables that the image denotes with their rows, and its indexes, and counts exactly what
-//! their trees have; and that a fault's condition is broken. `NotYet` comes exactly where the schema says what isn't served
-//! yet: a table without rowids.
+//! their trees have; and that a fault's condition is broken. Tables have rowids, or are found by their PRIMARY KEY.
 //!
 //! The modules, in the order in which data passes them: `trees` (those of all tables, and the schema's rows), `index_trees`
 //! (each index alone), `entries` (of each index, beside the rows of its table) and `checked` (the whole image).

@@ -8,17 +8,40 @@ ghost use Rattle.tables.specs.TableData.{TableData, schema_table};
 ghost use Rattle.integrity.specs.Checked.{HasCause};
 ghost use Rattle.tree_walk.specs.Used.{IsTreeTwice, MarksTree};
 ghost use Rattle.integrity.specs.Used.{AreTreesTwice, MarksTrees};
-ghost use Rattle.stored_rows.specs.RowFaults.{IsBrokenTable};
+ghost use Rattle.integrity.specs.Tables.{IsAnyBroken, IsAnyChecked, any_tree};
 ghost use Rattle.stored_rows.specs.Stored.{HoldsRows};
 ghost use Rattle.table_walk.specs.Checked.{IsCheckedTree, tree_of};
 ghost use Rattle.table_walk.specs.Walked.{IsWalkFault};
 
 use pager::{Pager, Source};
+use primary_walk::check_primary;
 use std::alloc::Global;
 use table_walk::{all_rows, check_table};
-use tables::Table;
+use tables::{RowKey, Table};
 use tree_walk::TreeCounts;
 use values::{Fault, Row};
+
+/// Checks the tree of a table of either kind, and gives its pages and chains their marks.
+fn check_tree<S: Source>(
+    alloc: Global,
+    pager: &mut Pager<S>,
+    table: &Table,
+    used: &mut [bool],
+) -> Result<TreeCounts, Fault>
+    requires number { IsPageNumber pager.old.state table.now.root }
+    requires long { pager.old.state.header.pages < length used.old }
+    ensures checked { WhereSteady pager.old.state (λ pages. IfOk result (IsAnyChecked pages table.now)) }
+    ensures marks { WhereSteady pager.old.state (λ pages. OnOk result (MarksTree pages (any_tree table.now) used.old used.new)) }
+    ensures fault { WhereSteady pager.old.state (λ pages. IfErr result (λ e. IsReadFault e
+        ⊎ IsAnyBroken pages table.now e ⊎ IsTreeTwice pages (any_tree table.now) used.old e)) }
+    ensures only { IfErr result IsWalkFault }
+    ensures reads { ReadsPages result pager.old.state pager.new.state }
+{
+    match table.key() {
+        RowKey::Rowid(_) => check_table(alloc, pager, table, used),
+        RowKey::Primary(_) => check_primary(alloc, pager, table, used),
+    }
+}
 
 /// Checks the tree of each table, and gives their pages and chains their marks.
 pub(crate) fn check_tables<S: Source>(
@@ -29,17 +52,17 @@ pub(crate) fn check_tables<S: Source>(
 ) -> Result<Vec<TreeCounts>, Fault>
     requires roots { All (λ table. IsPageNumber pager.old.state table.root) tables.now }
     requires long { pager.old.state.header.pages < length used.old }
-    ensures checked { WhereSteady pager.old.state (λ pages. IfOk result (λ trees. AllZip (IsCheckedTree pages) tables.now trees.items)) }
-    ensures marks { WhereSteady pager.old.state (λ pages. OnOk result (MarksTrees pages (map tree_of tables.now) used.old used.new)) }
+    ensures checked { WhereSteady pager.old.state (λ pages. IfOk result (λ trees. AllZip (IsAnyChecked pages) tables.now trees.items)) }
+    ensures marks { WhereSteady pager.old.state (λ pages. OnOk result (MarksTrees pages (map any_tree tables.now) used.old used.new)) }
     ensures fault { WhereSteady pager.old.state (λ pages. IfErr result (λ e. IsReadFault e
-        ⊎ ((table : TableData) × Contains tables.now table × IsBrokenTable pages table e)
-        ⊎ AreTreesTwice pages (map tree_of tables.now) used.old e)) }
+        ⊎ ((table : TableData) × Contains tables.now table × IsAnyBroken pages table e)
+        ⊎ AreTreesTwice pages (map any_tree tables.now) used.old e)) }
     ensures only { IfErr result IsWalkFault }
     ensures reads { ReadsPages result pager.old.state pager.new.state }
 {
     let mut trees = Vec::with_capacity(alloc, tables.len())?;
     for table in tables {
-        let counts = check_table(alloc, pager, table, used)?;
+        let counts = check_tree(alloc, pager, table, used)?;
         trees.push(counts)?;
     }
     Ok(trees)

@@ -100,3 +100,8 @@ module _ (pages : Pages) (table : TableData) (within : IsKeyWithin table.key (le
         },
         has.fit,
       )
+
+  -- they stand at the places of the tree, from left to right
+  pub rows_stand : AllZip (StoresPrimaryRow pages table) every rows_held.0
+  unfolding rows_held
+  rows_stand = rows_held.1.rows_are

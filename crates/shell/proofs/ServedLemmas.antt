@@ -1,12 +1,11 @@
 -- What is written behind the line of names, and what a gathering sink hands on.
-use Rattle.std.proofs.Common.{◌∙◌, ◌++◌, ℕ, Bool, List, [], Option, None, Some, Ok, ap, append-nil, option_map}
+use Rattle.std.proofs.Common.{◌∙◌, ◌++◌, ℕ, Bool, List, [], Option, None, Some, ap, append-nil, option_map}
 use Rattle.std.specs.Io.KnownBytes.{Appends}
 use Rattle.values.specs.Gathered.{Gathering, gathered_facts}
-use Rattle.values.specs.Sink.{SinkFacts, Writes}
-use Rattle.values.proofs.SinkLemmas.{Appends-then}
+use Rattle.values.specs.Sink.{SinkFacts}
 use Rattle.tables.specs.TableData.{TableData}
 use Rattle.shell.specs.PreparedView.{PreparedData}
-use Rattle.shell.specs.Served.{HasLines, header_text}
+use Rattle.shell.specs.Served.{HasLines}
 
 module _ (image : List ℕ) (tables : List TableData) (prepared : PreparedData) (header : Bool) where
   handed_on : (a b c : Option (List ℕ)) (held text : List ℕ) → Appends (option_map (λ bytes. bytes ++ []) a) (option_map (λ bytes. bytes ++ held) b) text

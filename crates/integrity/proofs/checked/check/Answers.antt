@@ -13,16 +13,16 @@ use Rattle.catalog.specs.CatalogView.{catalog_data}
 use Rattle.indexes.specs.IndexData.{IndexData}
 use Rattle.indexes.specs.IndexView.{index_data}
 use Rattle.schema.specs.Names.{IsSameName}
-use Rattle.tables.specs.TableData.{HasRowids, TableData}
+use Rattle.tables.specs.TableData.{TableData}
 use Rattle.integrity.specs.declared.index_trees.IndexCounts.{IndexCounts}
-use Rattle.table_walk.specs.Checked.{IsCheckedTree, tree_of}
-use Rattle.integrity.specs.Indexes.{AreBrokenEntries, AreItsEntries, IsBrokenIndexTree, IsCheckedIndexOf}
+use Rattle.integrity.specs.Indexes.{AreBrokenEntries, AreItsEntries, IsBrokenIndexTree, IsCheckedIndexOf, IsOwned}
 use Rattle.integrity.specs.Used.{AreTreesTwice, MarksTrees, index_tree_of}
-use Rattle.stored_rows.specs.RowFaults.{IsBrokenTable}
-use Rattle.integrity.proofs.CheckedLemmas.{broken_table, has_rowless, has_tables, refused_here, refused_only, refused_rows, use_only, walk_only}
+use Rattle.integrity.specs.Tables.{IsAnyBroken, IsAnyChecked, any_tree}
+use Rattle.integrity.proofs.CheckedLemmas.{broken_table, has_tables, refused_here, refused_only, refused_rows, use_only, walk_only}
 use Rattle.integrity.proofs.EntryLemmas.{tables_now}
 use Rattle.integrity.proofs.IndexLemmas.{broken_entries, broken_index_tree, index_only, index_roots, its_entries, unbroken_indexes}
-use Rattle.integrity.proofs.OneLemmas.{all_served, sound_rows}
+use Rattle.integrity.proofs.OwnerLemmas.{all_owned}
+use Rattle.integrity.proofs.OneLemmas.{sound_rows}
 use Rattle.integrity.proofs.TreesLemmas.{IsRestFault, IsRestOnce, indexes_twice, no_misuse, rest_broken, rest_once, schema_twice, tables_twice}
 use Rattle.integrity.proofs.UnbrokenLemmas.{catalog_here, unbroken_image}
 use Rattle.integrity.proofs.checked.check.Goals as goal
@@ -33,7 +33,7 @@ returns-in_err-rows-clause-outcome g c =
     rw (p.1, p.2) (record {
       only = walk_only _ c.in_err-rows.ensures.only;
       cause = λ steady. ⊎_elim (λ cause. cause)
-          (λ twice. inr (inl (inr (inl (schema_twice (pages_seen c.args.pager.now.state) (c.header-pages.result.pages + 1) c.as_mut_slice-used.result.now (search rules) _ twice)))))
+          (λ twice. inr (inr (inl (schema_twice (pages_seen c.args.pager.now.state) (c.header-pages.result.pages + 1) c.as_mut_slice-used.result.now (search rules) _ twice))))
           (c.in_err-rows.ensures.fault steady);
     })
 
@@ -65,15 +65,15 @@ returns-in_err-trees-clause-outcome g c =
           (c.in_ok-rows.ensures.rows steady) count c.as_slice.ensures.value c.in_ok-catalog.ensures.said in
           (⊎_elim inl
           (λ cause. ⊎_elim
-          (λ (broken : (table : TableData) × Contains c.tables-tables.result.now table × IsBrokenTable (pages_seen c.read_schema.new.pager.state) table c.in_err-trees.field-0.0).
+          (λ (broken : (table : TableData) × Contains c.tables-tables.result.now table × IsAnyBroken (pages_seen c.read_schema.new.pager.state) table c.in_err-trees.field-0.0).
           broken_table pages c.in_ok-rows.rows.items (catalog_data c.in_ok-catalog.catalog) catalog broken.0 _
           (subst (λ (ts : List TableData). Contains ts broken.0) c.tables-tables.ensures broken.1)
-          (subst (λ (q : Pages). IsBrokenTable q broken.0 c.in_err-trees.field-0.0) (same_pages _ _ stays) broken.2))
-          (λ (twice : AreTreesTwice (pages_seen c.read_schema.new.pager.state) (map tree_of c.tables-tables.result.now) c.read_schema.new.used c.in_err-trees.field-0.0).
-          inr (inl (inr (inl (tables_twice pages (catalog_data c.in_ok-catalog.catalog) c.in_ok-rows.rows.items catalog (c.header-pages.result.pages + 1)
+          (subst (λ (q : Pages). IsAnyBroken q broken.0 c.in_err-trees.field-0.0) (same_pages _ _ stays) broken.2))
+          (λ (twice : AreTreesTwice (pages_seen c.read_schema.new.pager.state) (map any_tree c.tables-tables.result.now) c.read_schema.new.used c.in_err-trees.field-0.0).
+          inr (inr (inl (tables_twice pages (catalog_data c.in_ok-catalog.catalog) c.in_ok-rows.rows.items catalog (c.header-pages.result.pages + 1)
           c.as_mut_slice-used.result.now c.read_schema.new.used (search rules) (c.in_ok-rows.ensures.marks steady) c.in_err-trees.field-0.0
-          (subst (λ (q : Pages). AreTreesTwice q (map tree_of (catalog_data c.in_ok-catalog.catalog).tables) c.read_schema.new.used c.in_err-trees.field-0.0) (same_pages _ _ stays)
-          (subst (λ (ts : List TableData). AreTreesTwice (pages_seen c.read_schema.new.pager.state) (map tree_of ts) c.read_schema.new.used c.in_err-trees.field-0.0) c.tables-tables.ensures twice)))))))
+          (subst (λ (q : Pages). AreTreesTwice q (map any_tree (catalog_data c.in_ok-catalog.catalog).tables) c.read_schema.new.used c.in_err-trees.field-0.0) (same_pages _ _ stays)
+          (subst (λ (ts : List TableData). AreTreesTwice (pages_seen c.read_schema.new.pager.state) (map any_tree ts) c.read_schema.new.used c.in_err-trees.field-0.0) c.tables-tables.ensures twice))))))
           cause)
           (c.in_err-trees.ensures.fault now));
     })
@@ -95,19 +95,22 @@ returns-in_err-index_counts-clause-outcome g c =
           let fault = c.in_err-index_counts.field-0.0 in
           let catalog = catalog_here pages _ c.in_ok-rows.rows.items _ first.0 found first.1
           (c.in_ok-rows.ensures.rows steady) count c.as_slice.ensures.value c.in_ok-catalog.ensures.said in
-          let tables = subst (λ (ts : List TableData). MarksTrees pages (map tree_of ts) c.read_schema.new.used c.check_tables.new.used) c.tables-tables.ensures
-          (subst (λ (q : Pages). MarksTrees q (map tree_of c.tables-tables.result.now) c.read_schema.new.used c.check_tables.new.used) (same_pages _ _ stays) (c.in_ok-trees.ensures.marks now)) in
+          let tables = subst (λ (ts : List TableData). MarksTrees pages (map any_tree ts) c.read_schema.new.used c.check_tables.new.used) c.tables-tables.ensures
+          (subst (λ (q : Pages). MarksTrees q (map any_tree c.tables-tables.result.now) c.read_schema.new.used c.check_tables.new.used) (same_pages _ _ stays) (c.in_ok-trees.ensures.marks now)) in
           (⊎_elim inl
           (λ cause. ⊎_elim
-          (λ (broken : (index : IndexData) × Contains (map index_data c.indexes-indexes.result.now) index × IsBrokenIndexTree (pages_seen c.check_tables.new.pager.state) index fault).
-          broken_index_tree pages c.in_ok-rows.rows.items found catalog broken.0 _
-          (subst (λ (is : List IndexData). Contains is broken.0) c.indexes-indexes.ensures broken.1)
-          (subst (λ (q : Pages). IsBrokenIndexTree q broken.0 fault) (same_pages _ _ both) broken.2))
+          (λ (broken : (table : TableData) × (index : IndexData) × Contains c.tables-tables.result.now table × Contains (map index_data c.indexes-indexes.result.now) index
+          × IsSameName index.table table.name × IsBrokenIndexTree (pages_seen c.check_tables.new.pager.state) table index fault).
+          broken_index_tree pages c.in_ok-rows.rows.items found catalog broken.0 broken.1 _
+          (subst (λ (ts : List TableData). Contains ts broken.0) c.tables-tables.ensures broken.2)
+          (subst (λ (is : List IndexData). Contains is broken.1) c.indexes-indexes.ensures broken.3)
+          broken.4
+          (subst (λ (q : Pages). IsBrokenIndexTree q broken.0 broken.1 fault) (same_pages _ _ both) broken.5))
           (λ (twice : AreTreesTwice (pages_seen c.check_tables.new.pager.state) (map index_tree_of (map index_data c.indexes-indexes.result.now)) c.check_tables.new.used fault).
-          inr (inl (inr (inl (indexes_twice pages found c.in_ok-rows.rows.items catalog (c.header-pages.result.pages + 1)
+          inr (inr (inl (indexes_twice pages found c.in_ok-rows.rows.items catalog (c.header-pages.result.pages + 1)
           c.as_mut_slice-used.result.now c.read_schema.new.used (search rules) (c.in_ok-rows.ensures.marks steady) c.check_tables.new.used tables fault
           (subst (λ (q : Pages). AreTreesTwice q (map index_tree_of found.indexes) c.check_tables.new.used fault) (same_pages _ _ both)
-          (subst (λ (is : List IndexData). AreTreesTwice (pages_seen c.check_tables.new.pager.state) (map index_tree_of is) c.check_tables.new.used fault) c.indexes-indexes.ensures twice)))))))
+          (subst (λ (is : List IndexData). AreTreesTwice (pages_seen c.check_tables.new.pager.state) (map index_tree_of is) c.check_tables.new.used fault) c.indexes-indexes.ensures twice))))))
           cause)
           (c.in_err-index_counts.ensures.fault (still_steady _ _ both steady)));
     })
@@ -133,18 +136,18 @@ returns-in_err-check_rest-clause-outcome g c =
           let is = c.header-pages.ensures.is in
           let front = front_is state (subst (λ (h : Header). IsSoundHeader h) is c.header-pages.ensures.sound) (sym is ∙ c.header-pages.ensures.steady steady) in
           let header : c.check_indexes.new.pager.state.header ≡ header_on pages = three.header ∙ sym front in
-          let tables = subst (λ (ts : List TableData). MarksTrees pages (map tree_of ts) c.read_schema.new.used c.check_tables.new.used) c.tables-tables.ensures
-          (subst (λ (q : Pages). MarksTrees q (map tree_of c.tables-tables.result.now) c.read_schema.new.used c.check_tables.new.used) (same_pages _ _ stays) (c.in_ok-trees.ensures.marks now)) in
+          let tables = subst (λ (ts : List TableData). MarksTrees pages (map any_tree ts) c.read_schema.new.used c.check_tables.new.used) c.tables-tables.ensures
+          (subst (λ (q : Pages). MarksTrees q (map any_tree c.tables-tables.result.now) c.read_schema.new.used c.check_tables.new.used) (same_pages _ _ stays) (c.in_ok-trees.ensures.marks now)) in
           let indexes = subst (λ (is : List IndexData). MarksTrees pages (map index_tree_of is) c.check_tables.new.used c.check_indexes.new.used) c.indexes-indexes.ensures
           (subst (λ (q : Pages). MarksTrees q (map index_tree_of (map index_data c.indexes-indexes.result.now)) c.check_tables.new.used c.check_indexes.new.used) (same_pages _ _ both)
           (c.in_ok-index_counts.ensures.marks (still_steady _ _ both steady))) in
           (⊎_elim inl
           (λ (broken : IsRestFault (pages_seen c.check_indexes.new.pager.state) c.check_indexes.new.pager.state.header c.check_indexes.new.used c.in_err-check_rest.field-0.0).
-          inr (inl (inr (inl (rest_broken pages found c.in_ok-rows.rows.items catalog (c.header-pages.result.pages + 1)
+          inr (inr (inl (rest_broken pages found c.in_ok-rows.rows.items catalog (c.header-pages.result.pages + 1)
           c.as_mut_slice-used.result.now c.read_schema.new.used (search rules) (c.in_ok-rows.ensures.marks steady) c.check_tables.new.used tables c.check_indexes.new.used indexes
           c.in_err-check_rest.field-0.0
           (subst (λ (h : Header). IsRestFault pages h c.check_indexes.new.used c.in_err-check_rest.field-0.0) header
-          (subst (λ (q : Pages). IsRestFault q c.check_indexes.new.pager.state.header c.check_indexes.new.used c.in_err-check_rest.field-0.0) (same_pages _ _ three) broken)))))))
+          (subst (λ (q : Pages). IsRestFault q c.check_indexes.new.pager.state.header c.check_indexes.new.used c.in_err-check_rest.field-0.0) (same_pages _ _ three) broken))))))
           (c.in_err-check_rest.ensures.fault (still_steady _ _ three steady)));
     })
 
@@ -169,9 +172,9 @@ returns-in_err-check_entries-clause-outcome g c =
           (c.in_ok-rows.ensures.rows steady) count c.as_slice.ensures.value c.in_ok-catalog.ensures.said in
           let numbers : All (λ table. IsPageNumber c.args.pager.now.state table.root) found.tables = search rules in
           let trees = tables_now pages (pages_seen c.check_rest.new.pager.state) found.tables c.tables-tables.result.now c.in_ok-trees.trees.items (same_pages _ _ four) c.tables-tables.ensures numbers
-          (subst (λ (q : Pages). AllZip (IsCheckedTree q) c.tables-tables.result.now c.in_ok-trees.trees.items) (same_pages _ _ stays) (c.in_ok-trees.ensures.checked now)) in
-          let index_trees = subst (λ (l : List IndexCounts). AllZip (IsCheckedIndexOf (pages_seen c.check_rest.new.pager.state)) (map index_data c.indexes-indexes.result.now) l) (sym c.as_slice-counted.ensures.value)
-          (subst (λ (q : Pages). AllZip (IsCheckedIndexOf q) (map index_data c.indexes-indexes.result.now) c.in_ok-index_counts.index_counts.items) (same_pages _ _ both ∙ sym (same_pages _ _ four))
+          (subst (λ (q : Pages). AllZip (IsAnyChecked q) c.tables-tables.result.now c.in_ok-trees.trees.items) (same_pages _ _ stays) (c.in_ok-trees.ensures.checked now)) in
+          let index_trees = subst (λ (l : List IndexCounts). AllZip (IsCheckedIndexOf (pages_seen c.check_rest.new.pager.state) c.tables-tables.result.now) (map index_data c.indexes-indexes.result.now) l) (sym c.as_slice-counted.ensures.value)
+          (subst (λ (q : Pages). AllZip (IsCheckedIndexOf q c.tables-tables.result.now) (map index_data c.indexes-indexes.result.now) c.in_ok-index_counts.index_counts.items) (same_pages _ _ both ∙ sym (same_pages _ _ four))
           (c.in_ok-index_counts.ensures.checked (still_steady _ _ both steady))) in
           (⊎_elim inl
           (λ (broken : (table : TableData) × (index : IndexData) × Contains c.tables-tables.result.now table × Contains (map index_data c.indexes-indexes.result.now) index
@@ -184,19 +187,6 @@ returns-in_err-check_entries-clause-outcome g c =
           (c.in_err-check_entries.ensures.fault (still_steady _ _ four steady) trees index_trees));
     })
 
-pub returns-then-not-have_rowids-clause-outcome : goal.returns-then-not-have_rowids-clause-outcome
-returns-then-not-have_rowids-clause-outcome g c = record {
-  only = tt;
-  cause = λ steady.
-      let pages = pages_seen c.args.pager.now.state in
-      let count : c.header-pages.result.pages ≡ pages.count = ap (λ (h : Header). h.pages) c.header-pages.ensures.is in
-      let first = c.in_ok-rows.ensures.checked steady in
-      let catalog = catalog_here pages _ c.in_ok-rows.rows.items _ first.0 (catalog_data c.in_ok-catalog.catalog) first.1
-      (c.in_ok-rows.ensures.rows steady) count c.as_slice.ensures.value c.in_ok-catalog.ensures.said in
-      has_rowless pages c.in_ok-rows.rows.items (catalog_data c.in_ok-catalog.catalog) catalog
-      (λ rowids. let h : c.have_rowids.result ≡ true = c.have_rowids.ensures.1 (subst (λ (all : List TableData). All HasRowids all) (sym c.tables-tables.ensures) rowids) in let other = c.if-not-have_rowids.true in cc);
-}
-
 pub check_indexes-requires-clause-roots : goal.check_indexes-requires-clause-roots
 check_indexes-requires-clause-roots g c =
     let both = SameImage-trans _ _ _ c.read_schema.ensures.reads.image c.check_tables.ensures.reads.image in
@@ -204,6 +194,12 @@ check_indexes-requires-clause-roots g c =
     subst (λ (all : List IndexData). All (λ index. IsPageNumber c.check_tables.new.pager.state index.root) all) (sym c.indexes-indexes.ensures)
     (index_roots c.check_tables.new.pager.state c.header-pages.result.pages _ (catalog_data c.in_ok-catalog.catalog)
     (ap (λ (h : Header). h.pages) (is ∙ sym both.header)) c.in_ok-catalog.ensures.said)
+
+pub check_indexes-requires-clause-owned : goal.check_indexes-requires-clause-owned
+check_indexes-requires-clause-owned g c =
+    subst (λ (ts : List TableData). All (IsOwned ts) (map index_data c.indexes-indexes.result.now)) (sym c.tables-tables.ensures)
+    (subst (λ (all : List IndexData). All (IsOwned (catalog_data c.in_ok-catalog.catalog).tables) all) (sym c.indexes-indexes.ensures)
+    (all_owned c.header-pages.result.pages _ (catalog_data c.in_ok-catalog.catalog) c.in_ok-catalog.ensures.said))
 
 pub check_entries-requires : goal.check_entries-requires
 check_entries-requires g c =
@@ -230,17 +226,18 @@ returns-clause-outcome g c =
       roots = search rules;
       tables = λ steady.
           let now = still_steady _ _ stays steady in
-          let trees = subst (λ (q : Pages). AllZip (IsCheckedTree q) c.tables-tables.result.now c.in_ok-trees.trees.items) (same_pages _ _ stays) (c.in_ok-trees.ensures.checked now) in
+          let trees = subst (λ (q : Pages). AllZip (IsAnyChecked q) c.tables-tables.result.now c.in_ok-trees.trees.items) (same_pages _ _ stays) (c.in_ok-trees.ensures.checked now) in
           let first = c.in_ok-rows.ensures.checked steady in
           let catalog = catalog_here pages _ rows _ first.0 found first.1
           (c.in_ok-rows.ensures.rows steady) count c.as_slice.ensures.value c.in_ok-catalog.ensures.said in
           has_tables pages rows found c.in_ok-trees.trees.items catalog
-          (subst (λ (ts : List TableData). AllZip (IsCheckedTree pages) ts c.in_ok-trees.trees.items) c.tables-tables.ensures trees);
+          (subst (λ (ts : List TableData). AllZip (IsAnyChecked pages) ts c.in_ok-trees.trees.items) c.tables-tables.ensures trees);
       trees = search rules;
       index_counts = λ steady.
-          let trees = subst (λ (q : Pages). AllZip (IsCheckedIndexOf q) (map index_data c.indexes-indexes.result.now) c.in_ok-index_counts.index_counts.items) (same_pages _ _ both)
+          let trees = subst (λ (q : Pages). AllZip (IsCheckedIndexOf q c.tables-tables.result.now) (map index_data c.indexes-indexes.result.now) c.in_ok-index_counts.index_counts.items) (same_pages _ _ both)
           (c.in_ok-index_counts.ensures.checked (still_steady _ _ both steady)) in
-          subst (λ (all : List IndexData). AllZip (IsCheckedIndexOf pages) all c.in_ok-index_counts.index_counts.items) c.indexes-indexes.ensures trees;
+          subst (λ (ts : List TableData). AllZip (IsCheckedIndexOf pages ts) found.indexes c.in_ok-index_counts.index_counts.items) c.tables-tables.ensures
+          (subst (λ (all : List IndexData). AllZip (IsCheckedIndexOf pages c.tables-tables.result.now) all c.in_ok-index_counts.index_counts.items) c.indexes-indexes.ensures trees);
       entries = λ steady.
           let now = still_steady _ _ stays steady in
           let first = c.in_ok-rows.ensures.checked steady in
@@ -248,9 +245,9 @@ returns-clause-outcome g c =
           (c.in_ok-rows.ensures.rows steady) count c.as_slice.ensures.value c.in_ok-catalog.ensures.said in
           let numbers : All (λ table. IsPageNumber c.args.pager.now.state table.root) found.tables = search rules in
           let trees = tables_now pages (pages_seen c.check_rest.new.pager.state) found.tables c.tables-tables.result.now c.in_ok-trees.trees.items (same_pages _ _ four) c.tables-tables.ensures numbers
-          (subst (λ (q : Pages). AllZip (IsCheckedTree q) c.tables-tables.result.now c.in_ok-trees.trees.items) (same_pages _ _ stays) (c.in_ok-trees.ensures.checked now)) in
-          let index_trees = subst (λ (l : List IndexCounts). AllZip (IsCheckedIndexOf (pages_seen c.check_rest.new.pager.state)) (map index_data c.indexes-indexes.result.now) l) (sym c.as_slice-counted.ensures.value)
-          (subst (λ (q : Pages). AllZip (IsCheckedIndexOf q) (map index_data c.indexes-indexes.result.now) c.in_ok-index_counts.index_counts.items) (same_pages _ _ both ∙ sym (same_pages _ _ four))
+          (subst (λ (q : Pages). AllZip (IsAnyChecked q) c.tables-tables.result.now c.in_ok-trees.trees.items) (same_pages _ _ stays) (c.in_ok-trees.ensures.checked now)) in
+          let index_trees = subst (λ (l : List IndexCounts). AllZip (IsCheckedIndexOf (pages_seen c.check_rest.new.pager.state) c.tables-tables.result.now) (map index_data c.indexes-indexes.result.now) l) (sym c.as_slice-counted.ensures.value)
+          (subst (λ (q : Pages). AllZip (IsCheckedIndexOf q c.tables-tables.result.now) (map index_data c.indexes-indexes.result.now) c.in_ok-index_counts.index_counts.items) (same_pages _ _ both ∙ sym (same_pages _ _ four))
           (c.in_ok-index_counts.ensures.checked (still_steady _ _ both steady))) in
           its_entries pages rows found catalog
           (λ table index among_tables among owner.
@@ -262,24 +259,24 @@ returns-clause-outcome g c =
           let now = still_steady _ _ stays steady in
           let front = front_is state (subst (λ (h : Header). IsSoundHeader h) is c.header-pages.ensures.sound) (sym is ∙ c.header-pages.ensures.steady steady) in
           let header : c.check_indexes.new.pager.state.header ≡ header_on pages = three.header ∙ sym front in
-          let trees = subst (λ (q : Pages). AllZip (IsCheckedTree q) c.tables-tables.result.now c.in_ok-trees.trees.items) (same_pages _ _ stays) (c.in_ok-trees.ensures.checked now) in
-          let index_trees = subst (λ (q : Pages). AllZip (IsCheckedIndexOf q) (map index_data c.indexes-indexes.result.now) c.in_ok-index_counts.index_counts.items) (same_pages _ _ both)
+          let trees = subst (λ (q : Pages). AllZip (IsAnyChecked q) c.tables-tables.result.now c.in_ok-trees.trees.items) (same_pages _ _ stays) (c.in_ok-trees.ensures.checked now) in
+          let index_trees = subst (λ (q : Pages). AllZip (IsCheckedIndexOf q c.tables-tables.result.now) (map index_data c.indexes-indexes.result.now) c.in_ok-index_counts.index_counts.items) (same_pages _ _ both)
           (c.in_ok-index_counts.ensures.checked (still_steady _ _ both steady)) in
           let first = c.in_ok-rows.ensures.checked steady in
           let catalog = catalog_here pages _ rows _ first.0 found first.1
           (c.in_ok-rows.ensures.rows steady) count c.as_slice.ensures.value c.in_ok-catalog.ensures.said in
-          let tables = subst (λ (ts : List TableData). MarksTrees pages (map tree_of ts) c.read_schema.new.used c.check_tables.new.used) c.tables-tables.ensures
-          (subst (λ (q : Pages). MarksTrees q (map tree_of c.tables-tables.result.now) c.read_schema.new.used c.check_tables.new.used) (same_pages _ _ stays) (c.in_ok-trees.ensures.marks now)) in
+          let tables = subst (λ (ts : List TableData). MarksTrees pages (map any_tree ts) c.read_schema.new.used c.check_tables.new.used) c.tables-tables.ensures
+          (subst (λ (q : Pages). MarksTrees q (map any_tree c.tables-tables.result.now) c.read_schema.new.used c.check_tables.new.used) (same_pages _ _ stays) (c.in_ok-trees.ensures.marks now)) in
           let indexes = subst (λ (all : List IndexData). MarksTrees pages (map index_tree_of all) c.check_tables.new.used c.check_indexes.new.used) c.indexes-indexes.ensures
           (subst (λ (q : Pages). MarksTrees q (map index_tree_of (map index_data c.indexes-indexes.result.now)) c.check_tables.new.used c.check_indexes.new.used) (same_pages _ _ both)
           (c.in_ok-index_counts.ensures.marks (still_steady _ _ both steady))) in
           let numbers : All (λ table. IsPageNumber c.args.pager.now.state table.root) found.tables = search rules in
           let four_trees = tables_now pages (pages_seen c.check_rest.new.pager.state) found.tables c.tables-tables.result.now c.in_ok-trees.trees.items (same_pages _ _ four) c.tables-tables.ensures numbers
           trees in
-          let four_index_trees = subst (λ (l : List IndexCounts). AllZip (IsCheckedIndexOf (pages_seen c.check_rest.new.pager.state)) (map index_data c.indexes-indexes.result.now) l) (sym c.as_slice-counted.ensures.value)
-          (subst (λ (q : Pages). AllZip (IsCheckedIndexOf q) (map index_data c.indexes-indexes.result.now) c.in_ok-index_counts.index_counts.items) (sym (same_pages _ _ four)) index_trees) in
+          let four_index_trees = subst (λ (l : List IndexCounts). AllZip (IsCheckedIndexOf (pages_seen c.check_rest.new.pager.state) c.tables-tables.result.now) (map index_data c.indexes-indexes.result.now) l) (sym c.as_slice-counted.ensures.value)
+          (subst (λ (q : Pages). AllZip (IsCheckedIndexOf q c.tables-tables.result.now) (map index_data c.indexes-indexes.result.now) c.in_ok-index_counts.index_counts.items) (sym (same_pages _ _ four)) index_trees) in
           unbroken_image pages rows found c.in_ok-trees.trees.items first.0 first.1 catalog
-          (subst (λ (ts : List TableData). AllZip (IsCheckedTree pages) ts c.in_ok-trees.trees.items) c.tables-tables.ensures trees)
+          (subst (λ (ts : List TableData). AllZip (IsAnyChecked pages) ts c.in_ok-trees.trees.items) c.tables-tables.ensures trees)
           (no_misuse pages found rows catalog
           (subst (λ (h : Header). IsFreelist pages h.freelist h.free_pages) header
           (subst (λ (q : Pages). IsFreelist q c.check_indexes.new.pager.state.header.freelist c.check_indexes.new.pager.state.header.free_pages) (same_pages _ _ three)
@@ -291,7 +288,8 @@ returns-clause-outcome g c =
           (c.in_ok-check_rest.ensures.once (still_steady _ _ three steady))))))
           (sound_rows pages rows found catalog)
           (unbroken_indexes pages rows found catalog c.in_ok-index_counts.index_counts.items
-          (subst (λ (all : List IndexData). AllZip (IsCheckedIndexOf pages) all c.in_ok-index_counts.index_counts.items) c.indexes-indexes.ensures index_trees)
+          (subst (λ (ts : List TableData). AllZip (IsCheckedIndexOf pages ts) found.indexes c.in_ok-index_counts.index_counts.items) c.tables-tables.ensures
+          (subst (λ (all : List IndexData). AllZip (IsCheckedIndexOf pages c.tables-tables.result.now) all c.in_ok-index_counts.index_counts.items) c.indexes-indexes.ensures index_trees))
           (its_entries pages rows found catalog
           (λ table index among_tables among owner.
           subst (λ (q : Pages). AreItsEntries q table index) (same_pages _ _ four)
@@ -299,10 +297,4 @@ returns-clause-outcome g c =
           (subst (λ (ts : List TableData). Contains ts table) (sym c.tables-tables.ensures) among_tables)
           (subst (λ (all : List IndexData). Contains all index) (sym c.indexes-indexes.ensures) among) owner))))
           fault;
-      served = λ steady.
-          let first = c.in_ok-rows.ensures.checked steady in
-          let catalog = catalog_here pages _ rows _ first.0 found first.1
-          (c.in_ok-rows.ensures.rows steady) count c.as_slice.ensures.value c.in_ok-catalog.ensures.said in
-          all_served pages rows found catalog
-          (subst (λ (all : List TableData). All HasRowids all) c.tables-tables.ensures (c.have_rowids.ensures.0 c.if-not-have_rowids.false));
     }

@@ -19,7 +19,7 @@ loop-index-init g c = record {
   stays = search rules;
   failures = search rules;
   beside = λ steady checked indexes. beside_start _ _ _ _ _ _ (search rules) (search rules)
-      (all_viewed (IsCheckedIndexOf (pages_seen c.args.pager.now.state)) index_data c.args.indexes.now c.args.counted.now indexes);
+      (all_viewed (IsCheckedIndexOf (pages_seen c.args.pager.now.state) c.args.tables.now) index_data c.args.indexes.now c.args.counted.now indexes);
 }
 
 pub loop-index-preserved : goal.loop-index-preserved
@@ -40,8 +40,8 @@ loop-index-preserved g c =
           subst (λ (q : Pages). AreItsEntries q table (index_data c.in-Some.index.now)) (same_pages _ _ inv.stays)
           (c.in_ok-compare_with_table.ensures.entries (still_steady _ _ inv.stays steady)
           (subst (λ (q : Pages). All (IsCheckedTable q) c.args.tables.now) (sym (same_pages _ _ inv.stays)) checked)
-          (index_with (pages_seen c.args.pager.now.state) _ (index_data c.in-Some.index.now) c.in-Some.counts.now.tree _ (sym (same_pages _ _ inv.stays)) refl number
-          (beside_here _ _ _ _ _ _ _ _ _ beside steps.0 steps.1).tree)
+          (index_with (pages_seen c.args.pager.now.state) _ c.args.tables.now (index_data c.in-Some.index.now) c.in-Some.counts.now _ (sym (same_pages _ _ inv.stays)) refl number
+          (beside_here _ _ _ _ _ _ _ _ _ beside steps.0 steps.1))
           table among_tables owner));
     }
 
@@ -71,8 +71,8 @@ returns-in_err-compare_with_table-clause-fault g c = λ steady checked indexes.
     ))
     (c.in_err-compare_with_table.ensures.fault (still_steady _ _ inv.stays steady)
     (subst (λ (q : Pages). All (IsCheckedTable q) c.args.tables.now) (sym (same_pages _ _ inv.stays)) checked)
-    (index_with (pages_seen c.args.pager.now.state) _ one c.in-Some.counts.now.tree _ (sym (same_pages _ _ inv.stays)) refl number
-    (beside_here _ _ _ _ _ _ _ _ _ beside steps.0 steps.1).tree)))
+    (index_with (pages_seen c.args.pager.now.state) _ c.args.tables.now one c.in-Some.counts.now _ (sym (same_pages _ _ inv.stays)) refl number
+    (beside_here _ _ _ _ _ _ _ _ _ beside steps.0 steps.1))))
 
 pub returns-clause-entries : goal.returns-clause-entries
 returns-clause-entries g c = λ steady checked indexes table index among_tables among owner.

@@ -15,8 +15,8 @@ invariant-loop-index g l = record {
   stays : SameImage l.fn.pager.state l.pager.state;
   failures : l.pager.state.source.failures ≡ l.fn.pager.state.source.failures;
   beside : IsTrue l.fn.pager.state.source.steady → All (IsCheckedTable (pages_seen l.fn.pager.state)) l.fn.tables
-      → AllZip (IsCheckedIndexOf (pages_seen l.fn.pager.state)) (map index_data l.fn.indexes) l.fn.counted
-      → AreBeside (λ index. IsCheckedIndexOf (pages_seen l.fn.pager.state) (index_data index))
+      → AllZip (IsCheckedIndexOf (pages_seen l.fn.pager.state) l.fn.tables) (map index_data l.fn.indexes) l.fn.counted
+      → AreBeside (λ index. IsCheckedIndexOf (pages_seen l.fn.pager.state) l.fn.tables (index_data index))
       (λ index. (table : TableData) → Contains l.fn.tables table → IsSameName (index_data index).table table.name
       → AreItsEntries (pages_seen l.fn.pager.state) table (index_data index))
       l.fn.indexes l.index-iterator.a.rest.now l.index-iterator.b.rest.now;

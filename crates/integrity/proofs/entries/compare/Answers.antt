@@ -9,20 +9,30 @@ pub returns-in_err-is_index_of-clause-fault : goal.returns-in_err-is_index_of-cl
 returns-in_err-is_index_of-clause-fault g c = λ steady checked.
     let p = err_from_is_err_and c.from_residual-in_err-is_index_of.result c.from_residual-in_err-is_index_of.ensures.1 in
     rw (p.1, p.2) (inl (c.in_err-is_index_of.ensures.same steady checked.table_is
-    (its_columns (pages_seen c.args.pager.now.state) (index_data c.args.index.now) (record { root = c.root.result; places = c.as_slice.result; descends = c.as_slice-2.result; condition = c.condition.result }) c.args.entries c.root.ensures (c.as_slice.ensures.value ∙ c.in_ok-places.ensures) (c.as_slice-2.ensures.value ∙ c.in_ok-descends.ensures) checked.index_is)))
+    (its_columns (pages_seen c.args.pager.now.state) c.args.table.now (index_data c.args.index.now)
+    (record { root = c.root.result; places = c.as_slice.result; others = c.others.result; descends = c.as_slice-2.result; condition = c.condition.result })
+    c.root.ensures (c.as_slice.ensures.value ∙ c.in_ok-places.ensures) c.others.ensures c.args.entries (c.as_slice-2.ensures.value ∙ c.in_ok-descends.ensures) checked)))
 
 pub returns-then-not-branch-clause-fault : goal.returns-then-not-branch-clause-fault
 returns-then-not-branch-clause-fault g c = λ steady checked.
     let told = c.in_ok-is_index_of.ensures.same steady checked.table_is
-    (its_columns (pages_seen c.args.pager.now.state) (index_data c.args.index.now) (record { root = c.root.result; places = c.as_slice.result; descends = c.as_slice-2.result; condition = c.condition.result }) c.args.entries c.root.ensures (c.as_slice.ensures.value ∙ c.in_ok-places.ensures) (c.as_slice-2.ensures.value ∙ c.in_ok-descends.ensures) checked.index_is) in
+    (its_columns (pages_seen c.args.pager.now.state) c.args.table.now (index_data c.args.index.now)
+    (record { root = c.root.result; places = c.as_slice.result; others = c.others.result; descends = c.as_slice-2.result; condition = c.condition.result })
+    c.root.ensures (c.as_slice.ensures.value ∙ c.in_ok-places.ensures) c.others.ensures c.args.entries (c.as_slice-2.ensures.value ∙ c.in_ok-descends.ensures) checked) in
     inr (
       c.in_ok-from_str.ensures.ok ∙ c.name.ensures,
-      different_index (pages_seen c.args.pager.now.state) (index_data c.args.index.now) (record { root = c.root.result; places = c.as_slice.result; descends = c.as_slice-2.result; condition = c.condition.result }) c.args.table.now c.root.ensures (c.as_slice.ensures.value ∙ c.in_ok-places.ensures) c.condition.ensures
+      different_index (pages_seen c.args.pager.now.state) c.args.table.now (index_data c.args.index.now)
+          (record { root = c.root.result; places = c.as_slice.result; others = c.others.result; descends = c.as_slice-2.result; condition = c.condition.result })
+          c.root.ensures (c.as_slice.ensures.value ∙ c.in_ok-places.ensures) c.others.ensures c.condition.ensures
           (told.1 (λ h. let other = c.if-not-branch.true in cc)),
     )
 
 pub returns-clause-entries : goal.returns-clause-entries
 returns-clause-entries g c = λ steady checked.
-    let its = its_columns (pages_seen c.args.pager.now.state) (index_data c.args.index.now) (record { root = c.root.result; places = c.as_slice.result; descends = c.as_slice-2.result; condition = c.condition.result }) c.args.entries c.root.ensures (c.as_slice.ensures.value ∙ c.in_ok-places.ensures) (c.as_slice-2.ensures.value ∙ c.in_ok-descends.ensures) checked.index_is in
+    let its = its_columns (pages_seen c.args.pager.now.state) c.args.table.now (index_data c.args.index.now)
+    (record { root = c.root.result; places = c.as_slice.result; others = c.others.result; descends = c.as_slice-2.result; condition = c.condition.result })
+    c.root.ensures (c.as_slice.ensures.value ∙ c.in_ok-places.ensures) c.others.ensures c.args.entries (c.as_slice-2.ensures.value ∙ c.in_ok-descends.ensures) checked in
     let same = c.in_ok-is_index_of.ensures.same steady checked.table_is its in
-    its_index (pages_seen c.args.pager.now.state) (index_data c.args.index.now) (record { root = c.root.result; places = c.as_slice.result; descends = c.as_slice-2.result; condition = c.condition.result }) c.args.table.now c.root.ensures (c.as_slice.ensures.value ∙ c.in_ok-places.ensures) c.condition.ensures (same.0 c.if-not-branch.false)
+    its_index (pages_seen c.args.pager.now.state) c.args.table.now (index_data c.args.index.now)
+    (record { root = c.root.result; places = c.as_slice.result; others = c.others.result; descends = c.as_slice-2.result; condition = c.condition.result })
+    c.root.ensures (c.as_slice.ensures.value ∙ c.in_ok-places.ensures) c.others.ensures c.condition.ensures (same.0 c.if-not-branch.false)

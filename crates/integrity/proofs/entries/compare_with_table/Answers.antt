@@ -21,6 +21,8 @@ returns-in_err-compare-clause-fault g c = λ steady tables index.
     let inv = c.loop-table.invariant in
     let among : Contains c.args.tables.now c.table-item.result = search rules in
     let fault = c.in_err-compare.field-0.0 in
+    let owner = subst (λ (n : List ℕ). IsSameName (index_data c.args.index.now).table n) c.name.ensures
+    (subst (λ (n : List ℕ). IsSameName n c.name.result.now) c.table.ensures (c.is_same_name.ensures.0 c.if-is_same_name.true)) in
     let p = err_from_is_err_and c.from_residual.result c.from_residual.ensures.1 in
     rw (p.1, p.2)
     (⊎_elim inl
@@ -28,13 +30,12 @@ returns-in_err-compare-clause-fault g c = λ steady tables index.
     inr (
       c.table-item.result,
       among,
-      subst (λ (n : List ℕ). IsSameName (index_data c.args.index.now).table n) c.name.ensures
-          (subst (λ (n : List ℕ). IsSameName n c.name.result.now) c.table.ensures (c.is_same_name.ensures.0 c.if-is_same_name.true)),
+      owner,
       subst (λ (q : Pages). AreBrokenEntries q c.table-item.result (index_data c.args.index.now) fault) (same_pages _ _ inv.stays) broken,
     ))
     (c.in_err-compare.ensures.fault (still_steady _ _ inv.stays steady)
-    (checked_with (pages_seen c.args.pager.now.state) _ c.table-item.result (index_data c.args.index.now) c.args.entries (sym (same_pages _ _ inv.stays))
-    (all_in (IsCheckedTable (pages_seen c.args.pager.now.state)) c.args.tables.now c.table-item.result tables among) index)))
+    (checked_with (pages_seen c.args.pager.now.state) _ c.args.tables.now c.table-item.result (index_data c.args.index.now) c.args.entries (sym (same_pages _ _ inv.stays))
+    (all_in (IsCheckedTable (pages_seen c.args.pager.now.state)) c.args.tables.now c.table-item.result tables among) index among owner)))
 
 pub loop-table-preserved : goal.loop-table-preserved
 loop-table-preserved g c =
@@ -55,8 +56,8 @@ loop-table-preserved g c =
                 (subst its (sym same) (λ owner.
                 subst (λ (q : Pages). AreItsEntries q item (index_data c.args.index.now)) (same_pages _ _ inv.stays)
                 (w.in_ok-compare.ensures.entries (still_steady _ _ inv.stays steady)
-                (checked_with pages _ item (index_data c.args.index.now) c.args.entries (sym (same_pages _ _ inv.stays))
-                (all_in (IsCheckedTable pages) c.args.tables.now item tables among) index))));
+                (checked_with pages _ c.args.tables.now item (index_data c.args.index.now) c.args.entries (sym (same_pages _ _ inv.stays))
+                (all_in (IsCheckedTable pages) c.args.tables.now item tables among) index among owner))));
           }
       | else-is_same_name w ↦
           let now : c.if-is_same_name.pager.state ≡ c.loop-table.pager.state = λ i. (w.pager-is i).state in

@@ -12,7 +12,7 @@ invariant-loop-table g l = record {
   stays : SameImage l.fn.pager.state l.pager.state;
   failures : l.pager.state.source.failures ≡ l.fn.pager.state.source.failures;
   each : IsTrue l.fn.pager.state.source.steady → All (IsCheckedTable (pages_seen l.fn.pager.state)) l.fn.tables
-      → IsCheckedIndexWith (pages_seen l.fn.pager.state) (index_data l.fn.index) l.fn.entries
+      → IsCheckedIndexWith (pages_seen l.fn.pager.state) l.fn.tables (index_data l.fn.index) l.fn.entries
       → All (λ table. IsSameName (index_data l.fn.index).table table.name → AreItsEntries (pages_seen l.fn.pager.state) table (index_data l.fn.index))
       (take l.table-index l.tables);
 }

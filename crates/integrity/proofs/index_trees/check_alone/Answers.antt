@@ -21,20 +21,20 @@ returns-in_err-distinct-clause-fault g c = λ steady.
     let p = err_from_is_err_and c.from_residual-in_err-distinct.result c.from_residual-in_err-distinct.ensures.1 in
     rw (p.1, p.2)
     (⊎_elim inl
-    (λ (broken : IsBrokenIndexTree (pages_seen c.check_tree.new.pager.state) index c.in_err-distinct.field-0.0).
-    inr (inl (subst (λ (q : Pages). IsBrokenIndexTree q index c.in_err-distinct.field-0.0) same broken)))
-    (c.in_err-distinct.ensures.counts (still_steady _ _ stays steady) c.in_ok-tree.tree
+    (λ (broken : IsBrokenIndexTree (pages_seen c.check_tree.new.pager.state) c.args.table.now index c.in_err-distinct.field-0.0).
+    inr (inl (subst (λ (q : Pages). IsBrokenIndexTree q c.args.table.now index c.in_err-distinct.field-0.0) same broken)))
+    (c.in_err-distinct.ensures.counts (still_steady _ _ stays steady) c.args.table.now c.in_ok-tree.tree
     (subst (λ (q : Pages). IsNumber q index.root) (sym same) c.requires.number)
-    (subst (λ (q : Pages). IsCheckedIndexTree q index c.in_ok-tree.tree) (sym same) (c.in_ok-tree.ensures.checked steady))))
+    (subst (λ (q : Pages). IsCheckedIndexTree q c.args.table.now index c.in_ok-tree.tree) (sym same) (c.in_ok-tree.ensures.checked steady))))
 
 pub returns-clause-checked : goal.returns-clause-checked
 returns-clause-checked g c = λ steady.
     let stays = c.check_tree.ensures.reads.image in
     let same = same_pages _ _ stays in
     let index = index_data c.args.index.now in
-    let told = c.in_ok-distinct.ensures.counts (still_steady _ _ stays steady) c.in_ok-tree.tree
+    let told = c.in_ok-distinct.ensures.counts (still_steady _ _ stays steady) c.args.table.now c.in_ok-tree.tree
     (subst (λ (q : Pages). IsNumber q index.root) (sym same) c.requires.number)
-    (subst (λ (q : Pages). IsCheckedIndexTree q index c.in_ok-tree.tree) (sym same) (c.in_ok-tree.ensures.checked steady)) in
+    (subst (λ (q : Pages). IsCheckedIndexTree q c.args.table.now index c.in_ok-tree.tree) (sym same) (c.in_ok-tree.ensures.checked steady)) in
     record {
       tree = c.in_ok-tree.ensures.checked steady;
       distinct = subst (λ (q : Pages). HasDistinct q index c.in_ok-distinct.distinct.items) same told.0;

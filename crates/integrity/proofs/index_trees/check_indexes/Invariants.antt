@@ -13,7 +13,7 @@ invariant-loop-index g l = record {
   stays : SameImage l.fn.pager.state l.pager.state;
   failures : l.pager.state.source.failures ≡ l.fn.pager.state.source.failures;
   checked : IsTrue l.fn.pager.state.source.steady
-      → AllZip (IsCheckedIndexOf (pages_seen l.fn.pager.state)) (take l.index-index (map index_data l.indexes)) l.counted.items;
+      → AllZip (IsCheckedIndexOf (pages_seen l.fn.pager.state) l.fn.tables) (take l.index-index (map index_data l.indexes)) l.counted.items;
   marks : IsTrue l.fn.pager.state.source.steady
       → MarksTreesBefore (pages_seen l.fn.pager.state) (map index_tree_of (map index_data l.indexes)) l.index-index l.fn.used l.used;
 }

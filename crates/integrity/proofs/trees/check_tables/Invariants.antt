@@ -2,7 +2,7 @@ use Rattle.image.specs.Pages.{pages_seen}
 use Rattle.std.proofs.Common.{◌≡◌, IsTrue, map, take}
 use Rattle.std.specs.List.{AllZip}
 use Rattle.pager.specs.Calls.{SameImage}
-use Rattle.table_walk.specs.Checked.{IsCheckedTree, tree_of}
+use Rattle.integrity.specs.Tables.{IsAnyChecked, any_tree}
 use Rattle.integrity.proofs.TreesLemmas.{MarksTreesBefore}
 use Rattle.integrity.proofs.trees.check_tables.Given as goal
 
@@ -11,6 +11,6 @@ invariant-loop-table g l = record {
   stays : SameImage l.fn.pager.state l.pager.state;
   failures : l.pager.state.source.failures ≡ l.fn.pager.state.source.failures;
   checked : IsTrue l.fn.pager.state.source.steady
-      → AllZip (IsCheckedTree (pages_seen l.fn.pager.state)) (take l.table-index l.tables) l.trees.items;
-  marks : IsTrue l.fn.pager.state.source.steady → MarksTreesBefore (pages_seen l.fn.pager.state) (map tree_of l.tables) l.table-index l.fn.used l.used;
+      → AllZip (IsAnyChecked (pages_seen l.fn.pager.state)) (take l.table-index l.tables) l.trees.items;
+  marks : IsTrue l.fn.pager.state.source.steady → MarksTreesBefore (pages_seen l.fn.pager.state) (map any_tree l.tables) l.table-index l.fn.used l.used;
 }

@@ -18,7 +18,7 @@ returns-in_err-check_table-clause-fault g c = λ steady.
     (⊎_elim (λ read. inl (inl read))
     (λ cause. ⊎_elim
     (λ (broken : IsBrokenTable (pages_seen c.args.pager.now.state) c.args.schema.now c.in_err-check_table.field-0.0).
-    inl (inr (inl (inl (schema_table, schema, subst (λ (t : TableData). IsBrokenTable (pages_seen c.args.pager.now.state) t c.in_err-check_table.field-0.0) c.requires.is broken)))))
+    inl (inr (inl (schema_table, schema, subst (λ (t : TableData). IsBrokenTable (pages_seen c.args.pager.now.state) t c.in_err-check_table.field-0.0) c.requires.is broken))))
     (λ (twice : IsTreeTwice (pages_seen c.args.pager.now.state) (tree_of c.args.schema.now) c.args.used.now c.in_err-check_table.field-0.0).
     inr (subst (λ (t : TableData). IsTreeTwice (pages_seen c.args.pager.now.state) (tree_of t) c.args.used.now c.in_err-check_table.field-0.0) c.requires.is twice))
     cause)

@@ -1,9 +1,13 @@
-use Rattle.std.proofs.Common.{◌≡◌, rules, IsTrue, ap, sym, ◌∙◌, subst, inl, inr, ⊎_elim}
+use Rattle.std.proofs.Common.{◌≡◌, rules, All, IsTrue, List, ap, refl, sym, ◌∙◌, subst, inl, inr, ⊎_elim}
 use Rattle.std.proofs.lemmas.Result.{err_from_is_err_and}
 use Rattle.pager.specs.Header.{header_of}
+use Rattle.pager.specs.Source.{SourceFacts}
 use Rattle.image.specs.Pages.{Pages}
-use Rattle.integrity.specs.Checked.{IsBrokenImage, IsCheckCause}
+use Rattle.integrity.specs.Checked.{IsBrokenImage}
+use Rattle.integrity.specs.CheckedView.{checked_data}
 use Rattle.shell.proofs.RunLemmas.{opening_fault, pages_opened}
+use Rattle.shell.specs.State.{IsBeyond}
+use Rattle.tables.specs.TableData.{HasRowids, TableData}
 use Rattle.shell.proofs.engine.Engine.open.Goals as goal
 
 pub returns-in_err-pager-clause-outcome : goal.returns-in_err-pager-clause-outcome
@@ -13,7 +17,7 @@ returns-in_err-pager-clause-outcome g c =
 
 pub returns-in-Err-clause-outcome : goal.returns-in-Err-clause-outcome
 returns-in-Err-clause-outcome g c = record {
-  only = inr c.in-Err.ensures.outcome.only;
+  only = inr (inl c.in-Err.ensures.outcome.only);
   cause = λ steady.
       let opened = c.in_ok-pager.ensures.outcome.is in
       let now : IsTrue c.in_ok-pager.pager.state.source.steady = ap (λ s. s.source.steady) opened ∙ steady in
@@ -21,7 +25,7 @@ returns-in-Err-clause-outcome g c = record {
       ⊎_elim inl
       (λ found. inr (inr (
         c.in_ok-pager.ensures.outcome.kept steady,
-        subst (λ (q : Pages). IsCheckCause q c.in-Err.fault) (pages_opened _ _ _ _ opened header) found,
+        inl (subst (λ (q : Pages). IsBrokenImage q c.in-Err.fault) (pages_opened _ _ _ _ opened header) found),
       )))
       (c.in-Err.ensures.outcome.cause now);
 }
@@ -38,3 +42,43 @@ returns-in-Ok-clause-outcome g c = record {
       let header : c.in_ok-pager.pager.state.header ≡ header_of c.in_ok-pager.pager.state.source.bytes = search rules in
       c.in-Ok.ensures.outcome.unbroken now fault examined (subst (λ (q : Pages). IsBrokenImage q fault) (sym (pages_opened _ _ _ _ opened header)) broken);
 }
+
+pub invariant_of-result : goal.invariant_of-result
+invariant_of-result g c = record {
+  roots = search rules;
+  rowids = subst (λ (ts : List TableData). All HasRowids ts) c.tables.ensures (c.have_rowids.ensures.0 c.if-have_rowids.true);
+  header = search rules;
+  stored = search rules;
+}
+
+pub returns-in-Ok-2-clause-outcome : goal.returns-in-Ok-2-clause-outcome
+returns-in-Ok-2-clause-outcome g c = record {
+  only = inr (inr refl);
+  cause = λ steady.
+      let opened = c.in_ok-pager.ensures.outcome.is in
+      let now : IsTrue c.in_ok-pager.pager.state.source.steady = ap (λ s. s.source.steady) opened ∙ steady in
+      let header : c.in_ok-pager.pager.state.header ≡ header_of c.in_ok-pager.pager.state.source.bytes = search rules in
+      inr (inr (
+        c.in_ok-pager.ensures.outcome.kept steady,
+        inr (
+          refl,
+          subst IsBeyond (pages_opened _ _ _ _ opened header) (record {
+            tables = (checked_data c.in-Ok.checked).tables;
+            has = c.in-Ok.ensures.outcome.tables now;
+            some = λ all.
+                let have : IsTrue c.have_rowids.result = c.have_rowids.ensures.1 (subst (λ (ts : List TableData). All HasRowids ts) (sym c.tables.ensures) all) in
+                let none = c.if-have_rowids.false in
+                absurd cc;
+          }),
+        ),
+      ));
+}
+
+pub returns-in-Ok-2-clause-back : goal.returns-in-Ok-2-clause-back
+returns-in-Ok-2-clause-back g c =
+    let opened = c.in_ok-pager.ensures.outcome.is in
+    let failures = ap (λ (s : SourceFacts). s.failures) c.into_source.ensures.facts ∙ c.in-Ok.ensures.reads.failures ∙ ap (λ s. s.source.failures) opened in
+    record {
+      same = search rules;
+      failures = ((λ e. absurd cc), (λ differ. absurd (differ failures)));
+    }

@@ -1,10 +1,8 @@
-use Rattle.std.proofs.Common.{◌∙◌, List, rules, ap, subst, sym, inl, inr, ⊎_elim}
+use Rattle.std.proofs.Common.{◌∙◌, List, rules, ap, subst, sym, inl, inr}
 use Rattle.std.proofs.lemmas.Result.{err_from_is_err_and}
 use Rattle.tables.specs.ColumnTypes.{column_types}
 use Rattle.tables.specs.TableData.{TableData}
-use Rattle.meaning.specs.Query.{QueryData}
 use Rattle.meaning.specs.Typed.{IsTyped}
-use Rattle.query_plans.specs.Answers.{IsPlanFor}
 use Rattle.statement_names.specs.NamedView.{named_data}
 use Rattle.statement_trees.specs.StatementView.{statement_of}
 use Rattle.resolver.specs.Resolved.{IsRefused, Resolves}

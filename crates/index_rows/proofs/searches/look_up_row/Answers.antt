@@ -6,9 +6,10 @@ use Rattle.image.specs.Pages.{Pages, pages_seen}
 use Rattle.btree.specs.Views.{cell_data}
 use Rattle.btree.proofs.SeenLemmas.{same_pages, still_steady}
 use Rattle.cursor.specs.Search.{IsSearchableIndex}
+use Rattle.index_rows.specs.Entries.{indexed_by}
 use Rattle.index_rows.specs.Kept.{condition_of, keeps_row}
 use Rattle.index_rows.proofs.LookLemmas.{memory_alone, row_read, told_here}
-use Rattle.index_rows.proofs.entries.look_up.Goals as goal
+use Rattle.index_rows.proofs.searches.look_up_row.Goals as goal
 
 pub returns-in_err-bytes-clause-found : goal.returns-in_err-bytes-clause-found
 returns-in_err-bytes-clause-found g c = λ steady row values levels is index.
@@ -43,7 +44,7 @@ returns-then-branch-clause-found g c = λ steady row values levels is index.
     let same = row_read (pages_seen c.args.pager.now.state) c.args.table.now (cell_data c.args.cell.now) row is (cow_slice_items c.in_ok-bytes.bytes)
     c.as_slice.result.now (c.in_ok-bytes.ensures.bytes steady) c.as_slice.ensures.value c.in_ok-row.row c.in_ok-row.ensures.row in
     let there = subst (λ (p : Pages). IsSearchableIndex p c.args.index.now.descends.now values levels c.args.index.now.root) (sym (same_pages _ _ stays)) index in
-    let told = told_here (pages_seen c.args.pager.now.state) (pages_seen c.payload_of.new.pager.state) values levels c.args.index.now.root c.args.index.now.places.now c.args.cell.now.rowid
+    let told = told_here (pages_seen c.args.pager.now.state) (pages_seen c.payload_of.new.pager.state) values levels c.args.index.now.root (indexed_by c.args.index.now) c.args.cell.now.rowid
     c.in_ok-row.row row c.in_ok-has_wanted.field-0 (same_pages _ _ stays) same
     (c.in_ok-has_wanted.ensures.found (still_steady _ _ stays steady) values levels there) in (
       ap (λ (r : Row). keeps_row (condition_of c.args.index.now) r) (sym same) ∙ sym c.in_ok-is_kept.ensures ∙ c.if-not-branch.false,
@@ -56,7 +57,7 @@ returns-clause-found g c = λ steady row values levels is index.
     let same = row_read (pages_seen c.args.pager.now.state) c.args.table.now (cell_data c.args.cell.now) row is (cow_slice_items c.in_ok-bytes.bytes)
     c.as_slice.result.now (c.in_ok-bytes.ensures.bytes steady) c.as_slice.ensures.value c.in_ok-row.row c.in_ok-row.ensures.row in
     let there = subst (λ (p : Pages). IsSearchableIndex p c.args.index.now.descends.now values levels c.args.index.now.root) (sym (same_pages _ _ stays)) index in
-    let told = told_here (pages_seen c.args.pager.now.state) (pages_seen c.payload_of.new.pager.state) values levels c.args.index.now.root c.args.index.now.places.now c.args.cell.now.rowid
+    let told = told_here (pages_seen c.args.pager.now.state) (pages_seen c.payload_of.new.pager.state) values levels c.args.index.now.root (indexed_by c.args.index.now) c.args.cell.now.rowid
     c.in_ok-row.row row c.in_ok-has_wanted.field-0 (same_pages _ _ stays) same
     (c.in_ok-has_wanted.ensures.found (still_steady _ _ stays steady) values levels there) in (
       ap (λ (r : Row). keeps_row (condition_of c.args.index.now) r) (sym same) ∙ sym c.in_ok-is_kept.ensures ∙ c.if-not-branch.false,
