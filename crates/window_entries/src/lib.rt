@@ -4,4 +4,4 @@
 
 mod computed;
 
-pub use computed::entries;
+pub use computed::{entries, with_keys};

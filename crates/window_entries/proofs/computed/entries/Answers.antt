@@ -1,4 +1,5 @@
-use Rattle.std.proofs.Common.{◌∙◌, Global, Vec, map, ap, sym}
+use Rattle.std.proofs.Common.{◌≡◌, ◌∙◌, Global, Vec, length, map, ap, refl, sym, arith}
+use Rattle.std.specs.List.{range_with_len}
 use Rattle.std.proofs.lemmas.List.{take_all}
 use Rattle.values.specs.Datum.{datum_of}
 use Rattle.values.specs.declared.value.Value.{Value}
@@ -6,7 +7,7 @@ use Rattle.expr.specs.Meaning.{eval}
 use Rattle.expr.specs.View.{term}
 use Rattle.meaning.specs.Valuation.{term_values}
 use Rattle.window_order.specs.declared.sorting.Entry.{Entry}
-use Rattle.window_entries.proofs.ValueLemmas.{made_more, map-map}
+use Rattle.window_entries.proofs.ValueLemmas.{made_more, map-map, placed_more}
 use Rattle.window_entries.proofs.computed.entries.Goals as goal
 
 pub loop-index-preserved : goal.loop-index-preserved
@@ -17,6 +18,7 @@ loop-index-preserved c =
     let row = c.index-rows-index.result in
     rw c.in_ok-push.ensures.items
     (record {
+      places = placed_more (λ (e : Entry). e.index) c.loop-index.placed.items _ at c.loop-index.invariant.places refl;
       rows = made_more (λ (row : Vec Value Global). map datum_of row.items) (λ (e : Entry). map datum_of e.row.now) rows at row c.loop-index.placed.items _ c.loop-index-test.true
           (ap (map datum_of) c.as_slice-row.ensures.value ∙ ap (λ (r : Vec Value Global). map datum_of r.items) c.index-rows-index.is) c.loop-index.invariant.rows;
       keys = λ w. made_more (λ (row : Vec Value Global). term_values (eval w) terms (map datum_of row.items)) (λ (e : Entry). map datum_of e.keys.items) rows at row c.loop-index.placed.items _ c.loop-index-test.true
@@ -30,3 +32,8 @@ returns-clause-keys c = λ w.
     c.loop-index.invariant.keys w
     ∙ ap (map (λ (row : Vec Value Global). term_values (eval w) terms (map datum_of row.items))) (take_all c.loop-index.index c.args.rows.now c.loop-index-test.false)
     ∙ sym (map-map (term_values (eval w) terms) (λ (row : Vec Value Global). map datum_of row.items) c.args.rows.now)
+
+pub returns-clause-places : goal.returns-clause-places
+returns-clause-places c =
+    let all : c.loop-index.index ≡ length c.args.rows.now = omega arith in
+    c.loop-index.invariant.places ∙ ap (range_with_len 0) all
