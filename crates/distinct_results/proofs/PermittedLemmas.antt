@@ -1,5 +1,5 @@
 -- The answers of a SELECT DISTINCT are permitted.
-use Rattle.std.proofs.Common.{◌≡◌, ◌∙◌, true, if◌then◌else◌, List, [], ◌∷◌, map, refl, sym, ap, subst, IsPermutation}
+use Rattle.std.proofs.Common.{◌≡◌, ◌∙◌, ℤ, Bool, true, false, List, [], ◌∷◌, map, Option, refl, sym, ap, subst, IsPermutation}
 use Rattle.std.proofs.lemmas.List.Elements.{All-head, All-tail}
 use Rattle.std.proofs.lemmas.List.Sorted.{IsPermutation-map, IsPermutation-trans}
 use Rattle.values.specs.Database.{Database}
@@ -8,8 +8,8 @@ use Rattle.values.specs.Row.{Row}
 use Rattle.expr.specs.Meaning.{eval}
 use Rattle.expr.specs.Term.{Term}
 use Rattle.meaning.specs.Answer.{Ascends, Permits, limited, skipped, slice}
-use Rattle.meaning.specs.Body.{Output, body, body_rows, distinct, key_value, output, outputs, plain_outputs, select_outputs, rows_of as from_rows, values_over}
-use Rattle.meaning.specs.Query.{From, Key, KeyTerm, Select, select}
+use Rattle.meaning.specs.Body.{Output, body_rows, distinct, key_value, output, outputs, plain_outputs, values_over}
+use Rattle.meaning.specs.Query.{Body, From, Key, KeyTerm, QueryData, Select, compound, select}
 use Rattle.meaning.specs.Times.{once}
 use Rattle.meaning.specs.Valuation.{Valuation, term_values}
 use Rattle.meaning.proofs.ScanLemmas.{unordered_permitted}
@@ -19,6 +19,7 @@ use Rattle.results.specs.Coming.{result_rows}
 use Rattle.results.specs.Permitted.{SeesRows, computed_rows}
 use Rattle.results.proofs.PermittedLemmas.{results_are}
 use Rattle.distinct_results.specs.Firsts.{firsts}
+use Rattle.distinct_results.specs.Sorted.{IsShownInOrder}
 use Rattle.distinct_results.specs.Permitted.{AreResults, DistinctIsPermitted, IsResult, SortedIsPermitted}
 use Rattle.distinct_results.proofs.FirstLemmas.{firsts_are_once}
 
@@ -44,46 +45,64 @@ distinct_is_permitted w db query from s selection distinct unordered of =
 
 -- ---- in order
 
--- result columns are the same whatever values expressions have
-keys_alike : (a b : Valuation) (row : Row) (order : List Key) → AreResults order → map (key_value a row []) order ≡ map (key_value b row []) order
-keys_alike a b row [] all = refl
-keys_alike a b row (key ∷ order) all =
-    (λ i. alike key.by (All-head (λ (k : Key). IsResult k.by) key order all) i ∷ keys_alike a b row order (All-tail (λ (k : Key). IsResult k.by) key order all) i)
+-- result columns are the same whatever values expressions have, and on whatever row
+keys_alike : (a b : Valuation) (shown first second : Row) (order : List Key) → AreResults order
+    → map (key_value a shown first) order ≡ map (key_value b shown second) order
+keys_alike a b shown first second [] all = refl
+keys_alike a b shown first second (key ∷ order) all =
+    (λ i. alike key.by (All-head (λ (k : Key). IsResult k.by) key order all) i
+    ∷ keys_alike a b shown first second order (All-tail (λ (k : Key). IsResult k.by) key order all) i)
   where
-    alike : (by : KeyTerm) → IsResult by → key_value a row [] (record { by = by; direction = key.direction }) ≡ key_value b row [] (record { by = by; direction = key.direction })
+    alike : (by : KeyTerm) → IsResult by
+        → key_value a shown first (record { by = by; direction = key.direction }) ≡ key_value b shown second (record { by = by; direction = key.direction })
     alike (KeyTerm.result at) is = refl
     alike (KeyTerm.term t) is = absurd is
 
-outputs_alike : (a b : Valuation) (order : List Key) → AreResults order → (rows : List Row) → plain_outputs a order rows ≡ plain_outputs b order rows
-outputs_alike a b order all [] = refl
-outputs_alike a b order all (row ∷ rows) = λ i. record { row = row; keys = keys_alike a b row order all i } ∷ outputs_alike a b order all rows i
+-- so each row may stand for itself alone
+outputs_alike : (a b : Valuation) (order : List Key) → AreResults order → (shown : Row → Row) (rows : List Row)
+    → map (λ row. output a order (shown row) row) rows ≡ plain_outputs b order (map shown rows)
+outputs_alike a b order all shown [] = refl
+outputs_alike a b order all shown (row ∷ rows) =
+    λ i. record { row = shown row; keys = keys_alike a b (shown row) row [] order all i } ∷ outputs_alike a b order all shown rows i
 
-module _ (w : Datum) (db : Database) (order : List Key) (from : From) (s : Select) (once_each : s.distinct ≡ true) where
-  distinct_outputs : outputs w db order (select from s) ≡ plain_outputs (values_over w db from) order (body_rows w db (select from s))
-  distinct_outputs =
-      ap (λ b. if b then plain_outputs (values_over w db from) order (body_rows w db (select from s))
-      else select_outputs (values_over w db from) w order s (from_rows w db from)) once_each
+plain_alike : (a b : Valuation) (order : List Key) → AreResults order → (rows : List Row) → plain_outputs a order rows ≡ plain_outputs b order rows
+plain_alike a b order all [] = refl
+plain_alike a b order all (row ∷ rows) = λ i. record { row = row; keys = keys_alike a b row [] [] order all i } ∷ plain_alike a b order all rows i
+
+module _ (w : Datum) (db : Database) (order : List Key) (results : AreResults order) where
+  -- in the order of result columns the outputs of a body are its rows
+  pub outputs_are_plain : (body : Body) → outputs w db order body ≡ plain_outputs (eval w) order (body_rows w db body)
+  outputs_are_plain (compound body operator from s) =
+      plain_alike (values_over w db from) (eval w) order results (body_rows w db (compound body operator from s))
+  outputs_are_plain (select from s) = of_select s.distinct refl
+    where
+      of_select : (b : Bool) → s.distinct ≡ b → outputs w db order (select from s) ≡ plain_outputs (eval w) order (body_rows w db (select from s))
+      of_select true is = rw is (plain_alike (values_over w db from) (eval w) order results _)
+      of_select false is = rw is
+          (outputs_alike (values_over w db from) (eval w) order results (term_values (values_over w db from) s.columns) (computed_rows w db from s))
+
+-- rows of a query that are shown in the order of result columns are permitted
+pub in_order_is_permitted : (w : Datum) (db : Database) (query : QueryData) (order : List Key) (limit : Option ℤ) (offset : ℤ) (all rows : List Row)
+    → AreResults query.order → order ≡ query.order → limit ≡ query.limit → offset ≡ query.offset → IsPermutation (body_rows w db query.body) all
+    → IsShownInOrder w order limit offset all rows → Permits w db query rows
+in_order_is_permitted w db query order limit offset all rows results order_is limit_is offset_is same answer = record {
+  ordered = answer.ordered;
+  same =
+      subst (λ (bag : List Output). IsPermutation bag answer.ordered) (sym (outputs_are_plain w db query.order results query.body))
+      (IsPermutation-trans (plain_outputs (eval w) query.order (body_rows w db query.body)) (plain_outputs (eval w) query.order all) answer.ordered
+      (IsPermutation-map (λ shown. output (eval w) query.order shown []) (body_rows w db query.body) all same)
+      (subst (λ (order : List Key). IsPermutation (plain_outputs (eval w) order all) answer.ordered) order_is answer.same));
+  ascends = subst (λ (order : List Key). Ascends order answer.ordered) order_is answer.ascends;
+  shown =
+      answer.shown
+      ∙ ap (λ limit. map (λ o. o.row) (limited limit (skipped offset answer.ordered))) limit_is
+      ∙ ap (λ offset. map (λ o. o.row) (limited query.limit (skipped offset answer.ordered))) offset_is;
+}
 
 pub sorted_is_permitted : SortedIsPermitted
 sorted_is_permitted w db query from s selection rows distinct results of answer =
-    let value = values_over w db from in
     let first = firsts (result_rows w selection.columns (rows_of w db selection.plan)) in
-    let outs : body w db query ≡ plain_outputs value query.order (body_rows w db (select from s)) =
-    ap (outputs w db query.order) distinct.body ∙ distinct_outputs w db query.order from s distinct.distinct in
-    let made : plain_outputs value query.order first ≡ plain_outputs (eval w) selection.order first =
-    outputs_alike value (eval w) query.order results first ∙ ap (λ (order : List Key). plain_outputs (eval w) order first) (sym of.order) in
-    let mixed : IsPermutation (plain_outputs value query.order (body_rows w db (select from s))) (plain_outputs value query.order first) =
-    IsPermutation-map (λ shown. output value query.order shown []) (body_rows w db (select from s)) first
-    (body_firsts w db from s distinct.distinct selection.plan selection.columns of.sees) in
-    record {
-      ordered = answer.ordered;
-      same =
-          subst (λ (bag : List Output). IsPermutation bag answer.ordered) (sym outs)
-          (IsPermutation-trans (plain_outputs value query.order (body_rows w db (select from s))) (plain_outputs value query.order first) answer.ordered mixed
-          (subst (λ (bag : List Output). IsPermutation bag answer.ordered) (sym made) answer.same));
-      ascends = subst (λ (order : List Key). Ascends order answer.ordered) of.order answer.ascends;
-      shown =
-          answer.shown
-          ∙ ap (λ limit. map (λ o. o.row) (limited limit (skipped selection.offset answer.ordered))) of.limit
-          ∙ ap (λ offset. map (λ o. o.row) (limited query.limit (skipped offset answer.ordered))) of.offset;
-    }
+    in_order_is_permitted w db query selection.order selection.limit selection.offset first rows results of.order of.limit of.offset
+    (subst (λ (bag : List Row). IsPermutation bag first) (sym (ap (body_rows w db) distinct.body))
+    (body_firsts w db from s distinct.distinct selection.plan selection.columns of.sees))
+    answer

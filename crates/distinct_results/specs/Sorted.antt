@@ -1,5 +1,5 @@
 -- The answer of a SELECT DISTINCT in order. (SELECT, "The ORDER BY clause" and "The LIMIT clause")
-use Rattle.std.specs.Prelude.{◌≡◌, List, map, IsPermutation}
+use Rattle.std.specs.Prelude.{◌≡◌, ℤ, List, map, Option, IsPermutation}
 use Rattle.values.specs.Database.{Database}
 use Rattle.values.specs.Datum.{Datum}
 use Rattle.values.specs.Row.{Row}
@@ -38,9 +38,14 @@ sorted_distinct_data selection = record {
   offset = selection.offset;
 }
 
--- Some permutation of the result rows, each once, ascends, and these are the rows that LIMIT and OFFSET leave of it.
-pub record IsSortedDistinctAnswer (w : Datum) (db : Database) (selection : SortedData) (rows : List Row) : Type 0 where
+-- Some permutation of these rows ascends by result columns, and what is shown are the rows that LIMIT and OFFSET leave of it.
+pub record IsShownInOrder (w : Datum) (order : List Key) (limit : Option ℤ) (offset : ℤ) (all rows : List Row) : Type 0 where
   pub ordered : List Output
-  pub same : IsPermutation (plain_outputs (eval w) selection.order (firsts (result_rows w selection.columns (rows_of w db selection.plan)))) ordered
-  pub ascends : Ascends selection.order ordered
-  pub shown : rows ≡ map (λ o. o.row) (limited selection.limit (skipped selection.offset ordered))
+  pub same : IsPermutation (plain_outputs (eval w) order all) ordered
+  pub ascends : Ascends order ordered
+  pub shown : rows ≡ map (λ o. o.row) (limited limit (skipped offset ordered))
+
+-- of the result rows, each once
+abbrev pub IsSortedDistinctAnswer : Datum → Database → SortedData → List Row → Type 0
+IsSortedDistinctAnswer w db selection rows =
+    IsShownInOrder w selection.order selection.limit selection.offset (firsts (result_rows w selection.columns (rows_of w db selection.plan))) rows

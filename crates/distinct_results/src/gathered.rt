@@ -15,7 +15,7 @@ ghost use Rattle.results.specs.Slices.{sliced};
 ghost use Rattle.distinct_results.specs.Coming.{IsDistinctComing};
 ghost use Rattle.distinct_results.specs.Sorted.{IsSortedDistinctAnswer, sorted_distinct_data};
 
-use crate::order::{ResultKey, sort};
+use crate::order::{ResultKey, sort_rows};
 use crate::stream::DistinctResults;
 use expr::Expr;
 use pager::{Pager, Source};
@@ -63,8 +63,8 @@ fn gather<S: Source>(
     Ok(rows)
 }
 
-/// The rows that LIMIT and OFFSET leave.
-fn shown_rows(
+/// The rows that a slice leaves.
+pub fn shown_rows(
     alloc: Global,
     rows: Vec<Vec<Value>>,
     slice: Slice,
@@ -103,7 +103,7 @@ pub fn sorted_distinct_rows<S: Source>(
     let columns = selection.columns.as_slice();
     let distinct = DistinctResults::sliced(alloc, &selection.plan, columns, all)?;
     let mut rows = gather(alloc, pager, tables, distinct)?;
-    sort(selection.order.as_slice(), &mut rows)?;
+    sort_rows(selection.order.as_slice(), &mut rows)?;
     let slice = Slice::new(selection.limit, selection.offset);
     let shown = shown_rows(alloc, rows, slice)?;
     Ok(shown)

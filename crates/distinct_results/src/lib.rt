@@ -14,6 +14,6 @@ pub mod laws;
 mod order;
 mod stream;
 
-pub use gathered::{SortedDistinct, sorted_distinct_rows};
-pub use order::ResultKey;
+pub use gathered::{SortedDistinct, shown_rows, sorted_distinct_rows};
+pub use order::{ResultKey, sort_rows};
 pub use stream::DistinctResults;

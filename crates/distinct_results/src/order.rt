@@ -34,7 +34,7 @@ fn compare_rows(order: &[ResultKey], a: &[Value], b: &[Value]) -> Ordering
 }
 
 /// Puts rows in order; those that ORDER BY leaves equal stay as they were.
-pub(crate) fn sort(order: &[ResultKey], rows: &mut Vec<Vec<Value>>) -> Result<(), AllocError>
+pub fn sort_rows(order: &[ResultKey], rows: &mut Vec<Vec<Value>>) -> Result<(), AllocError>
     ensures same { IsPermutation rows.old.items rows.new.items }
     ensures sorted { OnOk result (IsSortedByKey (λ row. key_values order.now (map datum_of row.items)) (keys_cmp (directions order.now)) rows.new.items) }
 {

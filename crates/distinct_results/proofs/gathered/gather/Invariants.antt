@@ -3,6 +3,7 @@ use Rattle.values.specs.Datum.{datum_of}
 use Rattle.pager.specs.Calls.{SameImage}
 use Rattle.expr.specs.View.{term}
 use Rattle.operators.specs.Left.{plan_of, steps}
+use Rattle.distinct_results.specs.Coming.{IsDistinctComing}
 use Rattle.distinct_results.proofs.GatherLemmas.{Gathering}
 use Rattle.distinct_results.proofs.gathered.gather.Given as goal
 
@@ -12,7 +13,7 @@ invariant-rows g l = record {
   failures : l.pager.state.source.failures ≡ l.fn.pager.state.source.failures;
   plan : plan_of l.distinct.results.op ≡ plan_of l.fn.distinct.results.op;
   columns : map term l.distinct.results.columns.items ≡ map term l.fn.distinct.results.columns.items;
-  rows : Gathering l.fn.pager.state l.tables l.fn.distinct l.distinct (map (λ row. map datum_of row.items) l.rows.items) l.pager.state;
+  rows : Gathering IsDistinctComing l.fn.pager.state l.tables l.fn.distinct l.distinct (map (λ row. map datum_of row.items) l.rows.items) l.pager.state;
 }
 
 abbrev pub decreases-rows : goal.decreases-rows

@@ -24,16 +24,17 @@ pub returns-clause-rows : goal.returns-clause-rows
 returns-clause-rows g c = λ steady on has same.
     let pages = pages_seen c.args.pager.now.state in
     let selection = c.args.selection.now in
+    let wanted = sorted_distinct_data selection in
     let offset = selection.offset in
     let fits : SFits w64 offset = search rules in
     let gathered = c.in_ok-rows.ensures.rows steady on _ (work on.w on.db on.sizes on.plan) has (c.in_ok-distinct.ensures.rows pages c.args.tables.now on same) in (
-      is_answer (λ row. map datum_of row.items) on.w on.db (sorted_distinct_data selection) selection.order.items c.in_ok-rows.rows.items c.sort.new.rows.items c.new-slice.result _
+      is_answer (λ row. map datum_of row.items) on.w wanted.order wanted.limit wanted.offset _ selection.order.items c.in_ok-rows.rows.items c.sort_rows.new.rows.items c.new-slice.result _
           refl
           (gathered.0
           ∙ c.new-all.ensures (firsts (result_rows on.w (map term c.as_slice-columns.result.now) (rows_of on.w on.db on.plan)))
           ∙ ap (λ columns. firsts (result_rows on.w (map term columns) (rows_of on.w on.db on.plan))) c.as_slice-columns.ensures.value
           ∙ ap (λ (p : PlanData). firsts (result_rows on.w (map term selection.columns.items) (rows_of on.w on.db p))) same)
-          c.in_ok-sort.ensures.same (rw c.as_slice.ensures.value at c.in_ok-sort.ensures.sorted) c.in_ok-shown.ensures
+          c.in_ok-sort_rows.ensures.same (rw c.as_slice.ensures.value at c.in_ok-sort_rows.ensures.sorted) c.in_ok-shown.ensures
           (λ rows. c.new-slice.ensures rows ∙ ap (λ (n : ℤ). limited selection.limit (skipped n rows)) (to_z-of_z w64 offset fits)),
       gathered.1,
     )

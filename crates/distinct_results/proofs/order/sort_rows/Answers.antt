@@ -6,7 +6,7 @@ use Rattle.values.specs.Datum.{datum_of}
 use Rattle.meaning.specs.Sequence.{keys_cmp}
 use Rattle.meaning.proofs.KeyLemmas.{keys_cmp_total}
 use Rattle.distinct_results.specs.Sorted.{directions, key_values}
-use Rattle.distinct_results.proofs.order.sort.Goals as goal
+use Rattle.distinct_results.proofs.order.sort_rows.Goals as goal
 
 pub returns-clause-sorted : goal.returns-clause-sorted
 returns-clause-sorted c =

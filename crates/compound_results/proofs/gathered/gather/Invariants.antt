@@ -1,0 +1,20 @@
+use Rattle.std.proofs.Common.{◌≡◌, map}
+use Rattle.values.specs.Datum.{datum_of}
+use Rattle.pager.specs.Calls.{SameImage}
+use Rattle.expr.specs.View.{term}
+use Rattle.operators.specs.Left.{plan_of, steps}
+use Rattle.results.specs.Coming.{IsComing}
+use Rattle.distinct_results.proofs.GatherLemmas.{Gathering}
+use Rattle.compound_results.proofs.gathered.gather.Given as goal
+
+abbrev pub invariant-rows : goal.invariant-rows
+invariant-rows g l = record {
+  image : SameImage l.fn.pager.state l.pager.state;
+  failures : l.pager.state.source.failures ≡ l.fn.pager.state.source.failures;
+  plan : plan_of l.results.op ≡ plan_of l.fn.results.op;
+  columns : map term l.results.columns.items ≡ map term l.fn.results.columns.items;
+  rows : Gathering IsComing l.fn.pager.state l.tables l.fn.results l.results (map (λ row. map datum_of row.items) l.rows.items) l.pager.state;
+}
+
+abbrev pub decreases-rows : goal.decreases-rows
+decreases-rows g l = steps l.results.op

@@ -1,0 +1,5 @@
+pub mod Joined
+pub mod Examples
+pub mod Arms
+pub mod Compounds
+pub mod Permitted

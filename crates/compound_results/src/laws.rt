@@ -1,0 +1,24 @@
+//! What holds of the definitions alone, and examples of them.
+ghost use Rattle.compound_results.specs.Examples.{JoinedExamples};
+ghost use Rattle.compound_results.specs.Joined.{JoinedIsCombined};
+ghost use Rattle.compound_results.specs.Permitted.{CompoundHitsAreHits, CompoundIsPermitted};
+
+/// Two lists of rows, and what each operator makes of them.
+pub fn joined_examples()
+    ensures { JoinedExamples }
+{}
+
+/// As a bag, joined rows are what the operator makes of the bags on its sides.
+pub fn joined_is_combined()
+    ensures { JoinedIsCombined }
+{}
+
+/// The answers of SELECTs that are joined are lists that the query permits.
+pub fn compound_is_permitted()
+    ensures { CompoundIsPermitted }
+{}
+
+/// What the SELECTs reach the query can reach.
+pub fn compound_hits_are_hits()
+    ensures { CompoundHitsAreHits }
+{}
