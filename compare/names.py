@@ -9,19 +9,16 @@ Run from any folder. The last line is 'N passed, M failed'. `--seed S --only N` 
 
 from __future__ import annotations
 
-import argparse
-import os
 import sqlite3
 import sys
-import tempfile
 from collections import Counter
 from dataclasses import dataclass, field
 from pathlib import Path
 from random import Random
 
 from expressions import KINDS, Columns, Maker
-from program import Tally, build, run
-from recipes import make_file
+from program import Tally, run
+from tried import random_file, read_words, try_statements
 
 # How many statements are tried, and how many where few are asked for.
 STATEMENTS, FEW = 2000, 300
@@ -321,10 +318,7 @@ def problem(connection: sqlite3.Connection, path: Path, writer: Writer, text: st
 
 def try_file(tally: Tally, path: Path, seed: int, numbers: range, is_shown: bool) -> None:
     """Makes a file, and asks it these statements of this seed."""
-    rng = Random(f"{seed} {numbers.start // 50}")
-    tables: dict[str, dict[str, str]] = {}
-    make_file(path, lambda connection, rng: tables.update({name: random_table(connection, name, rng) for name in ("t", "u", "v")}), 512, rng)
-    connection = sqlite3.connect(path)
+    connection, tables = random_file(path, seed, numbers, random_table)
     for number in numbers:
         writer, text = random_writer(Random(f"{seed} {number}"), tables)
         if is_shown:
@@ -333,26 +327,5 @@ def try_file(tally: Tally, path: Path, seed: int, numbers: range, is_shown: bool
     connection.close()
 
 
-def read_words() -> argparse.Namespace:
-    """The command line."""
-    parser = argparse.ArgumentParser(description="Compares which random statements are taken with what SQLite takes.")
-    parser.add_argument("--seed", type=int, default=1, help="what all random choices follow from (1)")
-    parser.add_argument("--count", type=int, default=FEW if os.environ.get("SMALL") else STATEMENTS, help="how many statements")
-    parser.add_argument("--only", type=int, help="this one statement alone")
-    return parser.parse_args()
-
-
-def main() -> int:
-    """Builds the program, and tries the statements."""
-    words, tally = read_words(), Tally()
-    build()
-    with tempfile.TemporaryDirectory() as made:
-        numbers = range(words.count) if words.only is None else range(words.only, words.only + 1)
-        for first in range(numbers.start - numbers.start % 50, numbers.stop, 50):
-            chosen = range(max(first, numbers.start), min(first + 50, numbers.stop))
-            try_file(tally, Path(made, "names.db"), words.seed, chosen, words.only is not None)
-    return tally.finish()
-
-
 if __name__ == "__main__":
-    sys.exit(main())
+    sys.exit(try_statements(read_words("Compares which random statements are taken with what SQLite takes.", STATEMENTS, FEW), try_file))

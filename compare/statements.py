@@ -1,33 +1,31 @@
 #!/usr/bin/env python3
 """Compares what the program answers to random statements over random tables with what SQLite answers: expressions, WHERE,
-DISTINCT, ORDER BY, LIMIT and OFFSET over one table, over tables that are joined by inner joins, or over none. An operation that
-leaves 64 bits is `fault 50: Overflow`, where SQLite goes on with a floating-point number or stops; such statements are asked for
-that fault, or for any answer where it isn't reached.
+GROUP BY, HAVING, aggregates with FILTER, DISTINCT, ORDER BY, LIMIT and OFFSET over one table, over tables that are joined by inner
+and LEFT joins, or over none. An operation or a total that leaves 64 bits is `fault 50: Overflow`, where SQLite goes on with a
+floating-point number or stops; such statements are asked for that fault, or for any answer where it isn't reached.
 
 Run from any folder. The last line is 'N passed, M failed'. `--seed S --only N` makes one statement anew and prints it.
 """
 
 from __future__ import annotations
 
-import argparse
-import os
 import sqlite3
 import sys
-import tempfile
 from collections import Counter
 from dataclasses import dataclass
 from pathlib import Path
 from random import Random
 
 from expressions import KINDS, Columns, Maker
-from program import Run, Tally, build, fault_line, rows_of, run
-from recipes import fill, make_file, random_value
+from program import Run, Tally, fault_line, rows_of, run
+from recipes import fill, random_value
+from tried import random_file, read_words, try_statements
 
 OVERFLOW = fault_line(50)
 # How many statements are tried, and how many where few are asked for.
 STATEMENTS, FEW = 3000, 300
-# How many statements are asked of one file.
-FOR_A_FILE = 50
+# What joins a table with ON or USING.
+JOINS = ("JOIN", "INNER JOIN", "inner  join", "LEFT JOIN", "LEFT OUTER JOIN", "left  join")
 
 
 def literal(value: int | str | bytes | float | None) -> bytes:
@@ -46,11 +44,10 @@ def line(values: tuple) -> bytes:
 
 @dataclass(frozen=True)
 class Statement:
-    """A SELECT without LIMIT, its sources side by side, what may leave 64 bits in it, and its LIMIT. `is_ordered` tells that ORDER
-    BY leaves no choice."""
+    """A SELECT without LIMIT; what may leave 64 bits in it, each as it stands over its sources side by side or over its groups; and
+    its LIMIT. `is_ordered` tells that ORDER BY leaves no choice."""
 
     text: str
-    source: str
     risky: tuple[str, ...]
     is_ordered: bool
     limit: int | None
@@ -93,7 +90,7 @@ def small_value(rng: Random, kind: str) -> int | str | bytes | None:
 
 @dataclass
 class Source:
-    """FROM as it is written, and with each pair of rows side by side; what makes expressions over its columns; how many columns
+    """FROM as it is written, and with each choice of rows side by side; what makes expressions over its columns; how many columns
     `*` has, and `.*` behind each name."""
 
     text: str
@@ -121,26 +118,31 @@ def joined_source(rng: Random, tables: dict[str, dict[str, str]]) -> Source:
     """Two or three tables behind FROM, some of them the same, whose columns are written with their names before them."""
     chosen = [rng.choice(list(tables)) for _ in range(rng.choice((2, 2, 2, 3)))]
     names = [f"{table}{place}" for place, table in enumerate(chosen)]
-    maker, text, width = Maker(rng, Columns({})), "", 0
+    maker, text, width, pairs = Maker(rng, Columns({})), "", 0, []
     for place, (table, called) in enumerate(zip(chosen, names)):
         kinds = tables[table]
         maker.columns.names.update({f"{called}.{column}": kind for column, kind in kinds.items()})
         same = [column for column, kind in kinds.items() if tables[chosen[0]].get(column) == kind]
         width += len(kinds)
-        joined = f"{table} {rng.choice(('AS ', ''))}{called}"
+        joined, word = f"{table} {rng.choice(('AS ', ''))}{called}", rng.choice(JOINS)
         if place == 0:
             text = f" FROM {joined}"
         elif place == 1 and same and rng.random() < 0.25:
             using = rng.sample(same, rng.randint(1, min(2, len(same))))
-            text += f" {rng.choice(('JOIN', 'INNER JOIN', 'join'))} {joined} USING ({', '.join(using)})"
+            text += f" {word} {joined} USING ({', '.join(using)})"
             width -= len(using)
         elif rng.random() < 0.6:
-            text += f" {rng.choice(('JOIN', 'INNER JOIN', 'inner  join'))} {joined} ON {random_condition(rng, maker, called, kinds)}"
+            text += f" {word} {joined} ON {random_condition(rng, maker, called, kinds)}"
         else:
             text += f"{rng.choice((',', ' CROSS JOIN', ' JOIN'))} {joined}"
-    pairs = ", ".join(f"{table} AS {called}" for table, called in zip(chosen, names))
+        pairs.append(choices(table, called, kinds))
     widths = {called: len(tables[table]) for table, called in zip(chosen, names)}
-    return Source(text, f" FROM {pairs}", maker, width, widths)
+    return Source(text, f" FROM {', '.join(pairs)}", maker, width, widths)
+
+
+def choices(table: str, called: str, kinds: dict[str, str]) -> str:
+    """The rows of a table, and NULLs as they stand where none of them does."""
+    return f"(SELECT * FROM {table} UNION ALL SELECT {', '.join(['NULL'] * len(kinds))}) AS {called}"
 
 
 def random_condition(rng: Random, maker: Maker, called: str, kinds: dict[str, str]) -> str:
@@ -164,14 +166,18 @@ def random_keys(rng: Random, maker: Maker, width: int, is_final: bool, is_distin
     return " ORDER BY " + ", ".join(key + rng.choice(endings) for key in keys)
 
 
-def random_statement(rng: Random, tables: dict[str, dict[str, str]]) -> Statement:
-    """A statement over one of these tables, over several that are joined, or over none."""
-    form, table = rng.random(), rng.choice(list(tables))
-    if form < 0.1:
-        source = no_source(rng)
-    else:
-        source = joined_source(rng, tables) if form < 0.4 else one_source(rng, table, tables[table])
-    maker = source.maker
+@dataclass
+class Shown:
+    """The result columns of a SELECT, what stands behind its WHERE, and what makes expressions over its rows, or its groups."""
+
+    items: list[str]
+    width: int
+    behind: str
+    maker: Maker
+
+
+def plain_columns(rng: Random, source: Source) -> Shown:
+    """Result columns over the rows of FROM."""
     items, width = [], 0
     for _ in range(rng.randint(1, 4)):
         if source.text and rng.random() < 0.15:
@@ -180,31 +186,77 @@ def random_statement(rng: Random, tables: dict[str, dict[str, str]]) -> Statemen
             width += source.widths[called] if called else source.width
             continue
         alias = rng.choice(("", "", f" AS x{width}", f" x{width}"))
-        items.append(maker.make(rng.choice(KINDS), rng.randint(0, 3)) + alias)
+        items.append(source.maker.make(rng.choice(KINDS), rng.randint(0, 3)) + alias)
         width += 1
+    return Shown(items, width, "", source.maker)
+
+
+def random_group_key(rng: Random, maker: Maker) -> tuple[str, str] | None:
+    """A column or another expression over columns, and its type. It has no AND, for the reason that `random_keys` tells."""
+    if not maker.columns.names or rng.random() < 0.6:
+        return rng.choice(list(maker.columns.names.items())) if maker.columns.names else None
+    kind = rng.choice(KINDS)
+    key = maker.make(kind, 2)
+    return (key, kind) if key.startswith("(") and "AND" not in key and any(name in key for name in maker.columns.names) else None
+
+
+def random_aggregate(rng: Random, maker: Maker) -> tuple[str, str]:
+    """An aggregate, and its type."""
+    function, kind = rng.choice(("count", "sum", "sum", "min", "max", "MAX")), rng.choice(KINDS)
+    kind = "INT" if function == "sum" else kind
+    argument = "*" if function == "count" and rng.random() < 0.5 else maker.make(kind, rng.randint(0, 2))
+    ending = f" FILTER (WHERE {maker.make('INT', rng.randint(1, 2))})" if rng.random() < 0.25 else ""
+    return f"{function}({argument}){ending}", "INT" if function == "count" else kind
+
+
+def group_columns(rng: Random, source: Source) -> Shown:
+    """Result columns over groups, whose keys and aggregates stand for columns; without keys the first of them is an aggregate."""
+    keys = dict(filter(None, (random_group_key(rng, source.maker) for _ in range(rng.choice((0, 1, 1, 2))))))
+    aggregates = dict(random_aggregate(rng, source.maker) for _ in range(rng.randint(1, 3)))
+    maker = Maker(rng, Columns({**keys, **aggregates}))
+    maker.risky += [aggregate for aggregate in aggregates if aggregate.startswith("sum")]
+    items = [rng.choice(list(keys or aggregates))]
+    items += [maker.make(rng.choice(KINDS), rng.randint(0, 2)) for _ in range(rng.randint(0, 3))]
+    behind = f" GROUP BY {', '.join(keys)}" if keys else ""
+    items = [item + rng.choice(("", "", f" AS x{place}")) for place, item in enumerate(items)]
+    return Shown(items, len(items), behind, maker)
+
+
+def random_statement(rng: Random, tables: dict[str, dict[str, str]]) -> Statement:
+    """A statement over one of these tables, over several that are joined, or over none."""
+    form, table = rng.random(), rng.choice(list(tables))
+    if form < 0.1:
+        source = no_source(rng)
+    else:
+        source = joined_source(rng, tables) if form < 0.4 else one_source(rng, table, tables[table])
+    is_grouped = rng.random() < 0.4
+    shown = group_columns(rng, source) if is_grouped else plain_columns(rng, source)
     is_distinct = rng.random() < 0.3
-    text = f"SELECT {'DISTINCT ' if is_distinct else rng.choice(('', '', 'ALL '))}{', '.join(items)}{source.text}"
-    if rng.random() < 0.6:
-        text += f" WHERE {maker.make('INT', rng.randint(1, 3))}"
+    text = f"SELECT {'DISTINCT ' if is_distinct else rng.choice(('', '', 'ALL '))}{', '.join(shown.items)}"
+    rows = source.text + (f" WHERE {source.maker.make('INT', rng.randint(1, 3))}" if rng.random() < 0.6 else "") + shown.behind
+    text += rows
+    if shown.behind and rng.random() < 0.4:
+        text += f" HAVING {shown.maker.make('INT', rng.randint(1, 2))}"
     is_ordered = rng.random() < 0.5
     if is_ordered:
-        text += random_keys(rng, maker, width, is_final=True, is_distinct=is_distinct)
+        text += random_keys(rng, shown.maker, shown.width, is_final=True, is_distinct=is_distinct)
     limit = rng.randint(-2, 15) if rng.random() < 0.4 else None
     offset = rng.randint(-2, 6) if rng.random() < 0.5 else 0
-    return Statement(text, source.pairs, tuple(maker.risky), is_ordered, limit, offset)
+    risky = [f"{operation} AS x{source.pairs}" for operation in source.maker.risky]
+    risky += [f"{operation} AS x{rows}" for operation in shown.maker.risky] if is_grouped else []
+    return Statement(text, tuple(risky), is_ordered, limit, offset)
 
 
 def leaves_64_bits(connection: sqlite3.Connection, statement: Statement) -> bool:
     """Whether an operation of the statement is a floating-point number on some row, or stops SQLite."""
     for risky in statement.risky:
-        for text in (f"SELECT count(*) FROM (SELECT {risky} AS x{statement.source}) WHERE typeof(x) = 'real'",):
-            try:
-                if connection.execute(text).fetchone()[0]:
-                    return True
-            except sqlite3.OperationalError as error:
-                if "overflow" not in str(error):
-                    raise
+        try:
+            if connection.execute(f"SELECT count(*) FROM (SELECT {risky}) WHERE typeof(x) = 'real'").fetchone()[0]:
                 return True
+        except sqlite3.OperationalError as error:
+            if "overflow" not in str(error):
+                raise
+            return True
     return False
 
 
@@ -232,10 +284,7 @@ def answer_problem(connection: sqlite3.Connection, statement: Statement, answer:
 
 def try_file(tally: Tally, path: Path, seed: int, numbers: range, is_shown: bool) -> None:
     """Makes a file, and asks it these statements of this seed."""
-    rng = Random(f"{seed} {numbers.start // FOR_A_FILE}")
-    tables: dict[str, dict[str, str]] = {}
-    make_file(path, lambda connection, rng: tables.update({name: random_table(connection, name, rng) for name in ("t", "u", "v")}), 512, rng)
-    connection = sqlite3.connect(path)
+    connection, tables = random_file(path, seed, numbers, random_table)
     for number in numbers:
         statement = random_statement(Random(f"{seed} {number}"), tables)
         if is_shown:
@@ -246,28 +295,5 @@ def try_file(tally: Tally, path: Path, seed: int, numbers: range, is_shown: bool
     connection.close()
 
 
-def read_words() -> argparse.Namespace:
-    """The command line."""
-    parser = argparse.ArgumentParser(description="Compares random statements with SQLite.")
-    parser.add_argument("--seed", type=int, default=1, help="what all random choices follow from (1)")
-    parser.add_argument("--count", type=int, default=FEW if os.environ.get("SMALL") else STATEMENTS, help="how many statements")
-    parser.add_argument("--only", type=int, help="this one statement alone")
-    parser.add_argument("--keep", type=Path, help="leave the last file in this folder")
-    return parser.parse_args()
-
-
-def main() -> int:
-    """Builds the program, and tries the statements."""
-    words, tally = read_words(), Tally()
-    build()
-    with tempfile.TemporaryDirectory() as made:
-        path = Path(words.keep or made, "statements.db")
-        numbers = range(words.count) if words.only is None else range(words.only, words.only + 1)
-        for first in range(numbers.start - numbers.start % FOR_A_FILE, numbers.stop, FOR_A_FILE):
-            chosen = range(max(first, numbers.start), min(first + FOR_A_FILE, numbers.stop))
-            try_file(tally, path, words.seed, chosen, words.only is not None)
-    return tally.finish()
-
-
 if __name__ == "__main__":
-    sys.exit(main())
+    sys.exit(try_statements(read_words("Compares random statements with SQLite.", STATEMENTS, FEW), try_file))

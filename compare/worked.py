@@ -90,6 +90,19 @@ ANSWERS = {
     "SELECT x.id, y.n, z.n FROM item x, sale y, sale z WHERE y.item = x.id AND z.item = y.item AND z.n > y.n": "3,2,9\n",
     "SELECT DISTINCT name FROM item JOIN sale ON n > 4 AND id < 3 ORDER BY 1 DESC LIMIT 1": "'nut'\n",
     "SELECT 1 FROM sale, sale AS s LIMIT 2 OFFSET 15": "1\n",
+    # LEFT joins: a row on which ON is true of none behind it stands beside NULLs; WHERE is tested of that too.
+    "SELECT id, n FROM item LEFT JOIN sale ON item = id": "1,5\n2,NULL\n3,2\n3,9\n4,NULL\n",
+    "SELECT id, n FROM item LEFT OUTER JOIN sale ON item = id AND n > 2": "1,5\n2,NULL\n3,9\n4,NULL\n",
+    "SELECT a.id, b.id FROM item a LEFT JOIN item b ON a.qty = b.qty AND a.id <> b.id": "1,NULL\n2,NULL\n3,4\n4,3\n",
+    "SELECT id, n FROM item LEFT JOIN sale ON 0 LIMIT 2": "1,NULL\n2,NULL\n",
+    "SELECT id, item FROM item LEFT JOIN gift ON 1 WHERE id < 3": "1,NULL\n2,NULL\n",
+    "SELECT 1 FROM gift LEFT JOIN item ON 1": "",
+    "SELECT id FROM item LEFT JOIN sale ON item = id WHERE n IS NULL": "2\n4\n",
+    "SELECT id, n FROM item LEFT JOIN sale ON item = id WHERE n > 2": "1,5\n3,9\n",
+    "SELECT id, n, s.item, g.item FROM item LEFT JOIN sale s ON s.item = id LEFT JOIN gift g ON g.item = n": "1,5,1,NULL\n2,NULL,NULL,NULL\n3,2,3,NULL\n3,9,3,NULL\n4,NULL,NULL,NULL\n",
+    "SELECT a.id, n, b.id FROM item a LEFT JOIN sale ON item = a.id JOIN item b ON b.qty = a.qty AND n IS NULL": "4,NULL,3\n4,NULL,4\n",
+    "SELECT item, g.item FROM sale LEFT JOIN gift g USING (item) WHERE n < 5": "3,NULL\n9,NULL\n",
+    "SELECT DISTINCT n IS NULL, name FROM item LEFT JOIN sale ON id = item ORDER BY 1 DESC, 2 DESC": "1,'nut'\n0,'cap'\n0,'bolt'\n",
     # DISTINCT: each row once, where it first stands; NULLs are equal.
     "SELECT DISTINCT name FROM item": "'bolt'\n'nut'\n'cap'\n",
     "SELECT DISTINCT qty FROM item": "40\nNULL\n7\n",
@@ -104,6 +117,50 @@ ANSWERS = {
     "SELECT DISTINCT qty FROM item ORDER BY 1": "NULL\n7\n40\n",
     "SELECT DISTINCT qty FROM item ORDER BY qty DESC NULLS FIRST LIMIT 2": "NULL\n40\n",
     "SELECT DISTINCT name, qty FROM item ORDER BY 2 NULLS LAST, name DESC LIMIT 2 OFFSET 1": "'cap',7\n'bolt',40\n",
+    # Aggregates: NULLs are passed over, but for `count(*)`; without GROUP BY there is one row, also of no rows.
+    "SELECT count(*) FROM item": "4\n",
+    "SELECT count(*), count(qty), count(NULL) FROM item": "4,3,0\n",
+    "SELECT sum(qty), min(qty), max(qty), sum(qty) - count(*) FROM item": "54,7,40,50\n",
+    "SELECT min(name), max(name), min(name || '!'), max(NULL) FROM item": "'bolt','nut','bolt!',NULL\n",
+    "SELECT min(CASE id WHEN 2 THEN x'ff' WHEN 3 THEN x'' WHEN 4 THEN x'00ff' END) FROM item": "X''\n",
+    "SELECT max(CASE id WHEN 2 THEN x'ff' WHEN 3 THEN x'' WHEN 4 THEN x'00ff' END) FROM item": "X'FF'\n",
+    "SELECT max(CASE id WHEN 1 THEN 'a' WHEN 2 THEN 'Z' WHEN 3 THEN '\u00e4' WHEN 4 THEN '' END) FROM item": "'\u00e4'\n",
+    "SELECT count(*), count(item), sum(item), min(item), max(item) FROM gift": "0,0,NULL,NULL,NULL\n",
+    "SELECT count(*), sum(id) FROM item WHERE id > 4": "0,NULL\n",
+    "SELECT sum(qty) FROM item WHERE qty IS NULL": "NULL\n",
+    "SELECT count(*), sum(3), max('a')": "1,3,'a'\n",
+    "SELECT count(*), min(3) WHERE 0": "0,NULL\n",
+    "SELECT count(*) FROM item, sale": "16\n",
+    "SELECT count(*) FROM item LIMIT 0": "",
+    "SELECT count(*) FROM item LIMIT 2 OFFSET 1": "",
+    "SELECT count(*) FILTER (WHERE qty > 7), count(*) FILTER (WHERE qty IS NULL), sum(id) FILTER (WHERE id > 9) FROM item": "1,1,NULL\n",
+    "SELECT max(id) FILTER (WHERE name = 'nut'), min(name) FILTER (WHERE NULL) FROM item": "4,NULL\n",
+    # A total is exact, in whichever order its values come.
+    "SELECT sum(CASE id WHEN 1 THEN 9223372036854775807 WHEN 2 THEN 1 ELSE -1 END) FROM item WHERE id < 4": "9223372036854775807\n",
+    "SELECT sum(CASE id WHEN 1 THEN 1 WHEN 2 THEN 9223372036854775807 ELSE -1 END) FROM item WHERE id < 4": "9223372036854775807\n",
+    "SELECT sum(CASE id WHEN 1 THEN -1 WHEN 2 THEN 1 ELSE 9223372036854775807 END) FROM item WHERE id < 4": "9223372036854775807\n",
+    "SELECT sum(CASE id WHEN 1 THEN -9223372036854775807 ELSE -1 END) FROM item WHERE id < 3": "-9223372036854775808\n",
+    "SELECT sum(CASE id WHEN 2 THEN -9223372036854775807 - 1 ELSE 1 END) FROM item": "-9223372036854775805\n",
+    # GROUP BY and HAVING: each key once, where a row first has it; NULLs are one group.
+    "SELECT name FROM item GROUP BY name": "'bolt'\n'nut'\n'cap'\n",
+    "SELECT qty, count(*) FROM item GROUP BY qty": "40,1\nNULL,1\n7,2\n",
+    "SELECT nullif(qty, 7), count(*), count(qty) FROM item GROUP BY nullif(qty, 7)": "40,1,1\nNULL,3,2\n",
+    "SELECT count(*), sum(item) FROM gift GROUP BY item": "",
+    "SELECT name, sum(id) FROM item GROUP BY name HAVING count(*) > 1": "'nut',6\n",
+    "SELECT name FROM item GROUP BY name HAVING name < 'm' AND max(id) < 3": "'bolt'\n",
+    "SELECT name FROM item WHERE id > 2 GROUP BY name HAVING min(id) > 2": "'cap'\n'nut'\n",
+    "SELECT name FROM item GROUP BY name HAVING NULL": "",
+    "SELECT length(name) + 1, min(name || 'x') FROM item GROUP BY length(name)": "5,'boltx'\n4,'capx'\n",
+    "SELECT qty IS NULL, name, max(id) FROM item GROUP BY qty IS NULL, name": "0,'bolt',1\n1,'nut',2\n0,'cap',3\n0,'nut',4\n",
+    "SELECT name FROM item GROUP BY name ORDER BY count(*) DESC, name LIMIT 2": "'nut'\n'bolt'\n",
+    "SELECT length(name), count(*) FROM item GROUP BY length(name) ORDER BY 1": "3,3\n4,1\n",
+    "SELECT sum(id) FROM item GROUP BY qty ORDER BY qty DESC NULLS FIRST LIMIT 2 OFFSET 1": "1\n7\n",
+    "SELECT DISTINCT count(*) FROM item GROUP BY name": "1\n2\n",
+    "SELECT DISTINCT qty IS NULL, count(*) FROM item GROUP BY qty ORDER BY 2 DESC, 1": "0,2\n0,1\n1,1\n",
+    "SELECT name, count(*), sum(n) FROM item JOIN sale ON item = id GROUP BY name": "'bolt',1,5\n'cap',2,11\n",
+    "SELECT item, max(n) FROM sale GROUP BY item HAVING max(n) > 4 ORDER BY 2 DESC LIMIT 1": "3,9\n",
+    "SELECT s.item, count(*) FILTER (WHERE n < qty) FROM item, sale AS s WHERE id < 3 GROUP BY s.item ORDER BY 1": "1,1\n3,2\n9,1\n",
+    "SELECT 1 FROM item GROUP BY id": "1\n1\n1\n1\n",
 }
 
 # The same with the names of the columns.
@@ -176,12 +233,10 @@ REFUSED = {
     "EXPLAIN QUERY PLAN SELECT nothing FROM item": 32,
     # What isn't served yet.
     "SELECT (SQL), name FROM Sqlite_Schema LIMIT -2": 29,
-    "SELECT name FROM item LEFT JOIN sale ON id = item": 29,
     "SELECT name FROM item RIGHT JOIN sale ON id = item": 29,
     "SELECT name FROM item FULL JOIN sale ON id = item": 29,
     "SELECT name FROM item, (SELECT 1)": 29,
-    "SELECT count(*) FROM item": 29,
-    "SELECT name FROM item GROUP BY name": 29,
+    "SELECT count(*), rank() OVER () FROM item": 29,
     "SELECT rank() OVER (ORDER BY id) FROM item": 29,
     "SELECT id FROM item UNION SELECT n FROM sale": 29,
     "SELECT id FROM item WHERE id IN (SELECT item FROM sale)": 29,
@@ -198,9 +253,18 @@ STOPPED = {
     "SELECT id FROM item WHERE id + 9223372036854775807 > 0": "",
     "SELECT id FROM item ORDER BY abs(-9223372036854775807 - id)": "",
     "SELECT id FROM item JOIN sale ON id + 9223372036854775807 > n": "",
+    "SELECT id FROM item LEFT JOIN sale ON id + 9223372036854775807 > n": "",
     "SELECT n + 9223372036854775800 FROM item JOIN sale ON id = item": "9223372036854775805\n9223372036854775802\n",
     "SELECT id + 9223372036854775805 FROM item": "9223372036854775806\n9223372036854775807\n",
     "SELECT id FROM item WHERE id < 3 OR id * 9223372036854775807 > 0": "1\n2\n",
+    "SELECT sum(CASE id WHEN 1 THEN 9223372036854775807 ELSE 1 END) FROM item WHERE id < 3": "",
+    "SELECT sum(CASE id WHEN 2 THEN 9223372036854775807 ELSE 1 END) FROM item WHERE id < 3": "",
+    "SELECT sum(CASE id WHEN 1 THEN -9223372036854775807 ELSE -1 END) FROM item WHERE id < 4": "",
+    "SELECT max(id + 9223372036854775804) FROM item": "",
+    "SELECT count(*) FROM item GROUP BY id + 9223372036854775804": "",
+    "SELECT name, sum(id + 9223372036854775803) FROM item GROUP BY name": "'bolt',9223372036854775804\n",
+    "SELECT name FROM item GROUP BY name HAVING sum(9223372036854775807) > 0": "'bolt'\n",
+    "SELECT name, count(*) + 9223372036854775806 FROM item GROUP BY name": "'bolt',9223372036854775807\n",
 }
 
 # Texts that are no statement, and the place at which they stop being one.
@@ -292,13 +356,12 @@ SCHEMA_ROWS: dict[bytes, list[tuple[Value, ...]]] = {
             )
         ),
     ],
-    # Indexes that are served, but for the root, which is the table's too.
+    # Indexes and a table without rowids that are served, but for the root, which is the table's too.
     fault_line(13, 2): [
+        ("table", "t", "t", 2, "CREATE TABLE t(a INTEGER PRIMARY KEY) STRICT, WITHOUT ROWID"),
         ("index", "I", "ITEM", 2, "CREATE UNIQUE INDEX i ON item(qty DESC, name) WHERE qty IS NOT NULL"),
         ("index", "i", "item", 2, "CREATE INDEX i ON item(qty) WHERE item.qty > -1 AND NOT name IN ('a') OR qty BETWEEN 1 AND 2"),
     ],
-    # A table without rowids.
-    fault_line(29): [("table", "t", "t", 2, "CREATE TABLE t(a INTEGER PRIMARY KEY) STRICT, WITHOUT ROWID")],
 }
 
 # Triggers, which are ignored: one of its own name, and one of its table's.
