@@ -1,11 +1,9 @@
 -- The reader of an index's condition finds exactly what its grammar says.
-use Rattle.std.proofs.Common.{◌≡◌, Bool, true, false, ℕ, ◌<◌, ◌≤◌, List, [], ◌∷◌, length, Option, Some, None, Ok, Err, cond, refl, sym, ap, ◌∙◌, subst, arith}
+use Rattle.std.proofs.Common.{◌≡◌, Bool, true, false, ℕ, ◌≤◌, List, [], ◌∷◌, length, Option, Some, None, Ok, Err, cond, refl, sym, ap, ◌∙◌, subst, arith}
 use Rattle.std.proofs.lemmas.Bool.{cond-false}
-use Rattle.std.proofs.lemmas.List.{at_drop_all, at_drop_more}
-use Rattle.tokens.specs.Content.{lexeme_of}
 use Rattle.tokens.specs.Lexeme.{Lexeme}
 use Rattle.tokens.specs.declared.keyword.Keyword.TheVariants as k
-use Rattle.phrases.specs.Outcomes.{Outcome, Read, Refusal, ◌>>=◌, read}
+use Rattle.phrases.specs.Outcomes.{Read, Refusal, read}
 use Rattle.phrases.specs.Steps.{Rest}
 use Rattle.phrases.proofs.OutcomeLemmas.{bind_ok, fits, fits_bind, fits_in, ok_inj, step_last}
 use Rattle.grammar.proofs.Complete.{complete}
