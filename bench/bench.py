@@ -27,6 +27,7 @@ sys.path.insert(0, str(TOP / "compare"))
 
 from program import PROGRAM, build, give_up  # noqa: E402
 from reading import reading_lines  # noqa: E402
+from statements import INDEXED_TARGET, INDEXES, STATEMENTS, Statement  # noqa: E402
 
 ROWS = 1_000_000
 RUNS = 5
@@ -34,6 +35,9 @@ PAGE, CACHE = 4096, 256
 TEXT = 40
 # The longest payload of the table: a header, two numbers and the text.
 PAYLOAD = 5 + 2 * 8 + TEXT
+
+# What is refused once the file is open, and what sqlite3 answers without reading a table.
+OPENED, NOTHING = "SELECT * FROM nowhere", "SELECT 1"
 
 # The targets: parts of the time that sqlite3's SELECT takes alone; bytes; and how much more than its part of the rows a
 # longer table may take.
@@ -105,32 +109,41 @@ def measure_all(commands: list[Command], runs: int) -> dict[str, Cost]:
     return costs
 
 
+def sqlite(path: Path, *texts: str) -> list[str]:
+    """The words that have sqlite3 answer texts over a file."""
+    return ["sqlite3", "-batch", "-readonly", "-quote", str(path), *texts]
+
+
+def seleq(path: Path, text: str) -> list[str]:
+    """The words that have seleq answer a text over a file."""
+    return [str(PROGRAM), "--cache", str(CACHE), str(path), text]
+
+
 def commands_for(path: Path) -> list[Command]:
     """What is measured on one file."""
-
-    def sqlite(*texts: str) -> list[str]:
-        return ["sqlite3", "-batch", "-readonly", "-quote", str(path), *texts]
-
-    def seleq(text: str) -> list[str]:
-        return [str(PROGRAM), "--cache", str(CACHE), str(path), text]
-
     one, everything, check = "SELECT name FROM item", "SELECT * FROM item", "PRAGMA integrity_check"
     return [
-        Command("open", seleq("SELECT * FROM nowhere"), 1),
-        Command("one", seleq(one)),
-        Command("all", seleq(everything)),
-        Command("sqlite check", sqlite(check)),
-        Command("sqlite one", sqlite(one)),
-        Command("sqlite check one", sqlite(check, one)),
-        Command("sqlite all", sqlite(everything)),
-        Command("sqlite check all", sqlite(check, everything)),
+        Command("open", seleq(path, OPENED), 1),
+        Command("one", seleq(path, one)),
+        Command("all", seleq(path, everything)),
+        Command("sqlite check", sqlite(path, check)),
+        Command("sqlite open", sqlite(path, NOTHING)),
+        Command("sqlite one", sqlite(path, one)),
+        Command("sqlite check one", sqlite(path, check, one)),
+        Command("sqlite all", sqlite(path, everything)),
+        Command("sqlite check all", sqlite(path, check, everything)),
     ]
 
 
-def unexamined() -> str:
-    """The conditions of an image that docs/FAULTS.md marks as answered by no layer yet."""
-    rows = re.findall(r"\| ([0-9]+)\* \| ([A-Za-z]+)", (TOP / "docs" / "FAULTS.md").read_text())
-    return ", ".join(f"{number} {name}" for number, name in rows if 11 <= int(number) <= 25)
+def statement_commands(path: Path) -> list[Command]:
+    """The statements, as both programs are asked."""
+    own = [Command(it.what, seleq(path, it.sql)) for it in STATEMENTS]
+    return [*own, *(Command(f"sqlite {it.what}", sqlite(path, it.sql)) for it in STATEMENTS)]
+
+
+def indexed_commands(path: Path) -> list[Command]:
+    """Opening a file whose table has indexes, and the check of sqlite3."""
+    return [Command("open", seleq(path, OPENED), 1), Command("sqlite check", sqlite(path, "PRAGMA integrity_check"))]
 
 
 def met(holds: bool) -> str:
@@ -154,6 +167,34 @@ def time_rows(costs: dict[str, Cost]) -> list[str]:
         times = f"{costs[own].processor:.3f} | {costs[other].processor:.3f}"
         lines.append(f"| {what} | {beside} | {times} | {ratio:.2f} | {clock:.2f} | {wanted} |")
     return lines
+
+
+def parts_of(costs: dict[str, Cost], it: Statement) -> tuple[float, float]:
+    """The seconds of the processor that a statement takes of both programs."""
+    own, other = costs[it.what].processor, costs[f"sqlite {it.what}"].processor
+    if it.apart:
+        own, other = own - costs["open"].processor, other - costs["sqlite open"].processor
+    return max(own, 0.0), max(other, 1e-6)
+
+
+def statement_rows(costs: dict[str, Cost]) -> list[str]:
+    """The lines of the table of statements."""
+    lines = ["| What | Opening | seleq, s | sqlite3, s | Ratio | Target |", "|" + "---|" * 6]
+    for it in STATEMENTS:
+        own, other = parts_of(costs, it)
+        opening = "taken off both" if it.apart else "included"
+        wanted = f"at most {it.target}: {met(own / other <= it.target)}"
+        lines.append(f"| {it.what} | {opening} | {own:.3f} | {other:.3f} | {own / other:.2f} | {wanted} |")
+    return lines
+
+
+def indexed_lines(costs: dict[str, Cost]) -> list[str]:
+    """The lines that tell how long opening takes where the table has two indexes."""
+    own, other = costs["open"].processor, costs["sqlite check"].processor
+    return [
+        f"Where the table has two indexes, opening takes {own:.2f} s and `PRAGMA integrity_check` {other:.2f} s, a ratio of",
+        f"{own / other:.2f}; the target is at most {INDEXED_TARGET}: {met(own / other <= INDEXED_TARGET)}.",
+    ]
 
 
 def memory_lines(path: Path) -> list[str]:
@@ -185,21 +226,22 @@ def growth_lines(sizes: list[int], all_costs: list[dict[str, Cost]]) -> list[str
     ]
 
 
-def report(sizes: list[int], all_costs: list[dict[str, Cost]], memory: list[str], runs: int) -> str:
+def report(sizes: list[int], all_costs: list[dict[str, Cost]], indexed: list[str], memory: list[str], runs: int) -> str:
     """The text of RESULTS.md."""
     version = subprocess.run(["sqlite3", "--version"], capture_output=True, check=True).stdout.decode().split()[0]
     how = f"""Written by `bench/bench.py`. The table has an integer key, two integers and a text of {TEXT} bytes, in pages of
         {PAGE} bytes. Each time is the least of {runs} runs, all commands in turn; both programs write to /dev/null. seleq
         keeps {CACHE} pages; `sqlite3` {version} answers in `.mode quote`. Seconds are those of the processor, user and
         system."""
-    lacks = f"""Each run of seleq opens the file, which checks it, before it answers. **What opening doesn't examine yet:**
-        {unexamined()}; and what it answers by 29 NotYet: indexes, and tables without rowids. `PRAGMA integrity_check`
-        examines these as well."""
+    opening = "Each run of seleq opens the file, which checks it whole, before it answers."
     parts = [
         "# Time and memory beside `sqlite3`",
-        *(textwrap.fill(" ".join(text.split()), 120, break_on_hyphens=False) for text in (how, lacks)),
+        *(textwrap.fill(" ".join(text.split()), 120, break_on_hyphens=False) for text in (how, opening)),
         f"## {sizes[-1]} rows",
         "\n".join(time_rows(all_costs[-1])),
+        "\n".join(indexed),
+        "## Statements",
+        "\n".join(statement_rows(all_costs[-1])),
         "## The peak of memory",
         "\n".join(memory),
         "## Growth",
@@ -229,9 +271,12 @@ def main() -> int:
         for rows in sizes:
             path = Path(folder) / f"{rows}.db"
             make_table(path, rows)
-            all_costs.append(measure_all(commands_for(path), words.runs))
+            more = statement_commands(path) if rows == sizes[-1] else []
+            all_costs.append(measure_all([*commands_for(path), *more], words.runs))
         memory = memory_lines(path)
-    words.out.write_text(report(sizes, all_costs, memory, words.runs))
+        subprocess.run(["sqlite3", "-bail", str(path), INDEXES], check=True)
+        indexed = indexed_lines(measure_all(indexed_commands(path), words.runs))
+    words.out.write_text(report(sizes, all_costs, indexed, memory, words.runs))
     return 0
 
 

@@ -1,0 +1,32 @@
+"""Statements that are measured beside `sqlite3`, on a table of a million rows, and opening with indexes beside its check."""
+
+from __future__ import annotations
+
+from dataclasses import dataclass
+
+
+@dataclass(frozen=True)
+class Statement:
+    """A statement over the table `item`, and the most of the time of `sqlite3` that it may take; `apart` where opening is taken off
+    the times of both."""
+
+    what: str
+    sql: str
+    target: float
+    apart: bool = False
+
+
+STATEMENTS = [
+    Statement("a condition that keeps one row in a hundred", "SELECT id, name FROM item WHERE a % 100 = 7", 1.0),
+    Statement("an expression over each row", "SELECT a * 2 + b % 7 FROM item", 0.8),
+    Statement("ORDER BY", "SELECT id FROM item ORDER BY a", 0.5),
+    Statement("ORDER BY with LIMIT 10", "SELECT id, name FROM item ORDER BY b DESC, a LIMIT 10", 0.6),
+    Statement("DISTINCT with a thousand values", "SELECT DISTINCT a % 1000 FROM item", 0.5),
+    Statement("count and sum of all rows", "SELECT count(*), sum(a) FROM item", 0.6, apart=True),
+    Statement("GROUP BY with a thousand keys", "SELECT a % 1000, count(*), sum(b) FROM item GROUP BY a % 1000", 0.5, apart=True),
+    Statement("GROUP BY with a million keys", "SELECT a, count(*), max(b) FROM item GROUP BY a", 0.5, apart=True),
+]
+
+# Two indexes of the table, and the most of the time of `PRAGMA integrity_check` that opening may take.
+INDEXES = "CREATE INDEX item_a ON item (a); CREATE INDEX item_name ON item (name DESC, b);"
+INDEXED_TARGET = 0.2
