@@ -1,5 +1,5 @@
 -- The rows that a cursor over a table still has to give, and the pages that it may ask for on the way. (Database File
--- Format, section 2.3 "Representation Of SQL Tables")
+-- Format, section 2.3 "Representation Of SQL Tables", and section 2.4 "Representation Of WITHOUT ROWID Tables")
 use Rattle.std.specs.Prelude.{◌≡◌, ◌⊎◌, ◌+◌, ◌≤◌, All, Bool, true, false, IsTrue, ℕ, List, [], ◌∷◌, ◌++◌, None}
 use Rattle.std.specs.List.{AllZip}
 use Rattle.values.specs.Row.{Row}
@@ -7,15 +7,15 @@ use Rattle.values.specs.declared.fault.Fault.{Fault}
 use Rattle.values.specs.declared.fault.Fault.TheVariants.{Changed}
 use Rattle.pager.specs.Calls.{IsReadFault}
 use Rattle.pager.specs.PagerState.{PagerState}
-use Rattle.image.specs.declared.kind.TreeKind.TheVariants.{Table}
+use Rattle.image.specs.declared.kind.TreeKind.{TreeKind}
 use Rattle.image.specs.Cell.{CellData}
 use Rattle.image.specs.Pages.{Pages}
 use Rattle.image.specs.Shape.{places_under, size_under}
-use Rattle.image.specs.Tree.{IsRowAt, Place}
+use Rattle.image.specs.Tree.{IsEntryAt, Place}
 use Rattle.cursor.specs.declared.cursor.Cursor.{Cursor}
 use Rattle.cursor.specs.Listing.{IsAt}
 use Rattle.tables.specs.TableData.{TableData}
-use Rattle.stored_rows.specs.Stored.{StoresRow}
+use Rattle.stored_tables.specs.Tables.{StoresAnyRow, kind_of}
 use Rattle.meaning.specs.OneTable.{shown}
 
 -- the faults of a scan: those of reading, and a table that has changed since it was checked
@@ -26,22 +26,22 @@ IsScanFault fault = IsReadFault fault ⊎ (fault ≡ Changed)
 abbrev pub size_of : Pages → TableData → ℕ → ℕ
 size_of pages table levels = size_under pages levels table.root
 
--- the cell at a place has no overflow page
-abbrev pub IsUnchained : Pages → Place → Type 0
-IsUnchained pages place = (cell : CellData) → IsRowAt pages place cell → cell.payload.overflow ≡ None
+-- the cell at a place of a tree of this kind has no overflow page
+abbrev pub IsUnchained : Pages → TreeKind → Place → Type 0
+IsUnchained pages kind place = (cell : CellData) → IsEntryAt pages kind place cell → cell.payload.overflow ≡ None
 
 -- no cell of the table has one
 abbrev pub AreUnchained : Pages → TableData → ℕ → Type 0
-AreUnchained pages table levels = All (IsUnchained pages) (places_under pages Table levels table.root)
+AreUnchained pages table levels = All (IsUnchained pages (kind_of table.key)) (places_under pages (kind_of table.key) levels table.root)
 
 -- These rows of the table are to come, for which so many pages are yet to be asked for at most, whatever else asks for
 -- pages in between. Where `local` says so, their cells have no overflow pages.
 pub record IsToCome (pages : Pages) (table : TableData) (local : Bool) (cursor : Cursor) (rows : List Row) (ahead : ℕ) : Type 0 where
   pub levels : ℕ
   pub places : List Place
-  pub at : IsAt pages Table levels cursor places 0 ahead
-  pub stored : AllZip (StoresRow pages table) places rows
-  pub unchained : IsTrue local → All (IsUnchained pages) places
+  pub at : IsAt pages (kind_of table.key) levels cursor places 0 ahead
+  pub stored : AllZip (StoresAnyRow pages table) places rows
+  pub unchained : IsTrue local → All (IsUnchained pages (kind_of table.key)) places
 
 -- Of the pages that were ahead at one time, so many are left at a later one. Where `local` says so, no page of an overflow
 -- chain was asked for.

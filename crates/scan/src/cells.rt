@@ -8,19 +8,19 @@ ghost use Rattle.image.specs.Chain.{HasBytes};
 ghost use Rattle.image.specs.Pages.{WhereSteady};
 ghost use Rattle.btree.specs.Views.{cell_data, payload_data};
 ghost use Rattle.meaning.specs.OneTable.{shown};
-ghost use Rattle.stored_rows.specs.Stored.{IsRowOf, IsRowRecord};
+ghost use Rattle.stored_tables.specs.Tables.{IsAnyRecord, IsAnyRow};
 ghost use Rattle.scan.specs.Coming.{Grows, IsScanFault};
 
 use btree::{Cell, payload};
 use pager::{Pager, Source};
 use std::alloc::Global;
 use std::borrow::CowSlice;
-use stored_rows::RowReader;
+use stored_tables::ValueReader;
 use tables::Table;
 use values::{Fault, Value};
 
 /// The payload of a cell. Its faults are `ReadFailed`, `NoMemory`, and `Changed` where its overflow pages are no chain.
-fn payload_of<'p, S: Source>(
+pub fn payload_of<'p, S: Source>(
     alloc: Global,
     pager: &mut Pager<S>,
     cell: &Cell<'p>,
@@ -46,12 +46,12 @@ fn push_values(
     row: &mut Vec<Value>,
 ) -> Result<(), Fault>
     requires { All (λ at. at < length table.now.columns) columns.now }
-    ensures shown { (whole : Row) → IsRowRecord table.now rowid payload.now whole
+    ensures shown { (whole : Row) → IsAnyRecord table.now rowid payload.now whole
         → MatchResult result (λ _. map datum_of row.new.items ≡ map datum_of row.old.items ++ shown columns.now whole) (λ e. e ≡ Fault.NoMemory) }
     ensures front { IfOk result (λ _. Grows (map datum_of row.old.items) (map datum_of row.new.items)) }
     ensures only { IfErr result (λ e. (e ≡ Fault.NoMemory) ⊎ (e ≡ Fault.Changed)) }
 {
-    let Some(mut reader) = RowReader::new(table, rowid, payload) else {
+    let Some(mut reader) = ValueReader::new(table, rowid, payload) else {
         return Err(Fault::Changed);
     };
     for column in columns {
@@ -73,7 +73,7 @@ pub(crate) fn push_cell<S: Source>(
     row: &mut Vec<Value>,
 ) -> Result<(), Fault>
     requires { All (λ at. at < length table.now.columns) columns.now }
-    ensures shown { WhereSteady pager.old.state (λ pages. (whole : Row) → IsRowOf pages table.now (cell_data cell.now) whole
+    ensures shown { WhereSteady pager.old.state (λ pages. (whole : Row) → IsAnyRow pages table.now (cell_data cell.now) whole
         → MatchResult result (λ _. map datum_of row.new.items ≡ map datum_of row.old.items ++ shown columns.now whole) IsReadFault) }
     ensures front { IfOk result (λ _. Grows (map datum_of row.old.items) (map datum_of row.new.items)) }
     ensures only { IfErr result IsScanFault }

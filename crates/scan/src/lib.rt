@@ -1,5 +1,5 @@
 //! The rows of a table, one by one. It promises that a cursor over a table that is stored gives exactly its rows, by
-//! ascending rowid, of each the columns that are read; that it asks for no more pages than the table's tree has, whatever
+//! ascending rowid or in the order of its key, of each the columns that are read; that it asks for no more pages than the table's tree has, whatever
 //! asks for pages in between, and for none of overflow chains where no cell has one; that over any source it returns, falls
 //! by a measure and tells of a failed read; and that over a steady source the table hasn't changed.
 //!
@@ -10,4 +10,5 @@
 mod cells;
 mod rows;
 
+pub use cells::payload_of;
 pub use rows::{first_row, take_row};

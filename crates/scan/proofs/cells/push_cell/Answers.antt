@@ -1,6 +1,6 @@
 use Rattle.std.proofs.Common.{◌≡◌, ◌∙◌, List, ℕ, sym, subst}
 use Rattle.std.proofs.lemmas.Result.{err_from_is_err_and}
-use Rattle.stored_rows.specs.Stored.{IsRowRecord}
+use Rattle.stored_tables.specs.Tables.{IsAnyRecord}
 use Rattle.scan.proofs.CellLemmas.{only_memory}
 use Rattle.scan.proofs.cells.push_cell.Goals as goal
 
@@ -13,4 +13,4 @@ pub returns-clause-shown : goal.returns-clause-shown
 returns-clause-shown g c = λ steady whole is.
     let read : c.as_slice.result.now ≡ is.bytes = c.as_slice.ensures.value ∙ c.in_ok-bytes.ensures.bytes steady is.bytes is.whole in
     only_memory _ c.push_values.result
-    (c.push_values.ensures.shown whole (subst (λ (b : List ℕ). IsRowRecord c.args.table.now c.args.cell.now.rowid b whole) (sym read) is.is))
+    (c.push_values.ensures.shown whole (subst (λ (b : List ℕ). IsAnyRecord c.args.table.now c.args.cell.now.rowid b whole) (sym read) is.is))
