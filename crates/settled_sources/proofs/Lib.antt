@@ -1,0 +1,5 @@
+pub mod MappedLemmas
+pub mod SelectHitLemmas
+pub mod RowLemmas
+pub mod HitLemmas
+pub mod TypeLemmas
