@@ -1,3 +1,2 @@
-mod SingleLemmas
 mod CompoundLemmas
 pub mod DepthLemmas

@@ -1,4 +1,2 @@
-pub mod SingleView
-pub mod Singles
 pub mod Compounds
 pub mod Nested

@@ -2,15 +2,12 @@
 //! queries in it at any depth, is exactly that of the definition of names, and that a fault comes exactly where the definition has
 //! it, want of memory aside.
 //!
-//! The modules, in the order in which data passes them: `windows` (what has to be typed beside a SELECT), `singles` (one SELECT with
-//! its FROM, over what resolves the queries in it), `compounds` (SELECTs that are joined), `within` (what resolves the queries in a
-//! query), `nested` (the cycle).
+//! The modules, in the order in which data passes them: `compounds` (SELECTs that are joined, over what resolves the queries in
+//! them), `within` (what resolves the queries in a query), `nested` (the cycle).
 #![tactic(auto)]
 
 mod compounds;
 mod nested;
-mod singles;
-mod windows;
 mod within;
 
 pub use nested::{MAX_LEVELS, query_within};

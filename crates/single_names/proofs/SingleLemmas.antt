@@ -11,7 +11,7 @@ use Rattle.naming.specs.Outcome.{also, both, each, followed}
 use Rattle.naming.specs.Parts.{inner_trees}
 use Rattle.naming.specs.Sources.{Known}
 use Rattle.naming.specs.Statement.{Inner, Single, answers_of, core_of, from_of, from_tree, inner_of, single, single_of}
-use Rattle.query_names.specs.Singles.{behind_inner}
+use Rattle.single_names.specs.Singles.{behind_inner}
 use Rattle.syntax.specs.ExprTree.{CoreTree, TermTrees}
 
 module _ (known : List Known) (queries : QueryNames) where

@@ -5,8 +5,8 @@ ghost use Rattle.grammar.specs.Reading.{terms_of};
 ghost use Rattle.inner_names.specs.InnerNames.{AreNamed};
 ghost use Rattle.inner_names.specs.InnerView.{asked_of};
 ghost use Rattle.naming.specs.Statement as spec;
-ghost use Rattle.query_names.specs.SingleView.{single_data};
-ghost use Rattle.query_names.specs.Singles.{behind_inner, single_over};
+ghost use Rattle.single_names.specs.SingleView.{single_data};
+ghost use Rattle.single_names.specs.Singles.{behind_inner, single_over};
 ghost use Rattle.query_trees.specs.Outcome.{Gives};
 ghost use Rattle.select_names.specs.NamedView.{core_data};
 ghost use Rattle.source_names.specs.GivenView.{known_of, sources_of};
@@ -24,11 +24,11 @@ use values::Fault;
 
 /// A SELECT with its FROM, by its names. (SELECT, "Simple Select Processing")
 #[derive(Drop)]
-pub(crate) struct NamedSingle {
-    pub(crate) tables: Tables,
-    pub(crate) named: NamedSelect,
+pub struct NamedSingle {
+    pub tables: Tables,
+    pub named: NamedSelect,
     /// What else is written in it and has to be typed by itself.
-    pub(crate) beside: Vec<Body>,
+    pub beside: Vec<Body>,
 }
 
 // A SELECT over these sources and inner queries, and beside it what has to be typed by itself.
@@ -87,7 +87,7 @@ fn behind_inner<Q: Queries>(
 }
 
 /// One SELECT with its FROM. The fault is one of `inner_queries`, of `from` and of `select`. (SELECT, "Simple Select Processing")
-pub(crate) fn single<Q: Queries>(
+pub fn single<Q: Queries>(
     alloc: Global,
     queries: &Q,
     known: &[Known],

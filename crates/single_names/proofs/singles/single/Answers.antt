@@ -5,12 +5,12 @@ use Rattle.inner_names.specs.InnerNames.{inner_by}
 use Rattle.inner_names.specs.InnerView.{asked_of, inner_data}
 use Rattle.naming.specs.Outcome.{each}
 use Rattle.naming.specs.Parts.{inner_trees}
-use Rattle.query_names.proofs.SingleLemmas.{inner_taken}
-use Rattle.query_names.specs.SingleView.{single_data}
+use Rattle.single_names.proofs.SingleLemmas.{inner_taken}
+use Rattle.single_names.specs.SingleView.{single_data}
 use Rattle.query_trees.specs.Outcome.{Gives}
 use Rattle.source_names.specs.GivenView.{known_of}
 use Rattle.statement_trees.specs.TreeView.{core_of, term_of}
-use Rattle.query_names.proofs.singles.single.Goals as goal
+use Rattle.single_names.proofs.singles.single.Goals as goal
 
 pub returns : goal.returns
 returns g c =

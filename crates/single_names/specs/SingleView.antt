@@ -2,7 +2,7 @@
 use Rattle.std.specs.Prelude.{map}
 use Rattle.body_trees.specs.BodyView.{body_of, tables_of}
 use Rattle.naming.specs.Statement as spec
-use Rattle.query_names.specs.declared.singles.NamedSingle.{NamedSingle}
+use Rattle.single_names.specs.declared.singles.NamedSingle.{NamedSingle}
 use Rattle.select_names.specs.NamedView.{core_data}
 
 abbrev pub single_data : NamedSingle → spec.Single
