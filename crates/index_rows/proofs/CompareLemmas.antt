@@ -1,5 +1,5 @@
 -- An index held against the rows of its table: some rows were looked up, and a cursor stands before the cells of the others.
-use Rattle.std.proofs.Common.{◌≡◌, ◌≢◌, ◌⊎◌, ◌+◌, ◌-◌, ◌^◌, ◌≤◌, ℕ, Bool, true, false, IsTrue, Contains, IsPermutation, List, [], ◌∷◌, None, Option, Some, drop, length, map, min, refl, sym, ◌∙◌, ap, subst, inl, inr, ⊎_elim, arith}
+use Rattle.std.proofs.Common.{◌≡◌, ◌≢◌, ◌⊎◌, ◌+◌, ◌-◌, ◌^◌, ◌≤◌, ℕ, Bool, true, false, IsTrue, Contains, List, [], ◌∷◌, None, Option, Some, drop, length, map, min, refl, sym, ◌∙◌, ap, subst, inl, inr, ⊎_elim, arith}
 use Rattle.std.specs.List.{AllZip, filter}
 use Rattle.std.proofs.lemmas.List.{length-map}
 use Rattle.std.proofs.lemmas.List.Sorted.{Contains-permutation, IsPermutation-sym, IsPermutation-trans, length_permutation}
@@ -34,7 +34,8 @@ use Rattle.entry_prefixes.proofs.EntryLemmas.{holds_entries, in_order, same_entr
 use Rattle.entry_prefixes.proofs.ListLemmas.{get_of, mapped_at}
 use Rattle.index_rows.specs.Entries.{TellsRow, indexed_by, width_by}
 use Rattle.index_rows.specs.Kept.{condition_of, keeps_row}
-use Rattle.index_rows.specs.Rows.{HoldsTableRows, IsKeyedRow, kind_of}
+use Rattle.stored_tables.specs.Tables.{kind_of}
+use Rattle.index_rows.specs.Rows.{HoldsTableRows, IsKeyedRow}
 use Rattle.index_rows.proofs.RowLemmas.{StoresBy, TableRows, once_wanted, one_wanted, table_rows, tree_at}
 use Rattle.index_rows.proofs.StandLemmas.{at_now}
 

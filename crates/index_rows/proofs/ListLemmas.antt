@@ -1,5 +1,5 @@
 -- Lists that a function makes of others, and the numbers of a list.
-use Rattle.std.proofs.Common.{◌≡◌, ◌<◌, ◌&&◌, ◌||◌, ℕ, zero, suc, Bool, true, false, Contains, List, [], ◌∷◌, Some, map, slice_get, nat_eq, refl, ap, subst, sym, ◌∙◌, ⊎_elim, arith}
+use Rattle.std.proofs.Common.{◌≡◌, ◌<◌, ◌&&◌, ◌||◌, ℕ, zero, suc, Bool, true, false, Contains, List, [], ◌∷◌, Some, map, slice_get, nat_eq, refl, ap, subst, ◌∙◌, ⊎_elim, arith}
 use Rattle.std.specs.List.{list_all}
 use Rattle.std.specs.Ordering.{is_lt}
 use Rattle.values.specs.Datum.{Datum}

@@ -44,7 +44,8 @@ use Rattle.primary_walk.proofs.HeldLemmas.{rows_held, rows_stand}
 use Rattle.primary_walk.proofs.RowLemmas.{one_values}
 use Rattle.index_rows.specs.Checked.{IsCheckedBy}
 use Rattle.index_rows.specs.Entries.{TellsRow}
-use Rattle.index_rows.specs.Rows.{HoldsKeyedRows, HoldsRowlessRows, HoldsTableRows, IsKeyedRow, StoresKeyedRow, kind_of, rowless}
+use Rattle.stored_tables.specs.Tables.{kind_of}
+use Rattle.index_rows.specs.Rows.{HoldsKeyedRows, HoldsRowlessRows, HoldsTableRows, IsKeyedRow, StoresKeyedRow, rowless}
 use Rattle.index_rows.proofs.ListLemmas.{agree_on, ascend_at, map_agreeing, number_in}
 use Rattle.entry_prefixes.proofs.ListLemmas.{beside, get_of, mapped_at, same_values}
 

@@ -4,8 +4,6 @@ use Rattle.std.specs.Prelude.{◌≡◌, List, map, None}
 use Rattle.std.specs.List.{AllZip}
 use Rattle.values.specs.Datum.{Datum}
 use Rattle.values.specs.Row.{Row}
-use Rattle.image.specs.declared.kind.TreeKind.{TreeKind}
-use Rattle.image.specs.declared.kind.TreeKind.TheVariants as kind
 use Rattle.image.specs.Cell.{CellData}
 use Rattle.image.specs.Pages.{Pages}
 use Rattle.image.specs.Sound.{AreRowsOf}
@@ -16,11 +14,6 @@ use Rattle.tables.specs.TableData.{RowKeyData, TableData}
 use Rattle.stored_rows.specs.Stored.{IsRowOf}
 use Rattle.primary_rows.specs.Rows.{IsPrimaryRow}
 use Rattle.primary_walk.specs.Checked.{HoldsPrimaryRows}
-
--- the kind of the tree of a table whose rows are found so
-abbrev pub kind_of : RowKeyData → TreeKind
-kind_of (RowKeyData.Rowid place) = kind.Table
-kind_of (RowKeyData.Primary places) = kind.Index
 
 -- the cell at a place is this row of the table, with this rowid
 pub record StoresKeyedRow (pages : Pages) (table : TableData) (place : Place) (keyed : KeyedRow) : Type 0 where

@@ -11,7 +11,7 @@ ghost use Rattle.index_rows.specs.Checked.{IsCheckedTable, IsCheckedTableIndex};
 ghost use Rattle.index_rows.specs.Compared.{IsDifferentIndex, IsIndexOf};
 ghost use Rattle.index_rows.specs.Entries.{indexed_by};
 ghost use Rattle.index_rows.specs.Kept.{condition_of};
-ghost use Rattle.index_rows.specs.Rows.{kind_of};
+ghost use Rattle.stored_tables.specs.Tables.{kind_of};
 
 use crate::index::TableIndex;
 use crate::searches::{Lookup, look_up};

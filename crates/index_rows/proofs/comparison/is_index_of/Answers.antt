@@ -8,7 +8,7 @@ use Rattle.btree.specs.Views.{cell_data}
 use Rattle.btree.proofs.SeenLemmas.{still_steady}
 use Rattle.cursor.specs.Calls.{IsOpenedAt}
 use Rattle.tables.specs.TableData.{IsKeyWithin, RowKeyData}
-use Rattle.index_rows.specs.Rows.{kind_of}
+use Rattle.stored_tables.specs.Tables.{kind_of}
 use Rattle.index_rows.proofs.CompareLemmas.{TellsCell, its_tree, all_counted, all_found, counted_are, its_places, kept_many, never_ends, not_as_many, not_there, number_now, one_further, opened, passed_over, places_now, row_now, search_now, stopped}
 use Rattle.index_rows.proofs.comparison.is_index_of.Goals.{in-LeftOut, in-Found}
 use Rattle.index_rows.proofs.comparison.is_index_of.Goals as goal
