@@ -14,7 +14,7 @@ ghost use Rattle.compound_results.specs.Arms as arming;
 ghost use Rattle.compound_results.specs.Compounds.{IsArmCause, IsArmsCause};
 
 use crate::gathered::gather;
-use crate::sets::{each_once, join};
+use crate::sets::{join, once_if};
 use expr::Expr;
 use pager::{Pager, Source};
 use plans::Plan;
@@ -62,11 +62,8 @@ fn arm_rows<S: Source>(
 {
     let results = Results::of_all(alloc, &arm.plan, arm.columns.as_slice())?;
     let rows = gather(alloc, pager, tables, results)?;
-    if !arm.distinct {
-        return Ok(rows);
-    }
-    let once = each_once(alloc, rows)?;
-    Ok(once)
+    let shown = once_if(alloc, rows, arm.distinct)?;
+    Ok(shown)
 }
 
 /// The rows of SELECTs, each joined to those before it.

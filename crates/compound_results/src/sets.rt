@@ -3,6 +3,7 @@ ghost use Rattle.std.specs.Prelude.{◌≡◌, IfOk, map};
 ghost use Rattle.values.specs.Datum.{datum_of};
 ghost use Rattle.naming.specs.Statement.{operator_of};
 ghost use Rattle.distinct_results.specs.Firsts.{firsts};
+ghost use Rattle.compound_results.specs.Arms.{each_once_if};
 ghost use Rattle.compound_results.specs.Joined as joining;
 
 use indexmap::IndexSet;
@@ -22,7 +23,7 @@ fn set_of(alloc: Global, rows: Vec<Vec<Value>>) -> Result<IndexSet<Row>, AllocEr
 }
 
 /// These rows, each once, where they first stand.
-pub(crate) fn each_once(alloc: Global, rows: Vec<Vec<Value>>) -> Result<Vec<Vec<Value>>, AllocError>
+fn each_once(alloc: Global, rows: Vec<Vec<Value>>) -> Result<Vec<Vec<Value>>, AllocError>
     ensures { IfOk result (λ once. map (λ row. map datum_of row.items) once.items ≡ firsts (map (λ row. map datum_of row.items) rows.items)) }
 {
     let set = set_of(alloc, rows)?;
@@ -30,6 +31,22 @@ pub(crate) fn each_once(alloc: Global, rows: Vec<Vec<Value>>) -> Result<Vec<Vec<
     for row in set {
         once.push(row.into_values())?;
     }
+    Ok(once)
+}
+
+/// These rows, each once where that is wanted.
+pub(crate) fn once_if(
+    alloc: Global,
+    rows: Vec<Vec<Value>>,
+    distinct: bool,
+) -> Result<Vec<Vec<Value>>, AllocError>
+    ensures { IfOk result (λ shown. map (λ row. map datum_of row.items) shown.items
+        ≡ each_once_if distinct (map (λ row. map datum_of row.items) rows.items)) }
+{
+    if !distinct {
+        return Ok(rows);
+    }
+    let once = each_once(alloc, rows)?;
     Ok(once)
 }
 
@@ -51,6 +68,21 @@ fn filtered(
         }
     }
     Ok(kept)
+}
+
+/// Of these rows those that are in a set, or those that aren't, as it is wanted, each once.
+fn filtered_once(
+    alloc: Global,
+    rows: Vec<Vec<Value>>,
+    set: &IndexSet<Row>,
+    wanted: bool,
+) -> Result<Vec<Vec<Value>>, AllocError>
+    ensures { IfOk result (λ once. map (λ row. map datum_of row.items) once.items
+        ≡ firsts (joining.filtered wanted (map (λ row. map datum_of row.items) rows.items) set.now.keys)) }
+{
+    let kept = filtered(alloc, rows, set, wanted)?;
+    let once = each_once(alloc, kept)?;
+    Ok(once)
 }
 
 /// What an operator makes of the rows on its left and on its right; NULLs count as equal.
@@ -76,13 +108,11 @@ pub(crate) fn join(
         }
         CompoundOperator::Intersect => {
             let set = set_of(alloc, right)?;
-            let shared = filtered(alloc, left, &set, true)?;
-            each_once(alloc, shared)
+            filtered_once(alloc, left, &set, true)
         }
         CompoundOperator::Except => {
             let set = set_of(alloc, right)?;
-            let others = filtered(alloc, left, &set, false)?;
-            each_once(alloc, others)
+            filtered_once(alloc, left, &set, false)
         }
     }
 }

@@ -1,10 +1,9 @@
-use Rattle.std.proofs.Common.{◌∙◌, map, refl, sym, ap, subst}
+use Rattle.std.proofs.Common.{◌∙◌, map, refl, ap, subst}
 use Rattle.std.proofs.lemmas.Result.{err_from_is_err_and}
 use Rattle.image.specs.Pages.{pages_seen}
 use Rattle.expr.specs.View.{term}
 use Rattle.plans.specs.Plan.{rows_of, work}
 use Rattle.plans.specs.PlanView.{plan_data}
-use Rattle.distinct_results.specs.Firsts.{firsts}
 use Rattle.results.specs.Coming.{IsResultCause, result_rows}
 use Rattle.compound_results.specs.Arms.{each_once_if}
 use Rattle.compound_results.proofs.ArmLemmas.{over_plan, stored_over}
@@ -21,20 +20,6 @@ returns-in_err-rows-clause-rows g c = λ steady on has.
     (c.in_err-rows.ensures.rows steady over _ (work on.w on.db on.sizes plan) (stored_over pages c.args.tables.now on plan has)
     (c.in_ok-results.ensures.rows pages c.args.tables.now over refl)))
 
-pub returns-then-not-arm-clause-rows : goal.returns-then-not-arm-clause-rows
-returns-then-not-arm-clause-rows g c = λ steady on has.
-    let pages = pages_seen c.args.pager.now.state in
-    let arm = c.args.arm.now in
-    let plan = plan_data arm.plan in
-    let over = over_plan on plan in
-    let gathered = c.in_ok-rows.ensures.rows steady over _ (work on.w on.db on.sizes plan) (stored_over pages c.args.tables.now on plan has)
-    (c.in_ok-results.ensures.rows pages c.args.tables.now over refl) in (
-      gathered.0
-          ∙ ap (λ columns. result_rows on.w (map term columns) (rows_of on.w on.db plan)) c.as_slice.ensures.value
-          ∙ ap (λ b. each_once_if b (result_rows on.w (map term arm.columns.items) (rows_of on.w on.db plan))) (sym c.if-not-arm.true),
-      gathered.1,
-    )
-
 pub returns-clause-rows : goal.returns-clause-rows
 returns-clause-rows g c = λ steady on has.
     let pages = pages_seen c.args.pager.now.state in
@@ -43,8 +28,8 @@ returns-clause-rows g c = λ steady on has.
     let over = over_plan on plan in
     let gathered = c.in_ok-rows.ensures.rows steady over _ (work on.w on.db on.sizes plan) (stored_over pages c.args.tables.now on plan has)
     (c.in_ok-results.ensures.rows pages c.args.tables.now over refl) in (
-      c.in_ok-once.ensures ∙ ap firsts gathered.0
-          ∙ ap (λ columns. firsts (result_rows on.w (map term columns) (rows_of on.w on.db plan))) c.as_slice.ensures.value
-          ∙ ap (λ b. each_once_if b (result_rows on.w (map term arm.columns.items) (rows_of on.w on.db plan))) (sym c.if-not-arm.false),
+      c.in_ok-shown.ensures
+          ∙ ap (each_once_if arm.distinct)
+          (gathered.0 ∙ ap (λ columns. result_rows on.w (map term columns) (rows_of on.w on.db plan)) c.as_slice.ensures.value),
       gathered.1,
     )

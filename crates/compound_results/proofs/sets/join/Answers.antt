@@ -8,20 +8,20 @@ use Rattle.compound_results.specs.Joined.{filtered, joined_rows}
 use Rattle.compound_results.proofs.SetLemmas.{filtered-firsts}
 use Rattle.compound_results.proofs.sets.join.Goals as goal
 
-pub returns-in_ok-shared-in-Intersect : goal.returns-in_ok-shared-in-Intersect
-returns-in_ok-shared-in-Intersect c =
+pub returns-in_ok-set-in-Intersect : goal.returns-in_ok-set-in-Intersect
+returns-in_ok-set-in-Intersect c =
     let left = map (λ row. map datum_of row.items) c.args.left.items in
     let right = map (λ row. map datum_of row.items) c.args.right.items in
-    subst (λ (all : List Row). IfOk c.each_once-in-Intersect.result (λ rows. map (λ row. map datum_of row.items) rows.items ≡ all))
-    (ap firsts (c.in_ok-shared-in-Intersect.ensures ∙ ap (filtered true left) c.in_ok-set-in-Intersect.ensures ∙ filtered-firsts true left right)
+    subst (λ (all : List Row). IfOk c.filtered_once.result (λ rows. map (λ row. map datum_of row.items) rows.items ≡ all))
+    (ap firsts (ap (filtered true left) c.in_ok-set-in-Intersect.ensures ∙ filtered-firsts true left right)
     ∙ ap (λ (o : CompoundOperator). joined_rows (operator_of o) left right) (sym c.in-Intersect.is))
-    c.each_once-in-Intersect.ensures
+    c.filtered_once.ensures
 
-pub returns-in_ok-others-in-Except : goal.returns-in_ok-others-in-Except
-returns-in_ok-others-in-Except c =
+pub returns-in_ok-set-in-Except : goal.returns-in_ok-set-in-Except
+returns-in_ok-set-in-Except c =
     let left = map (λ row. map datum_of row.items) c.args.left.items in
     let right = map (λ row. map datum_of row.items) c.args.right.items in
-    subst (λ (all : List Row). IfOk c.each_once-in-Except.result (λ rows. map (λ row. map datum_of row.items) rows.items ≡ all))
-    (ap firsts (c.in_ok-others-in-Except.ensures ∙ ap (filtered false left) c.in_ok-set-in-Except.ensures ∙ filtered-firsts false left right)
+    subst (λ (all : List Row). IfOk c.filtered_once-in-Except.result (λ rows. map (λ row. map datum_of row.items) rows.items ≡ all))
+    (ap firsts (ap (filtered false left) c.in_ok-set-in-Except.ensures ∙ filtered-firsts false left right)
     ∙ ap (λ (o : CompoundOperator). joined_rows (operator_of o) left right) (sym c.in-Except.is))
-    c.each_once-in-Except.ensures
+    c.filtered_once-in-Except.ensures
