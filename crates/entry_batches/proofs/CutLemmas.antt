@@ -1,8 +1,9 @@
 -- Codes that lie one behind the other.
-use Rattle.std.proofs.Common.{◌≡◌, ◌∙◌, ◌≤◌, ◌+◌, ◌-◌, ℕ, zero, suc, List, [], ◌∷◌, ◌++◌, None, Some, drop, length, slice_get, take, refl, sym, ap, subst, arith}
+use Rattle.std.proofs.Common.{◌≡◌, ◌∙◌, ◌≤◌, ◌+◌, ◌-◌, ℕ, zero, suc, List, [], ◌∷◌, ◌++◌, None, Some, drop, length, slice_get, sum_by, take, refl, sym, ap, subst, arith}
 use Rattle.std.specs.List.{slice_range}
 use Rattle.std.proofs.Math.Seq.{drop-append_seam, take-length}
 use Rattle.std.proofs.lemmas.List.{drop-append-le, length-drop, length-take-le, take-append-drop, take-append-le}
+use Rattle.std.proofs.lemmas.List.Sums.{sum_by-cons}
 use Rattle.wanted_entries.specs.Bags.{Coded}
 use Rattle.entry_batches.specs.declared.batch.Slot.{Slot}
 use Rattle.entry_batches.specs.Batches.{IsCut, code_at, coded, last_end}
@@ -132,3 +133,24 @@ end_is start (first ∷ []) zero slot last at = let e : Some first ≡ Some slot
 end_is start (first ∷ []) (suc n) slot last at = let e : None ≡ Some slot = at in cc
 end_is start (first ∷ second ∷ slots) zero slot last at = absurd (omega (arith, last))
 end_is start (first ∷ second ∷ slots) (suc n) slot last at = end_is first.end (second ∷ slots) n slot (omega (arith, last)) at
+
+-- a code that is cut out has the bytes between its bounds
+long_range : (xs : List ℕ) (a b : ℕ) → a ≤ b → b ≤ length xs → length (slice_range xs a b) ≡ b - a
+long_range xs a b up within =
+    let long = length-drop a xs in
+    length-take-le (b - a) (drop a xs) (omega (arith, up, within, long))
+
+-- the last code ends behind the bytes of all of them
+pub end_sums : (start : ℕ) (slots : List Slot) (codes : List ℕ) → IsCut start slots (length codes)
+    → last_end start slots ≡ start + sum_by (λ entry. length entry.code) (coded start slots codes)
+end_sums start [] codes cut = omega arith
+end_sums start (slot ∷ slots) codes cut =
+    let long = long_range codes start slot.end cut.0 (least_end slot.end slots (length codes) cut.1) in
+    let up = cut.0 in
+    let rest = end_sums slot.end slots codes cut.1 in
+    let first = sum_by-cons (λ (entry : Coded). length entry.code) (record { key = slot.key; code = slice_range codes start slot.end }) (coded slot.end slots codes) in
+    rest ∙ omega (arith, long, up, first)
+
+pub long_coded : (start : ℕ) (slots : List Slot) (codes : List ℕ) → length (coded start slots codes) ≡ length slots
+long_coded start [] codes = refl
+long_coded start (slot ∷ slots) codes = ap suc (long_coded slot.end slots codes)

@@ -1,5 +1,5 @@
 //! A batch of entries, in which one is looked for by its key.
-ghost use Rattle.std.specs.Prelude.{◌≡◌, ◌<◌, ◌≤◌, ◌↔◌, ◌++◌, ◌∷◌, [], ℕ, Contains, IfNone, IfOk, IfSome, IsFalse, IsTrue, List, OnErr, length, slice_range};
+ghost use Rattle.std.specs.Prelude.{◌≡◌, ◌<◌, ◌≤◌, ◌↔◌, ◌++◌, ◌∷◌, [], ℕ, Contains, IfNone, IfOk, IfSome, IsFalse, IsTrue, List, OnErr, length, slice_range, sum_by};
 ghost use Rattle.entry_batches.specs.declared.batch.Slot.{Slot};
 ghost use Rattle.entry_batches.specs.Batches.{AreBelow, Ascend, ComeBefore, HasKeyAt, IsCut, code_at, last_end};
 
@@ -13,8 +13,23 @@ pub(crate) struct Slot {
     pub(crate) end: usize,
 }
 
+/// The place at which a key stands where the keys of all slots follow one another, if it stands there.
+fn guess(slots: &[Slot], key: i64) -> Option<usize>
+    ensures { IfSome result (HasKeyAt slots.now key) }
+{
+    let first = slots.first()?;
+    let Ok(place) = usize::try_from(key.wrapping_sub(first.key)) else {
+        return None;
+    };
+    if place < slots.len() && slots[place].key == key {
+        Some(place)
+    } else {
+        None
+    }
+}
+
 /// The place of a key among slots whose keys ascend.
-fn find(slots: &[Slot], key: i64) -> Option<usize>
+fn search(slots: &[Slot], key: i64) -> Option<usize>
     requires { Ascend slots.now }
     ensures found { IfSome result (HasKeyAt slots.now key) }
     ensures none { IfNone result ((place : ℕ) → ¬ HasKeyAt slots.now key place) }
@@ -33,6 +48,18 @@ fn find(slots: &[Slot], key: i64) -> Option<usize>
         Some(low)
     } else {
         None
+    }
+}
+
+/// The place of a key among slots whose keys ascend: at once where they follow one another.
+fn find(slots: &[Slot], key: i64) -> Option<usize>
+    requires { Ascend slots.now }
+    ensures found { IfSome result (HasKeyAt slots.now key) }
+    ensures none { IfNone result ((place : ℕ) → ¬ HasKeyAt slots.now key place) }
+{
+    match guess(slots, key) {
+        Some(place) => Some(place),
+        None => search(slots, key),
     }
 }
 
@@ -118,6 +145,31 @@ impl Batch {
             slots: Vec::new(alloc),
             codes: Vec::new(alloc),
         }
+    }
+
+    /// A batch of no entries, with room for so many, and for so many bytes of their codes.
+    pub fn with_capacity(alloc: Global, entries: usize, bytes: usize) -> Result<Batch, AllocError>
+        ensures { IfOk result (λ batch. batch ≡ []) }
+    {
+        let slots = Vec::with_capacity(alloc, entries)?;
+        let codes = Vec::with_capacity(alloc, bytes)?;
+        Ok(Batch { slots, codes })
+    }
+
+    /// How many entries it has.
+    #[inline]
+    pub fn count(&self) -> usize
+        ensures { result ≡ length self.now }
+    {
+        self.slots.len()
+    }
+
+    /// How many bytes the codes of its entries have.
+    #[inline]
+    pub fn code_bytes(&self) -> usize
+        ensures { result ≡ sum_by (λ entry. length entry.code) self.now }
+    {
+        end_of(self.slots.as_slice())
     }
 
     /// Puts an entry behind the others, where its key is above theirs; tells whether it is. An error leaves the batch as it

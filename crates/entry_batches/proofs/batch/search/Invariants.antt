@@ -1,6 +1,6 @@
 use Rattle.std.proofs.Common.{◌-◌, ◌≡◌, ◌<◌, ◌≤◌, ◌<ℤ◌, ◌≤ℤ◌, ℕ, Some, length, slice_get}
 use Rattle.entry_batches.specs.declared.batch.Slot.{Slot}
-use Rattle.entry_batches.proofs.batch.find.Given as goal
+use Rattle.entry_batches.proofs.batch.search.Given as goal
 
 abbrev pub invariant-loop-low : goal.invariant-loop-low
 invariant-loop-low l = record {
