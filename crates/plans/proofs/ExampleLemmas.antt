@@ -1,10 +1,19 @@
 -- The examples, computed.
-use Rattle.std.proofs.Common.{◌≡◌, [], ◌∷◌, refl}
+use Rattle.std.proofs.Common.{◌≡◌, false, [], ◌∷◌, map, refl}
 use Rattle.values.specs.Datum.{Datum}
+use Rattle.expr.specs.declared.tree.Comparison.TheVariants.{Eq, Lt}
+use Rattle.expr.specs.Conjuncts.{conjuncts}
 use Rattle.expr.specs.Operations.{comparison, condition, is_null, same, settle, test_of, truth}
-use Rattle.meaning.specs.Examples.{items}
-use Rattle.plans.specs.Examples.{example_sizes, is_seven, nothing_kept, padded, padded_rows, sevens, sevens_rows, sold, sold_rows}
-use Rattle.plans.specs.Plan.{rows_of, work}
+use Rattle.expr.specs.Term.{column, compare, literal}
+use Rattle.meaning.specs.Body as body
+use Rattle.meaning.specs.Body.{values_over}
+use Rattle.meaning.specs.Examples.{items, whole}
+use Rattle.meaning.specs.OneTable.{shown}
+use Rattle.meaning.specs.Query.{always}
+use Rattle.meaning.specs.Valuation.{kept}
+use Rattle.plans.specs.Examples.{emptied, emptied_from, emptied_rows, emptied_where, example_sizes, full_sold, full_sold_rows, ids, is_seven, never, nothing_kept, padded, padded_rows, right_from, right_sold, right_sold_rows, sale_of, sevens, sevens_rows, sold, sold_rows}
+use Rattle.plans.specs.JoinPlan.{IsJoinPlan}
+use Rattle.plans.specs.Plan.{flagged, joined, once, rows_of, work}
 use Rattle.plans.specs.Stands.{StandsFor}
 
 pub seven_stands : StandsFor (0 ∷ 2 ∷ []) (is_seven 1) (is_seven 2)
@@ -26,3 +35,59 @@ module _ (w : Datum) where
   pub padded_shows : (rows_of w items padded ≡ padded_rows) × (work w items example_sizes padded ≡ 17)
   unfolding settle same is_null truth condition test_of comparison
   padded_shows = (refl, refl)
+
+  pub right_shows : (rows_of w items right_sold ≡ right_sold_rows) × (work w items example_sizes right_sold ≡ 8)
+      × (map (shown (0 ∷ 3 ∷ 4 ∷ [])) (body.rows_of w items right_from) ≡ right_sold_rows)
+  unfolding settle same is_null truth condition test_of comparison
+  right_shows = (refl, refl, refl)
+
+  pub full_shows : (rows_of w items full_sold ≡ full_sold_rows) × (work w items example_sizes full_sold ≡ 8)
+  unfolding settle same is_null truth condition test_of comparison
+  full_shows = (refl, refl)
+
+  pub emptied_shows : (rows_of w items emptied ≡ emptied_rows) × (work w items example_sizes emptied ≡ 20)
+      × (map (shown (0 ∷ 5 ∷ 6 ∷ [])) (kept (values_over w items emptied_from) emptied_where (body.rows_of w items emptied_from)) ≡ emptied_rows)
+  unfolding settle same is_null truth condition test_of comparison
+  emptied_shows = (refl, refl, refl)
+
+pub emptied_is_planned : IsJoinPlan (0 ∷ 5 ∷ 6 ∷ []) emptied_from (conjuncts emptied_where) emptied
+emptied_is_planned = record {
+  below = flagged (joined ids (record { table = 1; columns = []; tests = never ∷ []; padded = false })) (record { nest = sale_of 1 false; before = 1 });
+  tests = compare Lt (column 2) (literal (whole 5)) ∷ [];
+  plan_is = refl;
+  tests_are = (λ o row. refl, tt);
+  below_is = record {
+    at = 1;
+    width = 2;
+    source_is = refl;
+    left = joined ids (record { table = 1; columns = []; tests = never ∷ []; padded = false });
+    columns = 0 ∷ 1 ∷ [];
+    tests = compare Eq (column 0) (column 1) ∷ [];
+    plan_is = refl;
+    read_is = refl;
+    tests_are = (λ o row. refl, tt);
+    before = record {
+      at = 1;
+      width = 2;
+      source_is = refl;
+      left = ids;
+      columns = [];
+      tests = never ∷ [];
+      plan_is = refl;
+      read_is = refl;
+      tests_are = (λ o row. refl, tt);
+      before = record {
+        at = 0;
+        width = 3;
+        source_is = refl;
+        left = once;
+        columns = 0 ∷ [];
+        tests = always ∷ [];
+        plan_is = refl;
+        read_is = refl;
+        tests_are = (λ o row. refl, tt);
+        before = refl;
+      };
+    };
+  };
+}

@@ -6,3 +6,6 @@ pub mod ExampleLemmas
 pub mod TurnLemmas
 pub mod JoinLemmas
 pub mod JoinHitLemmas
+pub mod WrittenLemmas
+pub mod WrittenHitLemmas
+pub mod WholeLemmas

@@ -1,11 +1,13 @@
 -- Plans over the two tables of the examples of queries, with their rows and their work.
-use Rattle.std.specs.Prelude.{ℕ, true, false, List, [], ◌∷◌}
+use Rattle.std.specs.Prelude.{Bool, ℕ, true, false, List, [], ◌∷◌}
 use Rattle.expr.specs.declared.tree.Comparison.TheVariants.{Eq, Lt}
 use Rattle.expr.specs.Term.{Term, column, compare, literal}
 use Rattle.values.specs.Datum.{null}
 use Rattle.values.specs.Row.{Row}
-use Rattle.meaning.specs.Examples.{whole}
-use Rattle.plans.specs.Plan.{PlanData, joined, kept, once}
+use Rattle.meaning.specs.Examples.{item, sale, whole}
+use Rattle.meaning.specs.Query.{From, always, inner, only, right}
+use Rattle.meaning.specs.Query as q
+use Rattle.plans.specs.Plan.{NestedData, PlanData, flagged, joined, kept, once}
 use Rattle.plans.specs.Stands.{one_table}
 
 -- the tables have trees of so many pages
@@ -48,3 +50,55 @@ padded = joined (joined once (record { table = 0; columns = 0 ∷ []; tests = []
 abbrev pub padded_rows : List Row
 padded_rows =
     (whole 1 ∷ whole 1 ∷ whole 5 ∷ []) ∷ (whole 2 ∷ null ∷ null ∷ []) ∷ (whole 3 ∷ whole 3 ∷ whole 2 ∷ []) ∷ (whole 4 ∷ null ∷ null ∷ []) ∷ []
+
+-- ---- RIGHT and FULL joins
+
+-- the ids of items
+abbrev pub ids : PlanData
+ids = joined once (record { table = 0; columns = 0 ∷ []; tests = always ∷ []; padded = false })
+
+-- sales behind the values of a row, of which the first is compared with the item of a sale
+abbrev pub sale_of : ℕ → Bool → NestedData
+sale_of before padded = record { table = 1; columns = 0 ∷ 1 ∷ []; tests = compare Eq (column 0) (column before) ∷ []; padded = padded }
+
+-- FROM item RIGHT JOIN sale ON item.id = sale.item, of which id, item and n are read: of four sales one is of no item
+abbrev pub right_from : From
+right_from = q.joined (only item) right sale (compare Eq (column 0) (column 3))
+
+abbrev pub right_sold : PlanData
+right_sold = flagged ids (record { nest = sale_of 1 false; before = 1 })
+
+abbrev pub lone_sale : Row
+lone_sale = null ∷ whole 9 ∷ whole 1 ∷ []
+
+abbrev pub right_sold_rows : List Row
+right_sold_rows =
+    (whole 1 ∷ whole 1 ∷ whole 5 ∷ []) ∷ (whole 3 ∷ whole 3 ∷ whole 2 ∷ []) ∷ (whole 3 ∷ whole 3 ∷ whole 9 ∷ []) ∷ lone_sale ∷ []
+
+-- the same with FULL JOIN: two items have no sale
+abbrev pub full_sold : PlanData
+full_sold = flagged ids (record { nest = sale_of 1 true; before = 1 })
+
+abbrev pub full_sold_rows : List Row
+full_sold_rows =
+    (whole 1 ∷ whole 1 ∷ whole 5 ∷ []) ∷ (whole 2 ∷ null ∷ null ∷ []) ∷ (whole 3 ∷ whole 3 ∷ whole 2 ∷ []) ∷ (whole 3 ∷ whole 3 ∷ whole 9 ∷ [])
+    ∷ (whole 4 ∷ null ∷ null ∷ []) ∷ lone_sale ∷ []
+
+-- FROM item JOIN sale AS other ON 2 < 1 RIGHT JOIN sale ON item.id = sale.item: no row stands before the last sales, and each of
+-- them stands alone. WHERE keeps those of which n < 5.
+abbrev pub never : Term
+never = compare Lt (literal (whole 2)) (literal (whole 1))
+
+abbrev pub emptied_from : From
+emptied_from = q.joined (q.joined (only item) inner sale never) right sale (compare Eq (column 0) (column 5))
+
+abbrev pub emptied_where : Term
+emptied_where = compare Lt (column 6) (literal (whole 5))
+
+abbrev pub emptied : PlanData
+emptied =
+    kept (flagged (joined ids (record { table = 1; columns = []; tests = never ∷ []; padded = false })) (record { nest = sale_of 1 false; before = 1 }))
+    (compare Lt (column 2) (literal (whole 5)) ∷ [])
+
+abbrev pub emptied_rows : List Row
+emptied_rows = (null ∷ whole 3 ∷ whole 2 ∷ []) ∷ (null ∷ whole 9 ∷ whole 1 ∷ []) ∷ []

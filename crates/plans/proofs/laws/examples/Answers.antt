@@ -1,4 +1,4 @@
-use Rattle.plans.proofs.ExampleLemmas.{nothing_shows, padded_shows, seven_stands, sevens_show, sold_shows}
+use Rattle.plans.proofs.ExampleLemmas.{emptied_is_planned, emptied_shows, full_shows, nothing_shows, padded_shows, right_shows, seven_stands, sevens_show, sold_shows}
 use Rattle.plans.proofs.laws.examples.Goals as goal
 
 pub returns-clause-stands : goal.returns-clause-stands
@@ -15,3 +15,15 @@ returns-clause-sold c = sold_shows
 
 pub returns-clause-padded : goal.returns-clause-padded
 returns-clause-padded c = padded_shows
+
+pub returns-clause-right : goal.returns-clause-right
+returns-clause-right c = right_shows
+
+pub returns-clause-full : goal.returns-clause-full
+returns-clause-full c = full_shows
+
+pub returns-clause-emptied : goal.returns-clause-emptied
+returns-clause-emptied c = emptied_shows
+
+pub returns-clause-planned : goal.returns-clause-planned
+returns-clause-planned c = emptied_is_planned

@@ -1,5 +1,4 @@
-use Rattle.plans.proofs.JoinHitLemmas.{join_hits}
-use Rattle.plans.proofs.JoinLemmas.{join_is_bag, join_is_where}
+use Rattle.plans.proofs.WholeLemmas.{join_hits, join_is_bag, join_is_where}
 use Rattle.plans.proofs.laws.joins_are_where.Goals as goal
 
 pub returns-clause-rows : goal.returns-clause-rows
