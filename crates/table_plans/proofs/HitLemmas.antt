@@ -18,7 +18,8 @@ use Rattle.meaning.proofs.HitLemmas.{column_is_hit}
 use Rattle.meaning.proofs.ScanLemmas.{windowed-none}
 use Rattle.plans.specs.Plan.{Reaches, rows_of}
 use Rattle.plans.proofs.HitLemmas.{any_held, from_map}
-use Rattle.plans.proofs.JoinHitLemmas.{join_hits, terms_reach}
+use Rattle.plans.proofs.JoinHitLemmas.{terms_reach}
+use Rattle.plans.proofs.WholeLemmas.{join_hits}
 use Rattle.plan_terms.specs.Over.{StandsOver}
 use Rattle.table_plans.specs.Input.{input_from, seen}
 use Rattle.table_plans.specs.Laws.{ColumnsAreHit, PlanIsHit}

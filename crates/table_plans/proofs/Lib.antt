@@ -4,3 +4,4 @@ pub mod BehindLemmas
 pub mod OnLemmas
 pub mod RowLemmas
 pub mod HitLemmas
+pub mod WholeLemmas
