@@ -1,10 +1,11 @@
 -- From what was checked to the tables that the pages have.
-use Rattle.std.proofs.Common.{◌≡◌, ℕ, zero, suc, refl, All, Contains, List, [], ◌∷◌, length, arith, subst, sym, inl, inr}
+use Rattle.std.proofs.Common.{◌≡◌, ◌<◌, ℕ, zero, suc, refl, All, Contains, List, [], ◌∷◌, length, arith, subst, sym, inl, inr}
 use Rattle.std.specs.List.{AllZip}
 use Rattle.std.proofs.lemmas.List.Elements.{All-cons, All-nil}
 use Rattle.values.specs.declared.fault.Fault.{Fault}
 use Rattle.values.specs.declared.fault.Fault.TheVariants.{ReadFailed, NoMemory, PageUse, BadFreelist, SchemaRow, SchemaText, UnsupportedObject, IndexDiffers, NotUnique}
 use Rattle.image.specs.Pages.{Pages}
+use Rattle.image.specs.Shape.{most_levels}
 use Rattle.image.specs.Tree.{Place}
 use Rattle.page_use.specs.Marks.{IsUseFault}
 use Rattle.values.specs.Row.{Row}
@@ -15,7 +16,8 @@ use Rattle.catalog.specs.CatalogData.{CatalogData}
 use Rattle.catalog.specs.Refused.{IsRefused}
 use Rattle.integrity.specs.Checked.{HasCause, IsCheckFault, IsTableOf, said}
 use Rattle.integrity.specs.Denotes.{HasCatalog, HasTables}
-use Rattle.integrity.specs.Tables.{IsAnyBroken, IsAnyChecked, IsAnyStored, IsStoredBy, IsStoredPrimary}
+use Rattle.stored_tables.specs.Tables.{IsAnyStored, IsStoredBy}
+use Rattle.integrity.specs.Tables.{IsAnyBroken, IsAnyChecked}
 use Rattle.index_rows.specs.Checked.{IsCheckedBy}
 use Rattle.primary_walk.specs.Checked.{IsCheckedPrimary}
 use Rattle.primary_walk.proofs.HeldLemmas.{rows_held, rows_stand}
@@ -27,24 +29,40 @@ use Rattle.integrity.proofs.OwnerLemmas.{within_key}
 
 module _ (pages : Pages) where
   -- a table that was checked is stored
-  stored_primary : (table : TableData) (counts : TreeCounts) → IsKeyWithin table.key (length table.columns) → IsCheckedPrimary pages table counts
-      → IsStoredPrimary pages table
-  stored_primary table counts within checked =
+  record IsStoredTree (key : RowKeyData) (table : TableData) : Type 0 where
+    levels : ℕ
+    rows : List Row
+    few : levels < most_levels
+    stored : IsStoredBy key pages table levels rows
+
+  stored_primary : (places : List ℕ) (table : TableData) (counts : TreeCounts) → IsKeyWithin table.key (length table.columns) → IsCheckedPrimary pages table counts
+      → IsStoredTree (RowKeyData.Primary places) table
+  stored_primary places table counts within checked =
       let held = rows_held pages table within counts checked in
       record {
         levels = counts.levels;
         rows = held.0;
         few = checked.tree.few;
-        shape = checked.tree.shape;
-        rows_are = rows_stand pages table within counts checked;
-        holds = held.1;
-        fit = held.2;
+        stored = record {
+          shape = checked.tree.shape;
+          rows_are = rows_stand pages table within counts checked;
+          holds = held.1;
+          fit = held.2;
+        };
       }
 
   stored_by : (key : RowKeyData) (table : TableData) (counts : TreeCounts) → IsKeyWithin table.key (length table.columns)
-      → IsCheckedBy key pages table counts → IsStoredBy key pages table
-  stored_by (RowKeyData.Rowid place) table counts within checked = stored_table pages table counts checked
-  stored_by (RowKeyData.Primary places) table counts within checked = stored_primary table counts within checked
+      → IsCheckedBy key pages table counts → IsStoredTree key table
+  stored_by (RowKeyData.Rowid place) table counts within checked =
+      let is = stored_table pages table counts checked in
+      record { levels = is.levels; rows = is.rows; few = is.few; stored = is.stored }
+  stored_by (RowKeyData.Primary places) table counts within checked = stored_primary places table counts within checked
+
+  any_stored : (table : TableData) (counts : TreeCounts) → IsKeyWithin table.key (length table.columns) → IsAnyChecked pages table counts
+      → IsAnyStored pages table
+  any_stored table counts within checked =
+      let is = stored_by table.key table counts within checked in
+      record { levels = is.levels; rows = is.rows; few = is.few; stored = is.stored }
 
   stored_tables : (tables : List TableData) (trees : List TreeCounts) → ((table : TableData) → Contains tables table → IsKeyWithin table.key (length table.columns))
       → AllZip (IsAnyChecked pages) tables trees → All (IsAnyStored pages) tables
@@ -52,7 +70,7 @@ module _ (pages : Pages) where
   stored_tables [] (counts ∷ trees) within all = absurd all
   stored_tables (table ∷ tables) [] within all = absurd all
   stored_tables (table ∷ tables) (counts ∷ trees) within all =
-      All-cons (IsAnyStored pages) table tables (stored_by table.key table counts (within table (in_head table tables)) all.0)
+      All-cons (IsAnyStored pages) table tables (any_stored table counts (within table (in_head table tables)) all.0)
       (stored_tables tables trees (λ other h. within other (in_tail table other tables h)) all.1)
 
   pub has_tables : (rows : List Row) (catalog : CatalogData) (trees : List TreeCounts) → HasCatalog pages rows catalog

@@ -10,17 +10,13 @@ use Rattle.values.specs.Database.{Database}
 use Rattle.tables.specs.TableData.{RowKeyData, TableData}
 use Rattle.stored_rows.specs.Stored.{Fits}
 use Rattle.integrity.specs.Denotes.{Denotes, HasTables}
-use Rattle.integrity.specs.Tables.{HoldsAnyRows, HoldsRowsBy, IsAnyStored, IsStoredBy}
-
--- the rows with which a table is stored
-abbrev pub rows_stored : (key : RowKeyData) (pages : Pages) (table : TableData) → IsStoredBy key pages table → List Row
-rows_stored (RowKeyData.Rowid place) pages table is = is.rows
-rows_stored (RowKeyData.Primary places) pages table is = is.rows
+use Rattle.stored_tables.specs.Tables.{IsAnyStored, IsStoredBy}
+use Rattle.integrity.specs.Tables.{HoldsAnyRows, HoldsRowsBy}
 
 -- a table is stored with these rows
 pub record IsStoredAs (pages : Pages) (table : TableData) (rows : List Row) : Type 0 where
   pub stored : IsAnyStored pages table
-  pub rows_are : rows_stored table.key pages table stored ≡ rows
+  pub rows_are : stored.rows ≡ rows
 
 -- the rows of each table
 pub record HasDatabase (image : List ℕ) (tables : List TableData) : Type 0 where
@@ -32,27 +28,27 @@ module _ (pages : Pages) where
   rows_of : (tables : List TableData) → All (IsAnyStored pages) tables → List (List Row)
   rows_of [] all = []
   rows_of (table ∷ tables) all =
-      rows_stored table.key pages table (All-head (IsAnyStored pages) table tables all) ∷ rows_of tables (All-tail (IsAnyStored pages) table tables all)
+      (All-head (IsAnyStored pages) table tables all).rows ∷ rows_of tables (All-tail (IsAnyStored pages) table tables all)
 
   -- what holds of a stored table and its rows holds of each
-  each : (R : TableData → List Row → Type 0) → ((table : TableData) (is : IsAnyStored pages table) → R table (rows_stored table.key pages table is))
+  each : (R : TableData → List Row → Type 0) → ((table : TableData) (is : IsAnyStored pages table) → R table is.rows)
       → (tables : List TableData) (all : All (IsAnyStored pages) tables) → AllZip R tables (rows_of tables all)
   unfolding rows_of
   each R holds [] all = tt
   each R holds (table ∷ tables) all =
       (holds table (All-head (IsAnyStored pages) table tables all), each R holds tables (All-tail (IsAnyStored pages) table tables all))
 
-  holds_rows : (key : RowKeyData) (table : TableData) (is : IsStoredBy key pages table) → HoldsRowsBy key pages table (rows_stored key pages table is)
-  holds_rows (RowKeyData.Rowid place) table is = record {
-    places = places_under pages Table is.levels table.root;
-    cells = is.stored.cells;
-    rows_are = is.stored.rows_are;
+  holds_rows : (key : RowKeyData) (table : TableData) (levels : ℕ) (rows : List Row) → IsStoredBy key pages table levels rows → HoldsRowsBy key pages table rows
+  holds_rows (RowKeyData.Rowid place) table levels rows is = record {
+    places = places_under pages Table levels table.root;
+    cells = is.cells;
+    rows_are = is.rows_are;
   }
-  holds_rows (RowKeyData.Primary places) table is = is.holds
+  holds_rows (RowKeyData.Primary places) table levels rows is = is.holds
 
-  rows_fit : (key : RowKeyData) (table : TableData) (is : IsStoredBy key pages table) → All (Fits table) (rows_stored key pages table is)
-  rows_fit (RowKeyData.Rowid place) table is = is.stored.fit
-  rows_fit (RowKeyData.Primary places) table is = is.fit
+  rows_fit : (key : RowKeyData) (table : TableData) (levels : ℕ) (rows : List Row) → IsStoredBy key pages table levels rows → All (Fits table) rows
+  rows_fit (RowKeyData.Rowid place) table levels rows is = is.fit
+  rows_fit (RowKeyData.Primary places) table levels rows is = is.fit
 
 -- the rows that the tables are stored with are those that the image denotes
 pub database_of : (image : List ℕ) (tables : List TableData) → HasTables (pages_of image) tables → HasDatabase image tables
@@ -63,8 +59,8 @@ database_of image tables has =
       denotes = record {
         indexes = has.indexes;
         catalog = has.catalog;
-        rows = each pages (HoldsAnyRows pages) (λ table is. holds_rows pages table.key table is) tables has.stored;
-        fit = each pages (λ table rows. All (Fits table) rows) (λ table is. rows_fit pages table.key table is) tables has.stored;
+        rows = each pages (HoldsAnyRows pages) (λ table is. holds_rows pages table.key table is.levels is.rows is.stored) tables has.stored;
+        fit = each pages (λ table rows. All (Fits table) rows) (λ table is. rows_fit pages table.key table is.levels is.rows is.stored) tables has.stored;
       };
       stored = each pages (IsStoredAs pages) (λ table is. record { stored = is; rows_are = refl }) tables has.stored;
     }

@@ -14,7 +14,7 @@ use Rattle.table_walk.specs.Checked.{HasCheckedTable, IsTableFault, tree_of}
 use Rattle.table_walk.specs.Walked.{IsWalkFault}
 use Rattle.primary_walk.specs.Checked.{HasCheckedPrimary, IsPrimaryFailure, IsPrimaryWalkFault}
 use Rattle.index_rows.specs.Checked.{IsCheckedBy}
-use Rattle.index_rows.specs.Rows.{kind_of}
+use Rattle.stored_tables.specs.Tables.{kind_of}
 use Rattle.integrity.specs.Tables.{IsAnyBroken, IsAnyChecked, IsBrokenBy, any_tree}
 
 -- the tree of a table whose rows are found so

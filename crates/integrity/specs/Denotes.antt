@@ -9,7 +9,8 @@ use Rattle.indexes.specs.IndexData.{IndexData}
 use Rattle.catalog.specs.CatalogData.{CatalogData}
 use Rattle.catalog.specs.Says.{IsCatalog}
 use Rattle.stored_rows.specs.Stored.{Fits, HoldsRows}
-use Rattle.integrity.specs.Tables.{HoldsAnyRows, IsAnyStored}
+use Rattle.stored_tables.specs.Tables.{IsAnyStored}
+use Rattle.integrity.specs.Tables.{HoldsAnyRows}
 
 -- the schema's own table has these rows, whose values are of its columns, and they say this catalog
 pub record HasCatalog (pages : Pages) (rows : List Row) (catalog : CatalogData) : Type 0 where
