@@ -9,7 +9,7 @@ use Rattle.order_keys.specs.KeyView.{key_of}
 use Rattle.order_keys.specs.declared.terms.Key as written
 use Rattle.plan_terms.specs.Over.{IsOver}
 use Rattle.query_plans.specs.Made.{KeyStandsOver}
-use Rattle.query_plans.proofs.ReadLemmas.{contains_flat}
+use Rattle.select_plans.proofs.ReadLemmas.{contains_flat}
 use Rattle.sorted_results.specs.KeyView.{key_data}
 use Rattle.sorted_results.specs.declared.keys.Key as made
 

@@ -1,11 +1,10 @@
-pub mod ReadLemmas
 pub mod TypedLemmas
 pub mod WideLemmas
-pub mod BaseLemmas
 pub mod MadeLemmas
 pub mod OverLemmas
 pub mod ServedLemmas
 pub mod KeyLemmas
 pub mod DistinctLemmas
 pub mod ScanLemmas
+pub mod JoinedLemmas
 pub mod QueryLemmas

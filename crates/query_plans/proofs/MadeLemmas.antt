@@ -1,5 +1,5 @@
 -- What a plan answers the query permits, and what it reaches the query can reach.
-use Rattle.std.proofs.Common.{◌≡◌, ◌∙◌, ◌⊎◌, inl, inr, ℕ, ℤ, false, List, [], ◌∷◌, ◌++◌, append-nil, map, Option, refl, sym, ap, subst}
+use Rattle.std.proofs.Common.{◌≡◌, ◌∙◌, ◌⊎◌, ℕ, ℤ, false, List, [], ◌∷◌, ◌++◌, append-nil, map, Option, refl, sym, ap, subst}
 use Rattle.std.specs.List.{AllZip}
 use Rattle.std.proofs.lemmas.List.Elements.{All-head, All-tail}
 use Rattle.values.specs.Database.{Database}
@@ -18,22 +18,19 @@ use Rattle.plans.specs.JoinPlan.{AreWideBefore}
 use Rattle.plans.specs.Plan.{PlanData}
 use Rattle.distinct_results.specs.Permitted.{AreResults, IsResult}
 use Rattle.distinct_results.proofs.PermittedLemmas as once
-use Rattle.query_plans.specs.Answers.{IsAnswerOf, IsPlanFor, PlanReaches, PlannedData, columns, distinct, rows, sorted, sorted_distinct}
-use Rattle.query_plans.proofs.BaseLemmas.{IsBase, base_of}
-use Rattle.query_plans.specs.Made.{IsBare, IsMade, IsMadeOver, KeyStandsOver, KeyTermStandsOver}
+use Rattle.query_plans.specs.Answers.{IsAnswerOf, IsPlanFor, PlannedData, columns, compound, distinct, rows, sorted, sorted_distinct}
+use Rattle.query_plans.specs.Made.{IsBare, IsMade, KeyStandsOver, KeyTermStandsOver}
 use Rattle.results.specs.Permitted.{SaysOf, SeesRows, computed_rows}
 use Rattle.results.proofs.PermittedLemmas as results
+use Rattle.select_plans.specs.Laws.{PlanReaches, of_select}
+use Rattle.select_plans.specs.Made.{IsMadeOver}
+use Rattle.select_plans.specs.Served.{HasServedForm}
+use Rattle.select_plans.proofs.BaseLemmas.{IsBase}
+use Rattle.select_plans.proofs.MadeLemmas.{made_base, made_is_hit, zip_append}
 use Rattle.sorted_results.specs.Permitted.{IsKeyOver, KeySaysOf}
 use Rattle.sorted_results.proofs.PermittedLemmas as ordered
 use Rattle.table_plans.specs.Input.{input_from}
-use Rattle.table_plans.specs.TableJoins.{AreTableJoins}
 use Rattle.table_plans.specs.declared.inputs.Input.{Input}
-
-zip_append : {A B : Type 0} (R : A → B → Type 0) (xs us : List A) (ys vs : List B) → AllZip R xs ys → AllZip R us vs → AllZip R (xs ++ us) (ys ++ vs)
-zip_append R [] us [] vs left right = right
-zip_append R [] us (y ∷ ys) vs left right = absurd left
-zip_append R (x ∷ xs) us [] vs left right = absurd left
-zip_append R (x ∷ xs) us (y ∷ ys) vs left right = (left.0, zip_append R xs us ys vs left.1 right)
 
 -- the expressions of ORDER BY stand for its terms
 order_stands : (read : List ℕ) (keys order : List Key) → AllZip (KeyStandsOver read) keys order → AllZip (StandsOver read 0) (order_terms keys) (order_terms order)
@@ -89,33 +86,18 @@ module _ (w : Datum) (db : Database) (from : From) (s : Select) (shown : List �
   abbrev has_rows : (es : List Term) → AllZip (StandsOver shown 0) es s.columns → SeesRows w db from s plan es
   has_rows es stand = record { seen = base.seen; rows_are = base.rows_are; columns_are = say_all es s.columns stand }
 
-  -- what the plan or these expressions on its rows reach
-  reached : (terms es us : List Term) → AllZip (StandsOver shown 0) es s.columns → AllZip (StandsOver shown 0) us terms → PlanReaches w db plan (es ++ us)
-      → FromHits w db answers from false ⊎ SelectHits w db from s terms
-  reached terms es us columns_are stand (inl hits) = base.plan_hits terms hits
-  reached terms es us columns_are stand (inr hits) =
-      inr (base.column_hits terms (es ++ us) (zip_append (StandsOver shown 0) es us s.columns terms columns_are stand) hits)
-
-module _ (input : Input) (inner : AreTableJoins (input_from input)) (s : Select) (windowless : s.windows ≡ []) (order : List Key) (limit : Option ℤ) (offset : ℤ) where
+module _ (input : Input) (s : Select) (form : HasServedForm (input_from input) s) (order : List Key) (limit : Option ℤ) (offset : ℤ) where
   abbrev query : QueryData
-  query = record { body = select (input_from input) s; order = order; limit = limit; offset = offset }
-
-  base : (w : Datum) (db : Database) (plan : PlanData) (es : List Term) → AreWideBefore db (input_from input) → (made : IsMadeOver input s order plan es)
-      → IsBase w db (input_from input) s made.columns plan
-  base w db plan es wide made = base_of w db s input inner wide windowless made.read made.below made.below_is made.columns plan made.rows_are
-
-  abbrev sees : (w : Datum) (db : Database) (plan : PlanData) (es : List Term) → AreWideBefore db (input_from input) → IsMadeOver input s order plan es
-      → SeesRows w db (input_from input) s plan es
-  sees w db plan es wide made = has_rows w db (input_from input) s made.columns plan (base w db plan es wide made) es made.columns_are
+  query = of_select (input_from input) s order limit offset
 
   -- what ON reaches, or the expressions of the SELECT
   abbrev IsHit : Datum → Database → List Term → Type 0
   IsHit w db terms = FromHits w db (answers_in w db (input_from input)) (input_from input) false ⊎ SelectHits w db (input_from input) s terms
 
-  reaches : (w : Datum) (db : Database) (terms es us : List Term) (plan : PlanData) → AreWideBefore db (input_from input)
-      → (made : IsMadeOver input s order plan es) → AllZip (StandsOver made.columns 0) us terms → PlanReaches w db plan (es ++ us) → IsHit w db terms
-  reaches w db terms es us plan wide made stand hits =
-      reached w db (input_from input) s made.columns plan (base w db plan es wide made) terms es us made.columns_are stand hits
+  abbrev sees : (w : Datum) (db : Database) (plan : PlanData) (es : List Term) → AreWideBefore db (input_from input) → IsMadeOver input s order plan es
+      → SeesRows w db (input_from input) s plan es
+  sees w db plan es wide made =
+      has_rows w db (input_from input) s made.columns plan (made_base w db input s order plan es form wide made) es made.columns_are
 
   scan_permits : (w : Datum) (db : Database) (at width : ℕ) (places : List ℕ) (answer : List Row) → input_from input ≡ only (table at width) → IsBare s order limit offset
       → s.columns ≡ map column places → IsAnswerOf w db (columns at places) answer → Permits w db query answer
@@ -124,7 +106,7 @@ module _ (input : Input) (inner : AreTableJoins (input_from input)) (s : Select)
         body = select (sym from_is i) (record {
           condition = sym bare.condition i;
           grouping = sym bare.ungrouped i;
-          windows = sym windowless i;
+          windows = sym form.windowless i;
           columns = sym columns_are i;
           distinct = sym bare.all i;
         });
@@ -139,7 +121,8 @@ module _ (input : Input) (inner : AreTableJoins (input_from input)) (s : Select)
   result_reaches : (w : Datum) (db : Database) (es : List Term) (plan : PlanData) → AreWideBefore db (input_from input) → IsMadeOver input s order plan es
       → order_terms order ≡ [] → PlanReaches w db plan es → IsHit w db (order_terms order)
   result_reaches w db es plan wide made none hits =
-      subst (IsHit w db) (sym none) (reaches w db [] es [] plan wide made tt (subst (PlanReaches w db plan) (sym (append-nil es)) hits))
+      subst (IsHit w db) (sym none)
+      (made_is_hit w db input s order [] plan es [] form wide made tt (subst (PlanReaches w db plan) (sym (append-nil es)) hits))
 
   pub made_is_plan : (p : PlannedData) → IsMade input s order limit offset p → IsPlanFor query p
   made_is_plan (columns at places) made = record {
@@ -162,13 +145,15 @@ module _ (input : Input) (inner : AreTableJoins (input_from input)) (s : Select)
         (record { body = refl; all = made.all })
         (record {
           sees = sees w db selection.plan selection.columns wide made.made;
-          order = keys_say w db (input_from input) s made.made.columns selection.plan (base w db selection.plan selection.columns wide made.made) selection.order order made.order_is;
+          order =
+              keys_say w db (input_from input) s made.made.columns selection.plan
+              (made_base w db input s order selection.plan selection.columns form wide made.made) selection.order order made.order_is;
           limit = made.limit_is;
           offset = made.offset_is;
         })
         is;
     hits = λ w db wide hits.
-        reaches w db (order_terms order) selection.columns (order_terms selection.order) selection.plan wide made.made
+        made_is_hit w db input s order (order_terms order) selection.plan selection.columns (order_terms selection.order) form wide made.made
         (order_stands made.made.columns selection.order order made.order_is) hits;
   }
   made_is_plan (distinct selection) made = record {
@@ -194,3 +179,4 @@ module _ (input : Input) (inner : AreTableJoins (input_from input)) (s : Select)
         is;
     hits = λ w db wide hits. result_reaches w db selection.columns selection.plan wide made.made (no_terms order made.results) hits;
   }
+  made_is_plan (compound joined) made = absurd made

@@ -1,117 +1,26 @@
--- The parts of a plan, over what is read.
-use Rattle.std.proofs.Common.{◌≡◌, ◌∙◌, All, ℕ, ℤ, List, [], ◌∷◌, ◌++◌, map, MatchOption, Option, Some, None, ap, sym, subst}
+-- From the plan of a SELECT to that of a query.
+use Rattle.std.proofs.Common.{◌≡◌, ◌∙◌, ℤ, IfOk, MatchOption, List, Option, Some, None, Result, Ok, Err, ap, sym, subst}
 use Rattle.std.specs.Prelude.{⊤}
-use Rattle.std.specs.List.{AllZip}
-use Rattle.std.specs.List.Sorted.{IsStrictlyIncreasing}
-use Rattle.std.proofs.lemmas.List.Elements.{All-cons, All-head, All-nil, All-tail}
-use Rattle.expr.specs.Term.{Term}
-use Rattle.meaning.specs.Hits.{order_terms}
-use Rattle.group_plans.specs.Grouped.{group_columns}
-use Rattle.meaning.specs.Query.{Aggregate, From, Grouping, Key, QueryData, Select, select}
+use Rattle.meaning.specs.Query.{From, Key, QueryData, Select, select}
 use Rattle.meaning.specs.Typed.{IsTyped}
-use Rattle.plan_terms.specs.Over.{IsOver, StandsOver}
-use Rattle.plan_terms.proofs.PlacedLemmas.{All-back, All-front}
-use Rattle.plans.specs.Plan.{PlanData}
 use Rattle.query_plans.specs.Answers.{IsPlanFor, IsPlannedOver, PlannedData, planned_data}
+use Rattle.query_plans.specs.Made.{IsMade}
+use Rattle.query_plans.specs.Served.{IsServed}
 use Rattle.query_plans.specs.declared.planned.Planned.{Planned}
-use Rattle.query_plans.specs.Made.{IsMade, IsMadeOver, IsOverRows, StandsOverRows}
-use Rattle.query_plans.specs.Read.{AreRead, row_terms, select_terms, terms_in}
-use Rattle.query_plans.specs.Served.{AreOfGroups, IsServed}
 use Rattle.query_plans.proofs.MadeLemmas.{made_is_plan}
 use Rattle.query_plans.proofs.OverLemmas.{made_over}
-use Rattle.query_plans.proofs.ReadLemmas.{all_over}
+use Rattle.select_plans.specs.Laws.{of_select}
+use Rattle.select_plans.specs.Served.{HasServedForm}
 use Rattle.tables.specs.ColumnTypes.{column_types}
 use Rattle.tables.specs.TableData.{TableData}
 use Rattle.table_plans.specs.Input.{input_from}
 use Rattle.table_plans.specs.declared.inputs.Input.{Input}
-use Rattle.table_plans.specs.TableJoins.{AreTableJoins}
-use Rattle.table_plans.specs.Parted.{AreParted}
-use Rattle.table_plans.specs.Planned.{AreOnOver, IsPlanOver, on_terms}
-use Rattle.table_plans.proofs.OnLemmas.{on_is_over}
-use Rattle.table_plans.proofs.PartLemmas.{columns_are_parted}
-
-arguments_over : (read : List ℕ) (aggregates : List Aggregate) → All (IsOver read 0) (map (λ (a : Aggregate). a.argument) aggregates)
-    → All (λ (a : Aggregate). IsOver read 0 a.argument) aggregates
-arguments_over read [] all = All-nil (λ (a : Aggregate). IsOver read 0 a.argument)
-arguments_over read (a ∷ aggregates) all =
-    All-cons (λ (a : Aggregate). IsOver read 0 a.argument) a aggregates
-    (All-head (IsOver read 0) a.argument (map (λ (a : Aggregate). a.argument) aggregates) all)
-    (arguments_over read aggregates (All-tail (IsOver read 0) a.argument (map (λ (a : Aggregate). a.argument) aggregates) all))
-
-module _ (from : From) (s : Select) (order : List Key) (read : List ℕ) (are : AreRead read (terms_in from s order)) (slice : List ℕ) (same : slice ≡ read) where
-  all : All (IsOver slice 0) (terms_in from s order)
-  all = subst (λ r. All (IsOver r 0) (terms_in from s order)) (sym same) (all_over read (terms_in from s order) are)
-
-  over : All (IsOver slice 0) (select_terms s order)
-  over = All-front (IsOver slice 0) (select_terms s order) (on_terms from) all
-
-  abbrev computed : List Term
-  computed = s.columns ++ order_terms order
-
-  behind : All (IsOver slice 0) (row_terms s.grouping computed)
-  behind = All-tail (IsOver slice 0) s.condition (row_terms s.grouping computed) over
-
-  pub condition_over : IsOver slice 0 s.condition
-  condition_over = All-head (IsOver slice 0) s.condition (row_terms s.grouping computed) over
-
-  -- groups of rows stand over what is read
-  pub groups_over : AreOfGroups s.grouping computed → StandsOverRows slice s.grouping
-  groups_over of = by_groups s.grouping behind of
-    where
-      by_groups : (grouping : Option Grouping) → All (IsOver slice 0) (row_terms grouping computed) → AreOfGroups grouping computed → StandsOverRows slice grouping
-      by_groups None below of = tt
-      by_groups (Some g) below of = record {
-        by = All-front (IsOver slice 0) g.by (map (λ (a : Aggregate). a.argument) g.aggregates) below;
-        aggregates = arguments_over slice g.aggregates (All-back (IsOver slice 0) g.by (map (λ (a : Aggregate). a.argument) g.aggregates) below);
-        having = All-head (IsOver (group_columns g) 0) g.having computed of;
-      }
-
-  -- result columns and the terms of ORDER BY stand over the rows that they are computed on
-  computed_over : (columns other : List ℕ) (below plan : PlanData) → IsOverRows slice s.grouping below columns plan → other ≡ columns
-      → AreOfGroups s.grouping computed → All (IsOver other 0) computed
-  computed_over columns other below plan rows is of =
-      subst (λ cs. All (IsOver cs 0) computed) (sym is) (by_groups s.grouping behind rows of)
-    where
-      by_groups : (grouping : Option Grouping) → All (IsOver slice 0) (row_terms grouping computed) → IsOverRows slice grouping below columns plan
-          → AreOfGroups grouping computed → All (IsOver columns 0) computed
-      by_groups None terms rows of = subst (λ cs. All (IsOver cs 0) computed) (sym rows.0) terms
-      by_groups (Some g) terms rows of = subst (λ cs. All (IsOver cs 0) computed) (sym rows.0) (All-tail (IsOver (group_columns g) 0) g.having computed of)
-
-  pub columns_over : (columns other : List ℕ) (below plan : PlanData) → IsOverRows slice s.grouping below columns plan → other ≡ columns
-      → AreOfGroups s.grouping computed → All (IsOver other 0) s.columns
-  columns_over columns other below plan rows is of = All-front (IsOver other 0) s.columns (order_terms order) (computed_over columns other below plan rows is of)
-
-  pub order_over : (columns other : List ℕ) (below plan : PlanData) → IsOverRows slice s.grouping below columns plan → other ≡ columns
-      → AreOfGroups s.grouping computed → All (IsOver other 0) (order_terms order)
-  order_over columns other below plan rows is of = All-back (IsOver other 0) s.columns (order_terms order) (computed_over columns other below plan rows is of)
-
-  pub joins_over : AreTableJoins from → AreOnOver slice from
-  joins_over inner = on_is_over from slice inner (All-back (IsOver slice 0) (select_terms s order) (on_terms from) all)
-
-pub joins_parted : (from : From) (read slice : List ℕ) → IsStrictlyIncreasing read → slice ≡ read → AreParted from slice
-joins_parted from read slice up same = subst (AreParted from) (sym same) (columns_are_parted from read up)
-
-unfoldable pub made_of : (input : Input) (s : Select) (order : List Key) (read slice : List ℕ) (below : PlanData) (columns other : List ℕ) (plan : PlanData) (es : List Term)
-    → AreRead read (terms_in (input_from input) s order) → slice ≡ read → IsPlanOver input slice s.condition below → IsOverRows read s.grouping below columns plan
-    → other ≡ columns → AllZip (StandsOver other 0) es s.columns → IsMadeOver input s order plan es
-made_of input s order read slice below columns other plan es are first planned over second stand = record {
-  read = read;
-  are_read = are;
-  below = below;
-  below_is = subst (λ r. IsPlanOver input r s.condition below) first planned;
-  columns = columns;
-  rows_are = over;
-  columns_are = subst (λ cs. AllZip (StandsOver cs 0) es s.columns) second stand;
-}
 
 -- the plan of a query's SELECT is one of the query
 module _ (query : QueryData) (from : From) (s : Select) (input : Input) (order : List Key) (limit : Option ℤ) (offset : ℤ) (p : PlannedData)
     (body : query.body ≡ select from s) (from_is : from ≡ input_from input) (order_is : order ≡ query.order) (limit_is : limit ≡ query.limit)
-    (offset_is : offset ≡ query.offset) (windowless : s.windows ≡ []) (inner : AreTableJoins (input_from input)) (made : IsMade input s order limit offset p) where
-  abbrev of_select : QueryData
-  of_select = record { body = select (input_from input) s; order = order; limit = limit; offset = offset }
-
-  same : of_select ≡ query
+    (offset_is : offset ≡ query.offset) (form : HasServedForm (input_from input) s) (made : IsMade input s order limit offset p) where
+  same : of_select (input_from input) s order limit offset ≡ query
   same = λ i. record {
     body = (ap (λ f. select f s) (sym from_is) ∙ sym body) i;
     order = order_is i;
@@ -120,10 +29,10 @@ module _ (query : QueryData) (from : From) (s : Select) (input : Input) (order :
   }
 
   pub is_plan : IsPlanFor query p
-  is_plan = subst (λ (q : QueryData). IsPlanFor q p) same (made_is_plan input inner s windowless order limit offset p made)
+  is_plan = subst (λ (q : QueryData). IsPlanFor q p) same (made_is_plan input s form order limit offset p made)
 
   pub is_over : (tables : List TableData) → IsTyped (column_types tables) query → IsPlannedOver tables p
-  is_over tables typed = made_over tables s windowless order limit offset input p inner made (subst (IsTyped (column_types tables)) (sym same) typed)
+  is_over tables typed = made_over tables input s form order limit offset p made (subst (IsTyped (column_types tables)) (sym same) typed)
 
 -- the plan of a SELECT, or none
 pub told_plan : (q : QueryData) (Made : PlannedData → Type 0) (P : Type 0) (planned : Option Planned) → (¬ P → ¬ IsServed q)
@@ -136,3 +45,10 @@ pub told_over : (Made Over : PlannedData → Type 0) (P : Type 0) (planned : Opt
     → MatchOption planned (¬ P) (λ p. Made (planned_data p)) → MatchOption planned ⊤ (λ p. Over (planned_data p))
 told_over Made Over P None made tells = tt
 told_over Made Over P (Some p) made tells = made (planned_data p) tells
+
+-- what is made in one way is made in another, and there is none where more is wanted
+pub told_less : {E : Type 0} (Made Other : PlannedData → Type 0) (P More : Type 0) → (More → P) → ((p : PlannedData) → Made p → Other p) → (found : Result (Option Planned) E)
+    → IfOk found (λ planned. MatchOption planned (¬ P) (λ p. Made (planned_data p))) → IfOk found (λ planned. MatchOption planned (¬ More) (λ p. Other (planned_data p)))
+told_less Made Other P More weaker change (Ok None) tells = λ more. tells (weaker more)
+told_less Made Other P More weaker change (Ok (Some p)) tells = change (planned_data p) tells
+told_less Made Other P More weaker change (Err e) tells = tt

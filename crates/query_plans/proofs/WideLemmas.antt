@@ -39,7 +39,8 @@ module _ (catalog : List (List Ty)) (db : Database) (fits : Fits catalog db) whe
 
   body_wide : (body : Body) (types : List Ty) → BodyHasTypes catalog body types → AreWideFor db body
   body_wide (select from s) types typed = wide_before db from (from_wide from typed.0 typed.1 typed.3)
-  body_wide (compound body operator from s) types typed = tt
+  body_wide (compound body operator from s) types typed =
+      let last = typed.1 in (body_wide body types typed.0, wide_before db from (from_wide from last.0 last.1 last.3))
 
   pub typed_wide : (query : QueryData) → IsTyped catalog query → AreWideFor db query.body
   typed_wide query typed = body_wide query.body typed.0 typed.1.body

@@ -1,32 +1,35 @@
 -- What a plan answers, what it may ask for and what it reaches. (SELECT)
-use Rattle.std.specs.Prelude.{◌≡◌, ◌⊎◌, ◌++◌, ⊤, false, Any, ℕ, List, [], map}
+use Rattle.std.specs.Prelude.{◌≡◌, ◌++◌, false, ℕ, List, [], map}
 use Rattle.values.specs.Database.{Database}
 use Rattle.values.specs.Datum.{Datum}
 use Rattle.values.specs.Row.{Row}
-use Rattle.expr.specs.Term.{Term}
 use Rattle.meaning.specs.Answer.{Permits}
 use Rattle.meaning.specs.Hits as meaning
 use Rattle.meaning.specs.Hits.{order_terms}
 use Rattle.meaning.specs.OneTable.{shown}
-use Rattle.meaning.specs.Query.{Body, QueryData, compound, select}
+use Rattle.meaning.specs.Query.{Body, QueryData}
 use Rattle.plans.specs.JoinPlan.{AreWideBefore}
-use Rattle.plans.specs.Plan.{Hits, PlanData, Reaches, rows_of, table_rows, table_size, work}
+use Rattle.plans.specs.Plan.{table_rows, table_size, work}
 use Rattle.tables.specs.TableData.{TableData}
 use Rattle.operators.specs.Left.{IsNestOf, IsPlanOf}
 use Rattle.results.specs.Coming.{SelectionData, answer_of, selection_data}
 use Rattle.sorted_results.specs.Sorted.{IsSortedAnswer, SortedData, sorted_data}
 use Rattle.distinct_results.specs.Coming.{distinct_answer_of}
 use Rattle.distinct_results.specs.Sorted.{IsSortedDistinctAnswer, sorted_distinct_data}
+use Rattle.compound_results.specs.Arms.{ArePlannedOver, ArmsHit, work_of_arms}
+use Rattle.compound_results.specs.Compounds.{CompoundData, IsCompoundAnswer, compound_data}
+use Rattle.select_plans.specs.Laws.{PlanReaches}
 use Rattle.query_plans.specs.declared.planned.Planned.{Planned}
 use Rattle.query_plans.specs.declared.planned.Planned.TheVariants as p
 
--- these columns of each row of a table; rows in no order; rows in order; and these two, each row once
+-- these columns of each row of a table; rows in no order; rows in order; and these two, each row once; rows of SELECTs that are joined
 pub data PlannedData : Type 0 where
   columns : ℕ → List ℕ → PlannedData
   rows : SelectionData → PlannedData
   sorted : SortedData → PlannedData
   distinct : SelectionData → PlannedData
   sorted_distinct : SortedData → PlannedData
+  compound : CompoundData → PlannedData
 
 abbrev pub planned_data : Planned → PlannedData
 planned_data (p.Columns at places) = columns at places.items
@@ -34,6 +37,7 @@ planned_data (p.Rows selection) = rows (selection_data selection)
 planned_data (p.Sorted selection) = sorted (sorted_data selection)
 planned_data (p.Distinct selection) = distinct (selection_data selection)
 planned_data (p.SortedDistinct selection) = sorted_distinct (sorted_distinct_data selection)
+planned_data (p.Compound joined) = compound (compound_data joined)
 
 -- the lists of rows that a plan may answer
 abbrev pub IsAnswerOf : Datum → Database → PlannedData → List Row → Type 0
@@ -42,6 +46,7 @@ IsAnswerOf w db (rows selection) answer = answer ≡ answer_of w db selection
 IsAnswerOf w db (sorted selection) answer = IsSortedAnswer w db selection answer
 IsAnswerOf w db (distinct selection) answer = answer ≡ distinct_answer_of w db selection
 IsAnswerOf w db (sorted_distinct selection) answer = IsSortedDistinctAnswer w db selection answer
+IsAnswerOf w db (compound joined) answer = IsCompoundAnswer w db joined answer
 
 -- how many pages it may ask for, where the trees of the tables have so many
 abbrev pub work_of : Datum → Database → List ℕ → PlannedData → ℕ
@@ -50,23 +55,22 @@ work_of w db sizes (rows selection) = work w db sizes selection.plan
 work_of w db sizes (sorted selection) = work w db sizes selection.plan
 work_of w db sizes (distinct selection) = work w db sizes selection.plan
 work_of w db sizes (sorted_distinct selection) = work w db sizes selection.plan
+work_of w db sizes (compound joined) = work_of_arms w db sizes joined.arms
 
--- the conditions of a plan, or these terms on one of its rows, reach an operation out of range
-abbrev pub PlanReaches : Datum → Database → PlanData → List Term → Type 0
-PlanReaches w db plan terms = Hits w db plan ⊎ Any (Reaches terms) (rows_of w db plan)
-
+-- what is run reaches an operation out of range
 abbrev pub HitsOf : Datum → Database → PlannedData → Type 0
 HitsOf w db (columns at places) = ⊥
 HitsOf w db (rows selection) = PlanReaches w db selection.plan selection.columns
 HitsOf w db (sorted selection) = PlanReaches w db selection.plan (selection.columns ++ order_terms selection.order)
 HitsOf w db (distinct selection) = PlanReaches w db selection.plan selection.columns
 HitsOf w db (sorted_distinct selection) = PlanReaches w db selection.plan selection.columns
+HitsOf w db (compound joined) = ArmsHit w db joined.arms
 
--- The rows of each table that another source of the SELECT stands behind have as many values as it has columns. Of one table
--- alone, and of several SELECTs, this says nothing.
+-- The rows of each table that another source of its SELECT stands behind have as many values as it has columns. Of a SELECT of one
+-- table alone this says nothing.
 abbrev pub AreWideFor : Database → Body → Type 0
-AreWideFor db (select from s) = AreWideBefore db from
-AreWideFor db (compound body operator from s) = ⊤
+AreWideFor db (Body.select from s) = AreWideBefore db from
+AreWideFor db (Body.compound body operator from s) = AreWideFor db body × AreWideBefore db from
 
 -- what it answers the query permits, and what it reaches the query can reach
 pub record IsPlanFor (query : QueryData) (planned : PlannedData) : Type 0 where
@@ -80,3 +84,4 @@ IsPlannedOver tables (rows selection) = IsPlanOf tables selection.plan
 IsPlannedOver tables (sorted selection) = IsPlanOf tables selection.plan
 IsPlannedOver tables (distinct selection) = IsPlanOf tables selection.plan
 IsPlannedOver tables (sorted_distinct selection) = IsPlanOf tables selection.plan
+IsPlannedOver tables (compound joined) = ArePlannedOver tables joined.arms

@@ -1,11 +1,10 @@
 -- Which typed queries are served.
-use Rattle.std.specs.Prelude.{◌≡◌, List, []}
+use Rattle.std.specs.Prelude.{List}
 use Rattle.values.specs.declared.value.Ty.{Ty}
-use Rattle.meaning.specs.Query.{From, QueryData, Select, select}
+use Rattle.meaning.specs.Query.{QueryData}
 use Rattle.meaning.specs.Typed.{IsTyped}
-use Rattle.query_plans.specs.Served.{IsServed, IsServedFrom}
+use Rattle.query_plans.specs.Served.{HaveServedForm, IsServed}
 
--- one SELECT of tables that are joined by inner and LEFT joins, or of none, without windows
+-- those of which each SELECT stands on tables that are joined by inner and LEFT joins, or on none, and has no windows
 abbrev pub TypedIsServed : Type 0
-TypedIsServed = (catalog : List (List Ty)) (query : QueryData) (from : From) (s : Select) → IsTyped catalog query → query.body ≡ select from s
-    → IsServedFrom from → s.windows ≡ [] → IsServed query
+TypedIsServed = (catalog : List (List Ty)) (query : QueryData) → IsTyped catalog query → HaveServedForm query.body → IsServed query

@@ -1,5 +1,4 @@
 pub mod Answers
 pub mod Served
-pub mod Read
 pub mod Made
 pub mod Laws

@@ -1,19 +1,20 @@
--- How a plan is made of a SELECT that stands on tables that are joined by inner and LEFT joins, or on none.
-use Rattle.std.specs.Prelude.{◌≡◌, ⊤, ℕ, ℤ, pos, false, true, List, [], map, Option, Some, None}
+-- How a plan is made of a query: of a SELECT that stands on tables that are joined by inner and LEFT joins or on none, or of several
+-- that operators join.
+use Rattle.std.specs.Prelude.{◌≡◌, ℕ, ℤ, pos, false, true, List, [], map, Option, None}
 use Rattle.std.specs.List.{AllZip}
-use Rattle.expr.specs.Term.{Term, column}
-use Rattle.group_plans.specs.Grouped.{IsGroupedOver, IsOverGroups, group_columns}
-use Rattle.meaning.specs.Query.{Grouping, Key, KeyTerm, Select, always, only, table}
-use Rattle.plan_terms.specs.Over.{StandsOver}
-use Rattle.plans.specs.Plan.{PlanData}
+use Rattle.expr.specs.Term.{column}
+use Rattle.compound_plans.specs.Arms.{IsArmFor}
+use Rattle.compound_results.specs.Compounds.{CompoundData}
+use Rattle.compound_results.specs.Permitted.{AreArmsOf}
 use Rattle.distinct_results.specs.Permitted.{AreResults}
-use Rattle.query_plans.specs.Answers.{PlannedData, columns, distinct, rows, sorted, sorted_distinct}
-use Rattle.query_plans.specs.Read.{AreRead, terms_in}
+use Rattle.meaning.specs.Query.{Key, KeyTerm, QueryData, Select, always, only, table}
+use Rattle.plan_terms.specs.Over.{StandsOver}
+use Rattle.query_plans.specs.Answers.{PlannedData, columns, compound, distinct, rows, sorted, sorted_distinct}
 use Rattle.results.specs.Coming.{SelectionData}
+use Rattle.select_plans.specs.Made.{IsMadeOver}
 use Rattle.sorted_results.specs.Sorted.{SortedData}
 use Rattle.table_plans.specs.declared.inputs.Input.{Input}
 use Rattle.table_plans.specs.Input.{input_from}
-use Rattle.table_plans.specs.Planned.{IsPlanOver}
 
 -- a SELECT that keeps each row, in no order, without groups, DISTINCT, LIMIT and OFFSET
 pub record IsBare (s : Select) (order : List Key) (limit : Option ℤ) (offset : ℤ) : Type 0 where
@@ -34,27 +35,6 @@ KeyTermStandsOver read (KeyTerm.term e) (KeyTerm.term t) = StandsOver read 0 e t
 pub record KeyStandsOver (read : List ℕ) (key whole : Key) : Type 0 where
   pub by : KeyTermStandsOver read key.by whole.by
   pub direction : key.direction ≡ whole.direction
-
--- the terms of groups, where there are some, stand over the columns that are read of the rows below
-abbrev pub StandsOverRows : List ℕ → Option Grouping → Type 0
-StandsOverRows read None = ⊤
-StandsOverRows read (Some g) = IsOverGroups read 0 g
-
--- over a plan of which these columns are read, the plan of the rows that result columns are computed on, and the columns of these:
--- it is the same, or that of groups that HAVING keeps
-abbrev pub IsOverRows : List ℕ → Option Grouping → PlanData → List ℕ → PlanData → Type 0
-IsOverRows read None below known plan = (known ≡ read) × (plan ≡ below)
-IsOverRows read (Some g) below known plan = (known ≡ group_columns g) × IsGroupedOver read 0 g below plan
-
--- a plan of FROM and WHERE, one of the rows that result columns are computed on over it, and result columns over these
-pub record IsMadeOver (input : Input) (s : Select) (order : List Key) (plan : PlanData) (es : List Term) : Type 0 where
-  pub read : List ℕ
-  pub are_read : AreRead read (terms_in (input_from input) s order)
-  pub below : PlanData
-  pub below_is : IsPlanOver input read s.condition below
-  pub columns : List ℕ
-  pub rows_are : IsOverRows read s.grouping below columns plan
-  pub columns_are : AllZip (StandsOver columns 0) es s.columns
 
 -- these columns of each row of the table
 pub record IsScanned (input : Input) (s : Select) (order : List Key) (limit : Option ℤ) (offset : ℤ) (at : ℕ) (places : List ℕ) : Type 0 where
@@ -102,3 +82,12 @@ IsMade input s order limit offset (rows selection) = IsSelected input s order li
 IsMade input s order limit offset (sorted selection) = IsPutInOrder input s order limit offset selection
 IsMade input s order limit offset (distinct selection) = IsSelectedOnce input s order limit offset selection
 IsMade input s order limit offset (sorted_distinct selection) = IsPutInOrderOnce input s order limit offset selection
+IsMade input s order limit offset (compound joined) = ⊥
+
+-- rows of SELECTs that are joined, a plan in the place of each
+pub record IsJoined (query : QueryData) (joined : CompoundData) : Type 0 where
+  pub arms : AreArmsOf IsArmFor query.body joined.arms
+  pub results : AreResults query.order
+  pub order_is : joined.order ≡ query.order
+  pub limit_is : joined.limit ≡ query.limit
+  pub offset_is : joined.offset ≡ query.offset

@@ -1,29 +1,31 @@
 -- Which queries are served. (SELECT)
-use Rattle.std.specs.Prelude.{◌≡◌, ⊤, All, true, List, [], ◌∷◌, ◌++◌, Option, Some, None}
+use Rattle.std.specs.Prelude.{◌≡◌, true, List}
+use Rattle.compound_plans.specs.Arms.{AreServed}
 use Rattle.distinct_results.specs.Permitted.{AreResults}
-use Rattle.expr.specs.Term.{Term}
-use Rattle.group_plans.specs.Grouped.{group_columns}
 use Rattle.meaning.specs.Hits.{order_terms}
-use Rattle.meaning.specs.Query.{From, Grouping, QueryData, Select, select}
-use Rattle.plan_terms.specs.Over.{IsOver}
-use Rattle.table_plans.specs.TableJoins.{AreTableJoins}
+use Rattle.meaning.specs.Query.{Body, From, Key, QueryData, Select, compound, select}
+use Rattle.select_plans.specs.Served.{HasServedForm, IsServedSelect}
 
--- FROM is tables of the catalog that are joined by inner and LEFT joins, or nothing
-abbrev pub IsServedFrom : From → Type 0
-IsServedFrom from = AreTableJoins from
+-- One SELECT of tables that are joined by inner and LEFT joins or of none, without windows. Over groups, HAVING, the result columns
+-- and ORDER BY name values of a group's row alone; behind DISTINCT, ORDER BY names result columns alone.
+pub record IsServedAlone (order : List Key) (from : From) (s : Select) : Type 0 where
+  pub served : IsServedSelect from s (order_terms order)
+  pub ordered : s.distinct ≡ true → AreResults order
 
--- over groups, HAVING and these terms name values of a group's row alone
-abbrev pub AreOfGroups : Option Grouping → List Term → Type 0
-AreOfGroups None terms = ⊤
-AreOfGroups (Some g) terms = All (IsOver (group_columns g) 0) (g.having ∷ terms)
+-- Several that are joined, each of which is such a SELECT. Behind them, ORDER BY names result columns alone.
+pub record AreServedTogether (order : List Key) (body : Body) : Type 0 where
+  pub each : AreServed body
+  pub ordered : AreResults order
 
--- One SELECT of such tables or of none, without windows. Behind DISTINCT, ORDER BY names result columns alone; over groups, HAVING,
--- the result columns and ORDER BY name values of a group's row alone. Each typed query is so.
-pub record IsServed (query : QueryData) : Type 0 where
-  pub from : From
-  pub s : Select
-  pub body : query.body ≡ select from s
-  pub source : IsServedFrom from
-  pub windowless : s.windows ≡ []
-  pub ordered : s.distinct ≡ true → AreResults query.order
-  pub grouped : AreOfGroups s.grouping (s.columns ++ order_terms query.order)
+abbrev pub IsServedBody : List Key → Body → Type 0
+IsServedBody order (select from s) = IsServedAlone order from s
+IsServedBody order (compound body operator from s) = AreServedTogether order (compound body operator from s)
+
+-- each typed query is so whose SELECTs have this form
+abbrev pub IsServed : QueryData → Type 0
+IsServed query = IsServedBody query.order query.body
+
+-- each SELECT of a body stands on tables that are joined by inner and LEFT joins, or on none, and has no windows
+abbrev pub HaveServedForm : Body → Type 0
+HaveServedForm (select from s) = HasServedForm from s
+HaveServedForm (compound body operator from s) = HaveServedForm body × HasServedForm from s

@@ -7,17 +7,17 @@ ghost use Rattle.meaning.specs.Query as query;
 ghost use Rattle.order_keys.specs.KeyView.{key_of, key_term_of};
 ghost use Rattle.query_plans.specs.Answers.{planned_data};
 ghost use Rattle.query_plans.specs.Made.{IsMade};
-ghost use Rattle.query_plans.specs.Served.{AreOfGroups};
 ghost use Rattle.query_trees.specs.SelectView.{select_of};
+ghost use Rattle.select_plans.specs.Served.{AreOfGroups};
 ghost use Rattle.table_plans.specs.TableJoins.{AreTableJoins};
 ghost use Rattle.table_plans.specs.Input.{input_from};
 
 use crate::Planned;
-use crate::base::base_of;
 use distinct_results::{ResultKey, SortedDistinct};
 use order_keys::{Key, KeyTerm};
 use query_trees::Select;
 use results::Selection;
+use select_plans::base_of;
 use std::alloc::{AllocError, Global};
 use table_plans::Input;
 
@@ -31,9 +31,12 @@ fn result_at(by: &KeyTerm) -> Option<usize>
     }
 }
 
-/// The result columns that ORDER BY names. There are none where it has another term, which behind DISTINCT has no row that it is
-/// computed on.
-fn result_keys(alloc: Global, order: &[Key]) -> Result<Option<Vec<ResultKey>>, AllocError>
+/// The result columns that ORDER BY names. There are none where it has another term, which behind DISTINCT, and behind SELECTs that
+/// are joined, has no row that it is computed on.
+pub(crate) fn result_keys(
+    alloc: Global,
+    order: &[Key],
+) -> Result<Option<Vec<ResultKey>>, AllocError>
     ensures { IfOk result (λ keys. MatchOption keys (¬ AreResults (map key_of order.now))
         (λ keys. AreResults (map key_of order.now) × (map result_key keys.items ≡ map key_of order.now))) }
 {

@@ -1,15 +1,14 @@
-//! What is run for a query. It promises that a plan is made of each query that is served, one SELECT of tables that are joined by
-//! inner and LEFT joins or of none, without windows, as each typed one is; that each answer of the plan is a list that the query permits, whatever
-//! stands for results out of range; that what the plan reaches the query can reach; and that its tables and columns are the
-//! catalog's.
+//! What is run for a query. It promises that a plan is made of each query that is served, one SELECT or several that operators join,
+//! each of tables that are joined by inner and LEFT joins or of none, without windows, as each typed one of that form is; that each
+//! answer of the plan is a list that the query permits, whatever stands for results out of range; that what the plan reaches the query
+//! can reach; and that its tables and columns are the catalog's.
 //!
-//! The modules, in the order in which data passes them: `planned` (plans), `columns` (what a query reads of its table), `base`
-//! (the rows of FROM or of groups, and what is computed on them), `keys` (ORDER BY over what is read), `scans` (columns alone),
-//! `distinct` (SELECT DISTINCT), `queries` (the plan of a query) and `laws` of the definitions.
+//! The modules, in the order in which data passes them: `planned` (plans), `keys` (ORDER BY over what is read), `scans` (columns
+//! alone), `distinct` (SELECT DISTINCT), `compounds` (SELECTs that are joined), `queries` (the plan of a query) and `laws` of the
+//! definitions.
 #![tactic(auto)]
 
-mod base;
-mod columns;
+mod compounds;
 mod distinct;
 mod keys;
 pub mod laws;

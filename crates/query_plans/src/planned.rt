@@ -1,5 +1,6 @@
 //! What is run for a query.
 
+use compound_results::Compound;
 use distinct_results::SortedDistinct;
 use results::Selection;
 use sorted_results::SortedSelection;
@@ -17,4 +18,6 @@ pub enum Planned {
     Distinct(Selection),
     /// Rows in order, each once.
     SortedDistinct(SortedDistinct),
+    /// Rows of SELECTs that operators join.
+    Compound(Compound),
 }

@@ -1,12 +1,14 @@
 //! The plan of a query.
-ghost use Rattle.std.specs.Prelude.{◌≡◌, ◌++◌, IfOk, List, [], MatchBool, MatchOption, false, map, ⊤};
+ghost use Rattle.std.specs.Prelude.{◌≡◌, ◌++◌, IfOk, List, MatchOption, false, map, true, ⊤};
+ghost use Rattle.distinct_results.specs.Permitted.{AreResults};
 ghost use Rattle.meaning.specs.Hits.{order_terms};
 ghost use Rattle.meaning.specs.Typed.{IsTyped};
 ghost use Rattle.order_keys.specs.KeyView.{key_of};
 ghost use Rattle.query_plans.specs.Answers.{IsPlanFor, IsPlannedOver, planned_data};
 ghost use Rattle.query_plans.specs.Made.{IsMade};
-ghost use Rattle.query_plans.specs.Served.{AreOfGroups, IsServed};
+ghost use Rattle.query_plans.specs.Served.{IsServed};
 ghost use Rattle.query_trees.specs.SelectView.{select_of};
+ghost use Rattle.select_plans.specs.Served.{AreOfGroups};
 ghost use Rattle.tables.specs.ColumnTypes.{column_types};
 ghost use Rattle.tables.specs.TableData.{TableData};
 ghost use Rattle.statement_names.specs.NamedView.{query_data};
@@ -14,7 +16,7 @@ ghost use Rattle.table_plans.specs.TableJoins.{AreTableJoins};
 ghost use Rattle.table_plans.specs.Input.{input_from};
 
 use crate::Planned;
-use crate::base::base_of;
+use crate::compounds::compound_of;
 use crate::distinct::distinct_of;
 use crate::keys::keys_over;
 use crate::scans::scan_of;
@@ -22,18 +24,11 @@ use body_trees::Body;
 use order_keys::Key;
 use query_trees::Select;
 use results::Selection;
+use select_plans::{base_of, served_input};
 use sorted_results::SortedSelection;
 use statement_names::Query;
 use std::alloc::{AllocError, Global};
-use table_plans::{Input, input_of};
-
-/// Whether a SELECT has no windows.
-fn is_windowless(select: &Select) -> bool
-    ensures { MatchBool result ((select_of select.now).windows ≡ []) (¬ ((select_of select.now).windows ≡ [])) }
-{
-    let calls = select.windows.as_slice();
-    calls.is_empty()
-}
+use table_plans::Input;
 
 /// The plan of a SELECT without windows and DISTINCT, `None` where over groups something else than the values of a group's row is named.
 fn selection_of(
@@ -100,6 +95,27 @@ fn planned_of(
     }
 }
 
+/// The plan of a SELECT without windows, `None` where behind DISTINCT ORDER BY has a term that is no result column, or where over
+/// groups something else than the values of a group's row is named. (SELECT)
+fn alone_of(
+    alloc: Global,
+    input: &Input,
+    select: &Select,
+    order: &[Key],
+    limit: Option<i64>,
+    offset: i64,
+) -> Result<Option<Planned>, AllocError>
+    requires { AreTableJoins (input_from input.now) }
+    ensures { IfOk result (λ planned. MatchOption planned (¬ (((select_of select.now).distinct ≡ true → AreResults (map key_of order.now))
+        × AreOfGroups (select_of select.now).grouping ((select_of select.now).columns ++ order_terms (map key_of order.now))))
+        (λ p. IsMade input.now (select_of select.now) (map key_of order.now) limit offset (planned_data p))) }
+{
+    if select.distinct {
+        return distinct_of(alloc, input, select, order, limit, offset);
+    }
+    planned_of(alloc, input, select, order, limit, offset)
+}
+
 /// What is run for a query, `None` where it isn't one that is served. (SELECT)
 pub fn plan(alloc: Global, query: &Query) -> Result<Option<Planned>, AllocError>
     ensures plan { IfOk result (λ planned. MatchOption planned (¬ IsServed (query_data query.now))
@@ -109,32 +125,22 @@ pub fn plan(alloc: Global, query: &Query) -> Result<Option<Planned>, AllocError>
 {
     let single = match &query.body {
         Body::Select(single) => single,
-        Body::Compound(_, _, _) => return Ok(None),
+        Body::Compound(_, _, _) => {
+            return match compound_of(alloc, query)? {
+                None => Ok(None),
+                Some(joined) => Ok(Some(Planned::Compound(joined))),
+            };
+        }
     };
-    let input = match input_of(alloc, &single.tables)? {
+    let input = match served_input(alloc, &single.tables, &single.select)? {
         None => return Ok(None),
         Some(input) => input,
     };
-    if !is_windowless(&single.select) {
-        return Ok(None);
-    }
-    let order = query.order.as_slice();
-    if single.select.distinct {
-        let once = distinct_of(
-            alloc,
-            &input,
-            &single.select,
-            order,
-            query.limit,
-            query.offset,
-        )?;
-        return Ok(once);
-    }
-    let planned = planned_of(
+    let planned = alone_of(
         alloc,
         &input,
         &single.select,
-        order,
+        query.order.as_slice(),
         query.limit,
         query.offset,
     )?;

@@ -20,7 +20,7 @@ use Rattle.meaning.proofs.ScanLemmas.{map-identity, windowed-none}
 use Rattle.plan_terms.specs.Over.{StandsOver}
 use Rattle.plans.specs.JoinPlan.{AreWideBefore}
 use Rattle.plans.specs.Plan.{Hits, PlanData, Reaches, rows_of}
-use Rattle.query_plans.specs.Made.{IsOverRows}
+use Rattle.select_plans.specs.Made.{IsOverRows}
 use Rattle.results.specs.Permitted.{SaysOf, computed_rows}
 use Rattle.results.proofs.PermittedLemmas.{where_is_computed}
 use Rattle.table_plans.specs.Input.{input_from, seen}

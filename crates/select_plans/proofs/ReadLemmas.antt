@@ -9,7 +9,7 @@ use Rattle.plan_terms.specs.Names.{answers_of}
 use Rattle.plan_terms.specs.Over.{IsOver}
 use Rattle.meaning.specs.Hits.{order_terms}
 use Rattle.meaning.specs.Query.{From, Key, Select}
-use Rattle.query_plans.specs.Read.{AreRead, row_terms, select_terms, terms_in}
+use Rattle.select_plans.specs.Read.{AreRead, row_terms, select_terms, terms_in}
 use Rattle.query_trees.specs.TermView.{term}
 use Rattle.table_plans.specs.Input.{from_of}
 use Rattle.table_plans.specs.Planned.{on_terms}

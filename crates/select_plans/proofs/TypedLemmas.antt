@@ -7,7 +7,6 @@ use Rattle.std.proofs.lemmas.List.FromFn.{get_or-range_with_len, length-range_wi
 use Rattle.std.proofs.lemmas.Option.{slice_get_within}
 use Rattle.values.specs.declared.value.Ty.{Ty}
 use Rattle.values.specs.declared.value.Ty.TheVariants.{Int, Text}
-use Rattle.distinct_results.specs.Permitted.{IsResult}
 use Rattle.expr.specs.Columns.{columns_of, columns_of_all, columns_of_arms}
 use Rattle.expr.specs.Term.{Term, Terms, Arms, literal, column, call, arithmetic, concat, compare, is, and, or, between, among, coalesce, choice, choice_of, null_if, like, none, answer, more, no_arms, arm}
 use Rattle.expr.specs.Types.{ArmsHaveTypes, HasType, HaveType}
@@ -18,9 +17,8 @@ use Rattle.meaning.proofs.ElementLemmas.{All-flat_map, length_all_zip}
 use Rattle.meaning.specs.Typed.{AggregateGives, AggregateHasType, CallHasType, ComputedHasTypes, FromHasTypes, GroupedHasTypes, GroupingHasTypes, HasTypes, IsKeyTerm, IsTermOf, IsTyped, SourceHasTypes}
 use Rattle.plan_terms.specs.Names.{answers_of}
 use Rattle.plan_terms.specs.Over.{IsOver}
-use Rattle.query_plans.specs.Read.{row_terms, select_terms, terms_in}
-use Rattle.query_plans.specs.Laws.{TypedIsServed}
-use Rattle.query_plans.specs.Served.{AreOfGroups}
+use Rattle.select_plans.specs.Read.{row_terms, select_terms, terms_in}
+use Rattle.select_plans.specs.Served.{AreOfGroups}
 use Rattle.table_plans.specs.TableJoins.{AreTableJoins}
 use Rattle.table_plans.specs.Planned.{on_terms}
 use Rattle.table_plans.proofs.OnLemmas.{on_within}
@@ -222,25 +220,3 @@ module _ (catalog : List (List Ty)) (from : From) (inner : AreTableJoins from) (
           (subst (λ n. All (λ c. c < n) (columns_of g.having)) (groups_long typed.body.0 typed.body.1 g inputs of) (term_within inputs typed.body.0 g.having Int of.having)))
           (All-weaker (λ t. All (λ c. c < length g.by + length g.aggregates) (columns_of t)) (IsOver (group_columns g) 0)
           (over_range (length g.by + length g.aggregates)) (s.columns ++ order_terms order) all)
-
--- ---- which typed queries are served
-
--- behind DISTINCT a typed ORDER BY names result columns alone
-results_named : (catalog : List (List Ty)) (from : From) (s : Select) → s.distinct ≡ true → (types : List Ty) (by : KeyTerm) → IsKeyTerm catalog (select from s) types by
-    → IsResult by
-results_named catalog from s distinct types (KeyTerm.result at) typed = tt
-results_named catalog from s distinct types (KeyTerm.term t) typed = absurd (let e = sym typed.0 ∙ distinct in cc)
-
-pub typed_is_served : TypedIsServed
-typed_is_served catalog query from s typed body inner windowless =
-    let of = subst (λ (b : Body). IsTyped catalog (record { body = b; order = query.order; limit = query.limit; offset = query.offset })) body typed in record {
-      from = from;
-      s = s;
-      body = body;
-      source = inner;
-      windowless = windowless;
-      ordered = λ distinct.
-          All-weaker (λ key. IsKeyTerm catalog (select from s) of.0 key.by) (λ key. IsResult key.by)
-          (λ key. results_named catalog from s distinct of.0 key.by) query.order of.1.order;
-      grouped = groups_named catalog from inner s windowless query.order query.limit query.offset of.0 of.1;
-    }

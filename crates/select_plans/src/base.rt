@@ -4,8 +4,8 @@ ghost use Rattle.expr.specs.View as expressions;
 ghost use Rattle.meaning.specs.Hits.{order_terms};
 ghost use Rattle.order_keys.specs.KeyView.{key_of};
 ghost use Rattle.plans.specs.PlanView.{plan_data};
-ghost use Rattle.query_plans.specs.Made.{IsMadeOver, IsOverRows, StandsOverRows};
-ghost use Rattle.query_plans.specs.Served.{AreOfGroups};
+ghost use Rattle.select_plans.specs.Made.{IsMadeOver, IsOverRows, StandsOverRows};
+ghost use Rattle.select_plans.specs.Served.{AreOfGroups};
 ghost use Rattle.query_trees.specs.SelectView.{grouping_of, select_of};
 ghost use Rattle.table_plans.specs.TableJoins.{AreTableJoins};
 ghost use Rattle.table_plans.specs.Input.{input_from};
@@ -29,7 +29,7 @@ struct Rows {
 
 /// These rows, and the result columns over them.
 #[derive(Drop)]
-pub(crate) struct Base {
+pub struct Base {
     pub read: Vec<usize>,
     pub plan: Plan,
     pub columns: Vec<Expr>,
@@ -62,7 +62,7 @@ fn rows_over(
 
 /// The base of a SELECT without windows. There is none where over groups HAVING, a result column or ORDER BY names something else
 /// than the values of a group's row. (SELECT)
-pub(crate) fn base_of(
+pub fn base_of(
     alloc: Global,
     input: &Input,
     select: &Select,

@@ -3,7 +3,7 @@ ghost use Rattle.std.specs.Prelude.{◌≡◌, ◌++◌, IfOk, OnOk, flat_map, m
 ghost use Rattle.expr.specs.Columns.{columns_of};
 ghost use Rattle.meaning.specs.Hits.{key_terms, order_terms};
 ghost use Rattle.order_keys.specs.KeyView.{key_of, key_term_of};
-ghost use Rattle.query_plans.specs.Read.{AreRead, row_terms, terms_in};
+ghost use Rattle.select_plans.specs.Read.{AreRead, row_terms, terms_in};
 ghost use Rattle.query_trees.specs.SelectView.{select_of};
 ghost use Rattle.std.specs.List.Sorted.{IsStrictlyIncreasing};
 ghost use Rattle.table_plans.specs.Input.{from_of, input_from};

@@ -4,9 +4,9 @@ use Rattle.std.proofs.lemmas.Int.{to_z-of_z}
 use Rattle.order_keys.specs.KeyView.{key_of}
 use Rattle.plans.specs.PlanView.{plan_data}
 use Rattle.query_plans.specs.Made.{KeyStandsOver}
-use Rattle.query_plans.proofs.QueryLemmas.{order_over}
 use Rattle.query_plans.proofs.ServedLemmas.{none_written}
 use Rattle.query_trees.specs.SelectView.{select_of}
+use Rattle.select_plans.proofs.StandLemmas.{order_over}
 use Rattle.sorted_results.specs.KeyView.{key_data}
 use Rattle.table_plans.specs.Input.{input_from}
 use Rattle.query_plans.proofs.queries.selection_of.Goals as goal

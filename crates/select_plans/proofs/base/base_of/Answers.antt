@@ -4,14 +4,14 @@ use Rattle.expr.specs.View as expressions
 use Rattle.order_keys.specs.KeyView.{key_of}
 use Rattle.plan_terms.specs.Over.{IsOver, StandsOver}
 use Rattle.plans.specs.PlanView.{plan_data}
-use Rattle.query_plans.proofs.QueryLemmas.{columns_over, condition_over, groups_over, joins_over, joins_parted, made_of}
-use Rattle.query_plans.proofs.ServedLemmas.{is_there}
+use Rattle.select_plans.proofs.StandLemmas.{columns_over, condition_over, groups_over, joins_over, joins_parted, made_of}
+use Rattle.select_plans.proofs.FormLemmas.{is_there}
 use Rattle.query_trees.specs.SelectView.{select_of}
 use Rattle.query_trees.specs.TermView.{term}
 use Rattle.query_trees.specs.declared.terms.Term.{Term}
 use Rattle.table_plans.specs.Input.{input_from}
 use Rattle.table_plans.specs.Planned.{AreOnOver}
-use Rattle.query_plans.proofs.base.base_of.Goals as goal
+use Rattle.select_plans.proofs.base.base_of.Goals as goal
 
 pub plan_of-requires : goal.plan_of-requires
 plan_of-requires c = record {

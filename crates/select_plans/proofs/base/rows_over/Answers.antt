@@ -1,4 +1,4 @@
-use Rattle.query_plans.proofs.base.rows_over.Goals as goal
+use Rattle.select_plans.proofs.base.rows_over.Goals as goal
 
 pub returns-in-None-grouped-clause-over : goal.returns-in-None-grouped-clause-over
 returns-in-None-grouped-clause-over c = λ over.

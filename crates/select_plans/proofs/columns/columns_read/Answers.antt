@@ -3,12 +3,12 @@ use Rattle.expr.specs.Columns.{columns_of}
 use Rattle.meaning.specs.Hits.{order_terms}
 use Rattle.order_keys.specs.KeyView.{key_of}
 use Rattle.query_trees.specs.SelectView.{select_of}
-use Rattle.query_plans.proofs.ReadLemmas.{named_is, read_of}
-use Rattle.query_plans.specs.Read.{row_terms}
+use Rattle.select_plans.proofs.ReadLemmas.{named_is, read_of}
+use Rattle.select_plans.specs.Read.{row_terms}
 use Rattle.table_plans.specs.Input.{from_of, input_from}
 use Rattle.table_plans.specs.Planned.{on_terms}
 use Rattle.table_plans.specs.declared.inputs.JoinedTable.{JoinedTable}
-use Rattle.query_plans.proofs.columns.columns_read.Goals as goal
+use Rattle.select_plans.proofs.columns.columns_read.Goals as goal
 
 pub returns-clause-read : goal.returns-clause-read
 returns-clause-read c =

@@ -1,5 +1,5 @@
-use Rattle.query_plans.proofs.ReadLemmas.{on_more}
-use Rattle.query_plans.proofs.columns.push_on.Goals as goal
+use Rattle.select_plans.proofs.ReadLemmas.{on_more}
+use Rattle.select_plans.proofs.columns.push_on.Goals as goal
 
 pub loop-table-preserved : goal.loop-table-preserved
 loop-table-preserved c =

@@ -1,7 +1,7 @@
 use Rattle.std.proofs.Common.{◌∙◌, ◌==◌, List, ap, length}
 use Rattle.query_trees.specs.declared.selects.WindowCall.{WindowCall}
-use Rattle.query_plans.proofs.ServedLemmas.{by_windows}
-use Rattle.query_plans.proofs.queries.is_windowless.Goals as goal
+use Rattle.select_plans.proofs.FormLemmas.{by_windows}
+use Rattle.select_plans.proofs.inputs.is_windowless.Goals as goal
 
 pub returns : goal.returns
 returns c =

@@ -1,0 +1,35 @@
+-- The plan of one SELECT of several.
+use Rattle.std.proofs.Common.{◌≡◌, pos, List, [], append-nil, None, sym, subst}
+use Rattle.std.proofs.lemmas.List.Elements.{All-nil}
+use Rattle.expr.specs.Term.{Term}
+use Rattle.meaning.specs.Query.{From, Key, Select, select}
+use Rattle.meaning.specs.Typed.{IsKeyTerm}
+use Rattle.compound_plans.specs.Arms.{IsArmFor}
+use Rattle.compound_results.specs.Arms.{ArmData}
+use Rattle.select_plans.specs.Laws.{PlanReaches}
+use Rattle.select_plans.specs.Made.{IsMadeOver}
+use Rattle.select_plans.specs.Served.{HasServedForm}
+use Rattle.select_plans.proofs.MadeLemmas.{made_has_rows, made_is_hit}
+use Rattle.select_plans.proofs.OverLemmas.{plan_over}
+use Rattle.table_plans.specs.Input.{input_from}
+use Rattle.table_plans.specs.declared.inputs.Input.{Input}
+use Rattle.tables.specs.ColumnTypes.{column_types}
+
+-- a plan over what the SELECT stands on
+arm_over : (input : Input) (s : Select) (arm : ArmData) → HasServedForm (input_from input) s → IsMadeOver input s [] arm.plan arm.columns → arm.distinct ≡ s.distinct
+    → IsArmFor (input_from input) s arm
+arm_over input s arm form made distinct = record {
+  is_arm = λ w db wide. record { sees = made_has_rows w db input s [] arm.plan arm.columns form wide made; distinct = distinct };
+  hits = λ w db wide hits.
+      made_is_hit w db input s [] [] arm.plan arm.columns [] form wide made tt
+      (subst (λ (es : List Term). PlanReaches w db arm.plan es) (sym (append-nil arm.columns)) hits);
+  over = λ tables types typed.
+      plan_over tables input s form [] None (pos 0) arm.plan arm.columns (
+        types,
+        record { body = typed; order = All-nil (λ (key : Key). IsKeyTerm (column_types tables) (select (input_from input) s) types key.by) },
+      ) made;
+}
+
+pub arm_for : (from : From) (input : Input) (s : Select) (arm : ArmData) → from ≡ input_from input → HasServedForm (input_from input) s
+    → IsMadeOver input s [] arm.plan arm.columns → arm.distinct ≡ s.distinct → IsArmFor from s arm
+arm_for from input s arm same form made distinct = subst (λ (f : From). IsArmFor f s arm) (sym same) (arm_over input s arm form made distinct)

@@ -1,0 +1,11 @@
+use Rattle.std.proofs.Common.{refl}
+use Rattle.body_trees.specs.BodyView.{tables_of}
+use Rattle.compound_plans.proofs.ArmLemmas.{arm_for}
+use Rattle.query_trees.specs.SelectView.{select_of}
+use Rattle.compound_plans.proofs.arms.arm_of.Goals as goal
+
+pub returns : goal.returns
+returns c =
+    let served = rw c.in-Some.is at c.in_ok-served.ensures in
+    let base = rw c.in-Some-found.is at c.in_ok-found.ensures in
+    arm_for (tables_of c.args.tables.now) c.in-Some.input (select_of c.args.select.now) _ served.0 served.1 base.0 refl

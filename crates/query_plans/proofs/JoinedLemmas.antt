@@ -1,0 +1,53 @@
+-- The plan of SELECTs that operators join.
+use Rattle.std.proofs.Common.{List}
+use Rattle.values.specs.Database.{Database}
+use Rattle.values.specs.declared.value.Ty.{Ty}
+use Rattle.compound_plans.specs.Arms.{IsArmFor}
+use Rattle.compound_results.specs.Arms.{ArePlannedOver, ArmData, ArmsData, joined, one}
+use Rattle.compound_results.specs.Compounds.{CompoundData}
+use Rattle.compound_results.specs.Permitted.{AreArmsOf, HitsWithin, IsArmOf}
+use Rattle.compound_results.proofs.PermittedLemmas.{compound_hits_are_hits, compound_is_permitted}
+use Rattle.meaning.specs.Query.{Body, From, QueryData, Select, compound, select}
+use Rattle.meaning.specs.Typed.{BodyHasTypes, IsTyped}
+use Rattle.plans.specs.JoinPlan.{AreWideBefore}
+use Rattle.query_plans.specs.Answers.{AreWideFor, IsPlanFor, IsPlannedOver, PlannedData}
+use Rattle.query_plans.specs.Made.{IsJoined}
+use Rattle.tables.specs.ColumnTypes.{column_types}
+use Rattle.tables.specs.TableData.{TableData}
+
+-- what holds of each arm where its tables hold what FROM says of them
+each_told : (db : Database) (Is : From → Select → ArmData → Type 0) → ((from : From) (s : Select) (arm : ArmData) → AreWideBefore db from → IsArmFor from s arm → Is from s arm)
+    → (body : Body) (arms : ArmsData) → AreWideFor db body → AreArmsOf IsArmFor body arms → AreArmsOf Is body arms
+each_told db Is told (select from s) (one arm) wide of = told from s arm wide of
+each_told db Is told (select from s) (joined left other arm) wide of = absurd of
+each_told db Is told (compound body operator from s) (one arm) wide of = absurd of
+each_told db Is told (compound body operator from s) (joined left other arm) wide of =
+    (each_told db Is told body left wide.0 of.0, of.1, told from s arm wide.1 of.2)
+
+each_over : (tables : List TableData) (body : Body) (types : List Ty) (arms : ArmsData) → BodyHasTypes (column_types tables) body types → AreArmsOf IsArmFor body arms
+    → ArePlannedOver tables arms
+each_over tables (select from s) types (one arm) typed of = of.over tables types typed
+each_over tables (select from s) types (joined left other arm) typed of = absurd of
+each_over tables (compound body operator from s) types (one arm) typed of = absurd of
+each_over tables (compound body operator from s) types (joined left other arm) typed of =
+    (each_over tables body types left typed.0 of.0, of.2.over tables types typed.1)
+
+module _ (query : QueryData) (whole : CompoundData) (made : IsJoined query whole) where
+  pub joined_is_plan : IsPlanFor query (PlannedData.compound whole)
+  joined_is_plan = record {
+    permits = λ w db answer wide is.
+        compound_is_permitted w db query whole answer made.results
+        (record {
+          arms = each_told db (IsArmOf w db) (λ from s arm wide of. of.is_arm w db wide) query.body whole.arms wide made.arms;
+          order = made.order_is;
+          limit = made.limit_is;
+          offset = made.offset_is;
+        })
+        is;
+    hits = λ w db wide hits.
+        compound_hits_are_hits w db query whole.arms made.results
+        (each_told db (HitsWithin w db) (λ from s arm wide of. of.hits w db wide) query.body whole.arms wide made.arms) hits;
+  }
+
+  pub joined_over : (tables : List TableData) → IsTyped (column_types tables) query → IsPlannedOver tables (PlannedData.compound whole)
+  joined_over tables typed = each_over tables query.body typed.0 whole.arms typed.1.body made.arms

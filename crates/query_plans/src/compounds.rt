@@ -1,0 +1,38 @@
+//! SELECTs that operators join.
+ghost use Rattle.std.specs.Prelude.{IfOk, MatchOption};
+ghost use Rattle.compound_plans.specs.Arms.{AreServed};
+ghost use Rattle.compound_results.specs.Compounds.{compound_data};
+ghost use Rattle.distinct_results.specs.Permitted.{AreResults};
+ghost use Rattle.query_plans.specs.Made.{IsJoined};
+ghost use Rattle.statement_names.specs.NamedView.{query_data};
+
+use crate::distinct::result_keys;
+use compound_plans::arms_of;
+use compound_results::Compound;
+use statement_names::Query;
+use std::alloc::{AllocError, Global};
+
+/// The plan of SELECTs that are joined, `None` where one of them isn't served, or ORDER BY has a term that is no result column, which
+/// behind them has no row that it is computed on. (SELECT, "Compound Select Statements")
+pub(crate) fn compound_of(alloc: Global, query: &Query) -> Result<Option<Compound>, AllocError>
+    ensures { IfOk result (λ joined. MatchOption joined
+        (¬ (AreServed (query_data query.now).body × AreResults (query_data query.now).order))
+        (λ joined. IsJoined (query_data query.now) (compound_data joined))) }
+{
+    let keys = result_keys(alloc, query.order.as_slice())?;
+    let order = match keys {
+        None => return Ok(None),
+        Some(keys) => keys,
+    };
+    let found = arms_of(alloc, &query.body)?;
+    let arms = match found {
+        None => return Ok(None),
+        Some(arms) => arms,
+    };
+    Ok(Some(Compound {
+        arms,
+        order,
+        limit: query.limit,
+        offset: query.offset,
+    }))
+}

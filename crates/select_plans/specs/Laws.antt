@@ -1,0 +1,53 @@
+-- What the plan that is made of a SELECT has and reaches. (SELECT)
+use Rattle.std.specs.Prelude.{◌≡◌, ◌⊎◌, ◌++◌, Any, false, ℤ, List, [], Option}
+use Rattle.std.specs.List.{AllZip}
+use Rattle.values.specs.Database.{Database}
+use Rattle.values.specs.Datum.{Datum}
+use Rattle.values.specs.declared.value.Ty.{Ty}
+use Rattle.expr.specs.Term.{Term}
+use Rattle.meaning.specs.Body.{answers_in}
+use Rattle.meaning.specs.Hits.{FromHits, SelectHits, order_terms}
+use Rattle.meaning.specs.Query.{From, Key, QueryData, Select, select}
+use Rattle.meaning.specs.Typed.{HasTypes, IsTyped}
+use Rattle.operators.specs.Left.{IsPlanOf}
+use Rattle.plan_terms.specs.Over.{StandsOver}
+use Rattle.plans.specs.JoinPlan.{AreWideBefore}
+use Rattle.plans.specs.Plan.{Hits, PlanData, Reaches, rows_of}
+use Rattle.results.specs.Permitted.{SeesRows}
+use Rattle.tables.specs.ColumnTypes.{column_types}
+use Rattle.tables.specs.TableData.{TableData}
+use Rattle.select_plans.specs.Made.{IsMadeOver}
+use Rattle.select_plans.specs.Served.{AreOfGroups, HasServedForm}
+use Rattle.table_plans.specs.declared.inputs.Input.{Input}
+use Rattle.table_plans.specs.Input.{input_from}
+
+-- the conditions of a plan, or these terms on one of its rows, reach an operation out of range
+abbrev pub PlanReaches : Datum → Database → PlanData → List Term → Type 0
+PlanReaches w db plan terms = Hits w db plan ⊎ Any (Reaches terms) (rows_of w db plan)
+
+-- one SELECT, with ORDER BY, LIMIT and OFFSET
+abbrev pub of_select : From → Select → List Key → Option ℤ → ℤ → QueryData
+of_select from s order limit offset = record { body = select from s; order = order; limit = limit; offset = offset }
+
+-- where the tables hold what FROM says of them, the rows on which the SELECT computes its result columns, in some order
+abbrev pub MadeHasRows : Type 0
+MadeHasRows = (w : Datum) (db : Database) (input : Input) (s : Select) (order : List Key) (plan : PlanData) (es : List Term)
+    → HasServedForm (input_from input) s → AreWideBefore db (input_from input) → IsMadeOver input s order plan es → SeesRows w db (input_from input) s plan es
+
+-- what the plan reaches, or its result columns and what stands for other terms reach on its rows, the SELECT hits
+abbrev pub MadeIsHit : Type 0
+MadeIsHit = (w : Datum) (db : Database) (input : Input) (s : Select) (order : List Key) (terms : List Term) (plan : PlanData) (es us : List Term)
+    → HasServedForm (input_from input) s → AreWideBefore db (input_from input) → (made : IsMadeOver input s order plan es)
+    → AllZip (StandsOver made.columns 0) us terms → PlanReaches w db plan (es ++ us)
+    → FromHits w db (answers_in w db (input_from input)) (input_from input) false ⊎ SelectHits w db (input_from input) s terms
+
+-- where it is typed over a catalog, the tables and columns of the plan are some of this
+abbrev pub MadeIsOver : Type 0
+MadeIsOver = (tables : List TableData) (input : Input) (s : Select) (order : List Key) (limit : Option ℤ) (offset : ℤ) (plan : PlanData) (es : List Term)
+    → HasServedForm (input_from input) s → IsTyped (column_types tables) (of_select (input_from input) s order limit offset)
+    → IsMadeOver input s order plan es → IsPlanOf tables plan
+
+-- over groups a typed SELECT names values of a group's row alone
+abbrev pub TypedIsOfGroups : Type 0
+TypedIsOfGroups = (catalog : List (List Ty)) (from : From) (s : Select) (order : List Key) (limit : Option ℤ) (offset : ℤ) (types : List Ty)
+    → HasServedForm from s → HasTypes catalog (of_select from s order limit offset) types → AreOfGroups s.grouping (s.columns ++ order_terms order)

@@ -1,0 +1,4 @@
+pub mod Served
+pub mod Read
+pub mod Made
+pub mod Laws

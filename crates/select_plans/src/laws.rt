@@ -1,0 +1,19 @@
+//! What holds of the definitions alone.
+ghost use Rattle.select_plans.specs.Laws.{MadeHasRows, MadeIsHit, MadeIsOver, TypedIsOfGroups};
+
+/// A plan that is made of a SELECT has the rows on which it computes its result columns, and what the plan reaches, and what the
+/// result columns and other terms reach on its rows, the SELECT can reach.
+pub fn made_has_rows()
+    ensures rows { MadeHasRows }
+    ensures hits { MadeIsHit }
+{}
+
+/// The tables and columns of a plan that is made of a typed SELECT are the catalog's.
+pub fn made_is_over()
+    ensures { MadeIsOver }
+{}
+
+/// Over groups a typed SELECT and its ORDER BY name values of a group's row alone.
+pub fn typed_is_of_groups()
+    ensures { TypedIsOfGroups }
+{}
