@@ -109,12 +109,12 @@ pub rows_counted : {X : Type 0} (f : X → Row) (xs : List X) (n : ℕ) → n �
 rows_counted f xs n is few = let long = length-map xs f in omega (arith, is, few, long)
 
 -- outputs in some order that ascends
-record Ordered (order : List Key) (made : List Output) : Type 0 where
-  ordered : List Output
-  same : IsPermutation made ordered
-  ascends : Ascends order ordered
+pub record Ordered (order : List Key) (made : List Output) : Type 0 where
+  pub ordered : List Output
+  pub same : IsPermutation made ordered
+  pub ascends : Ascends order ordered
 
-some_order : (order : List Key) (made : List Output) → Ordered order made
+pub some_order : (order : List Key) (made : List Output) → Ordered order made
 some_order order made = record {
   ordered = ascending (is_before order) made;
   same = ascending-same (is_before order) made;

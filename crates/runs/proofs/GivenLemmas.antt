@@ -19,7 +19,7 @@ use Rattle.scan.proofs.ComingLemmas.{Asks-none, Asks-then}
 use Rattle.operators.specs.Basis.{AreStored, Basis, Gives, GivesNext, GivesNone, IsOperatorFault}
 use Rattle.operators.proofs.RowLemmas.{at_start}
 use Rattle.results.specs.Coming.{IsResultCause, SelectionData}
-use Rattle.query_plans.specs.Answers.{PlanReaches}
+use Rattle.select_plans.specs.Laws.{PlanReaches}
 use Rattle.explain.specs.Text.{row_text, rows_text}
 use Rattle.runs.specs.Faults.{IsRunCause, IsRunFault}
 use Rattle.runs.specs.Printed.{PrintsUntil}

@@ -17,7 +17,8 @@ use Rattle.sorted_results.specs.Sorted.{IsSortedAnswer, SortedData}
 use Rattle.distinct_results.specs.declared.stream.DistinctResults.{DistinctResults}
 use Rattle.distinct_results.specs.Coming.{IsDistinctComing, distinct_answer_of}
 use Rattle.distinct_results.specs.Sorted.{IsSortedDistinctAnswer}
-use Rattle.query_plans.specs.Answers.{HitsOf, IsAnswerOf, PlanReaches, PlannedData}
+use Rattle.query_plans.specs.Answers.{HitsOf, IsAnswerOf, PlannedData}
+use Rattle.select_plans.specs.Laws.{PlanReaches}
 
 -- ---- in no order; `once` says whether each row is given once
 

@@ -3,3 +3,4 @@ pub mod StreamLemmas
 pub mod KindLemmas
 pub mod GivenLemmas
 pub mod AnswerLemmas
+pub mod CompoundLemmas

@@ -4,10 +4,12 @@
 //! one; and that no more pages are asked for than the plan's work, and none of overflow chains where no cell has one.
 //!
 //! The modules, in the order in which data passes them: `columns` (columns of a table's rows), `selections` (rows that are
-//! computed, in no order or in order), `once` (each of these once) and `planned` (what a plan answers).
+//! computed, in no order or in order), `once` (each of these once), `compounds` (those of SELECTs that operators join) and `planned`
+//! (what a plan answers).
 #![tactic(auto)]
 
 mod columns;
+mod compounds;
 mod once;
 mod planned;
 mod selections;

@@ -1,0 +1,44 @@
+//! Rows of SELECTs that operators join, written as lines.
+ghost use Rattle.std.specs.Prelude.{◌≡◌, All, IfErr, MatchResult, OnOk, map};
+ghost use Rattle.values.specs.Fault.{Counts};
+ghost use Rattle.pager.specs.Calls.{ReadsPages};
+ghost use Rattle.pager.specs.PagerState.{IsPageNumber};
+ghost use Rattle.image.specs.Pages.{WhereSteady};
+ghost use Rattle.scan.specs.Coming.{Asks};
+ghost use Rattle.operators.specs.Basis.{AreStored, Basis};
+ghost use Rattle.compound_results.specs.Arms.{ArePlannedOver, arms_data, work_of_arms};
+ghost use Rattle.compound_results.specs.Compounds.{compound_data};
+ghost use Rattle.query_plans.specs.Answers.{PlannedData};
+ghost use Rattle.runs.specs.Faults.{IsRunFault};
+ghost use Rattle.runs.specs.Runs.{WritesAnswer, WritesBeginning};
+
+use crate::selections::write_lines;
+use compound_results::{Compound, compound_rows};
+use pager::{Pager, Source};
+use std::alloc::Global;
+use tables::Table;
+use values::{Fault, Sink};
+
+/// Writes the rows of SELECTs that are joined as lines, once all are computed, and counts them. Its faults are those of a run.
+pub(crate) fn write_compound<S: Source, W: Sink>(
+    alloc: Global,
+    pager: &mut Pager<S>,
+    tables: &[Table],
+    compound: &Compound,
+    out: &mut W,
+) -> Result<u64, Fault>
+    requires roots { All (λ table. IsPageNumber pager.old.state table.root) tables.now }
+    requires planned { ArePlannedOver tables.now (arms_data compound.now.arms) }
+    ensures rows { WhereSteady pager.old.state (λ pages. MatchResult result
+        (WritesAnswer pages tables.now (PlannedData.compound (compound_data compound.now)) (W.facts out.old) (W.facts out.new))
+        (WritesBeginning pages tables.now (PlannedData.compound (compound_data compound.now)) (W.facts out.old) (W.facts out.new))) }
+    ensures pages { WhereSteady pager.old.state (λ pages. (on : Basis) → AreStored pages tables.now on
+        → OnOk result (Asks on.local pager.old.state (work_of_arms on.w on.db on.sizes (arms_data compound.now.arms)) pager.new.state 0)) }
+    ensures only { IfErr result IsRunFault }
+    ensures reads { ReadsPages result pager.old.state pager.new.state }
+    ensures writes { Counts Fault.WriteFailed result (W.facts out.old).failures (W.facts out.new).failures }
+{
+    let rows = compound_rows(alloc, pager, tables, compound)?;
+    write_lines(rows.as_slice(), out)?;
+    Ok(rows.len() as u64)
+}
