@@ -1,7 +1,7 @@
 #!/usr/bin/env python3
 """Compares what the program answers to random statements over random tables with what SQLite answers: expressions, WHERE,
 GROUP BY, HAVING, aggregates with FILTER, DISTINCT, ORDER BY, LIMIT and OFFSET over one table, over tables that are joined by inner
-and LEFT joins, or over none. An operation or a total that leaves 64 bits is `fault 50: Overflow`, where SQLite goes on with a
+and LEFT joins, or over none; and several of these that UNION, UNION ALL, INTERSECT and EXCEPT join. An operation or a total that leaves 64 bits is `fault 50: Overflow`, where SQLite goes on with a
 floating-point number or stops; such statements are asked for that fault, or for any answer where it isn't reached.
 
 Run from any folder. The last line is 'N passed, M failed'. `--seed S --only N` makes one statement anew and prints it.
@@ -26,6 +26,8 @@ OVERFLOW = fault_line(50)
 STATEMENTS, FEW = 3000, 300
 # What joins a table with ON or USING.
 JOINS = ("JOIN", "INNER JOIN", "inner  join", "LEFT JOIN", "LEFT OUTER JOIN", "left  join")
+# What joins SELECTs.
+OPERATORS = ("UNION", "UNION ALL", "INTERSECT", "EXCEPT", "union  all", "except")
 
 
 def literal(value: int | str | bytes | float | None) -> bytes:
@@ -176,6 +178,12 @@ class Shown:
     maker: Maker
 
 
+def typed_columns(rng: Random, source: Source, kinds: list[str]) -> Shown:
+    """Result columns of these types over the rows of FROM, each with a name."""
+    items = [f"{source.maker.make(kind, rng.randint(0, 2))} AS x{place}" for place, kind in enumerate(kinds)]
+    return Shown(items, len(items), "", source.maker)
+
+
 def plain_columns(rng: Random, source: Source) -> Shown:
     """Result columns over the rows of FROM."""
     items, width = [], 0
@@ -200,51 +208,105 @@ def random_group_key(rng: Random, maker: Maker) -> tuple[str, str] | None:
     return (key, kind) if key.startswith("(") and "AND" not in key and any(name in key for name in maker.columns.names) else None
 
 
-def random_aggregate(rng: Random, maker: Maker) -> tuple[str, str]:
-    """An aggregate, and its type."""
-    function, kind = rng.choice(("count", "sum", "sum", "min", "max", "MAX")), rng.choice(KINDS)
-    kind = "INT" if function == "sum" else kind
+def random_aggregate(rng: Random, maker: Maker, wanted: str = "") -> tuple[str, str]:
+    """An aggregate, and its type, which is the one that is wanted, if one is."""
+    functions = ("count", "sum", "sum", "min", "max", "MAX") if wanted in ("", "INT") else ("min", "max", "MAX")
+    function, kind = rng.choice(functions), wanted or rng.choice(KINDS)
+    kind = "INT" if function == "sum" else rng.choice(KINDS) if function == "count" else kind
     argument = "*" if function == "count" and rng.random() < 0.5 else maker.make(kind, rng.randint(0, 2))
     ending = f" FILTER (WHERE {maker.make('INT', rng.randint(1, 2))})" if rng.random() < 0.25 else ""
     return f"{function}({argument}){ending}", "INT" if function == "count" else kind
 
 
-def group_columns(rng: Random, source: Source) -> Shown:
-    """Result columns over groups, whose keys and aggregates stand for columns; without keys the first of them is an aggregate."""
+def group_columns(rng: Random, source: Source, kinds: list[str] | None = None) -> Shown:
+    """Result columns over groups, of these types where they are given, and then with names. Keys and aggregates stand for columns;
+    where there are types, or no keys, the first result column is an aggregate."""
     keys = dict(filter(None, (random_group_key(rng, source.maker) for _ in range(rng.choice((0, 1, 1, 2))))))
-    aggregates = dict(random_aggregate(rng, source.maker) for _ in range(rng.randint(1, 3)))
+    first = [random_aggregate(rng, source.maker, kinds[0])] if kinds else []
+    aggregates = dict(first + [random_aggregate(rng, source.maker) for _ in range(rng.randint(1, 3))])
     maker = Maker(rng, Columns({**keys, **aggregates}))
     maker.risky += [aggregate for aggregate in aggregates if aggregate.startswith("sum")]
-    items = [rng.choice(list(keys or aggregates))]
-    items += [maker.make(rng.choice(KINDS), rng.randint(0, 2)) for _ in range(rng.randint(0, 3))]
+    items = [first[0][0] if first else rng.choice(list(keys or aggregates))]
+    others = kinds[1:] if kinds else [rng.choice(KINDS) for _ in range(rng.randint(0, 3))]
+    items += [maker.make(kind, rng.randint(0, 2)) for kind in others]
     behind = f" GROUP BY {', '.join(keys)}" if keys else ""
-    items = [item + rng.choice(("", "", f" AS x{place}")) for place, item in enumerate(items)]
+    items = [item + (f" AS x{place}" if kinds else rng.choice(("", "", f" AS x{place}"))) for place, item in enumerate(items)]
     return Shown(items, len(items), behind, maker)
 
 
-def random_statement(rng: Random, tables: dict[str, dict[str, str]]) -> Statement:
-    """A statement over one of these tables, over several that are joined, or over none."""
+@dataclass
+class Core:
+    """A SELECT without ORDER BY and LIMIT, with what it shows and what may leave 64 bits in it."""
+
+    text: str
+    shown: Shown
+    is_distinct: bool
+    source: Source
+    rows: str
+    is_grouped: bool
+
+    def risky(self) -> list[str]:
+        """What may leave 64 bits, each as it stands over the sources side by side or over the groups."""
+        risky = [f"{operation} AS x{self.source.pairs}" for operation in self.source.maker.risky]
+        return risky + ([f"{operation} AS x{self.rows}" for operation in self.shown.maker.risky] if self.is_grouped else [])
+
+
+def random_core(rng: Random, tables: dict[str, dict[str, str]], kinds: list[str] | None = None) -> Core:
+    """A SELECT over one of these tables, over several that are joined, or over none, with result columns of these types, if any are
+    given."""
     form, table = rng.random(), rng.choice(list(tables))
     if form < 0.1:
         source = no_source(rng)
     else:
         source = joined_source(rng, tables) if form < 0.4 else one_source(rng, table, tables[table])
-    is_grouped = rng.random() < 0.4
-    shown = group_columns(rng, source) if is_grouped else plain_columns(rng, source)
+    is_grouped = rng.random() < (0.25 if kinds else 0.4)
+    if is_grouped:
+        shown = group_columns(rng, source, kinds)
+    else:
+        shown = typed_columns(rng, source, kinds) if kinds else plain_columns(rng, source)
     is_distinct = rng.random() < 0.3
     text = f"SELECT {'DISTINCT ' if is_distinct else rng.choice(('', '', 'ALL '))}{', '.join(shown.items)}"
     rows = source.text + (f" WHERE {source.maker.make('INT', rng.randint(1, 3))}" if rng.random() < 0.6 else "") + shown.behind
     text += rows
     if shown.behind and rng.random() < 0.4:
         text += f" HAVING {shown.maker.make('INT', rng.randint(1, 2))}"
+    return Core(text, shown, is_distinct, source, rows, is_grouped)
+
+
+def random_limit(rng: Random) -> tuple[int | None, int]:
+    """LIMIT, if there is one, and OFFSET."""
+    limit = rng.randint(-2, 15) if rng.random() < 0.4 else None
+    return limit, rng.randint(-2, 6) if rng.random() < 0.5 else 0
+
+
+def random_alone(rng: Random, tables: dict[str, dict[str, str]]) -> Statement:
+    """One SELECT."""
+    core = random_core(rng, tables)
+    is_ordered, text = rng.random() < 0.5, core.text
+    if is_ordered:
+        text += random_keys(rng, core.shown.maker, core.shown.width, is_final=True, is_distinct=core.is_distinct)
+    limit, offset = random_limit(rng)
+    return Statement(text, tuple(core.risky()), is_ordered, limit, offset)
+
+
+def random_compound(rng: Random, tables: dict[str, dict[str, str]]) -> Statement:
+    """SELECTs that operators join from the left. ORDER BY names result columns, by their places or by the names of the first SELECT's,
+    and where it stands names all of them, so that it leaves no choice."""
+    kinds = [rng.choice(KINDS) for _ in range(rng.choice((1, 1, 2, 3)))]
+    cores = [random_core(rng, tables, kinds) for _ in range(rng.choice((2, 2, 2, 3, 4)))]
+    text = cores[0].text + "".join(f" {rng.choice(OPERATORS)} {core.text}" for core in cores[1:])
     is_ordered = rng.random() < 0.5
     if is_ordered:
-        text += random_keys(rng, shown.maker, shown.width, is_final=True, is_distinct=is_distinct)
-    limit = rng.randint(-2, 15) if rng.random() < 0.4 else None
-    offset = rng.randint(-2, 6) if rng.random() < 0.5 else 0
-    risky = [f"{operation} AS x{source.pairs}" for operation in source.maker.risky]
-    risky += [f"{operation} AS x{rows}" for operation in shown.maker.risky] if is_grouped else []
-    return Statement(text, tuple(risky), is_ordered, limit, offset)
+        places = rng.sample(range(len(kinds)), len(kinds))
+        endings = ("", "", " ASC", " DESC", " NULLS FIRST", " NULLS LAST", " DESC NULLS FIRST", " asc nulls last")
+        text += " ORDER BY " + ", ".join(rng.choice((str(place + 1), f"x{place}", f"X{place}")) + rng.choice(endings) for place in places)
+    limit, offset = random_limit(rng)
+    return Statement(text, tuple(risky for core in cores for risky in core.risky()), is_ordered, limit, offset)
+
+
+def random_statement(rng: Random, tables: dict[str, dict[str, str]]) -> Statement:
+    """A statement of one SELECT, or of several that are joined."""
+    return random_compound(rng, tables) if rng.random() < 0.25 else random_alone(rng, tables)
 
 
 def leaves_64_bits(connection: sqlite3.Connection, statement: Statement) -> bool:

@@ -161,6 +161,30 @@ ANSWERS = {
     "SELECT item, max(n) FROM sale GROUP BY item HAVING max(n) > 4 ORDER BY 2 DESC LIMIT 1": "3,9\n",
     "SELECT s.item, count(*) FILTER (WHERE n < qty) FROM item, sale AS s WHERE id < 3 GROUP BY s.item ORDER BY 1": "1,1\n3,2\n9,1\n",
     "SELECT 1 FROM item GROUP BY id": "1\n1\n1\n1\n",
+    # UNION, UNION ALL, INTERSECT and EXCEPT, from left to right: NULLs are equal; ORDER BY, LIMIT and OFFSET stand behind all.
+    "SELECT qty FROM item UNION SELECT n FROM sale": "40\nNULL\n7\n5\n2\n9\n1\n",
+    "SELECT qty FROM item UNION ALL SELECT n FROM sale": "40\nNULL\n7\n7\n5\n2\n9\n1\n",
+    "SELECT item FROM sale EXCEPT SELECT id FROM item": "9\n",
+    "SELECT qty, name FROM item INTERSECT SELECT qty, name FROM item WHERE id > 1": "NULL,'nut'\n7,'cap'\n7,'nut'\n",
+    "SELECT NULL UNION SELECT NULL": "NULL\n",
+    "SELECT NULL INTERSECT SELECT qty FROM item": "NULL\n",
+    "SELECT NULL EXCEPT SELECT qty FROM item": "",
+    "SELECT name FROM item EXCEPT SELECT 'bolt'": "'nut'\n'cap'\n",
+    "SELECT item FROM sale INTERSECT SELECT item FROM sale": "1\n3\n9\n",
+    "SELECT 1 EXCEPT SELECT 2 UNION ALL SELECT 1": "1\n1\n",
+    "SELECT 1 UNION ALL SELECT 1 UNION SELECT 1": "1\n",
+    "SELECT 1 UNION SELECT 1 UNION ALL SELECT 1": "1\n1\n",
+    "SELECT 1 UNION ALL SELECT 2 EXCEPT SELECT 1 INTERSECT SELECT 2": "2\n",
+    "SELECT DISTINCT name FROM item UNION ALL SELECT 'nut'": "'bolt'\n'nut'\n'cap'\n'nut'\n",
+    "SELECT name, count(*) FROM item GROUP BY name UNION ALL SELECT 'all', count(*) FROM item": "'bolt',1\n'nut',2\n'cap',1\n'all',4\n",
+    "SELECT id FROM item LEFT JOIN sale ON item = id WHERE n IS NULL UNION ALL SELECT item FROM gift": "2\n4\n",
+    "SELECT item FROM gift UNION SELECT item FROM gift": "",
+    "SELECT id AS k FROM item UNION SELECT n FROM sale ORDER BY K DESC LIMIT 3": "9\n5\n4\n",
+    "SELECT qty FROM item UNION SELECT n FROM sale ORDER BY 1": "NULL\n1\n2\n5\n7\n9\n40\n",
+    "SELECT qty FROM item UNION SELECT n FROM sale ORDER BY qty NULLS LAST LIMIT 2 OFFSET 4": "9\n40\n",
+    "SELECT id, 'a' FROM item UNION ALL SELECT n, 'b' FROM sale ORDER BY 2 DESC, id LIMIT 3 OFFSET 2": "5,'b'\n9,'b'\n1,'a'\n",
+    "SELECT id FROM item UNION ALL SELECT n FROM sale LIMIT 3 OFFSET 3": "4\n5\n2\n",
+    "SELECT id FROM item EXCEPT SELECT 2 LIMIT 0": "",
 }
 
 # The same with the names of the columns.
@@ -171,6 +195,7 @@ HEADED = {
     "SELECT ITEM FROM gift": "'item'\n",
     "SELECT id AS k FROM item WHERE id = 1": "'k'\n1\n",
     "SELECT i.NAME, i.* FROM item i WHERE id = 3": "'name','id','name','qty'\n'cap',3,'cap',7\n",
+    "SELECT id AS k FROM item WHERE id = 1 UNION SELECT n FROM sale WHERE n > 5": "'k'\n1\n9\n",
     "SELECT 1 +  2, /* x */ ( 'a' ) \"b c\"": "'1 +  2','b c'\n3,'a'\n",
 }
 
@@ -204,6 +229,9 @@ REFUSED = {
     "SELECT DISTINCT name FROM item ORDER BY qty": 36,
     "SELECT DISTINCT id FROM item ORDER BY id + 1": 36,
     "SELECT 1 UNION SELECT 1, 2": 39,
+    "SELECT id FROM item UNION SELECT name FROM item": 34,
+    "SELECT id FROM item UNION SELECT n FROM sale ORDER BY id + 1": 36,
+    "SELECT id FROM item UNION SELECT n FROM sale ORDER BY 2": 36,
     "SELECT 1 FROM item, item": 40,
     # Over the table of the schema.
     "SELECT id FROM sqlite_stat": 31,
@@ -238,7 +266,9 @@ REFUSED = {
     "SELECT name FROM item, (SELECT 1)": 29,
     "SELECT count(*), rank() OVER () FROM item": 29,
     "SELECT rank() OVER (ORDER BY id) FROM item": 29,
-    "SELECT id FROM item UNION SELECT n FROM sale": 29,
+    "SELECT id FROM item UNION SELECT n FROM sale RIGHT JOIN item ON 1": 29,
+    "SELECT id FROM item EXCEPT SELECT rank() OVER () FROM sale": 29,
+    "SELECT id FROM (SELECT 1 AS id) UNION SELECT 1": 29,
     "SELECT id FROM item WHERE id IN (SELECT item FROM sale)": 29,
     "SELECT EXISTS (SELECT id FROM item)": 29,
     # Each of these is resolved once.
@@ -254,6 +284,8 @@ STOPPED = {
     "SELECT id FROM item ORDER BY abs(-9223372036854775807 - id)": "",
     "SELECT id FROM item JOIN sale ON id + 9223372036854775807 > n": "",
     "SELECT id FROM item LEFT JOIN sale ON id + 9223372036854775807 > n": "",
+    "SELECT id FROM item UNION ALL SELECT n + 9223372036854775800 FROM sale": "",
+    "SELECT 1 EXCEPT SELECT 9223372036854775807 + 1": "",
     "SELECT n + 9223372036854775800 FROM item JOIN sale ON id = item": "9223372036854775805\n9223372036854775802\n",
     "SELECT id + 9223372036854775805 FROM item": "9223372036854775806\n9223372036854775807\n",
     "SELECT id FROM item WHERE id < 3 OR id * 9223372036854775807 > 0": "1\n2\n",
