@@ -1,0 +1,170 @@
+-- The rows of a query without queries in it.
+use Rattle.std.proofs.Common.{◌≡◌, Bool, ℕ, ◌+◌, ◌<◌, zero, suc, List, [], ◌∷◌, ◌++◌, length, map, slice_index_or, cond, refl, sym, ap, subst, ◌∙◌, arith, IsPermutation, IsSortedByKey}
+use Rattle.std.proofs.lemmas.List.{get_or_append_left, length-append}
+use Rattle.std.proofs.Math.Seq.{get_or-append_seam}
+use Rattle.values.specs.Database.{Database}
+use Rattle.values.specs.Datum.{Datum}
+use Rattle.values.specs.Row.{Row}
+use Rattle.expr.specs.Filled.{filled}
+use Rattle.expr.specs.Term.{Term}
+use Rattle.meaning.specs.Answer.{Permits, key_directions}
+use Rattle.meaning.specs.Body.{Output, SameTables, answers_in, body, body_rows, from_rows, outputs, plain_outputs, results, rows_of, select_outputs, source_rows, values_over}
+use Rattle.meaning.proofs.AnswerLemmas.{Permits-bags}
+use Rattle.meaning.proofs.GroupLemmas.{map-map}
+use Rattle.meaning.specs.Query.{Body, Direction, From, Key, Operator, QueryData, Select, Source, compound, derived, from_width, joined, nothing, schema, select, source_width, table, with_inner}
+use Rattle.meaning.specs.Sequence.{keys_cmp}
+use Rattle.meaning.specs.Times.{combined}
+use Rattle.meaning.specs.Valuation.{Valuation, meets, with_answers}
+use Rattle.expr.specs.Meaning.{eval}
+use Rattle.settled_sources.proofs.MappedLemmas.{plain_mapped, results_mapped, select_outputs_mapped}
+use Rattle.settled_sources.specs.Mapped.{mapped_key, mapped_select}
+use Rattle.settled_sources.specs.Within.{IsBodyWithin, IsFromWithin, IsSourceWithin}
+use Rattle.flat_queries.proofs.FilledLemmas.{again}
+use Rattle.flat_queries.specs.Flat.{answered, flat, flat_body, flat_from, flat_source, kept_in, kept_of, kept_source, last_from, with_kept}
+
+module _ (w : Datum) (db : Database) where
+  -- the rows of these sources stand in a list, from this place on
+  abbrev pub AreFrom : List (List Row) → ℕ → List Source → Type 0
+  AreFrom tables place [] = Unit {0}
+  AreFrom tables place (source ∷ sources) = (slice_index_or tables place [] ≡ source_rows w db source) × AreFrom tables (suc place) sources
+
+  pub first_of : (tables : List (List Row)) (place : ℕ) (xs ys : List Source) → AreFrom tables place (xs ++ ys) → AreFrom tables place xs
+  first_of tables place [] ys are = tt
+  first_of tables place (x ∷ xs) ys are = (are.0, first_of tables (suc place) xs ys are.1)
+
+  pub last_of : (tables : List (List Row)) (place : ℕ) (xs ys : List Source) → AreFrom tables place (xs ++ ys) → AreFrom tables (place + length xs) ys
+  last_of tables place [] ys are = subst (λ n. AreFrom tables n ys) (omega arith) are
+  last_of tables place (x ∷ xs) ys are = subst (λ n. AreFrom tables n ys) (omega arith) (last_of tables (suc place) xs ys are.1)
+
+  next_front : (front : List (List Row)) (rows : List Row) (rest : List (List Row)) → (front ++ rows ∷ []) ++ rest ≡ front ++ rows ∷ rest
+  next_front [] rows rest = refl
+  next_front (x ∷ front) rows rest = ap (λ more. x ∷ more) (next_front front rows rest)
+
+  behind_front : (front : List (List Row)) (place : ℕ) (sources : List Source) → place ≡ length front → AreFrom (front ++ map (source_rows w db) sources) place sources
+  behind_front front place [] long = tt
+  behind_front front place (source ∷ sources) long = (
+    subst (λ n. slice_index_or (front ++ map (source_rows w db) (source ∷ sources)) n [] ≡ source_rows w db source) (sym long)
+        (get_or-append_seam front (source_rows w db source) (map (source_rows w db) sources) []),
+    subst (λ tables. AreFrom tables (suc place) sources) (next_front front (source_rows w db source) (map (source_rows w db) sources))
+        (behind_front (front ++ source_rows w db source ∷ []) (suc place) sources (omega (arith, long, length-append front (source_rows w db source ∷ [])))),
+  )
+
+  -- a database with more tables
+  module _ (kept : List Source) where
+    abbrev other : Database
+    other = with_kept w db kept
+
+    abbrev count : ℕ
+    count = length db.tables
+
+    pub all_from : AreFrom other.tables count kept
+    all_from = behind_front db.tables count kept refl
+
+    pub source_same : (place : ℕ) (source : Source) → IsSourceWithin count source → AreFrom other.tables place (kept_source source)
+        → source_rows w other (flat_source place source) ≡ source_rows w db source
+    source_same place (table at width) is are = get_or_append_left db.tables (map (source_rows w db) kept) [] at is
+    source_same place schema is are = are.0
+    source_same place (derived of) is are = are.0
+
+    pub source_wide : (place : ℕ) (source : Source) → source_width (flat_source place source) ≡ source_width source
+    source_wide place (table at width) = refl
+    source_wide place schema = refl
+    source_wide place (derived of) = refl
+
+    pub from_wide : (f : Term → Term) (place : ℕ) (from : From) → from_width (flat_from f place from) ≡ from_width from
+    from_wide f place nothing = refl
+    from_wide f place (joined from kind source on) = rw (from_wide f place from, source_wide (place + length (kept_in from)) source) refl
+    from_wide f place (with_inner from query) = from_wide f place from
+
+    pub from_same : (value : Valuation) (f : Term → Term) (place : ℕ) (from : From) → IsFromWithin count from → AreFrom other.tables place (kept_in from)
+        → from_rows w other value (flat_from f place from) ≡ from_rows w db (λ t. value (f t)) from
+    from_same value f place nothing is are = refl
+    from_same value f place (joined from kind source on) is are =
+        rw (
+          from_wide f place from,
+          source_wide (place + length (kept_in from)) source,
+          from_same value f place from is.0 (first_of other.tables place (kept_in from) (kept_source source) are),
+          source_same (place + length (kept_in from)) source is.1 (last_of other.tables place (kept_in from) (kept_source source) are),
+        ) refl
+    from_same value f place (with_inner from query) is are = from_same value f place from is.0 are
+
+    pub no_answers : (f : Term → Term) (place : ℕ) (from : From) → answers_in w other (flat_from f place from) ≡ []
+    no_answers f place nothing = refl
+    no_answers f place (joined from kind source on) = no_answers f place from
+    no_answers f place (with_inner from query) = no_answers f place from
+
+    module _ (place : ℕ) (from : From) (is : IsFromWithin count from) (are : AreFrom other.tables place (kept_in from)) where
+      abbrev f : Term → Term
+      f = answered w db from
+
+      abbrev flat_one : From
+      flat_one = flat_from f place from
+
+      pub filled_is : (t : Term) → filled (answers_in w other flat_one) (f t) ≡ filled (answers_in w db from) t
+      filled_is t = again (answers_in w db from) (answers_in w other flat_one) t
+
+      behind_is : (λ t. values_over w other flat_one (f t)) ≡ values_over w db from
+      behind_is = λ i t. eval w (filled_is t i)
+
+      pub rows_same : rows_of w other flat_one ≡ rows_of w db from
+      rows_same = from_same (values_over w other flat_one) f place from is are ∙ ap (λ (v : Valuation). from_rows w db v from) behind_is
+
+      pub results_same : (s : Select)
+          → results (values_over w other flat_one) w (mapped_select f s) (rows_of w other flat_one) ≡ results (values_over w db from) w s (rows_of w db from)
+      results_same s =
+          results_mapped (values_over w other flat_one) f w s (rows_of w other flat_one)
+          ∙ ap (λ (v : Valuation). results v w s (rows_of w other flat_one)) behind_is ∙ ap (results (values_over w db from) w s) rows_same
+
+      pub plain_same : (order : List Key) (rows others : List Row) → rows ≡ others
+          → plain_outputs (values_over w other flat_one) (map (mapped_key f) order) rows ≡ plain_outputs (values_over w db from) order others
+      plain_same order rows others same =
+          plain_mapped (values_over w other flat_one) f order rows
+          ∙ ap (λ (v : Valuation). plain_outputs v order rows) behind_is ∙ ap (plain_outputs (values_over w db from) order) same
+
+      pub outputs_of : (order : List Key) (s : Select)
+          → select_outputs (values_over w other flat_one) w (map (mapped_key f) order) (mapped_select f s) (rows_of w other flat_one)
+          ≡ select_outputs (values_over w db from) w order s (rows_of w db from)
+      outputs_of order s =
+          select_outputs_mapped (values_over w other flat_one) f w order s (rows_of w other flat_one)
+          ∙ ap (λ (v : Valuation). select_outputs v w order s (rows_of w other flat_one)) behind_is
+          ∙ ap (select_outputs (values_over w db from) w order s) rows_same
+
+    pub body_same : (place : ℕ) (of : Body) → IsBodyWithin count of → AreFrom other.tables place (kept_of of)
+        → body_rows w other (flat_body w db place of) ≡ body_rows w db of
+    body_same place (select from s) is are = results_same place from is are s
+    body_same place (compound before operator from s) is are =
+        let last = last_of other.tables place (kept_of before) (kept_in from) are in
+        ap (λ (rows : List Row). combined operator rows (results (values_over w other (flat_from (answered w db from) (place + length (kept_of before)) from)) w
+        (mapped_select (answered w db from) s) (rows_of w other (flat_from (answered w db from) (place + length (kept_of before)) from))))
+        (body_same place before is.0 (first_of other.tables place (kept_of before) (kept_in from) are))
+        ∙ ap (combined operator (body_rows w db before)) (results_same (place + length (kept_of before)) from is.1 last s)
+
+    either : {A : Type 0} (b : Bool) (x x' y y' : A) → x ≡ x' → y ≡ y' → cond b x y ≡ cond b x' y'
+    either b x x' y y' p q = ap (λ z. cond b z y) p ∙ ap (cond b x') q
+
+    pub outputs_same : (place : ℕ) (order : List Key) (of : Body) → IsBodyWithin count of → AreFrom other.tables place (kept_of of)
+        → outputs w other (map (mapped_key (answered w db (last_from of))) order) (flat_body w db place of) ≡ outputs w db order of
+    outputs_same place order (select from s) is are =
+        either s.distinct _ _ _ _ (plain_same place from is are order _ _ (body_same place (select from s) is are)) (outputs_of place from is are order s)
+    outputs_same place order (compound before operator from s) is are =
+        plain_same (place + length (kept_of before)) from is.1 (last_of other.tables place (kept_of before) (kept_in from) are) order _ _
+        (body_same place (compound before operator from s) is are)
+
+  pub flat_body_same : (query : QueryData) → IsBodyWithin (length db.tables) query.body
+      → body w (with_kept w db (kept_of query.body)) (flat w db (length db.tables) query) ≡ body w db query
+  flat_body_same query is = outputs_same (kept_of query.body) (length db.tables) query.order query.body is (all_from (kept_of query.body))
+
+  directions_are : (f : Term → Term) (order : List Key) → key_directions (map (mapped_key f) order) ≡ key_directions order
+  directions_are f order = map-map (λ (key : Key). key.direction) (mapped_key f) order
+
+  pub flat_permits : (others : Database) (query : QueryData) (rows : List Row) → IsBodyWithin (length db.tables) query.body
+      → SameTables others (with_kept w db (kept_of query.body)) → Permits w others (flat w db (length db.tables) query) rows → Permits w db query rows
+  flat_permits others query rows is same permits =
+      let p = Permits-bags w others (with_kept w db (kept_of query.body)) (flat w db (length db.tables) query) rows same permits in
+      record {
+        ordered = p.ordered;
+        same = subst (λ (os : List Output). IsPermutation os p.ordered) (flat_body_same query is) p.same;
+        ascends = subst (λ (ds : List Direction). IsSortedByKey (λ (o : Output). o.keys) (keys_cmp ds) p.ordered)
+            (directions_are (answered w db (last_from query.body)) query.order) p.ascends;
+        shown = p.shown;
+      }
