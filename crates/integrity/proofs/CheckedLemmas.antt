@@ -22,6 +22,7 @@ use Rattle.index_rows.specs.Checked.{IsCheckedBy}
 use Rattle.primary_walk.specs.Checked.{IsCheckedPrimary}
 use Rattle.primary_walk.proofs.HeldLemmas.{rows_held, rows_stand}
 use Rattle.stored_rows.specs.Stored.{HoldsRows, StoresRow}
+use Rattle.table_walk.specs.Checked.{IsCheckedTree}
 use Rattle.table_walk.specs.Walked.{IsWalkFault}
 use Rattle.table_walk.proofs.CheckedLemmas.{stored_table}
 use Rattle.image.proofs.ListLemmas.{in_head, in_tail}
@@ -73,12 +74,13 @@ module _ (pages : Pages) where
       All-cons (IsAnyStored pages) table tables (any_stored table counts (within table (in_head table tables)) all.0)
       (stored_tables tables trees (λ other h. within other (in_tail table other tables h)) all.1)
 
-  pub has_tables : (rows : List Row) (catalog : CatalogData) (trees : List TreeCounts) → HasCatalog pages rows catalog
-      → AllZip (IsAnyChecked pages) catalog.tables trees → HasTables pages catalog.tables
-  has_tables rows catalog trees has checked = record {
+  pub has_tables : (rows : List Row) (catalog : CatalogData) (own : TreeCounts) (trees : List TreeCounts) → HasCatalog pages rows catalog
+      → IsCheckedTree pages schema_table own → AllZip (IsAnyChecked pages) catalog.tables trees → HasTables pages catalog.tables
+  has_tables rows catalog own trees has own_checked checked = record {
     schema = rows;
     indexes = catalog.indexes;
     catalog = has;
+    own = stored_table pages schema_table own own_checked;
     stored = stored_tables catalog.tables trees (within_key pages.count rows catalog has.says) checked;
   }
 

@@ -7,8 +7,9 @@ use Rattle.image.specs.Pages.{pages_of, Pages}
 use Rattle.image.specs.Shape.{places_under}
 use Rattle.values.specs.Row.{Row}
 use Rattle.values.specs.Database.{Database}
-use Rattle.tables.specs.TableData.{RowKeyData, TableData}
+use Rattle.tables.specs.TableData.{RowKeyData, TableData, schema_table}
 use Rattle.stored_rows.specs.Stored.{Fits}
+use Rattle.stored_rows.proofs.OneLemmas.{one_rows}
 use Rattle.integrity.specs.Denotes.{Denotes, HasTables}
 use Rattle.stored_tables.specs.Tables.{IsAnyStored, IsStoredBy}
 use Rattle.integrity.specs.Tables.{HoldsAnyRows, HoldsRowsBy}
@@ -18,10 +19,11 @@ pub record IsStoredAs (pages : Pages) (table : TableData) (rows : List Row) : Ty
   pub stored : IsAnyStored pages table
   pub rows_are : stored.rows ≡ rows
 
--- the rows of each table
+-- the rows of each table, and of the schema's own
 pub record HasDatabase (image : List ℕ) (tables : List TableData) : Type 0 where
   pub db : Database
   pub denotes : Denotes image tables db
+  pub own : IsStoredAs (pages_of image) schema_table db.schema
   pub stored : AllZip (IsStoredAs (pages_of image)) tables db.tables
 
 module _ (pages : Pages) where
@@ -62,5 +64,6 @@ database_of image tables has =
         rows = each pages (HoldsAnyRows pages) (λ table is. holds_rows pages table.key table is.levels is.rows is.stored) tables has.stored;
         fit = each pages (λ table rows. All (Fits table) rows) (λ table is. rows_fit pages table.key table is.levels is.rows is.stored) tables has.stored;
       };
+      own = record { stored = has.own; rows_are = one_rows pages schema_table has.own.rows has.schema (holds_rows pages schema_table.key schema_table has.own) has.catalog.stored };
       stored = each pages (IsStoredAs pages) (λ table is. record { stored = is; rows_are = refl }) tables has.stored;
     }

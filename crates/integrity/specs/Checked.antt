@@ -102,6 +102,7 @@ IsCheckFault fault = IsWalkFault fault
 -- An image was checked: these are its tables and indexes, with what was counted of each, and each index has just the entries
 -- that its table's rows want; none of the conditions that are examined is broken.
 pub record HasCheckedImage (pager : PagerState) (checked : CheckedData) : Type 0 where
+  pub own_root : IsPageNumber pager schema_table.root
   pub roots : All (λ table. IsPageNumber pager table.root) checked.tables
   pub tables : WhereSteady pager (λ pages. HasTables pages checked.tables)
   pub trees : WhereSteady pager (λ pages. AllZip (IsAnyChecked pages) checked.tables checked.trees)

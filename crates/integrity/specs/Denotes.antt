@@ -25,9 +25,10 @@ pub record Denotes (image : List ℕ) (tables : List TableData) (db : Database) 
   pub rows : AllZip (HoldsAnyRows (pages_of image)) tables db.tables
   pub fit : AllZip (λ table. All (Fits table)) tables db.tables
 
--- the tables of the pages, each with its rows
+-- the tables of the pages, each with its rows; the schema's own table is stored as they are
 pub record HasTables (pages : Pages) (tables : List TableData) : Type 0 where
   pub schema : List Row
   pub indexes : List IndexData
   pub catalog : HasCatalog pages schema (record { tables = tables; indexes = indexes })
+  pub own : IsAnyStored pages schema_table
   pub stored : All (IsAnyStored pages) tables

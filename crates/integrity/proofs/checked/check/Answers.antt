@@ -223,6 +223,7 @@ returns-clause-outcome g c =
     let is = c.header-pages.ensures.is in
     let count : c.header-pages.result.pages ≡ pages.count = ap (λ (h : Header). h.pages) is in
     record {
+      own_root = search rules;
       roots = search rules;
       tables = λ steady.
           let now = still_steady _ _ stays steady in
@@ -230,7 +231,7 @@ returns-clause-outcome g c =
           let first = c.in_ok-rows.ensures.checked steady in
           let catalog = catalog_here pages _ rows _ first.0 found first.1
           (c.in_ok-rows.ensures.rows steady) count c.as_slice.ensures.value c.in_ok-catalog.ensures.said in
-          has_tables pages rows found c.in_ok-trees.trees.items catalog
+          has_tables pages rows found first.0 c.in_ok-trees.trees.items catalog first.1
           (subst (λ (ts : List TableData). AllZip (IsAnyChecked pages) ts c.in_ok-trees.trees.items) c.tables-tables.ensures trees);
       trees = search rules;
       index_counts = λ steady.
