@@ -1,0 +1,73 @@
+use Rattle.std.proofs.Common.{◌≡◌, ◌∙◌, ◌+◌, ℕ, List, [], ◌∷◌, length, map, refl, sym, ap, subst, arith, IsPermutation, Vec, Global}
+use Rattle.std.specs.List.{range_with_len}
+use Rattle.std.proofs.lemmas.List.{length-map}
+use Rattle.values.specs.Datum.{datum_of}
+use Rattle.values.specs.declared.value.Value.{Value}
+use Rattle.values.specs.Row.{Row}
+use Rattle.expr.specs.Meaning.{eval}
+use Rattle.expr.specs.View.{term}
+use Rattle.meaning.specs.Valuation.{term_values}
+use Rattle.syntax.specs.declared.query.Direction.{Direction as Way}
+use Rattle.query_trees.specs.SelectView.{direction_of}
+use Rattle.window_order.specs.declared.peers.PeerGroups.{PeerGroups}
+use Rattle.window_order.specs.declared.sorting.Entry.{Entry}
+use Rattle.window_order.specs.Entries.{IsInOrder, keys_of, rows_of}
+use Rattle.window_order.specs.Groups.{AreGroups}
+use Rattle.window_order.proofs.EntryLemmas.{length-keys_of}
+use Rattle.window_entries.specs.Tags.{tags_of}
+use Rattle.window_entries.proofs.ValueLemmas.{map-map}
+use Rattle.window_partitions.specs.Tagged.{AreAlike, tagged}
+use Rattle.window_partitions.proofs.AlikeLemmas.{rows-of_tags}
+use Rattle.window_partitions.proofs.PartLemmas.{are_partitions, start_rises}
+use Rattle.window_partitions.proofs.partitions.partitioned.Goals as goal
+
+tags_from : (es : List Entry) (n : ℕ) → map (λ (e : Entry). e.index) es ≡ range_with_len n (length es) → tags_of es ≡ tagged n (rows_of es)
+tags_from [] n is = refl
+tags_from (e ∷ es) n is =
+    let first : e.index ≡ n = cc in
+    let rest : map (λ (e : Entry). e.index) es ≡ range_with_len (n + 1) (length es) = cc in
+    (λ i. (map datum_of e.row.now, first i) ∷ tags_from es (n + 1) rest i)
+
+all_tags : (es : List Entry) (rows : List (Vec Value Global)) → rows_of es ≡ map (λ (row : Vec Value Global). map datum_of row.items) rows
+    → map (λ (e : Entry). e.index) es ≡ range_with_len 0 (length rows) → tags_of es ≡ tagged 0 (map (λ (row : Vec Value Global). map datum_of row.items) rows)
+all_tags es rows are places =
+    let size : length rows ≡ length es = sym (length-map rows (λ (row : Vec Value Global). map datum_of row.items)) ∙ ap length (sym are) ∙ length-map es (λ (e : Entry). map datum_of e.row.now) in
+    tags_from es 0 (places ∙ ap (range_with_len 0) size) ∙ ap (tagged 0) are
+
+same_groups : (given before after : List Way) (es placed : List Entry) (groups : PeerGroups) → before ≡ given → after ≡ given → placed ≡ es
+    → IsInOrder (map direction_of before) (keys_of es) → AreGroups (map direction_of after) (keys_of placed) groups
+    → IsInOrder (map direction_of given) (keys_of es) × AreGroups (map direction_of given) (keys_of es) groups
+same_groups given before after es placed groups p q r up are = (
+  subst (λ (l : List Way). IsInOrder (map direction_of l) (keys_of es)) p up,
+  subst (λ (l : List Entry). AreGroups (map direction_of given) (keys_of l) groups) r (subst (λ (l : List Way). AreGroups (map direction_of l) (keys_of placed) groups) q are),
+)
+
+pub invariant_of-result : goal.invariant_of-result
+invariant_of-result c =
+    let placed = c.in_ok-placed.placed.items in
+    let groups = c.in_ok-groups.groups in
+    let ways = c.in_ok-directions.directions.items in
+    let both = same_groups ways c.as_slice.result.now c.as_slice-3.result.now placed c.as_slice-4.result.now groups c.as_slice.ensures.value c.as_slice-3.ensures.value c.as_slice-4.ensures.value
+    c.in_ok-placed.ensures.in_order c.in_ok-groups.ensures in
+    record {
+      rises = λ g h. start_rises (map direction_of ways) (keys_of placed) groups both.0 both.1 g h;
+      within = λ g h. let bound = both.1.within g h in let size = length-keys_of placed in omega (arith, bound, size);
+    }
+
+pub returns-clause-parts : goal.returns-clause-parts
+returns-clause-parts c = λ w window is.
+    let rows = map (λ (row : Vec Value Global). map datum_of row.items) c.args.rows.now in
+    let placed = c.in_ok-placed.placed.items in
+    let groups = c.in_ok-groups.groups in
+    let ways = c.in_ok-directions.directions.items in
+    let both = same_groups ways c.as_slice.result.now c.as_slice-3.result.now placed c.as_slice-4.result.now groups c.as_slice.ensures.value c.as_slice-3.ensures.value c.as_slice-4.ensures.value
+    c.in_ok-placed.ensures.in_order c.in_ok-groups.ensures in
+    let K : Row → Row = term_values (eval w) (map term c.args.terms.now) in
+    let given : tags_of c.as_slice-2.result.now ≡ tagged 0 rows =
+    ap tags_of c.as_slice-2.ensures.value ∙ all_tags c.in_ok-given.given.items c.args.rows.now c.in_ok-given.ensures.rows c.in_ok-given.ensures.places in
+    let keys : keys_of placed ≡ map (λ (t : Row × ℕ). K t.0) (tags_of placed) =
+    c.in_ok-placed.ensures.keys w ∙ ap (map K) (sym (rows-of_tags placed)) ∙ map-map K (λ (t : Row × ℕ). t.0) (tags_of placed) in
+    are_partitions (map direction_of ways) (keys_of placed) groups both.0 both.1 K (tags_of placed) keys rows
+    (subst (λ (l : List (Row × ℕ)). IsPermutation l (tags_of placed)) given c.in_ok-placed.ensures.same)
+    (subst (λ (l : List (Row × ℕ)). AreAlike l (tags_of placed)) given c.in_ok-placed.ensures.ties)
+    (eval w) window (ap (term_values (eval w)) (sym is))

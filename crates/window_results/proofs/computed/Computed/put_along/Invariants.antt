@@ -1,0 +1,19 @@
+use Rattle.std.proofs.Common.{◌≡◌, ℕ, length, map, Option}
+use Rattle.values.specs.Datum.{Datum, datum_of}
+use Rattle.meaning.specs.Query as query
+use Rattle.meaning.specs.Valuation.{Valuation}
+use Rattle.meaning.specs.Windows.{window_result}
+use Rattle.window_order.specs.Placed.{rows_in}
+use Rattle.window_results.specs.Known.{known_for, known_of}
+use Rattle.window_results.specs.Over.{IsOver}
+use Rattle.window_results.specs.Put.{AreWanted, numbers_in}
+use Rattle.window_results.proofs.PutLemmas.{ArePut}
+use Rattle.window_results.proofs.computed.Computed.put_along.Given as goal
+
+abbrev pub invariant-loop-here : goal.invariant-loop-here
+invariant-loop-here l = record {
+  size : length l.results.items ≡ length l.fn.results.items;
+  puts : (value : Valuation) (o : Option Datum) (window : query.Window) (f : query.WindowFunction) (want : ℕ → Option Datum) → IsOver value window l.sequence l.frame
+      → known_of l.self ≡ known_for value f (rows_in l.sequence) → AreWanted want (window_result value o window f (rows_in l.sequence)) (numbers_in l.sequence)
+      → ArePut want (numbers_in l.sequence) (map datum_of l.fn.results.items) (map datum_of l.results.items) l.here;
+}

@@ -1,0 +1,5 @@
+pub mod FunctionView
+pub mod Framed
+pub mod Known
+pub mod Over
+pub mod Put

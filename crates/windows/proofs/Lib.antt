@@ -1,0 +1,5 @@
+pub mod NumberedLemmas
+pub mod WantedLemmas
+pub mod PartLemmas
+pub mod AllLemmas
+pub mod OrderedLemmas

@@ -1,0 +1,18 @@
+use Rattle.std.proofs.Common.{◌≡◌, ◌+◌, ◌<◌, ℕ, All, List, length, map, Option, Some}
+use Rattle.values.specs.Datum.{Datum, datum_of}
+use Rattle.values.specs.Row.{Row}
+use Rattle.expr.specs.Meaning.{eval}
+use Rattle.meaning.specs.Sequence.{value_at}
+use Rattle.window_entries.specs.Tags.{tags_of}
+use Rattle.window_partitions.specs.Partition.{ArePartitions, part_at}
+use Rattle.windows.specs.CallView.{call_data, window_data}
+use Rattle.windows.specs.Wanted.{wanted}
+use Rattle.windows.proofs.evaluated.put_parts.Given as goal
+
+abbrev pub invariant-loop-number : goal.invariant-loop-number
+invariant-loop-number l = record {
+  size : length l.results.items ≡ length l.fn.results.items;
+  right : (w : Datum) (o : Option Datum) (rows : List Row) → ArePartitions (eval w) (window_data l.call.window) rows (tags_of l.parts.entries.items) l.parts.starts.items
+      → (g : ℕ) → g + 1 < l.number → g + 1 < length l.parts.starts.items
+      → All (λ i. wanted w o (call_data l.call) rows i ≡ Some (value_at (map datum_of l.results.items) i)) (map (λ (t : Row × ℕ). t.1) (part_at (tags_of l.parts.entries.items) l.parts.starts.items g));
+}

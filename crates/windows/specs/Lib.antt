@@ -1,0 +1,2 @@
+pub mod CallView
+pub mod Wanted

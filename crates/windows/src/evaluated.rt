@@ -1,0 +1,92 @@
+//! The values of a call on all rows.
+ghost use Rattle.std.specs.Prelude.{◌≡◌, ◌⊎◌, ◌<◌, ◌+◌, ℕ, All, Any, Err, IfErr, IfOk, List, OnOk, Option, Some, length, map};
+ghost use Rattle.values.specs.Datum.{Datum, datum_of};
+ghost use Rattle.values.specs.Row.{Row};
+ghost use Rattle.expr.specs.Meaning.{Overflows, eval};
+ghost use Rattle.meaning.specs.Hits.{CallLeaves, call_terms};
+ghost use Rattle.meaning.specs.Sequence.{value_at};
+ghost use Rattle.window_order.specs.Entries.{rows_of};
+ghost use Rattle.window_entries.specs.Tags.{tags_of};
+ghost use Rattle.window_partitions.specs.Partition.{ArePartitions, part_at};
+ghost use Rattle.windows.specs.CallView.{call_data, window_data};
+ghost use Rattle.windows.specs.Wanted.{IsReachedBy, column_of, wanted};
+
+use crate::calls::WindowCall;
+use crate::parts::put_part;
+use std::alloc::{AllocError, Global};
+use values::{Fault, Value};
+use window_partitions::{Partitions, partitioned};
+
+/// So many NULLs.
+fn nulls(alloc: Global, count: usize) -> Result<Vec<Value>, AllocError>
+    ensures { IfOk result (λ values. length values.items ≡ count) }
+{
+    let mut values = Vec::with_capacity(alloc, count)?;
+    'nulls: while values.len() < count {
+        values.push(Value::Null)?;
+    }
+    Ok(values)
+}
+
+/// Puts the value of a call on each row of all partitions where it stands among the rows that are given. Its faults are
+/// `Overflow` and `NoMemory`.
+fn put_parts(
+    alloc: Global,
+    call: &WindowCall,
+    parts: &Partitions,
+    results: &mut Vec<Value>,
+) -> Result<(), Fault>
+    requires { All (λ t. t.1 < length results.old.items) (tags_of parts.now.entries.items) }
+    ensures size { length results.new.items ≡ length results.old.items }
+    ensures values { OnOk result ((w : Datum) (o : Option Datum) (rows : List Row) → ArePartitions (eval w) (window_data call.now.window) rows (tags_of parts.now.entries.items) parts.now.starts.items
+        → (g : ℕ) → g + 1 < length parts.now.starts.items
+        → All (λ i. wanted w o (call_data call.now) rows i ≡ Some (value_at (map datum_of results.new.items) i)) (map (λ t. t.1) (part_at (tags_of parts.now.entries.items) parts.now.starts.items g))) }
+    ensures overflow { result ≡ Err Fault.Overflow → Any (λ row. Any (λ t. Overflows t row) (call_terms (call_data call.now))) (rows_of parts.now.entries.items)
+        ⊎ ((w : Datum) (rows : List Row) → ArePartitions (eval w) (window_data call.now.window) rows (tags_of parts.now.entries.items) parts.now.starts.items
+        → CallLeaves (eval w) rows (call_data call.now)) }
+    ensures only { IfErr result (λ e. (e ≡ Fault.Overflow) ⊎ (e ≡ Fault.NoMemory)) }
+{
+    let entries = parts.entries.as_slice();
+    let starts = parts.starts.as_slice();
+    for number in 1..starts.len() {
+        let start = starts[number - 1];
+        let end = starts[number];
+        let part = &entries[start..end];
+        put_part(alloc, call, part, results)?;
+    }
+    Ok(())
+}
+
+/// The value of a call on each row, in the order in which the rows are given. Its faults are `Overflow`, where an expression of the
+/// call reaches an operation out of range on a row or the number of the call leaves 64 bits, and `NoMemory`. (Window Functions)
+pub fn evaluate(alloc: Global, call: &WindowCall, rows: &[Vec<Value>]) -> Result<Vec<Value>, Fault>
+    ensures values { IfOk result (λ values. (w : Datum) → map datum_of values.items ≡ column_of w (map (λ row. map datum_of row.items) rows.now) (call_data call.now)) }
+    ensures overflow { result ≡ Err Fault.Overflow → IsReachedBy (call_data call.now) (map (λ row. map datum_of row.items) rows.now) }
+    ensures only { IfErr result (λ e. (e ≡ Fault.Overflow) ⊎ (e ≡ Fault.NoMemory)) }
+{
+    let terms = call.window.partition.as_slice();
+    let parts = partitioned(alloc, terms, rows)?;
+    let mut results = nulls(alloc, rows.len())?;
+    put_parts(alloc, call, &parts, &mut results)?;
+    Ok(results)
+}
+
+/// The values of each call on all rows, call by call, in the order in which the rows are given. Its faults are `Overflow`, where an
+/// expression of a call reaches an operation out of range on a row or the number of a call leaves 64 bits, and `NoMemory`.
+pub fn evaluate_all(
+    alloc: Global,
+    calls: &[WindowCall],
+    rows: &[Vec<Value>],
+) -> Result<Vec<Vec<Value>>, Fault>
+    ensures columns { IfOk result (λ columns. (w : Datum) → map (λ column. map datum_of column.items) columns.items
+        ≡ map (column_of w (map (λ row. map datum_of row.items) rows.now)) (map call_data calls.now)) }
+    ensures overflow { result ≡ Err Fault.Overflow → Any (λ call. IsReachedBy call (map (λ row. map datum_of row.items) rows.now)) (map call_data calls.now) }
+    ensures only { IfErr result (λ e. (e ≡ Fault.Overflow) ⊎ (e ≡ Fault.NoMemory)) }
+{
+    let mut columns = Vec::with_capacity(alloc, calls.len())?;
+    for call in calls {
+        let values = evaluate(alloc, call, rows)?;
+        columns.push(values)?;
+    }
+    Ok(columns)
+}

@@ -1,0 +1,16 @@
+//! Windows, whole. It promises that each row which is given gets exactly the value that the definition of windows gives it for a
+//! call, in the order in which the rows are given, whatever stands for results out of range; that equal rows are paired with
+//! their values in one way for all calls; and that `Overflow` comes only where an expression of a call reaches an operation out
+//! of range on a row, or the number of a call leaves 64 bits there as the definition says. Each window is evaluated in
+//! `n log n`.
+//!
+//! The modules, in the order in which data passes them: `calls` (what is called, over which window), `parts` (one partition) and
+//! `evaluated` (all rows).
+#![tactic(auto)]
+
+mod calls;
+mod evaluated;
+mod parts;
+
+pub use calls::{Window, WindowCall};
+pub use evaluated::{evaluate, evaluate_all};
