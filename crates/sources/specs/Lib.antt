@@ -1,0 +1,2 @@
+pub mod SourceData
+pub mod Coming
