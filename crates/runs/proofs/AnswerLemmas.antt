@@ -12,12 +12,9 @@ use Rattle.values.specs.declared.fault.Fault.{Fault}
 use Rattle.values.specs.declared.fault.Fault.TheVariants.{WriteFailed}
 use Rattle.pager.specs.PagerState.{PagerState}
 use Rattle.image.specs.Pages.{Pages, WhereSteady, pages_seen}
-use Rattle.image.specs.Shape.{places_under}
-use Rattle.image.specs.declared.kind.TreeKind.TheVariants.{Table}
 use Rattle.tables.specs.TableData.{TableData}
-use Rattle.stored_rows.specs.Stored.{HoldsRows}
-use Rattle.stored_rows.proofs.OneLemmas.{one_rows}
-use Rattle.table_walk.specs.Checked.{IsStoredTable}
+use Rattle.stored_tables.specs.Tables.{IsAnyStored}
+use Rattle.stored_tables.proofs.TableLemmas.{stored_once}
 use Rattle.expr.specs.Term.{Term}
 use Rattle.expr.specs.Meaning.{eval}
 use Rattle.meaning.specs.Answer.{Ascends, key_directions, limited, skipped}
@@ -51,21 +48,18 @@ all_at P [] i x all at = absurd cc
 all_at {X} P (first ∷ xs) zero x all at = subst (λ (z : X). P z) (some_one first x at) (All-head P first xs all)
 all_at P (first ∷ xs) (suc i) x all at = all_at P xs i x (All-tail P first xs all) at
 
-holds : (pages : Pages) (table : TableData) (is : IsStoredTable pages table) → HoldsRows pages table is.rows
-holds pages table is = record { places = places_under pages Table is.levels table.root; cells = is.stored.cells; rows_are = is.stored.rows_are }
-
 module _ (pages : Pages) (tables : List TableData) (at : ℕ) (places : List ℕ) (table : TableData) (found : slice_get tables at ≡ Some table) where
   -- its rows are those that are said of it
-  said : (stored : IsStoredTable pages table) (on : Basis) → AreStored pages tables on → stored.rows ≡ table_rows on.db at
+  said : (stored : IsAnyStored pages table) (on : Basis) → AreStored pages tables on → stored.rows ≡ table_rows on.db at
   said stored on has =
       let is = has at table found in
-      one_rows pages table stored.rows is.stored.rows (holds pages table stored) (holds pages table is.stored) ∙ is.rows_are
+      stored_once pages table stored is.stored ∙ is.rows_are
 
-  module _ (all : All (IsStoredTable pages) tables) (old new : SinkFacts) where
-    stored : IsStoredTable pages table
-    stored = all_at (IsStoredTable pages) tables at table all found
+  module _ (all : All (IsAnyStored pages) tables) (old new : SinkFacts) where
+    stored : IsAnyStored pages table
+    stored = all_at (IsAnyStored pages) tables at table all found
 
-    pub columns_answer : (n : ℕ) → ((is : IsStoredTable pages table) → Streams places is.rows n old new)
+    pub columns_answer : (n : ℕ) → ((is : IsAnyStored pages table) → Streams places is.rows n old new)
         → WritesAnswer pages tables (PlannedData.columns at places) old new n
     columns_answer n streams = record {
       given = map (shown places) stored.rows;
@@ -73,7 +67,7 @@ module _ (pages : Pages) (tables : List TableData) (at : ℕ) (places : List ℕ
       prints = streams stored;
     }
 
-    pub columns_stopped : (e told : Fault) → ((is : IsStoredTable pages table) → StreamsUntil e places is.rows old new)
+    pub columns_stopped : (e told : Fault) → ((is : IsAnyStored pages table) → StreamsUntil e places is.rows old new)
         → (IsOutsideFault e → told ≡ e) → WritesBeginning pages tables (PlannedData.columns at places) old new told
     columns_stopped e told streams same =
         let until = streams stored in
@@ -88,7 +82,7 @@ module _ (pages : Pages) (tables : List TableData) (at : ℕ) (places : List ℕ
           cause = λ on has. inl (subst IsOutsideFault (sym is_told) until.outside);
         }
 
-  pub columns_few : (start now : PagerState) → ((is : IsStoredTable pages table) → AsksFew pages table is.levels start now)
+  pub columns_few : (start now : PagerState) → ((is : IsAnyStored pages table) → AsksFew pages table is.levels start now)
       → (on : Basis) → AreStored pages tables on → Asks on.local start (table_size on.sizes at) now 0
   columns_few start now few on has =
       let is = has at table found in

@@ -1,18 +1,9 @@
--- The payload of a cell, and the columns of a row that are shown.
-use Rattle.std.proofs.Common.{◌≡◌, ◌∙◌, ◌⊎◌, ◌+◌, ◌<◌, ℕ, List, [], ◌∷◌, ◌++◌, map, length, take, get_or, slice_get, Option, None, Some, MatchResult, Global, sym, ap}
+-- The columns of a row that are shown.
+use Rattle.std.proofs.Common.{◌≡◌, ◌∙◌, ◌+◌, ◌<◌, ℕ, List, [], ◌∷◌, ◌++◌, map, length, take, get_or, slice_get, Some, sym, ap}
 use Rattle.std.proofs.lemmas.List.{map_push, take_more}
 use Rattle.std.proofs.lemmas.Option.{get_or_from_slice_get}
-use Rattle.std.specs.Cow.{cow_slice_items}
-use Rattle.std.specs.Option.{ok_or, option_map}
-use Rattle.std.specs.declared.borrow.CowSlice.{CowSlice}
 use Rattle.values.specs.Datum.{null, datum_of_ref}
 use Rattle.values.specs.declared.value.ValueRef.{ValueRef}
-use Rattle.values.specs.declared.fault.Fault.TheVariants.{Changed, NoMemory, ReadFailed}
-use Rattle.image.specs.Cell.{PayloadData}
-use Rattle.image.specs.Chain.{HasBytes}
-use Rattle.image.specs.Pages.{Pages}
-use Rattle.image.proofs.ChainLemmas.{one_payload}
-use Rattle.btree.specs.Calls.{IsBytesOf}
 use Rattle.values.specs.Row.{Row}
 use Rattle.meaning.specs.Sequence.{value_at}
 use Rattle.meaning.specs.OneTable.{shown}
@@ -27,9 +18,3 @@ shown-more row columns i values value within at before =
     ∙ (λ k. before k ++ sym (get_or_from_slice_get row (get_or columns i 0) (datum_of_ref value) null at) k ∷ [])
     ∙ sym (map_push (value_at row) (take i columns) (get_or columns i 0))
     ∙ sym (ap (map (value_at row)) (take_more columns i 0 within))
-
--- a payload that has bytes is found, where nothing fails
-pub payload_found : (pages : Pages) (payload : PayloadData) (bytes : List ℕ) → HasBytes pages payload bytes → (found : Option (CowSlice ℕ Global))
-    → IsBytesOf pages payload (option_map cow_slice_items found) → MatchResult (ok_or found Changed) (λ f. cow_slice_items f ≡ bytes) (λ e. (e ≡ ReadFailed) ⊎ (e ≡ NoMemory))
-payload_found pages payload bytes has (Some found) is = one_payload pages payload (cow_slice_items found) bytes is has
-payload_found pages payload bytes has None none = absurd (none bytes has)

@@ -13,22 +13,22 @@ use Rattle.pager.specs.Calls.{AsksChainsOnly, IsReadFault, ReadsTreePages, SameI
 use Rattle.pager.proofs.CallLemmas.{SameImage-trans}
 use Rattle.image.specs.Cell.{CellData}
 use Rattle.image.specs.Pages.{pages_seen, Pages, WhereSteady, pages_in}
-use Rattle.image.specs.declared.kind.TreeKind.TheVariants.{Table}
+use Rattle.image.specs.declared.kind.TreeKind.{TreeKind}
 use Rattle.image.specs.Shape.{places_under}
 use Rattle.image.specs.Tree.{Place}
 use Rattle.cursor.specs.declared.cursor.Cursor.{Cursor}
-use Rattle.cursor.specs.Calls.{HasFailed, HasStepped, IsCursorFault, IsOpenedAt, IsStepFault}
+use Rattle.cursor.specs.Calls.{HasFailed, HasStepped, IsOpenedAt}
 use Rattle.cursor.specs.Listing.{IsAt, IsEntry}
 use Rattle.cursor.proofs.RestLemmas.{standing_asked}
 use Rattle.values.specs.Row.{Row}
 use Rattle.tables.specs.TableData.{TableData}
-use Rattle.table_walk.specs.Checked.{IsStoredTable}
-use Rattle.stored_rows.specs.Stored.{IsRowOf, StoresRow}
+use Rattle.stored_tables.specs.Tables.{IsAnyRow, IsAnyStored, StoresAnyRow, kind_of}
+use Rattle.stored_tables.proofs.TableLemmas.{stored_rows, stored_shape}
 use Rattle.explain.specs.Text.{row_text, rows_text}
 use Rattle.meaning.specs.OneTable.{shown}
 use Rattle.scan.specs.Coming.{AreUnchained, IsUnchained, size_of}
 use Rattle.runs.specs.Stream.{AsksFew, Streams, StreamsUntil}
-use Rattle.image.proofs.CellLemmas.{one_cell}
+use Rattle.tree_walk.proofs.KindLemmas.{one_entry}
 
 -- at a fault of reading nothing is written of the rows
 pub not_write : (e : Fault) → IsReadFault e → e ≢ WriteFailed
@@ -120,10 +120,10 @@ pub record Given (pages : Pages) (table : TableData) (columns : List ℕ) (rows 
   pub rest : List Row
   pub places : List Place
   pub whole : given ++ rest ≡ rows
-  pub local : All (IsUnchained pages) all → All (IsUnchained pages) places
+  pub local : All (IsUnchained pages (kind_of table.key)) all → All (IsUnchained pages (kind_of table.key)) places
   pub levels : ℕ
-  pub at : IsAt pages Table levels cursor places asked budget
-  pub stored : AllZip (StoresRow pages table) places rest
+  pub at : IsAt pages (kind_of table.key) levels cursor places asked budget
+  pub stored : AllZip (StoresAnyRow pages table) places rest
   pub written : Appends old.written new.written (shown_text columns given)
   pub counted : n ≡ min (length given) (2 ^ 64 - 1)
 
@@ -131,32 +131,32 @@ pub record Given (pages : Pages) (table : TableData) (columns : List ℕ) (rows 
 record BeginsRows (pages : Pages) (table : TableData) (cell : CellData) (rest : List Row) (others : List Place) : Type 0 where
   row : Row
   more : List Row
-  is : IsRowOf pages table cell row
+  is : IsAnyRow pages table cell row
   rest_is : rest ≡ row ∷ more
-  stored : AllZip (StoresRow pages table) others more
+  stored : AllZip (StoresAnyRow pages table) others more
 
 first_cell : (pages : Pages) (table : TableData) (cell : CellData) (places : List Place) (rest : List Row)
-    → AllZip (StoresRow pages table) places rest → IsEntry pages Table places (Some cell) → BeginsRows pages table cell rest (drop 1 places)
+    → AllZip (StoresAnyRow pages table) places rest → IsEntry pages (kind_of table.key) places (Some cell) → BeginsRows pages table cell rest (drop 1 places)
 first_cell pages table cell [] rest stored entry = absurd cc
 first_cell pages table cell (place ∷ places) [] stored entry = absurd stored
 first_cell pages table cell (place ∷ places) (row ∷ more) stored entry = record {
   row = row;
   more = more;
-  is = subst (λ (c : CellData). IsRowOf pages table c row) (one_cell pages place stored.0.cell cell stored.0.at entry) stored.0.is;
+  is = subst (λ (c : CellData). IsAnyRow pages table c row) (one_entry pages (kind_of table.key) place stored.0.cell cell stored.0.at entry) stored.0.is;
   rest_is = refl;
   stored = stored.1;
 }
 
 no_cell : (pages : Pages) (table : TableData) (places : List Place) (rest : List Row)
-    → AllZip (StoresRow pages table) places rest → IsEntry pages Table places None → rest ≡ []
+    → AllZip (StoresAnyRow pages table) places rest → IsEntry pages (kind_of table.key) places None → rest ≡ []
 no_cell pages table [] [] stored entry = refl
 no_cell pages table [] (row ∷ rest) stored entry = absurd stored
 no_cell pages table (place ∷ places) rest stored entry = absurd entry
 
-first_local : (pages : Pages) (cell : CellData) (places : List Place) → IsEntry pages Table places (Some cell) → All (IsUnchained pages) places
+first_local : (pages : Pages) (kind : TreeKind) (cell : CellData) (places : List Place) → IsEntry pages kind places (Some cell) → All (IsUnchained pages kind) places
     → cell.payload.overflow ≡ None
-first_local pages cell [] entry all = absurd cc
-first_local pages cell (place ∷ places) entry all = All-head (IsUnchained pages) place places all cell entry
+first_local pages kind cell [] entry all = absurd cc
+first_local pages kind cell (place ∷ places) entry all = All-head (IsUnchained pages kind) place places all cell entry
 
 all_drop : (P : Place → Type 0) (places : List Place) → All P places → All P (drop 1 places)
 all_drop P [] all = all
@@ -180,7 +180,7 @@ module _ (pages : Pages) (table : TableData) (columns : List ℕ) (rows : List R
       }
 
   module _ (cell : CellData) (first : BeginsRows pages table cell g.rest (drop 1 g.places)) where
-    Given-next : (next : Cursor) (asked' n' : ℕ) (new : SinkFacts) → IsAt pages Table g.levels next (drop 1 g.places) asked' budget
+    Given-next : (next : Cursor) (asked' n' : ℕ) (new : SinkFacts) → IsAt pages (kind_of table.key) g.levels next (drop 1 g.places) asked' budget
         → Appends mid.written new.written (row_text (shown columns first.row)) → n' ≡ min (n + 1) (2 ^ 64 - 1)
         → Given pages table columns rows all next asked' budget n' old new
     Given-next next asked' n' new at written is = record {
@@ -189,7 +189,7 @@ module _ (pages : Pages) (table : TableData) (columns : List ℕ) (rows : List R
       places = drop 1 g.places;
       levels = g.levels;
       whole = append_assoc g.given (first.row ∷ []) first.more ∙ ap (λ t. g.given ++ t) (sym first.rest_is) ∙ g.whole;
-      local = λ every. all_drop (IsUnchained pages) g.places (g.local every);
+      local = λ every. all_drop (IsUnchained pages (kind_of table.key)) g.places (g.local every);
       at = at;
       stored = first.stored;
       written = rw (shown_text-push columns g.given first.row) (Appends-then _ _ _ _ _ g.written written);
@@ -216,15 +216,15 @@ pub record Streaming (start now : PagerState) (table : TableData) (columns : Lis
   pub stays : SameImage start now
   pub reads : now.source.failures ≡ start.source.failures
   pub writes : new.failures ≡ old.failures
-  pub rows : WhereSteady start (λ pages. (stored : IsStoredTable pages table)
-      → Given pages table columns stored.rows (places_under pages Table stored.levels table.root) cursor now.asked (start.asked + size_of pages table stored.levels) n old new)
-  pub unchained : WhereSteady start (λ pages. (stored : IsStoredTable pages table) → AreUnchained pages table stored.levels → now.chained ≡ start.chained)
+  pub rows : WhereSteady start (λ pages. (stored : IsAnyStored pages table)
+      → Given pages table columns stored.rows (places_under pages (kind_of table.key) stored.levels table.root) cursor now.asked (start.asked + size_of pages table stored.levels) n old new)
+  pub unchained : WhereSteady start (λ pages. (stored : IsAnyStored pages table) → AreUnchained pages table stored.levels → now.chained ≡ start.chained)
 
 seen_same : (start now : PagerState) → SameImage start now → pages_seen now ≡ pages_seen start
 seen_same start now stays = λ k. pages_in (stays.header k) (stays.bytes k)
 
 pub Streaming-start : (start now : PagerState) (table : TableData) (columns : List ℕ) (cursor : Cursor) (n : ℕ) (old : SinkFacts)
-    → ReadsTreePages {T = Cursor} (Ok cursor) start now → IsPageNumber start table.root → IsOpenedAt start now Table table.root cursor
+    → ReadsTreePages {T = Cursor} (Ok cursor) start now → IsPageNumber start table.root → IsOpenedAt start now (kind_of table.key) table.root cursor
     → n ≡ 0 → Streaming start now table columns cursor n old old
 Streaming-start start now table columns cursor n old reads root opened is = record {
   stays = reads.image;
@@ -233,12 +233,12 @@ Streaming-start start now table columns cursor n old reads root opened is = reco
   rows = λ steady stored. record {
     given = [];
     rest = stored.rows;
-    places = places_under (pages_seen start) Table stored.levels table.root;
+    places = places_under (pages_seen start) (kind_of table.key) stored.levels table.root;
     whole = refl;
     local = λ every. every;
     levels = stored.levels;
-    at = opened.lists steady stored.levels (record { few = stored.few; number = root; shape = stored.stored.shape });
-    stored = stored.stored.rows_are;
+    at = opened.lists steady stored.levels (record { few = stored.few; number = root; shape = stored_shape (pages_seen start) table stored });
+    stored = stored_rows (pages_seen start) table stored;
     written = Appends-none old.written;
     counted = omega arith;
   };
@@ -247,32 +247,33 @@ Streaming-start start now table columns cursor n old reads root opened is = reco
 
 -- what the cursor says of the cell that it stands at
 abbrev pub IsEntryOf : Cursor → Option CellData → Type 0
-IsEntryOf cursor cell = (pages : Pages) (levels : ℕ) (places : List Place) (asked budget : ℕ) → IsAt pages Table levels cursor places asked budget → IsEntry pages Table places cell
+IsEntryOf cursor cell = (pages : Pages) (kind : TreeKind) (levels : ℕ) (places : List Place) (asked budget : ℕ) → IsAt pages kind levels cursor places asked budget
+    → IsEntry pages kind places cell
 
 -- what is said of the cell that the cursor stands at, as these pages have it
 abbrev pub Says : PagerState → TableData → CellData → (Row → Type 0) → Type 0
-Says now table cell Then = IsTrue now.source.steady → (row : Row) → IsRowOf (pages_seen now) table cell row → Then row
+Says now table cell Then = IsTrue now.source.steady → (row : Row) → IsAnyRow (pages_seen now) table cell row → Then row
 
 module _ (start now : PagerState) (table : TableData) (columns : List ℕ) (cursor : Cursor) (n : ℕ) (old mid : SinkFacts)
     (s : Streaming start now table columns cursor n old mid) where
   is_steady : IsTrue start.source.steady → IsTrue now.source.steady
   is_steady steady = rw s.stays.steady steady
 
-  module _ (steady : IsTrue start.source.steady) (stored : IsStoredTable (pages_seen start) table) where
+  module _ (steady : IsTrue start.source.steady) (stored : IsAnyStored (pages_seen start) table) where
     abbrev budget : ℕ
     budget = start.asked + size_of (pages_seen start) table stored.levels
 
-    now_given : Given (pages_seen start) table columns stored.rows (places_under (pages_seen start) Table stored.levels table.root) cursor now.asked budget n old mid
+    now_given : Given (pages_seen start) table columns stored.rows (places_under (pages_seen start) (kind_of table.key) stored.levels table.root) cursor now.asked budget n old mid
     now_given = s.rows steady stored
 
     pub Streaming-done : IsEntryOf cursor None → Streams columns stored.rows n old mid
     Streaming-done entry =
         Given-all _ _ _ _ _ _ _ _ _ _ _ now_given
-        (no_cell (pages_seen start) table now_given.places now_given.rest now_given.stored (entry _ _ _ _ _ now_given.at))
+        (no_cell (pages_seen start) table now_given.places now_given.rest now_given.stored (entry _ _ _ _ _ _ now_given.at))
 
     -- the cursor has a cell or an end
-    pub Streaming-never : ((pages : Pages) (levels : ℕ) (places : List Place) (asked budget : ℕ) → IsAt pages Table levels cursor places asked budget → ⊥) → ⊥
-    Streaming-never never = never _ _ _ _ _ now_given.at
+    pub Streaming-never : ((pages : Pages) (kind : TreeKind) (levels : ℕ) (places : List Place) (asked budget : ℕ) → IsAt pages kind levels cursor places asked budget → ⊥) → ⊥
+    Streaming-never never = never _ _ _ _ _ _ now_given.at
 
     pub asked_few : AsksFew (pages_seen start) table stored.levels start now
     asked_few = record {
@@ -282,13 +283,13 @@ module _ (start now : PagerState) (table : TableData) (columns : List ℕ) (curs
 
     now_first : (cell : CellData) → IsEntryOf cursor (Some cell)
         → BeginsRows (pages_seen start) table cell now_given.rest (drop 1 now_given.places)
-    now_first cell entry = first_cell (pages_seen start) table cell now_given.places now_given.rest now_given.stored (entry _ _ _ _ _ now_given.at)
+    now_first cell entry = first_cell (pages_seen start) table cell now_given.places now_given.rest now_given.stored (entry _ _ _ _ _ _ now_given.at)
 
     -- what was said of the cell
     said : (cell : CellData) (Then : Row → Type 0) → Says now table cell Then → (entry : IsEntryOf cursor (Some cell)) → Then (now_first cell entry).row
     said cell Then says entry =
         says (is_steady steady) (now_first cell entry).row
-        (subst (λ (p : Pages). IsRowOf p table cell (now_first cell entry).row) (sym (seen_same start now s.stays)) (now_first cell entry).is)
+        (subst (λ (p : Pages). IsAnyRow p table cell (now_first cell entry).row) (sym (seen_same start now s.stays)) (now_first cell entry).is)
 
     pub Streaming-cut : (cell : CellData) (e : Fault) (new : SinkFacts) → IsEntryOf cursor (Some cell)
         → Says now table cell (λ row. StreamsUntil e columns (row ∷ []) mid new)
@@ -300,10 +301,10 @@ module _ (start now : PagerState) (table : TableData) (columns : List ℕ) (curs
 
     -- the cursor stands where it stood, once overflow pages were read
     still_at : (wrote : PagerState) → AsksChainsOnly now wrote
-        → IsAt (pages_seen wrote) Table now_given.levels cursor now_given.places wrote.asked budget
+        → IsAt (pages_seen wrote) (kind_of table.key) now_given.levels cursor now_given.places wrote.asked budget
     still_at wrote chained =
-        subst (λ (a : ℕ). IsAt (pages_seen wrote) Table now_given.levels cursor now_given.places a budget) (sym chained.unasked)
-        (subst (λ (p : Pages). IsAt p Table now_given.levels cursor now_given.places now.asked budget)
+        subst (λ (a : ℕ). IsAt (pages_seen wrote) (kind_of table.key) now_given.levels cursor now_given.places a budget) (sym chained.unasked)
+        (subst (λ (p : Pages). IsAt p (kind_of table.key) now_given.levels cursor now_given.places now.asked budget)
         (sym (seen_same start wrote (SameImage-trans start now wrote s.stays chained.image))) now_given.at)
 
     wrote_steady : (wrote : PagerState) → AsksChainsOnly now wrote → IsTrue wrote.source.steady
@@ -316,11 +317,11 @@ module _ (start now : PagerState) (table : TableData) (columns : List ℕ) (curs
         let first = now_first cell entry in
         until_next _ _ _ _ _ _ _ _ _ _ _ now_given cell first e new
         (said cell (λ row. Appends mid.written new.written (row_text (shown columns row))) written entry)
-        (failed.sound (wrote_steady wrote chained) Table now_given.levels now_given.places _ (still_at wrote chained))
+        (failed.sound (wrote_steady wrote chained) (kind_of table.key) now_given.levels now_given.places _ (still_at wrote chained))
 
     now_local : (cell : CellData) → IsEntryOf cursor (Some cell) → AreUnchained (pages_seen start) table stored.levels → cell.payload.overflow ≡ None
     now_local cell entry every =
-        first_local (pages_seen start) cell now_given.places (entry _ _ _ _ _ now_given.at) (now_given.local every)
+        first_local (pages_seen start) (kind_of table.key) cell now_given.places (entry _ _ _ _ _ _ now_given.at) (now_given.local every)
 
   pub Streaming-next : (wrote then : PagerState) (cell : CellData) (next : Cursor) (n' : ℕ) (new : SinkFacts) → IsEntryOf cursor (Some cell)
       → AsksChainsOnly now wrote → wrote.source.failures ≡ now.source.failures → (cell.payload.overflow ≡ None → wrote ≡ now)
@@ -336,9 +337,9 @@ module _ (start now : PagerState) (table : TableData) (columns : List ℕ) (curs
         let first = now_first steady stored cell entry in
         let here = now_given steady stored in
         let most = budget steady stored in
-        let stands : IsAt (pages_seen start) Table here.levels next (drop 1 here.places) then.asked most =
-        subst (λ (p : Pages). IsAt p Table here.levels next (drop 1 here.places) then.asked most) (seen_same start wrote (SameImage-trans start now wrote s.stays chained.image))
-        (stepped.lists (wrote_steady steady stored wrote chained) Table here.levels here.places most (still_at steady stored wrote chained)).0 in
+        let stands : IsAt (pages_seen start) (kind_of table.key) here.levels next (drop 1 here.places) then.asked most =
+        subst (λ (p : Pages). IsAt p (kind_of table.key) here.levels next (drop 1 here.places) then.asked most) (seen_same start wrote (SameImage-trans start now wrote s.stays chained.image))
+        (stepped.lists (wrote_steady steady stored wrote chained) (kind_of table.key) here.levels here.places most (still_at steady stored wrote chained)).0 in
         Given-next _ _ _ _ _ _ _ _ _ _ _ here cell first next then.asked n' new stands
         (said steady stored cell (λ row. Appends mid.written new.written (row_text (shown columns row))) written entry) is;
     unchained = λ steady stored every.

@@ -3,46 +3,26 @@ ghost use Rattle.std.specs.Prelude.{◌≡◌, ◌⊎◌, ◌<◌, ◌∷◌, []
 ghost use Rattle.std.specs.Io.KnownBytes.{Appends};
 ghost use Rattle.values.specs.Datum.{datum_of_ref};
 ghost use Rattle.values.specs.Fault.{Counts};
-ghost use Rattle.std.specs.Cow.{cow_slice_items};
-ghost use Rattle.pager.specs.Calls.{IsReadFault, ReadsChainPages, ReadsPages};
+ghost use Rattle.pager.specs.Calls.{ReadsChainPages, ReadsPages};
 ghost use Rattle.pager.specs.PagerState.{IsPageNumber};
-ghost use Rattle.image.specs.Chain.{HasBytes};
 ghost use Rattle.image.specs.Pages.{WhereSteady};
-ghost use Rattle.btree.specs.Views.{cell_data, payload_data};
+ghost use Rattle.btree.specs.Views.{cell_data};
 ghost use Rattle.values.specs.Row.{Row};
 ghost use Rattle.explain.specs.Text.{row_text};
-ghost use Rattle.table_walk.specs.Checked.{IsStoredTable};
-ghost use Rattle.stored_rows.specs.Stored.{IsRowOf, IsRowRecord};
+ghost use Rattle.stored_tables.specs.Tables.{IsAnyRecord, IsAnyRow, IsAnyStored};
 ghost use Rattle.meaning.specs.OneTable.{shown};
 ghost use Rattle.runs.specs.Stream.{AsksFew, Streams, StreamsUntil};
 
-use btree::{Cell, payload};
+use btree::Cell;
 use cursor::Cursor;
 use explain::row_text;
-use image::TreeKind;
 use pager::{Pager, Source};
+use scan::payload_of;
 use smallvec::SmallVec;
 use std::alloc::Global;
-use std::borrow::CowSlice;
-use stored_rows::RowReader;
+use stored_tables::{ValueReader, tree_kind};
 use tables::Table;
 use values::{Fault, Sink, ValueRef};
-
-/// The payload of a cell. Its faults are `ReadFailed`, `NoMemory`, and `Changed` where its overflow pages are no chain.
-fn payload_of<'p, S: Source>(
-    alloc: Global,
-    pager: &mut Pager<S>,
-    cell: &Cell<'p>,
-) -> Result<CowSlice<'p, u8>, Fault>
-    ensures bytes { WhereSteady pager.old.state (λ pages. (bytes : List ℕ)
-        → HasBytes pages (payload_data cell.now.payload) bytes
-        → MatchResult result (λ found. cow_slice_items found ≡ bytes) IsReadFault) }
-    ensures only { IfErr result (λ e. IsReadFault e ⊎ (e ≡ Fault.Changed)) }
-    ensures reads { ReadsChainPages result pager.old.state pager.new.state }
-    ensures unread { cell.now.payload.overflow ≡ None → pager.new.state ≡ pager.old.state }
-{
-    payload(alloc, pager, cell)?.ok_or(Fault::Changed)
-}
 
 /// The values of these columns of the row that the bytes of a payload are. Its faults are `NoMemory`, and `Changed` where
 /// they are none.
@@ -54,12 +34,12 @@ fn shown_values<'p>(
     columns: &[usize],
 ) -> Result<SmallVec<ValueRef<'p>, 8>, Fault>
     requires { All (λ at. at < length table.now.columns) columns.now }
-    ensures shown { (row : Row) → IsRowRecord table.now rowid payload.now row
+    ensures shown { (row : Row) → IsAnyRecord table.now rowid payload.now row
         → MatchResult result (λ values. map datum_of_ref values.items ≡ shown columns.now row) (λ e. e ≡ Fault.NoMemory) }
     ensures only { IfErr result (λ e. (e ≡ Fault.NoMemory) ⊎ (e ≡ Fault.Changed)) }
 {
     let mut values = SmallVec::new(alloc);
-    let Some(mut reader) = RowReader::new(table, rowid, payload) else {
+    let Some(mut reader) = ValueReader::new(table, rowid, payload) else {
         return Err(Fault::Changed);
     };
     for column in columns {
@@ -82,7 +62,7 @@ fn write_cell<S: Source, W: Sink>(
 ) -> Result<(), Fault>
     requires { All (λ at. at < length table.now.columns) columns.now }
     ensures rows { WhereSteady pager.old.state (λ pages. (row : Row)
-        → IsRowOf pages table.now (cell_data cell.now) row
+        → IsAnyRow pages table.now (cell_data cell.now) row
         → MatchResult result
         (λ _. Appends (W.facts out.old).written (W.facts out.new).written (row_text (shown columns.now row)))
         (λ e. StreamsUntil e columns.now (row ∷ []) (W.facts out.old) (W.facts out.new))) }
@@ -106,15 +86,15 @@ pub(crate) fn write_rows<S: Source, W: Sink>(
 ) -> Result<u64, Fault>
     requires root { IsPageNumber pager.old.state table.now.root }
     requires columns { All (λ at. at < length table.now.columns) columns.now }
-    ensures rows { WhereSteady pager.old.state (λ pages. (stored : IsStoredTable pages table.now)
+    ensures rows { WhereSteady pager.old.state (λ pages. (stored : IsAnyStored pages table.now)
         → MatchResult result (λ counted. Streams columns.now stored.rows counted (W.facts out.old) (W.facts out.new))
         (λ e. StreamsUntil e columns.now stored.rows (W.facts out.old) (W.facts out.new))) }
-    ensures pages { WhereSteady pager.old.state (λ pages. (stored : IsStoredTable pages table.now)
+    ensures pages { WhereSteady pager.old.state (λ pages. (stored : IsAnyStored pages table.now)
         → OnOk result (AsksFew pages table.now stored.levels pager.old.state pager.new.state)) }
     ensures reads { ReadsPages result pager.old.state pager.new.state }
     ensures writes { Counts Fault.WriteFailed result (W.facts out.old).failures (W.facts out.new).failures }
 {
-    let mut cursor = Cursor::first(alloc, pager, TreeKind::Table, table.root())?;
+    let mut cursor = Cursor::first(alloc, pager, tree_kind(table), table.root())?;
     let mut count = 0u64;
     while let Some(cell) = cursor.entry()? {
         write_cell(alloc, pager, table, &cell, columns, out)?;
