@@ -5,7 +5,6 @@ use Rattle.std.proofs.lemmas.List.Elements.{All-head, All-tail}
 use Rattle.values.specs.Database.{Database}
 use Rattle.values.specs.Datum.{Datum}
 use Rattle.values.specs.Row.{Row}
-use Rattle.expr.specs.Filled.{filled}
 use Rattle.expr.specs.Term.{Term, column}
 use Rattle.meaning.specs.Answer.{Permits}
 use Rattle.meaning.specs.Body.{answers_in}
@@ -20,13 +19,13 @@ use Rattle.distinct_results.specs.Permitted.{AreResults, IsResult}
 use Rattle.distinct_results.proofs.PermittedLemmas as once
 use Rattle.query_plans.specs.Answers.{IsAnswerOf, IsPlanFor, PlannedData, columns, compound, distinct, rows, sorted, sorted_distinct}
 use Rattle.query_plans.specs.Made.{IsBare, IsMade, KeyStandsOver, KeyTermStandsOver}
-use Rattle.results.specs.Permitted.{SaysOf, SeesRows, computed_rows}
+use Rattle.results.specs.Permitted.{SeesRows, computed_rows}
 use Rattle.results.proofs.PermittedLemmas as results
 use Rattle.select_plans.specs.Laws.{PlanReaches, of_select}
 use Rattle.select_plans.specs.Made.{IsMadeOver}
 use Rattle.select_plans.specs.Served.{HasServedForm}
 use Rattle.select_plans.proofs.BaseLemmas.{IsBase}
-use Rattle.select_plans.proofs.MadeLemmas.{made_base, made_is_hit, zip_append}
+use Rattle.select_plans.proofs.MadeLemmas.{has_rows, made_base, made_is_hit, zip_append}
 use Rattle.sorted_results.specs.Permitted.{IsKeyOver, KeySaysOf}
 use Rattle.sorted_results.proofs.PermittedLemmas as ordered
 use Rattle.table_plans.specs.Input.{input_from}
@@ -64,12 +63,6 @@ module _ (w : Datum) (db : Database) (from : From) (s : Select) (shown : List �
   abbrev answers : List (List Datum)
   answers = answers_in w db from
 
-  say_all : (es ts : List Term) → AllZip (StandsOver shown 0) es ts → AllZip (SaysOf base.seen computed) es (map (filled answers) ts)
-  say_all [] [] all = tt
-  say_all [] (t ∷ ts) all = absurd all
-  say_all (e ∷ es) [] all = absurd all
-  say_all (e ∷ es) (t ∷ ts) all = (base.says e t all.0, say_all es ts all.1)
-
   key_says : (a b : KeyTerm) → KeyTermStandsOver shown a b → KeySaysOf base.seen computed answers a b
   key_says (KeyTerm.result m) (KeyTerm.result n) is = is
   key_says (KeyTerm.result m) (KeyTerm.term t) is = is
@@ -81,10 +74,6 @@ module _ (w : Datum) (db : Database) (from : From) (s : Select) (shown : List �
   keys_say [] (q ∷ order) all = absurd all
   keys_say (k ∷ keys) [] all = absurd all
   keys_say (k ∷ keys) (q ∷ order) all = (record { by = key_says k.by q.by all.0.by; direction = all.0.direction }, keys_say keys order all.1)
-
-  -- what the plan has
-  abbrev has_rows : (es : List Term) → AllZip (StandsOver shown 0) es s.columns → SeesRows w db from s plan es
-  has_rows es stand = record { seen = base.seen; rows_are = base.rows_are; columns_are = say_all es s.columns stand }
 
 module _ (input : Input) (s : Select) (form : HasServedForm (input_from input) s) (order : List Key) (limit : Option ℤ) (offset : ℤ) where
   abbrev query : QueryData

@@ -33,14 +33,14 @@ module _ (w : Datum) (db : Database) (from : From) (s : Select) (shown : List �
   abbrev answers : List (List Datum)
   answers = answers_in w db from
 
-  say_all : (es ts : List Term) → AllZip (StandsOver shown 0) es ts → AllZip (SaysOf base.seen computed) es (map (filled answers) ts)
+  pub say_all : (es ts : List Term) → AllZip (StandsOver shown 0) es ts → AllZip (SaysOf base.seen computed) es (map (filled answers) ts)
   say_all [] [] all = tt
   say_all [] (t ∷ ts) all = absurd all
   say_all (e ∷ es) [] all = absurd all
   say_all (e ∷ es) (t ∷ ts) all = (base.says e t all.0, say_all es ts all.1)
 
   -- what the plan has
-  has_rows : (es : List Term) → AllZip (StandsOver shown 0) es s.columns → SeesRows w db from s plan es
+  abbrev pub has_rows : (es : List Term) → AllZip (StandsOver shown 0) es s.columns → SeesRows w db from s plan es
   has_rows es stand = record { seen = base.seen; rows_are = base.rows_are; columns_are = say_all es s.columns stand }
 
   -- what the plan or these expressions on its rows reach

@@ -4,7 +4,6 @@ use Rattle.std.proofs.lemmas.List.{length-map}
 use Rattle.std.proofs.lemmas.List.Elements.{All-cons, All-head, All-nil, All-tail}
 use Rattle.std.proofs.lemmas.Option.{slice_get-map, slice_get_within}
 use Rattle.values.specs.declared.value.Ty.{Ty}
-use Rattle.expr.specs.Columns.{columns_of}
 use Rattle.expr.specs.Conjuncts.{conjuncts}
 use Rattle.expr.specs.Filled.{filled}
 use Rattle.expr.specs.Term.{Term}
@@ -25,8 +24,6 @@ use Rattle.select_plans.proofs.TypedLemmas.{query_within, source_is}
 use Rattle.tables.specs.ColumnTypes.{column_types, types_of}
 use Rattle.tables.specs.TableData.{TableData}
 use Rattle.table_plans.specs.Input.{input_from}
-use Rattle.table_plans.specs.TableJoins.{AreTableJoins}
-use Rattle.table_plans.specs.Planned.{on_terms}
 use Rattle.table_plans.specs.declared.inputs.Input.{Input}
 
 some_same : {A : Type 0} (a b : A) → Some a ≡ Some b → a ≡ b

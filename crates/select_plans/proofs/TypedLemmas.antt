@@ -1,5 +1,5 @@
 -- A typed query names columns of its tables alone.
-use Rattle.std.proofs.Common.{◌≡◌, ◌∙◌, ◌+◌, ◌<◌, ◌≤◌, All, Contains, ℕ, ℤ, List, [], ◌∷◌, ◌++◌, append-nil, length, map, slice_get, zero-add, true, Option, Some, None, refl, sym, ap, subst, arith}
+use Rattle.std.proofs.Common.{◌≡◌, ◌∙◌, ◌+◌, ◌<◌, ◌≤◌, All, Contains, ℕ, ℤ, List, [], ◌∷◌, ◌++◌, append-nil, length, map, slice_get, zero-add, Option, Some, None, refl, sym, ap, subst, arith}
 use Rattle.std.specs.List.{AllZip, range_with_len}
 use Rattle.std.proofs.lemmas.List.{length-append}
 use Rattle.std.proofs.lemmas.List.Elements.{All-append, All-cons, All-contains_itself, All-nil, All-weaker, Contains-get_or}
@@ -12,9 +12,9 @@ use Rattle.expr.specs.Term.{Term, Terms, Arms, literal, column, call, arithmetic
 use Rattle.expr.specs.Types.{ArmsHaveTypes, HasType, HaveType}
 use Rattle.group_plans.specs.Grouped.{group_columns}
 use Rattle.meaning.specs.Hits.{grouping_terms, key_terms, order_terms}
-use Rattle.meaning.specs.Query.{Aggregate, AggregateFunction, Body, From, Grouping, Key, KeyTerm, QueryData, Select, Source, from_width, joined, nothing, select, source_width, table, with_inner}
+use Rattle.meaning.specs.Query.{Aggregate, AggregateFunction, From, Grouping, Key, KeyTerm, QueryData, Select, Source, from_width, joined, nothing, select, source_width, table, with_inner}
 use Rattle.meaning.proofs.ElementLemmas.{All-flat_map, length_all_zip}
-use Rattle.meaning.specs.Typed.{AggregateGives, AggregateHasType, CallHasType, ComputedHasTypes, FromHasTypes, GroupedHasTypes, GroupingHasTypes, HasTypes, IsKeyTerm, IsTermOf, IsTyped, SourceHasTypes}
+use Rattle.meaning.specs.Typed.{AggregateGives, AggregateHasType, CallHasType, ComputedHasTypes, FromHasTypes, GroupedHasTypes, GroupingHasTypes, HasTypes, IsKeyTerm, IsTermOf, SourceHasTypes}
 use Rattle.plan_terms.specs.Names.{answers_of}
 use Rattle.plan_terms.specs.Over.{IsOver}
 use Rattle.select_plans.specs.Read.{row_terms, select_terms, terms_in}

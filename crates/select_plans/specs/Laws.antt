@@ -1,5 +1,5 @@
 -- What the plan that is made of a SELECT has and reaches. (SELECT)
-use Rattle.std.specs.Prelude.{◌≡◌, ◌⊎◌, ◌++◌, Any, false, ℤ, List, [], Option}
+use Rattle.std.specs.Prelude.{◌⊎◌, ◌++◌, Any, false, ℤ, List, Option}
 use Rattle.std.specs.List.{AllZip}
 use Rattle.values.specs.Database.{Database}
 use Rattle.values.specs.Datum.{Datum}
