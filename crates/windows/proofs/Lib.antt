@@ -3,3 +3,4 @@ pub mod WantedLemmas
 pub mod PartLemmas
 pub mod AllLemmas
 pub mod OrderedLemmas
+pub mod LawLemmas

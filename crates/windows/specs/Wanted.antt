@@ -1,11 +1,12 @@
 -- The value of a call on each row that is given. (Window Functions)
-use Rattle.std.specs.Prelude.{◌⊎◌, ℕ, Any, List, [], map, slice_index_or, Option}
+use Rattle.std.specs.Prelude.{◌≡◌, ◌<◌, ◌++◌, length, ◌⊎◌, ℕ, Any, List, [], map, slice_index_or, Option}
 use Rattle.values.specs.Datum.{Datum}
 use Rattle.values.specs.Row.{Row}
 use Rattle.expr.specs.Meaning.{Overflows, eval}
 use Rattle.meaning.specs.Hits.{CallLeaves, call_terms}
 use Rattle.meaning.specs.Query.{WindowCall}
-use Rattle.meaning.specs.Windows.{call_result, call_value, numbered}
+use Rattle.meaning.specs.Sequence.{value_at}
+use Rattle.meaning.specs.Windows.{call_result, call_value, numbered, row_at, windowed}
 
 -- on the row of a number; `w` stands for results out of range within expressions, and `o` for the number itself
 abbrev pub wanted : Datum → Option Datum → WindowCall → List Row → ℕ → Option Datum
@@ -19,3 +20,8 @@ column_of w rows call = map (λ r. call_value (eval w) w rows r call) (numbered 
 -- that are given
 abbrev pub IsReachedBy : WindowCall → List Row → Type 0
 IsReachedBy call rows = Any (λ row. Any (λ t. Overflows t row) (call_terms call)) rows ⊎ ((w : Datum) → CallLeaves (eval w) rows call)
+
+-- the rows with the values of calls behind them, from the columns of the calls
+abbrev pub ColumnsAreWindowed : Type 0
+ColumnsAreWindowed = (w : Datum) (calls : List WindowCall) (rows : List Row) (i : ℕ) → i < length rows
+    → row_at (windowed (eval w) w calls rows) i ≡ row_at rows i ++ map (λ column. value_at column i) (map (column_of w rows) calls)
