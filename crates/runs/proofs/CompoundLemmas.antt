@@ -1,5 +1,5 @@
 -- Rows of SELECTs that operators join, written once all are computed.
-use Rattle.std.proofs.Common.{◌≡◌, ◌^◌, ◌-◌, min, inl, inr, ℕ, IsTrue, List, [], ◌++◌, length, map, Ok, Err, refl, sym, append-nil, subst}
+use Rattle.std.proofs.Common.{◌≡◌, ◌^◌, ◌-◌, min, inl, inr, ℕ, IsTrue, List, [], length, map, Ok, Err, refl, sym, append-nil, subst}
 use Rattle.values.specs.Database.{Database}
 use Rattle.values.specs.Datum.{Datum}
 use Rattle.values.specs.Row.{Row}
