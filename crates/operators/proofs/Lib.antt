@@ -6,3 +6,5 @@ pub mod StepLemmas
 pub mod StartLemmas
 pub mod BasisLemmas
 pub mod GroupLemmas
+pub mod FlaggedLemmas
+pub mod ReadLemmas

@@ -3,18 +3,18 @@
 //! that no more pages are asked for than the plan's work, and none of overflow chains where no cell has one; and that over
 //! any source it returns, falls by a measure and tells of a failed read.
 //!
-//! The modules, in the order in which data passes them: `conditions` (conditions on a row, in their order), `nest` (a table
-//! behind the rows before it), `gathering` (groups, and how many of them were given), `tree` (a plan's tables, conditions and
-//! groups) and `laws` of the definitions.
+//! The modules, in the order in which data passes them: `nest` (a table behind the rows before it), `flagged` (a table that a RIGHT
+//! or FULL JOIN puts there), `gathering` (groups, and how many of them were given), `tree` (a plan's tables, conditions and groups)
+//! and `laws` of the definitions.
 #![tactic(auto)]
 
-mod conditions;
+mod flagged;
 mod gathering;
 pub mod laws;
 mod nest;
 mod tree;
 
-pub use conditions::copies;
 pub use gathering::Gathering;
 pub use nest::Nest;
+pub use row_conditions::copies;
 pub use tree::Op;
