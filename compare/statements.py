@@ -1,7 +1,8 @@
 #!/usr/bin/env python3
 """Compares what the program answers to random statements over random tables with what SQLite answers: expressions, WHERE,
 GROUP BY, HAVING, aggregates with FILTER, DISTINCT, ORDER BY, LIMIT and OFFSET over one table, over tables that are joined by inner
-and LEFT joins, or over none; and several of these that UNION, UNION ALL, INTERSECT and EXCEPT join. An operation or a total that leaves 64 bits is `fault 50: Overflow`, where SQLite goes on with a
+and LEFT joins, or over none, some over the table of the schema's rows; and several of these that UNION, UNION ALL, INTERSECT and
+EXCEPT join. An operation or a total that leaves 64 bits is `fault 50: Overflow`, where SQLite goes on with a
 floating-point number or stops; such statements are asked for that fault, or for any answer where it isn't reached.
 
 Run from any folder. The last line is 'N passed, M failed'. `--seed S --only N` makes one statement anew and prints it.
@@ -24,6 +25,9 @@ from tried import random_file, read_words, try_statements
 OVERFLOW = fault_line(50)
 # How many statements are tried, and how many where few are asked for.
 STATEMENTS, FEW = 3000, 300
+# The names of the table of the schema's rows, and its columns with their types.
+SCHEMA_NAMES = ("sqlite_schema", "sqlite_master", "SQLite_Schema")
+SCHEMA_KINDS = {"type": "TEXT", "name": "TEXT", "tbl_name": "TEXT", "rootpage": "INT", "sql": "TEXT"}
 # What joins a table with ON or USING.
 JOINS = ("JOIN", "INNER JOIN", "inner  join", "LEFT JOIN", "LEFT OUTER JOIN", "left  join")
 # What joins SELECTs.
@@ -108,8 +112,8 @@ def no_source(rng: Random) -> Source:
 
 
 def one_source(rng: Random, table: str, kinds: dict[str, str]) -> Source:
-    """One table behind FROM."""
-    called = rng.choice((table, "a", "Other"))
+    """One table behind FROM. That of the schema's rows has another name: by its own SQLite finds no column of it."""
+    called = rng.choice(("a", "Other") if table in SCHEMA_NAMES else (table, "a", "Other"))
     written = table if called == table else f"{table} {rng.choice(('AS ', ''))}{called}"
     ways = [lambda c: c, lambda c: c.upper(), lambda c: f"{called}.{c}", lambda c: f'"{c}"', lambda c: f"[{called}] . `{c}`"]
     columns = Columns({rng.choice(ways)(column): kind for column, kind in kinds.items()})
@@ -348,7 +352,9 @@ def try_file(tally: Tally, path: Path, seed: int, numbers: range, is_shown: bool
     """Makes a file, and asks it these statements of this seed."""
     connection, tables = random_file(path, seed, numbers, random_table)
     for number in numbers:
-        statement = random_statement(Random(f"{seed} {number}"), tables)
+        rng = Random(f"{seed} {number}")
+        known = {**tables, rng.choice(SCHEMA_NAMES): SCHEMA_KINDS} if rng.random() < 0.4 else tables
+        statement = random_statement(rng, known)
         if is_shown:
             print(statement.whole())
         cache = ("--cache", "1") if number % 3 == 0 else ()

@@ -27,9 +27,11 @@ ITEM = "CREATE TABLE item(id INTEGER PRIMARY KEY, name TEXT NOT NULL, qty INT) S
 NUMBERS = "CREATE TABLE t(id INTEGER PRIMARY KEY, a INT, b TEXT) STRICT"
 NOTE = "CREATE TABLE note(body TEXT) STRICT"
 ITEMS: list[tuple[Value, ...]] = [(None, "bolt", 40), (None, "nut", None), (None, "cap", 7), (None, "nut", 7)]
+SALE = "CREATE TABLE sale(item INT, n INT) STRICT"
+GIFT = "CREATE TABLE gift(item INT) STRICT"
 SHOP = f"""{ITEM}; INSERT INTO item VALUES (1, 'bolt', 40), (2, 'nut', NULL), (3, 'cap', 7), (4, 'nut', 7);
-    CREATE TABLE sale(item INT, n INT) STRICT; INSERT INTO sale VALUES (1, 5), (3, 2), (3, 9), (9, 1);
-    CREATE TABLE gift(item INT) STRICT;"""
+    {SALE}; INSERT INTO sale VALUES (1, 5), (3, 2), (3, 9), (9, 1);
+    {GIFT};"""
 
 # Statements over the shop, and what is written for them.
 ANSWERS = {
@@ -185,6 +187,17 @@ ANSWERS = {
     "SELECT id, 'a' FROM item UNION ALL SELECT n, 'b' FROM sale ORDER BY 2 DESC, id LIMIT 3 OFFSET 2": "5,'b'\n9,'b'\n1,'a'\n",
     "SELECT id FROM item UNION ALL SELECT n FROM sale LIMIT 3 OFFSET 3": "4\n5\n2\n",
     "SELECT id FROM item EXCEPT SELECT 2 LIMIT 0": "",
+    # The table of the schema's rows, by both of its names.
+    "SELECT type, name, tbl_name, rootpage FROM sqlite_schema": "'table','item','item',2\n'table','sale','sale',3\n'table','gift','gift',4\n",
+    "SELECT (SQL), name FROM Sqlite_Schema LIMIT -2": f"'{ITEM}','item'\n'{SALE}','sale'\n'{GIFT}','gift'\n",
+    "SELECT * FROM sqlite_master WHERE name LIKE 'g%'": f"'table','gift','gift',4,'{GIFT}'\n",
+    "SELECT name FROM sqlite_schema ORDER BY rootpage DESC LIMIT 2": "'gift'\n'sale'\n",
+    "SELECT DISTINCT type, length(name) FROM sqlite_master": "'table',4\n",
+    "SELECT count(*), max(rootpage), min(sql LIKE 'create table %') FROM sqlite_schema": "3,4,1\n",
+    "SELECT length(sql) > 50, max(name) FROM sqlite_master GROUP BY 1 < rootpage, length(sql) > 50 HAVING count(*) < 3": "1,'item'\n0,'sale'\n",
+    "SELECT s.name, i.name FROM item AS i JOIN sqlite_schema AS s ON rootpage = id": "'item','nut'\n'sale','cap'\n'gift','nut'\n",
+    "SELECT id, s.name FROM item LEFT JOIN sqlite_master s ON id = rootpage AND tbl_name <> 'sale'": "1,NULL\n2,'item'\n3,NULL\n4,'gift'\n",
+    "SELECT a.name, b.name FROM sqlite_schema a, sqlite_master b WHERE a.rootpage > b.rootpage": "'sale','item'\n'gift','item'\n'gift','sale'\n",
 }
 
 # The same with the names of the columns.
@@ -196,6 +209,7 @@ HEADED = {
     "SELECT id AS k FROM item WHERE id = 1": "'k'\n1\n",
     "SELECT i.NAME, i.* FROM item i WHERE id = 3": "'name','id','name','qty'\n'cap',3,'cap',7\n",
     "SELECT id AS k FROM item WHERE id = 1 UNION SELECT n FROM sale WHERE n > 5": "'k'\n1\n9\n",
+    "SELECT TYPE, * FROM sqlite_master WHERE name = 'gift'": f"'type','type','name','tbl_name','rootpage','sql'\n'table','table','gift','gift',4,'{GIFT}'\n",
     "SELECT 1 +  2, /* x */ ( 'a' ) \"b c\"": "'1 +  2','b c'\n3,'a'\n",
 }
 
@@ -260,7 +274,6 @@ REFUSED = {
     "SELECT 1 FROM (SELECT 1 IN (SELECT 1 FROM t))": 31,
     "EXPLAIN QUERY PLAN SELECT nothing FROM item": 32,
     # What isn't served yet.
-    "SELECT (SQL), name FROM Sqlite_Schema LIMIT -2": 29,
     "SELECT name FROM item RIGHT JOIN sale ON id = item": 29,
     "SELECT name FROM item FULL JOIN sale ON id = item": 29,
     "SELECT name FROM item, (SELECT 1)": 29,
@@ -297,6 +310,7 @@ STOPPED = {
     "SELECT name, sum(id + 9223372036854775803) FROM item GROUP BY name": "'bolt',9223372036854775804\n",
     "SELECT name FROM item GROUP BY name HAVING sum(9223372036854775807) > 0": "'bolt'\n",
     "SELECT name, count(*) + 9223372036854775806 FROM item GROUP BY name": "'bolt',9223372036854775807\n",
+    "SELECT rootpage + 9223372036854775804 FROM sqlite_schema": "9223372036854775806\n9223372036854775807\n",
 }
 
 # Texts that are no statement, and the place at which they stop being one.

@@ -1,3 +1,4 @@
+pub mod SettledLemmas
 pub mod RunLemmas
 pub mod NameLemmas
 pub mod PreparedLemmas

@@ -1,7 +1,7 @@
 -- From what the run of a plan writes to the answer of a query over the image.
-use Rattle.std.proofs.Common.{◌≡◌, ◌≢◌, ◌∙◌, inl, inr, ◌-◌, arith, false, ℕ, zero, suc, IsTrue, All, List, [], ◌∷◌, map, Some, sym, refl, ap, subst}
+use Rattle.std.proofs.Common.{◌≡◌, ◌≢◌, ◌∙◌, inl, inr, ◌-◌, arith, false, ℕ, zero, suc, IsTrue, All, List, [], ◌∷◌, ◌++◌, map, Some, sym, refl, ap, subst}
 use Rattle.std.specs.List.{AllZip}
-use Rattle.std.proofs.lemmas.List.Elements.{All-cons, All-head, All-nil, All-tail, All-weaker}
+use Rattle.std.proofs.lemmas.List.Elements.{All-append, All-cons, All-head, All-nil, All-tail, All-weaker}
 use Rattle.values.specs.Database.{Database}
 use Rattle.values.specs.Datum.{Datum, null, int, text, blob}
 use Rattle.values.specs.Row.{Row}
@@ -17,8 +17,10 @@ use Rattle.image.specs.Pages.{pages_seen, Pages, WhereSteady, pages_in, pages_of
 use Rattle.expr.specs.Types.{IsOfType}
 use Rattle.meaning.specs.Typed.{FitTypes}
 use Rattle.meaning.specs.Typed as meant
+use Rattle.meaning.proofs.BodyLemmas.{AllZip-append}
 use Rattle.meaning.proofs.TypedLemmas.{Permits-typed}
 use Rattle.plans.specs.Plan.{once}
+use Rattle.table_copies.specs.Whole.{all_tables}
 use Rattle.tables.specs.ColumnTypes.{column_types, types_of}
 use Rattle.tables.specs.TableData.{ColumnData, HasRowids, IsByRowid, RowKeyData, TableData, schema_table}
 use Rattle.stored_rows.specs.Stored.{Fits, FitsColumn}
@@ -34,7 +36,9 @@ use Rattle.query_plans.proofs.WideLemmas.{typed_wide}
 use Rattle.runs.specs.Faults.{IsOutsideFault, IsRunCause, IsRunFault}
 use Rattle.runs.specs.Runs.{WritesAnswer, WritesBeginning}
 use Rattle.shell.specs.Answer.{PrintsAnswer, PrintsBeginning}
-use Rattle.shell.specs.Prepared.{IsPreparedFor}
+use Rattle.settled_sources.specs.Settled.{with_schema}
+use Rattle.shell.proofs.SettledLemmas.{fits_over, hits_over, permits_over, typed_over}
+use Rattle.shell.specs.Prepared.{IsPreparedFor, settled_over}
 use Rattle.shell.specs.PreparedView.{PreparedData}
 use Rattle.shell.specs.Run.{HasRun, HasStopped, TookFew}
 use Rattle.shell.specs.State.{EngineState, IsOpeningFault, IsReady}
@@ -141,6 +145,10 @@ module _ (pages : Pages) where
       let rest = stored_at w schema tables rows (All-tail HasRowids here tables rowids) all.1 at table found in
       record { stored = rest.stored; rows_are = rest.rows_are; size_is = rest.size_is; unchained = rest.unchained }
 
+-- the schema's own table has rowids too
+pub all_rowids : (tables : List TableData) → All HasRowids tables → All HasRowids (all_tables tables)
+all_rowids tables rowids = All-append HasRowids tables (schema_table ∷ []) rowids (All-cons HasRowids schema_table [] tt (All-nil HasRowids))
+
 module _ (pager : PagerState) (tables : List TableData) (prepared : PreparedData) (ready : IsReady pager tables) (is : IsPreparedFor tables prepared)
     (steady : IsTrue pager.source.steady) where
   has : HasDatabase pager.source.bytes tables
@@ -149,40 +157,51 @@ module _ (pager : PagerState) (tables : List TableData) (prepared : PreparedData
   same_pages : pages_of pager.source.bytes ≡ pages_seen pager
   same_pages = λ k. pages_in (sym (ready.header steady) k) pager.source.bytes
 
-  on : Datum → Basis
-  on w = basis (pages_of pager.source.bytes) w has.db.schema has.db.tables (sizes_of (pages_of pager.source.bytes) tables has.db.tables ready.rowids has.stored)
+  -- the schema's own table stands behind the others, with its rows
+  all_stored : AllZip (IsStoredAs (pages_of pager.source.bytes)) (all_tables tables) (with_schema has.db).tables
+  all_stored = AllZip-append (IsStoredAs (pages_of pager.source.bytes)) tables has.db.tables schema_table has.db.schema has.stored has.own
 
-  stored_on : (w : Datum) → AreStored (pages_seen pager) tables (on w)
+  on : Datum → Basis
+  on w = basis (pages_of pager.source.bytes) w has.db.schema (with_schema has.db).tables
+      (sizes_of (pages_of pager.source.bytes) (all_tables tables) (with_schema has.db).tables (all_rowids tables ready.rowids) all_stored)
+
+  stored_on : (w : Datum) → AreStored (pages_seen pager) (all_tables tables) (on w)
   unfolding on
   stored_on w =
-      subst (λ (p : Pages). AreStored p tables (on w)) same_pages (stored_at (pages_of pager.source.bytes) w has.db.schema tables has.db.tables ready.rowids has.stored)
+      subst (λ (p : Pages). AreStored p (all_tables tables) (on w)) same_pages
+      (stored_at (pages_of pager.source.bytes) w has.db.schema (all_tables tables) (with_schema has.db).tables (all_rowids tables ready.rowids) all_stored)
+
+  fits : meant.Fits (column_types tables) has.db
+  fits = denoted_fits pager.source.bytes tables has.db has.denotes
 
   -- each row has as many values as its table has columns
-  wide : AreWideFor has.db prepared.query.body
-  wide = typed_wide (column_types tables) has.db (denoted_fits pager.source.bytes tables has.db has.denotes) prepared.query is.typed
+  wide : AreWideFor (with_schema has.db) (settled_over tables prepared.query).body
+  wide = typed_wide (column_types (all_tables tables)) (with_schema has.db) (fits_over tables has.db fits) (settled_over tables prepared.query)
+      (typed_over tables prepared.query is.typed)
 
   -- what the plan answers, the query permits
-  pub prints_answer : (n : ℕ) (old new : SinkFacts) → WritesAnswer (pages_seen pager) tables prepared.planned old new n
+  pub prints_answer : (n : ℕ) (old new : SinkFacts) → WritesAnswer (pages_seen pager) (all_tables tables) prepared.planned old new n
       → PrintsAnswer pager.source.bytes tables prepared.query n old new
   unfolding on
   prints_answer n old new wrote = record {
     rows = wrote.given;
     answer = λ w stand.
-        let permits = is.plan.permits w has.db wrote.given wide (wrote.answer (on w) (stored_on w)) in
+        let permits = permits_over tables has.db prepared.query is.typed fits w wrote.given
+        (is.plan.permits w (with_schema has.db) wrote.given wide (wrote.answer (on w) (stored_on w))) in
         record {
           database = has.db;
           denotes = has.denotes;
           says = record {
             permits = permits;
             typed = λ types typed.
-                Permits-typed w has.db (column_types tables) prepared.query types wrote.given stand (denoted_fits pager.source.bytes tables has.db has.denotes) typed permits;
+                Permits-typed w has.db (column_types tables) prepared.query types wrote.given stand fits typed permits;
           };
         };
     prints = wrote.prints;
   }
 
   -- what an answer of the plan begins with, one of the query begins with
-  pub prints_beginning : (e : Fault) (old new : SinkFacts) → WritesBeginning (pages_seen pager) tables prepared.planned old new e
+  pub prints_beginning : (e : Fault) (old new : SinkFacts) → WritesBeginning (pages_seen pager) (all_tables tables) prepared.planned old new e
       → PrintsBeginning e pager.source.bytes tables prepared.query old new
   unfolding on
   prints_beginning e old new wrote = record {
@@ -192,23 +211,28 @@ module _ (pager : PagerState) (tables : List TableData) (prepared : PreparedData
         record {
           database = has.db;
           denotes = has.denotes;
-          says = record { rest = begins.0; permitted = is.plan.permits w has.db _ wide begins.1 };
+          says = record {
+            rest = begins.0;
+            permitted = permits_over tables has.db prepared.query is.typed fits w (wrote.given ++ begins.0)
+                (is.plan.permits w (with_schema has.db) (wrote.given ++ begins.0) wide begins.1);
+          };
         };
     prints = wrote.prints;
     same_image = cause_unchanged (on null) prepared.planned e (wrote.cause (on null) (stored_on null));
     hits = λ over w stand. record {
       database = has.db;
       denotes = has.denotes;
-      says = is.plan.hits w has.db wide (cause_hits (on w) prepared.planned e over (wrote.cause (on w) (stored_on w)));
+      says = hits_over tables has.db prepared.query is.typed fits w
+          (is.plan.hits w (with_schema has.db) wide (cause_hits (on w) prepared.planned e over (wrote.cause (on w) (stored_on w))));
     };
   }
 
   pub took_few : (new : PagerState) (report : Report)
-      → ((on : Basis) → AreStored (pages_seen pager) tables on → Asks on.local pager (work_of on.w on.db on.sizes prepared.planned) new 0)
+      → ((on : Basis) → AreStored (pages_seen pager) (all_tables tables) on → Asks on.local pager (work_of on.w on.db on.sizes prepared.planned) new 0)
       → report.asked ≡ new.asked - pager.asked → report.chained ≡ new.chained - pager.chained
-      → (on : Basis) → AreStored (pages_of pager.source.bytes) tables on → TookFew on prepared.planned report
+      → (on : Basis) → AreStored (pages_of pager.source.bytes) (all_tables tables) on → TookFew on prepared.planned report
   took_few new report few asked chained on are_stored =
-      let asks = few on (subst (λ (p : Pages). AreStored p tables on) same_pages are_stored) in
+      let asks = few on (subst (λ (p : Pages). AreStored p (all_tables tables) on) same_pages are_stored) in
       record {
         asked = let most = asks.pages in omega (arith, most, asked);
         unchained = λ local. let kept = asks.chains local in omega (arith, kept, chained);
@@ -219,14 +243,17 @@ module _ (pager : PagerState) (tables : List TableData) (prepared : PreparedData
   abbrev engine : EngineState
   engine = record { pager = pager; tables = tables }
 
-  stored : IsTrue pager.source.steady → All (IsStoredTable (pages_seen pager)) tables
+  stored : IsTrue pager.source.steady → All (IsStoredTable (pages_seen pager)) (all_tables tables)
   stored steady =
-      subst (λ (p : Pages). All (IsStoredTable p) tables) (λ k. pages_in (sym (ready.header steady) k) pager.source.bytes)
-      (all_by_rowid (pages_of pager.source.bytes) tables ready.rowids (ready.stored steady).stored)
+      let has = ready.stored steady in
+      subst (λ (p : Pages). All (IsStoredTable p) (all_tables tables)) (λ k. pages_in (sym (ready.header steady) k) pager.source.bytes)
+      (all_by_rowid (pages_of pager.source.bytes) (all_tables tables) (all_rowids tables ready.rowids)
+      (All-append (IsAnyStored (pages_of pager.source.bytes)) tables (schema_table ∷ []) has.stored
+      (All-cons (IsAnyStored (pages_of pager.source.bytes)) schema_table [] has.own (All-nil (IsAnyStored (pages_of pager.source.bytes))))))
 
   pub has_run : (new : EngineState) (report : Report) (before after : SinkFacts)
-      → WhereSteady pager (λ pages. All (IsStoredTable pages) tables → WritesAnswer pages tables prepared.planned before after report.rows)
-      → WhereSteady pager (λ pages. (on : Basis) → AreStored pages tables on
+      → WhereSteady pager (λ pages. All (IsStoredTable pages) (all_tables tables) → WritesAnswer pages (all_tables tables) prepared.planned before after report.rows)
+      → WhereSteady pager (λ pages. (on : Basis) → AreStored pages (all_tables tables) on
       → Asks on.local pager (work_of on.w on.db on.sizes prepared.planned) new.pager 0)
       → report.asked ≡ new.pager.asked - pager.asked → report.chained ≡ new.pager.chained - pager.chained
       → HasRun engine new prepared before after report
@@ -238,7 +265,7 @@ module _ (pager : PagerState) (tables : List TableData) (prepared : PreparedData
   }
 
   pub has_stopped : (e : Fault) (before after : SinkFacts)
-      → WhereSteady pager (λ pages. All (IsStoredTable pages) tables → WritesBeginning pages tables prepared.planned before after e)
+      → WhereSteady pager (λ pages. All (IsStoredTable pages) (all_tables tables) → WritesBeginning pages (all_tables tables) prepared.planned before after e)
       → IsRunFault e → HasStopped engine prepared before after e
   has_stopped e before after wrote only = record {
     only = only;

@@ -1,24 +1,31 @@
 -- What preparing a text answers, over the tables of an engine. (SELECT; EXPLAIN QUERY PLAN)
-use Rattle.std.specs.Prelude.{◌≡◌, ◌⊎◌, true, false, ℕ, List}
+use Rattle.std.specs.Prelude.{◌≡◌, ◌⊎◌, true, false, ℕ, List, length}
 use Rattle.values.specs.declared.fault.Fault.{Fault}
 use Rattle.values.specs.declared.fault.Fault.TheVariants.{NotYet}
+use Rattle.meaning.specs.Query.{QueryData}
 use Rattle.meaning.specs.Typed.{IsTyped}
 use Rattle.naming.specs.Statement.{Named}
 use Rattle.query_plans.specs.Answers.{IsPlanFor, IsPlannedOver}
 use Rattle.query_plans.specs.Served.{IsServed}
 use Rattle.resolver.specs.Resolved.{IsRefused, Resolves}
+use Rattle.settled_sources.specs.Settled.{settled}
+use Rattle.table_copies.specs.Whole.{all_tables}
 use Rattle.tables.specs.ColumnTypes.{column_types}
 use Rattle.tables.specs.TableData.{TableData}
 use Rattle.statement_texts.specs.StatementTexts.{IsAllowed, IsRefusedStatement, SpellsStatement}
 use Rattle.syntax.specs.StatementTree.{StatementTree}
 use Rattle.shell.specs.PreparedView.{PreparedData}
 
--- The query is typed over the columns of these tables; each answer of what is run for it is one that it permits, and what
--- that reaches the query can reach; and it reads some of these tables.
+-- the query with the schema's table as one more table, behind these
+abbrev pub settled_over : List TableData → QueryData → QueryData
+settled_over tables query = settled (length tables) query
+
+-- The query is typed over the columns of these tables. With the schema's table as one more table, each answer of what is run for it
+-- is one that it permits, and what that reaches the query can reach; and it reads some of these tables.
 pub record IsPreparedFor (tables : List TableData) (prepared : PreparedData) : Type 0 where
   pub typed : IsTyped (column_types tables) prepared.query
-  pub plan : IsPlanFor prepared.query prepared.planned
-  pub over : IsPlannedOver tables prepared.planned
+  pub plan : IsPlanFor (settled_over tables prepared.query) prepared.planned
+  pub over : IsPlannedOver (all_tables tables) prepared.planned
 
 -- the text spells a statement within the limits, which is this over these tables
 pub record Spells (tables : List TableData) (text : List ℕ) (named : Named) : Type 0 where
@@ -46,7 +53,7 @@ pub record IsUnresolved (tables : List TableData) (text : List ℕ) (fault : Fau
 pub record IsUnserved (tables : List TableData) (text : List ℕ) (fault : Fault) : Type 0 where
   pub named : Named
   pub spells : Spells tables text named
-  pub unserved : (spells.tree.explain ≡ true) ⊎ (¬ IsServed named.query)
+  pub unserved : (spells.tree.explain ≡ true) ⊎ (¬ IsServed (settled_over tables named.query))
   pub fault_is : fault ≡ NotYet
 
 -- why a text was refused: it spells no statement, or one that is too large, or what it spells is no query, or one that isn't

@@ -6,6 +6,7 @@ use Rattle.image.specs.Pages.{pages_of}
 use Rattle.operators.specs.Basis.{AreStored, Basis}
 use Rattle.query_plans.specs.Answers.{PlannedData, work_of}
 use Rattle.runs.specs.Faults.{IsRunFault}
+use Rattle.table_copies.specs.Whole.{all_tables}
 use Rattle.shell.specs.declared.engine.Report.{Report}
 use Rattle.shell.specs.Answer.{PrintsAnswer, PrintsBeginning}
 use Rattle.shell.specs.PreparedView.{PreparedData}
@@ -18,10 +19,10 @@ pub record TookFew (on : Basis) (planned : PlannedData) (report : Report) : Type
   pub unchained : IsTrue on.local → report.chained ≡ 0
 
 -- A query was run whole. Over a steady source its exact answer was written, and few pages were asked for, whatever is said of
--- the tables that are stored. The report counts the pages that were asked for.
+-- the tables that are stored, the schema's own behind them. The report counts the pages that were asked for.
 pub record HasRun (old new : EngineState) (prepared : PreparedData) (before after : SinkFacts) (report : Report) : Type 0 where
   pub answer : IsTrue old.pager.source.steady → PrintsAnswer old.pager.source.bytes old.tables prepared.query report.rows before after
-  pub few : IsTrue old.pager.source.steady → (on : Basis) → AreStored (pages_of old.pager.source.bytes) old.tables on
+  pub few : IsTrue old.pager.source.steady → (on : Basis) → AreStored (pages_of old.pager.source.bytes) (all_tables old.tables) on
       → TookFew on prepared.planned report
   pub asked : report.asked ≡ new.pager.asked - old.pager.asked
   pub chained : report.chained ≡ new.pager.chained - old.pager.chained

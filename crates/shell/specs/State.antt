@@ -8,6 +8,7 @@ use Rattle.pager.specs.PagerState.{IsPageNumber, PagerState}
 use Rattle.pager.specs.Source.{SourceFacts}
 use Rattle.image.specs.Pages.{Pages, pages_of}
 use Rattle.tables.specs.TableData.{HasRowids, TableData}
+use Rattle.table_copies.specs.Whole.{all_tables}
 use Rattle.integrity.specs.Checked.{IsBrokenImage, IsExamined, IsCheckFault}
 use Rattle.integrity.specs.Denotes.{HasTables}
 
@@ -15,13 +16,18 @@ pub record EngineState : Type 0 where
   pub pager : PagerState
   pub tables : List TableData
 
--- The roots of the tables are pages, and all of them have rowids; over a steady source the tables are the image's, and each is
--- stored.
+-- The roots of the tables are pages, that of the schema's own too, and all of them have rowids; over a steady source the tables
+-- are the image's, and each is stored.
 pub record IsReady (pager : PagerState) (tables : List TableData) : Type 0 where
-  pub roots : All (λ table. IsPageNumber pager table.root) tables
+  pub roots : All (λ table. IsPageNumber pager table.root) (all_tables tables)
   pub rowids : All HasRowids tables
   pub header : IsTrue pager.source.steady → pager.header ≡ header_of pager.source.bytes
   pub stored : IsTrue pager.source.steady → HasTables (pages_of pager.source.bytes) tables
+
+-- so are they, and queries are run over these and the schema's own behind them
+pub record IsReadyWith (pager : PagerState) (tables all : List TableData) : Type 0 where
+  pub ready : IsReady pager tables
+  pub all_are : all ≡ all_tables tables
 
 -- An engine was opened over a source, with so many pages in its cache. A steady source breaks no condition of the header,
 -- it has these tables, and none of the conditions that are examined is broken.

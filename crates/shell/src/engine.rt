@@ -18,6 +18,7 @@ use statement_texts::read_select;
 use std::alloc::Global;
 use std::marker::Model;
 use std::num::NonZeroUsize;
+use table_copies::with_schema_table;
 use tables::Table;
 use values::{Fault, Sink};
 
@@ -28,23 +29,24 @@ fn have_rowids(tables: &[Table]) -> bool
     tables.iter().all(|table| table.has_rowids())
 }
 
-/// An image that was checked whole, and its tables.
+/// An image that was checked whole, and its tables: queries are run over these and, behind them, the table of the schema's rows.
 #[derive(Drop)]
 pub struct Engine<S: Source> {
     pager: Pager<S>,
     checked: Checked,
+    tables: Vec<Table>,
     alloc: Global,
 }
 
 impl<S: Source> Model for Engine<S> {
     ghost use Rattle.integrity.specs.CheckedView.{checked_data};
-    ghost use Rattle.shell.specs.State.{EngineState, IsReady};
+    ghost use Rattle.shell.specs.State.{EngineState, IsReadyWith};
 
     ghost Value = { EngineState };
 
     ghost view = { λ e. record { pager = e.pager.state; tables = (checked_data e.checked).tables } };
 
-    ghost invariant = { λ e. IsReady e.pager.state (checked_data e.checked).tables };
+    ghost invariant = { λ e. IsReadyWith e.pager.state (checked_data e.checked).tables e.tables.items };
 }
 
 /// What a run took: the rows that it wrote, and the pages that it asked for, those of overflow chains apart. Each count
@@ -72,11 +74,17 @@ impl<S: Source> Engine<S> {
     {
         let mut pager = Pager::open(alloc, source, cache)?;
         match check(alloc, &mut pager) {
-            Ok(checked) if have_rowids(checked.tables()) => Ok(Engine {
-                pager,
-                checked,
-                alloc,
-            }),
+            Ok(checked) if have_rowids(checked.tables()) => {
+                match with_schema_table(alloc, checked.tables()) {
+                    Ok(tables) => Ok(Engine {
+                        pager,
+                        checked,
+                        tables,
+                        alloc,
+                    }),
+                    Err(_) => Err((Fault::NoMemory, pager.into_source())),
+                }
+            }
             Ok(_) => Err((Fault::NotYet, pager.into_source())),
             Err(fault) => Err((fault, pager.into_source())),
         }
@@ -99,7 +107,8 @@ impl<S: Source> Engine<S> {
         if statement.explain {
             return Err(Fault::NotYet);
         }
-        let prepared = Prepared::new(self.alloc, named)?;
+        let place = self.checked.tables().len();
+        let prepared = Prepared::new(self.alloc, named, place)?;
         Ok(prepared)
     }
 
@@ -121,7 +130,7 @@ impl<S: Source> Engine<S> {
         ensures writes { Counts Fault.WriteFailed result (W.facts out.old).failures (W.facts out.new).failures }
     {
         let (asked, chained) = (self.pager.asked(), self.pager.chained());
-        let tables = self.checked.tables();
+        let tables = self.tables.as_slice();
         let rows = write_answer(self.alloc, &mut self.pager, tables, &prepared.planned, out)?;
         Ok(Report {
             rows,

@@ -9,10 +9,12 @@ ghost use Rattle.tables.specs.TableData.{TableData};
 ghost use Rattle.statement_names.specs.NamedView.{named_data, query_data};
 ghost use Rattle.query_plans.specs.Answers.{IsPlanFor, IsPlannedOver};
 ghost use Rattle.query_plans.specs.Served.{IsServed};
+ghost use Rattle.settled_sources.specs.Settled.{settled};
 ghost use Rattle.shell.specs.PreparedView.{prepared_data};
 
 use explain::rows_text;
 use query_plans::{Planned, plan};
+use settled_queries::settled_query;
 use statement_names::{NamedStatement, Query};
 use std::alloc::Global;
 use std::marker::Model;
@@ -79,18 +81,23 @@ pub struct Prepared {
 }
 
 impl Prepared {
-    /// A statement whose names are resolved, with what is run for it. Its faults are `NotYet`, where its query isn't served,
-    /// and `NoMemory`.
-    pub(crate) fn new(alloc: Global, statement: NamedStatement) -> Result<Prepared, Fault>
+    /// A statement whose names are resolved, with what is run for it over tables of which the one at this place is that of the
+    /// schema's rows. Its faults are `NotYet`, where its query isn't served, and `NoMemory`.
+    pub(crate) fn new(
+        alloc: Global,
+        statement: NamedStatement,
+        place: usize,
+    ) -> Result<Prepared, Fault>
         ensures query { IfOk result (λ p. (prepared_data p).query ≡ query_data statement.query) }
         ensures names { IfOk result (λ p. (prepared_data p).names ≡ (named_data statement).names) }
-        ensures plan { IfOk result (λ p. IsPlanFor (query_data statement.query) (prepared_data p).planned) }
-        ensures over { IfOk result (λ p. (tables : List TableData) → IsTyped (column_types tables) (query_data statement.query)
+        ensures plan { IfOk result (λ p. IsPlanFor (settled place (query_data statement.query)) (prepared_data p).planned) }
+        ensures over { IfOk result (λ p. (tables : List TableData) → IsTyped (column_types tables) (settled place (query_data statement.query))
             → IsPlannedOver tables (prepared_data p).planned) }
-        ensures refused { IfErr result (λ e. (e ≡ Fault.NoMemory) ⊎ ((e ≡ Fault.NotYet) × (¬ IsServed (query_data statement.query)))) }
+        ensures refused { IfErr result (λ e. (e ≡ Fault.NoMemory) ⊎ ((e ≡ Fault.NotYet) × (¬ IsServed (settled place (query_data statement.query))))) }
     {
         let NamedStatement { query, names, .. } = statement;
-        let Some(planned) = plan(alloc, &query)? else {
+        let settled = settled_query(alloc, place, &query)?;
+        let Some(planned) = plan(alloc, &settled)? else {
             return Err(Fault::NotYet);
         };
         let header = Header::new(alloc, names)?;

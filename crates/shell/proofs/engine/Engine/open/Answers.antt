@@ -1,13 +1,15 @@
-use Rattle.std.proofs.Common.{◌≡◌, rules, All, IsTrue, List, ap, refl, sym, ◌∙◌, subst, inl, inr, ⊎_elim}
+use Rattle.std.proofs.Common.{◌≡◌, rules, All, IsTrue, List, [], ◌∷◌, ap, refl, sym, ◌∙◌, subst, inl, inr, ⊎_elim}
+use Rattle.std.proofs.lemmas.List.Elements.{All-append, All-cons, All-nil}
 use Rattle.std.proofs.lemmas.Result.{err_from_is_err_and}
 use Rattle.pager.specs.Header.{header_of}
+use Rattle.pager.specs.PagerState.{IsPageNumber}
 use Rattle.pager.specs.Source.{SourceFacts}
 use Rattle.image.specs.Pages.{Pages}
 use Rattle.integrity.specs.Checked.{IsBrokenImage}
 use Rattle.integrity.specs.CheckedView.{checked_data}
 use Rattle.shell.proofs.RunLemmas.{opening_fault, pages_opened}
 use Rattle.shell.specs.State.{IsBeyond}
-use Rattle.tables.specs.TableData.{HasRowids, TableData}
+use Rattle.tables.specs.TableData.{HasRowids, TableData, schema_table}
 use Rattle.shell.proofs.engine.Engine.open.Goals as goal
 
 pub returns-in_err-pager-clause-outcome : goal.returns-in_err-pager-clause-outcome
@@ -30,8 +32,8 @@ returns-in-Err-clause-outcome g c = record {
       (c.in-Err.ensures.outcome.cause now);
 }
 
-pub returns-in-Ok-clause-outcome : goal.returns-in-Ok-clause-outcome
-returns-in-Ok-clause-outcome g c = record {
+pub returns-in-Ok-with_schema_table-clause-outcome : goal.returns-in-Ok-with_schema_table-clause-outcome
+returns-in-Ok-with_schema_table-clause-outcome g c = record {
   source_is = search rules;
   capacity_is = search rules;
   header = search rules;
@@ -44,12 +46,21 @@ returns-in-Ok-clause-outcome g c = record {
 }
 
 pub invariant_of-result : goal.invariant_of-result
-invariant_of-result g c = record {
-  roots = search rules;
-  rowids = subst (λ (ts : List TableData). All HasRowids ts) c.tables.ensures (c.have_rowids.ensures.0 c.if-have_rowids.true);
-  header = search rules;
-  stored = search rules;
-}
+invariant_of-result g c =
+    let tables = (checked_data c.in-Ok.checked).tables in
+    let own : IsPageNumber c.check.new.pager.state schema_table.root = search rules in
+    let others : All (λ (table : TableData). IsPageNumber c.check.new.pager.state table.root) tables = search rules in
+    record {
+      ready = record {
+        roots = All-append (λ (table : TableData). IsPageNumber c.check.new.pager.state table.root) tables (schema_table ∷ []) others
+            (All-cons (λ (table : TableData). IsPageNumber c.check.new.pager.state table.root) schema_table [] own
+            (All-nil (λ (table : TableData). IsPageNumber c.check.new.pager.state table.root)));
+        rowids = subst (λ (ts : List TableData). All HasRowids ts) c.tables.ensures (c.have_rowids.ensures.0 c.if-have_rowids.true);
+        header = search rules;
+        stored = search rules;
+      };
+      all_are = first_of (search rules, cc);
+    }
 
 pub returns-in-Ok-2-clause-outcome : goal.returns-in-Ok-2-clause-outcome
 returns-in-Ok-2-clause-outcome g c = record {
@@ -76,6 +87,18 @@ returns-in-Ok-2-clause-outcome g c = record {
 
 pub returns-in-Ok-2-clause-back : goal.returns-in-Ok-2-clause-back
 returns-in-Ok-2-clause-back g c =
+    let opened = c.in_ok-pager.ensures.outcome.is in
+    let failures = ap (λ (s : SourceFacts). s.failures) c.into_source-in-Ok-2.ensures.facts ∙ c.in-Ok.ensures.reads.failures ∙ ap (λ s. s.source.failures) opened in
+    record {
+      same = search rules;
+      failures = ((λ e. absurd cc), (λ differ. absurd (differ failures)));
+    }
+
+pub returns-in-Err-with_schema_table-clause-outcome : goal.returns-in-Err-with_schema_table-clause-outcome
+returns-in-Err-with_schema_table-clause-outcome g c = record { only = inr (inl tt); cause = λ steady. inl (inr refl) }
+
+pub returns-in-Err-with_schema_table-clause-back : goal.returns-in-Err-with_schema_table-clause-back
+returns-in-Err-with_schema_table-clause-back g c =
     let opened = c.in_ok-pager.ensures.outcome.is in
     let failures = ap (λ (s : SourceFacts). s.failures) c.into_source.ensures.facts ∙ c.in-Ok.ensures.reads.failures ∙ ap (λ s. s.source.failures) opened in
     record {

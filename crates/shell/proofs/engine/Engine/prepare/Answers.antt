@@ -1,4 +1,4 @@
-use Rattle.std.proofs.Common.{◌∙◌, List, rules, ap, subst, sym, inl, inr}
+use Rattle.std.proofs.Common.{◌∙◌, List, length, rules, ap, subst, sym, inl, inr}
 use Rattle.std.proofs.lemmas.Result.{err_from_is_err_and}
 use Rattle.tables.specs.ColumnTypes.{column_types}
 use Rattle.tables.specs.TableData.{TableData}
@@ -29,14 +29,17 @@ returns-in_err-prepared g c =
     let tables = c.tables.ensures ∙ ap (λ (e : EngineState). e.tables) c.self.view_is in
     let p = err_from_is_err_and c.from_residual-in_err-prepared.result c.from_residual-in_err-prepared.ensures.1 in
     rw (p.1, p.2)
-    (unprepared _ _ (statement_of c.in_ok-statement.statement) (named_data c.in_ok-named.named) _ c.in_ok-statement.ensures.spelt c.in_ok-statement.ensures.within
+    (unprepared _ _ (statement_of c.in_ok-statement.statement) (named_data c.in_ok-named.named) (length c.tables-place.result.now) _
+    (ap length (c.tables-place.ensures ∙ ap (λ (e : EngineState). e.tables) c.self.view_is))
+    c.in_ok-statement.ensures.spelt c.in_ok-statement.ensures.within
     (subst (λ (ts : List TableData). Resolves ts (statement_of c.in_ok-statement.statement) (named_data c.in_ok-named.named)) tables c.in_ok-named.ensures.means)
     c.in_err-prepared.ensures.refused)
 
 pub returns : goal.returns
 returns g c =
     let tables = c.tables.ensures ∙ ap (λ (e : EngineState). e.tables) c.self.view_is in (
-      prepared_for _ (prepared_data c.in_ok-prepared.prepared) (named_data c.in_ok-named.named)
+      prepared_for _ (prepared_data c.in_ok-prepared.prepared) (named_data c.in_ok-named.named) (length c.tables-place.result.now)
+          (ap length (c.tables-place.ensures ∙ ap (λ (e : EngineState). e.tables) c.self.view_is))
           (subst (λ (ts : List TableData). IsTyped (column_types ts) (named_data c.in_ok-named.named).query) tables c.in_ok-named.ensures.typed)
           c.in_ok-prepared.ensures.query c.in_ok-prepared.ensures.plan c.in_ok-prepared.ensures.over,
       record {
