@@ -1,5 +1,5 @@
 //! The plans of SELECTs that UNION, UNION ALL, INTERSECT and EXCEPT join. It promises that there are such plans exactly where each
-//! SELECT is one of tables that are joined by inner and LEFT joins or of none, without windows; that each has, in some order, the
+//! SELECT is one of tables that are joined or of none, without windows; that each has, in some order, the
 //! rows on which its SELECT computes its result columns, and reaches nothing that the SELECT can't reach; and that the same operators
 //! join them, from left to right.
 //!

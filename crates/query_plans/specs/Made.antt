@@ -1,4 +1,4 @@
--- How a plan is made of a query: of a SELECT that stands on tables that are joined by inner and LEFT joins or on none, or of several
+-- How a plan is made of a query: of a SELECT that stands on tables that are joined or on none, or of several
 -- that operators join.
 use Rattle.std.specs.Prelude.{◌≡◌, ℕ, ℤ, pos, false, true, List, [], map, Option, None}
 use Rattle.std.specs.List.{AllZip}

@@ -1,5 +1,5 @@
 //! What is run for a query. It promises that a plan is made of each query that is served, one SELECT or several that operators join,
-//! each of tables that are joined by inner and LEFT joins or of none, without windows, as each typed one of that form is; that each
+//! each of tables that are joined or of none, without windows, as each typed one of that form is; that each
 //! answer of the plan is a list that the query permits, whatever stands for results out of range; that what the plan reaches the query
 //! can reach; and that its tables and columns are the catalog's.
 //!

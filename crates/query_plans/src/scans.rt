@@ -11,6 +11,7 @@ use crate::Planned;
 use order_keys::Key;
 use query_trees::{Select, Term};
 use std::alloc::{AllocError, Global};
+use syntax::Join;
 use table_plans::{Input, is_always};
 
 /// The columns that these terms are, where each is one.
@@ -53,9 +54,9 @@ pub(crate) fn scan_of(
     let [table] = input.tables.as_slice() else {
         return Ok(None);
     };
-    if table.padded {
+    let Join::Inner = table.join else {
         return Ok(None);
-    }
+    };
     if !is_always(&table.condition) {
         return Ok(None);
     }

@@ -1,5 +1,5 @@
 -- The tables and columns of the plan of a typed SELECT are the catalog's.
-use Rattle.std.proofs.Common.{◌≡◌, ◌∙◌, ◌+◌, ◌<◌, arith, All, ℕ, ℤ, List, [], ◌∷◌, ◌++◌, length, map, option_map, slice_get, Option, Some, None, true, sym, ap, subst}
+use Rattle.std.proofs.Common.{◌≡◌, ◌∙◌, ◌+◌, ◌<◌, arith, All, Bool, false, ℕ, ℤ, List, [], ◌∷◌, ◌++◌, length, map, option_map, slice_get, Option, Some, None, true, sym, ap, subst}
 use Rattle.std.proofs.lemmas.List.{length-map}
 use Rattle.std.proofs.lemmas.List.Elements.{All-cons, All-head, All-nil, All-tail}
 use Rattle.std.proofs.lemmas.Option.{slice_get-map, slice_get_within}
@@ -11,7 +11,7 @@ use Rattle.meaning.specs.Query.{From, Grouping, JoinKind, Key, Select, Source, f
 use Rattle.meaning.specs.Typed.{FromHasTypes, IsTyped, SourceHasTypes}
 use Rattle.operators.specs.Left.{IsPlanOf}
 use Rattle.plan_terms.proofs.PlacedLemmas.{All-back}
-use Rattle.plans.specs.JoinPlan.{IsJoinPlan, columns_before}
+use Rattle.plans.specs.JoinPlan.{IsEarlyPlan, IsJoinPlan, IsPlanBy, IsWritten, columns_before, has_right, joined_by}
 use Rattle.plans.specs.Plan.{PlanData, once}
 use Rattle.plans.specs.Stands.{tested}
 use Rattle.plans.proofs.JoinLemmas.{before_within}
@@ -61,27 +61,57 @@ nest_over tables m source at width r read places same typed within read_is =
     nest_of tables at r places table_is.0 (subst (λ n. All (λ c. c < n) places) (sym table_is.1) (shifted m (source_width source) places behind))
 
 -- the plan of typed tables, of which these columns are read
-from_over : (tables : List TableData) (from : From) → (answers types : List Ty) → FromHasTypes (column_types tables) answers from types
-    → (read : List ℕ) → All (λ c. c < from_width from) read → (conditions : List Term) (plan : PlanData) → IsJoinPlan read from conditions plan → IsPlanOf tables plan
-from_over tables nothing answers types typed read within conditions plan of = subst (IsPlanOf tables) (sym of.plan_is) (tested_of tables of.tests once tt)
-from_over tables (joined from inner source on) answers types typed read within conditions plan of =
+early_over : (tables : List TableData) (from : From) → (answers types : List Ty) → FromHasTypes (column_types tables) answers from types
+    → (read : List ℕ) → All (λ c. c < from_width from) read → (conditions : List Term) (plan : PlanData) → IsEarlyPlan read from conditions plan → IsPlanOf tables plan
+early_over tables nothing answers types typed read within conditions plan of = subst (IsPlanOf tables) (sym of.plan_is) (tested_of tables of.tests once tt)
+early_over tables (joined from inner source on) answers types typed read within conditions plan of =
     let m = from_width from in
     let nest = nest_over tables m source of.at of.width typed.1 read of.columns of.source_is typed.3 within of.read_is in
     subst (IsPlanOf tables) (sym of.plan_is) (
-      from_over tables from answers typed.0 typed.2 (columns_before m read) (before_within m read) of.early of.left of.before,
+      early_over tables from answers typed.0 typed.2 (columns_before m read) (before_within m read) of.early of.left of.before,
       record { table = nest.0; columns = nest.1 },
     )
-from_over tables (joined from JoinKind.left source on) answers types typed read within conditions plan of =
+early_over tables (joined from JoinKind.left source on) answers types typed read within conditions plan of =
     let m = from_width from in
     let nest = nest_over tables m source of.at of.width typed.1 read of.columns of.source_is typed.3 within of.read_is in
     subst (IsPlanOf tables) (sym of.plan_is)
     (tested_of tables of.above (PlanData.joined of.left (record { table = of.at; columns = of.columns; tests = of.tests; padded = true })) (
-      from_over tables from answers typed.0 typed.2 (columns_before m read) (before_within m read) of.early of.left of.before,
+      early_over tables from answers typed.0 typed.2 (columns_before m read) (before_within m read) of.early of.left of.before,
       record { table = nest.0; columns = nest.1 },
     ))
-from_over tables (joined from right source on) answers types typed read within conditions plan of = absurd of
-from_over tables (joined from full source on) answers types typed read within conditions plan of = absurd of
-from_over tables (with_inner from query) answers types typed read within conditions plan of = absurd of
+early_over tables (joined from right source on) answers types typed read within conditions plan of = absurd of
+early_over tables (joined from full source on) answers types typed read within conditions plan of = absurd of
+early_over tables (with_inner from query) answers types typed read within conditions plan of = absurd of
+
+-- a table by a join of each kind
+joined_over : (tables : List TableData) (kind : JoinKind) (left : PlanData) (before at : ℕ) (columns : List ℕ) (tests : List Term) → IsPlanOf tables left
+    → (at < length tables) × ((table : TableData) → slice_get tables at ≡ Some table → All (λ c. c < length table.columns) columns)
+    → IsPlanOf tables (joined_by kind left before at columns tests)
+joined_over tables inner left before at columns tests of nest = (of, record { table = nest.0; columns = nest.1 })
+joined_over tables JoinKind.left left before at columns tests of nest = (of, record { table = nest.0; columns = nest.1 })
+joined_over tables right left before at columns tests of nest = (of, record { table = nest.0; columns = nest.1 })
+joined_over tables full left before at columns tests of nest = (of, record { table = nest.0; columns = nest.1 })
+
+written_over : (tables : List TableData) (from : From) → (answers types : List Ty) → FromHasTypes (column_types tables) answers from types
+    → (read : List ℕ) → All (λ c. c < from_width from) read → (plan : PlanData) → IsWritten read from plan → IsPlanOf tables plan
+written_over tables nothing answers types typed read within plan of = subst (IsPlanOf tables) (sym of) tt
+written_over tables (joined from kind source on) answers types typed read within plan of =
+    let m = from_width from in
+    subst (IsPlanOf tables) (sym of.plan_is)
+    (joined_over tables kind of.left (length (columns_before m read)) of.at of.columns of.tests
+    (written_over tables from answers typed.0 typed.2 (columns_before m read) (before_within m read) of.left of.before)
+    (nest_over tables m source of.at of.width typed.1 read of.columns of.source_is typed.3 within of.read_is))
+written_over tables (with_inner from query) answers types typed read within plan of = absurd of
+
+from_over : (tables : List TableData) (from : From) → (answers types : List Ty) → FromHasTypes (column_types tables) answers from types
+    → (read : List ℕ) → All (λ c. c < from_width from) read → (conditions : List Term) (plan : PlanData) → IsJoinPlan read from conditions plan → IsPlanOf tables plan
+from_over tables from answers types typed read within conditions plan of = by_kind (has_right from) of
+  where
+    by_kind : (b : Bool) → IsPlanBy b read from conditions plan → IsPlanOf tables plan
+    by_kind false of = early_over tables from answers types typed read within conditions plan of
+    by_kind true of =
+        subst (IsPlanOf tables) (sym of.plan_is)
+        (tested_of tables of.tests of.below (written_over tables from answers types typed read within of.below of.below_is))
 
 module _ (tables : List TableData) (input : Input) (s : Select) (form : HasServedForm (input_from input) s) where
   -- what is read behind FROM and WHERE, and groups of it

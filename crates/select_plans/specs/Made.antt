@@ -1,4 +1,4 @@
--- How the plan is made of a SELECT that stands on tables that are joined by inner and LEFT joins, or on none.
+-- How the plan is made of a SELECT that stands on tables that are joined, or on none.
 use Rattle.std.specs.Prelude.{◌≡◌, ⊤, ℕ, List, Option, Some, None}
 use Rattle.std.specs.List.{AllZip}
 use Rattle.expr.specs.Term.{Term}

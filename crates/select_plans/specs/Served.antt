@@ -6,7 +6,7 @@ use Rattle.meaning.specs.Query.{From, Grouping, Select}
 use Rattle.plan_terms.specs.Over.{IsOver}
 use Rattle.table_plans.specs.TableJoins.{AreTableJoins}
 
--- FROM is tables of the catalog that are joined by inner and LEFT joins, or nothing
+-- FROM is tables of the catalog that are joined, or nothing
 abbrev pub IsServedFrom : From → Type 0
 IsServedFrom from = AreTableJoins from
 

@@ -18,7 +18,7 @@ fn is_windowless(select: &Select) -> bool
     calls.is_empty()
 }
 
-/// What a SELECT stands on, where it has no windows and that is tables that are joined by inner and LEFT joins, or nothing. There is
+/// What a SELECT stands on, where it has no windows and that is tables that are joined, or nothing. There is
 /// none elsewhere. (SELECT, "Determination of input data")
 pub fn served_input(
     alloc: Global,

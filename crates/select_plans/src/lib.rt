@@ -1,6 +1,6 @@
 //! What a SELECT computes, whatever becomes of its result rows: the plan of its FROM and WHERE or of the groups behind these, and
-//! its result columns over that plan's rows. It promises that there is such a base of each SELECT of tables that are joined by inner
-//! and LEFT joins or of none, without windows, as each typed one has one; that the plan has, in some order, the rows on which the
+//! its result columns over that plan's rows. It promises that there is such a base of each SELECT of tables that are joined
+//! or of none, without windows, as each typed one has one; that the plan has, in some order, the rows on which the
 //! SELECT computes its result columns, and the expressions say of them what these say; that what they reach the SELECT can reach;
 //! and that the tables and columns of a typed one are the catalog's.
 //!

@@ -1,4 +1,5 @@
 use Rattle.std.proofs.Common.{◌≡◌, ◌∙◌, List, ap, length, map, rules, sym, arith}
+use Rattle.naming.specs.Sources.{kind_of}
 use Rattle.query_plans.proofs.ScanLemmas.{one_from}
 use Rattle.query_trees.specs.TermView.{term}
 use Rattle.query_trees.specs.declared.terms.Term.{Term}
@@ -12,7 +13,7 @@ returns-in-Some c =
     let long : length c.as_slice.result.now ≡ 1 = omega (arith, least, most) in record {
       width = c.table-item.result.width;
       from_is =
-          ap from_of (sym c.as_slice.ensures.value) ∙ one_from c.as_slice.result.now c.table-item.result long c.table-item.is c.if-table.false c.if-not-is_always.ensures;
+          ap from_of (sym c.as_slice.ensures.value) ∙ one_from c.as_slice.result.now c.table-item.result long c.table-item.is (ap kind_of c.in-Inner.is) c.if-not-is_always.ensures;
       bare = search rules;
       columns_are = ap (λ (ts : List Term). map term ts) (sym c.as_slice-2.ensures.value) ∙ (rw c.in-Some.is at c.in_ok-places.ensures);
     }
