@@ -1,5 +1,5 @@
 -- An expression in which the values of inner queries stand names no answer any more.
-use Rattle.std.proofs.Common.{◌≡◌, ℕ, List, [], ◌∷◌, slice_index_or, refl, ap}
+use Rattle.std.proofs.Common.{◌≡◌, List, [], ◌∷◌, slice_index_or, refl, ap}
 use Rattle.values.specs.Datum.{Datum}
 use Rattle.expr.specs.Filled.{filled, filled_all, filled_arms, filled_firsts, literals}
 use Rattle.expr.specs.Term.{Term, Terms, Arms, literal, column, call, arithmetic, concat, compare, is, and, or, between, among, coalesce, choice, choice_of, null_if, like, none, more, answer, no_arms, arm}

@@ -1,5 +1,5 @@
 -- The rows of a query without queries in it.
-use Rattle.std.proofs.Common.{◌≡◌, Bool, ℕ, ◌+◌, ◌<◌, zero, suc, List, [], ◌∷◌, ◌++◌, length, map, slice_index_or, cond, refl, sym, ap, subst, ◌∙◌, arith, IsPermutation, IsSortedByKey}
+use Rattle.std.proofs.Common.{◌≡◌, Bool, ℕ, ◌+◌, suc, List, [], ◌∷◌, ◌++◌, length, map, slice_index_or, cond, refl, sym, ap, subst, ◌∙◌, arith, IsPermutation, IsSortedByKey}
 use Rattle.std.proofs.lemmas.List.{get_or_append_left, length-append}
 use Rattle.std.proofs.Math.Seq.{get_or-append_seam}
 use Rattle.values.specs.Database.{Database}
@@ -11,10 +11,10 @@ use Rattle.meaning.specs.Answer.{Permits, key_directions}
 use Rattle.meaning.specs.Body.{Output, SameTables, answers_in, body, body_rows, from_rows, outputs, plain_outputs, results, rows_of, select_outputs, source_rows, values_over}
 use Rattle.meaning.proofs.AnswerLemmas.{Permits-bags}
 use Rattle.meaning.proofs.GroupLemmas.{map-map}
-use Rattle.meaning.specs.Query.{Body, Direction, From, Key, Operator, QueryData, Select, Source, compound, derived, from_width, joined, nothing, schema, select, source_width, table, with_inner}
+use Rattle.meaning.specs.Query.{Body, Direction, From, Key, QueryData, Select, Source, compound, derived, from_width, joined, nothing, schema, select, source_width, table, with_inner}
 use Rattle.meaning.specs.Sequence.{keys_cmp}
 use Rattle.meaning.specs.Times.{combined}
-use Rattle.meaning.specs.Valuation.{Valuation, meets, with_answers}
+use Rattle.meaning.specs.Valuation.{Valuation}
 use Rattle.expr.specs.Meaning.{eval}
 use Rattle.settled_sources.proofs.MappedLemmas.{plain_mapped, results_mapped, select_outputs_mapped}
 use Rattle.settled_sources.specs.Mapped.{mapped_key, mapped_select}

@@ -1,3 +1,4 @@
 pub mod FilledLemmas
 pub mod FlatLemmas
 pub mod FlatHitLemmas
+pub mod FlatTypeLemmas
