@@ -97,6 +97,15 @@ long_indexes() {
     echo "DELETE FROM item WHERE id % 5 = 1;"
 }
 
+# A table without rowids, whose rows go on in overflow pages on interior pages too, and an index of it.
+long_rowless() {
+    echo "CREATE TABLE pair(a INT, b TEXT, c BLOB, PRIMARY KEY (b, a)) STRICT, WITHOUT ROWID;"
+    echo "CREATE INDEX by_c ON pair(c DESC, a);"
+    numbers 3000
+    echo "INSERT INTO pair SELECT i, 'row ' || i % 97, zeroblob(i % 300) FROM n;"
+    echo "DELETE FROM pair WHERE a % 5 = 1;"
+}
+
 # distinct FILE INDEX TABLE: how many different values the index's first columns have, for each number of columns.
 distinct() {
     columns=
@@ -153,7 +162,7 @@ found() {
     esac
 }
 
-for kind in many_rows several_tables far_rowids deleted_rows no_rows no_tables long_values long_schema long_indexes; do
+for kind in many_rows several_tables far_rowids deleted_rows no_rows no_tables long_values long_schema long_indexes long_rowless; do
     for size in $(sizes 512 1024 4096 8192 65536); do
         file="$folder/$kind.$size.db"
         { echo "PRAGMA page_size=$size;" && "$kind"; } | sqlite3 -bail "$file" >"$folder/made" 2>&1

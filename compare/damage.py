@@ -19,7 +19,7 @@ from sound import answer_problem
 Damage = Callable[[bytearray, Random], str]
 
 # What opening and preparing may answer of a file whose header is sound.
-OPENING_FAULTS = {*range(11, 27), 29, 31, 32}
+OPENING_FAULTS = {*range(11, 27), 31, 32}
 # Faults of pages, trees, values and entries that `PRAGMA integrity_check` finds too. It counts no values and reads no
 # characters.
 SEEN_BY_SQLITE = {11, 12, 13, 15, 16, 18, 23, 24, 25}
@@ -250,6 +250,16 @@ def with_indexes(connection: sqlite3.Connection, rng: Random) -> None:
     connection.execute("DELETE FROM item WHERE id % 5 = 0")
 
 
+def without_rowids(connection: sqlite3.Connection, rng: Random) -> None:
+    """A table without rowids of some levels, whose rows go on in overflow pages on its interior pages too, with an index; and one
+    of the same shape."""
+    for table, rows in (("item", 250), ("other", 30)):
+        connection.execute(f"CREATE TABLE {table}(a INT, b TEXT, c BLOB, PRIMARY KEY (b, a)) STRICT, WITHOUT ROWID")
+        fill(connection, table, ((row, random_text(rng, rng.choice((9, 60, 400))), rng.randbytes(rng.choice((2, 90)))) for row in range(rows)))
+    connection.execute("CREATE INDEX by_c ON item(c DESC)")
+    connection.execute("DELETE FROM item WHERE a % 5 = 0")
+
+
 def one_leaf(connection: sqlite3.Connection, rng: Random) -> None:
     """A few rows, so that most damages meet the schema or one leaf."""
     connection.execute("CREATE TABLE item(id INTEGER PRIMARY KEY, a TEXT, b BLOB, c INT NOT NULL) STRICT")
@@ -258,7 +268,7 @@ def one_leaf(connection: sqlite3.Connection, rng: Random) -> None:
 
 BASES = [
     *((two_tables, 512), (with_chains, 512), (one_leaf, 512), (with_indexes, 512), (two_tables, 1024), (with_chains, 4096)),
-    *((with_indexes, 2048), (one_leaf, 65536)),
+    *((with_indexes, 2048), (one_leaf, 65536), (without_rowids, 512), (without_rowids, 4096)),
 ]
 
 

@@ -202,6 +202,81 @@ def keys(connection: sqlite3.Connection, rng: Random) -> None:
     connection.execute("UPDATE paired SET a = a + 100, b = -b WHERE b % 3 = 0")
 
 
+def rowless_keys(connection: sqlite3.Connection, rng: Random) -> None:
+    """Tables without rowids, by keys of one column and of several that stand in another order than the table's, of numbers, texts
+    and blobs; with indexes that ascend, descend, are unique or partial; some rows were deleted and changed, and one table lost all."""
+    connection.execute("CREATE TABLE one(a INTEGER PRIMARY KEY, b TEXT) STRICT, WITHOUT ROWID")
+    connection.execute("CREATE TABLE back(a INT, b TEXT, c BLOB, d INT, PRIMARY KEY (d, b, a)) STRICT, WITHOUT ROWID")
+    connection.execute("CREATE TABLE blobs(n INT NOT NULL, c BLOB PRIMARY KEY, b TEXT) STRICT, WITHOUT ROWID")
+    connection.execute("CREATE TABLE whole(a TEXT, b INT, PRIMARY KEY (b, a)) STRICT, WITHOUT ROWID")
+    connection.execute("CREATE TABLE gone(a INT, b TEXT PRIMARY KEY) STRICT, WITHOUT ROWID")
+    for name, columns in (("by_c", "c DESC, a"), ("by_key", "a, d DESC, b"), ("by_part", "b"), ("by_all", "c, b DESC, d, a")):
+        connection.execute(f"CREATE INDEX {name} ON back({columns})")
+    connection.execute("CREATE INDEX some ON back(c) WHERE d > 0 AND a IS NOT NULL")
+    connection.execute("CREATE UNIQUE INDEX once ON blobs(n DESC, b)")
+    fill(connection, "one", ((random_int(rng), random_text(rng, 40)) for _ in range(600)))
+    rows = ((random_int(rng), random_text(rng, 9), random_value(rng, "BLOB", 30), rng.randint(-5, 5)) for _ in range(900))
+    fill(connection, "back", rows)
+    fill(connection, "blobs", ((rng.randint(-99, 99), rng.randbytes(rng.randint(0, 6)), random_value(rng, "TEXT", 20)) for _ in range(400)))
+    fill(connection, "whole", ((random_text(rng, 12), rng.randint(-9, 9)) for _ in range(500)))
+    fill(connection, "gone", ((row, f"row {row}") for row in range(900)))
+    connection.execute("DELETE FROM back WHERE abs(a % 7) < 2")
+    connection.execute("UPDATE OR IGNORE back SET d = -d, c = NULL WHERE abs(a % 5) = 1")
+    connection.execute("DELETE FROM gone")
+
+
+def rowless_chains(connection: sqlite3.Connection, rng: Random) -> None:
+    """Tables without rowids whose rows go on in overflow pages, on leaves and on the pages above them: texts behind the key, and
+    texts of the key itself; and one of some levels, whose keys take nine bytes."""
+    connection.execute("CREATE TABLE long(note TEXT, id INT PRIMARY KEY, c BLOB) STRICT, WITHOUT ROWID")
+    connection.execute("CREATE TABLE named(n INT, name TEXT, kind BLOB, PRIMARY KEY (name, kind)) STRICT, WITHOUT ROWID")
+    connection.execute("CREATE TABLE deep(note TEXT, n INT, id INT PRIMARY KEY) STRICT, WITHOUT ROWID")
+    connection.execute("CREATE INDEX by_note ON long(note)")
+    connection.execute("CREATE INDEX by_n ON named(n DESC)")
+    sizes = [1, 30, 90, 100, 110, 120, 400, 470, 500, 980, 2000, 4050, 9000, 33000, 66000]
+    fill(connection, "long", ((random_text(rng, rng.choice(sizes)), row, rng.randbytes(rng.choice(sizes) // 3)) for row in range(90)))
+    fill(connection, "named", ((row, f"{random_text(rng, rng.choice(sizes[:10]))}{row}", rng.randbytes(3)) for row in range(200)))
+    keys = rng.sample(range(2**62, 2**63 - 1, 2**47 + 1), 1500)
+    fill(connection, "deep", ((f"note {key} " * rng.randint(1, 4), key % 1000, key) for key in keys))
+
+
+def rowless_altered(connection: sqlite3.Connection, _: Random) -> None:
+    """Tables without rowids that were renamed, lost a column, or got some, before their first row, behind it, or before an update."""
+    connection.executescript("""
+        CREATE TABLE short(a INT, b TEXT, c INT, PRIMARY KEY (c, a)) STRICT, WITHOUT ROWID;
+        INSERT INTO short VALUES (1, 'x', 9), (2, NULL, 3);
+        ALTER TABLE short ADD COLUMN d TEXT DEFAULT 'it''s'; ALTER TABLE short ADD COLUMN e INT;
+        INSERT INTO short VALUES (3, 'y', 7, NULL, 5); ALTER TABLE short ADD COLUMN f INT NOT NULL DEFAULT -5;
+        INSERT INTO short VALUES (4, 'w', 2, 'd', NULL, 8);
+        ALTER TABLE short ADD COLUMN g BLOB DEFAULT x'00ff'; INSERT INTO short VALUES (4, 'z', 1, 'd', NULL, 8, NULL);
+        UPDATE short SET b = 'changed' WHERE c = 9; CREATE INDEX by_g ON short(g DESC, d);
+        CREATE TABLE early(a INT PRIMARY KEY) STRICT, WITHOUT ROWID; ALTER TABLE early ADD COLUMN b TEXT;
+        INSERT INTO early VALUES (1, 'x'), (2, NULL);
+        CREATE TABLE old(a INT, gone BLOB, b TEXT, c INT, PRIMARY KEY (b, a)) STRICT, WITHOUT ROWID;
+        INSERT INTO old VALUES (1, x'00', 'y', 5), (2, NULL, 'a', 6), (1, NULL, 'a', NULL);
+        ALTER TABLE old RENAME TO "the new"; ALTER TABLE "the new" RENAME COLUMN b TO "b'c";
+        ALTER TABLE "the new" DROP COLUMN gone;""")
+
+
+def rowless_random(connection: sqlite3.Connection, rng: Random) -> None:
+    """Tables without rowids of random columns, keys and rows, each beside one with rowids of the same columns and rows."""
+    for number in range(3):
+        kinds = rng.choices(("INT", "INTEGER", "TEXT", "BLOB"), k=rng.randint(1, 10))
+        columns = [f"c{place} {kind}" for place, kind in enumerate(kinds)]
+        key = rng.sample(range(len(kinds)), rng.randint(1, min(3, len(kinds))))
+        named = ", ".join(f"c{place}" for place in key)
+        connection.execute(f"CREATE TABLE t{number}({', '.join(columns)}, PRIMARY KEY ({named})) STRICT, WITHOUT ROWID")
+        connection.execute(f"CREATE TABLE u{number}({', '.join(columns)}) STRICT")
+        most = rng.choice((10, 10, 100, 1000))
+        rows = [tuple(random_value(rng, kind, most) for kind in kinds) for _ in range(20000 // (most + 100))]
+        for table in ("t", "u"):
+            fill(connection, f"{table}{number}", rows)
+        if rng.random() < 0.5:
+            connection.execute(f"CREATE INDEX i{number} ON t{number}(c0 DESC)")
+        if rng.random() < 0.3:
+            connection.execute(f"DELETE FROM t{number} WHERE length(c{rng.choice(key)}) % 3 = 0")
+
+
 def many_tables(connection: sqlite3.Connection, rng: Random) -> None:
     """A hundred tables, whose schema has many leaves where a page is short."""
     for number in range(100):
@@ -271,6 +346,10 @@ RECIPES = [
     Recipe("indexes", indexes, (512, 1024, 4096, 65536)),
     Recipe("partial_indexes", partial_indexes, (512, 4096)),
     Recipe("keys", keys, (512, 2048)),
+    Recipe("rowless_keys", rowless_keys, (512, 1024, 4096, 65536)),
+    Recipe("rowless_chains", rowless_chains, (512, 1024, 4096, 65536)),
+    Recipe("rowless_altered", rowless_altered),
+    Recipe("rowless_random", rowless_random, (1024, 4096)),
     Recipe("no_tables", no_tables, ALL_SIZES),
 ]
 
@@ -299,6 +378,9 @@ SPELLINGS = [
     "CREATE TABLE t(a INT, b TEXT, CHECK (a > 0 OR (1))) STRICT",
     "CREATE TABLE t(a INTEGER, b TEXT, CONSTRAINT k PRIMARY KEY (A ASC)) STRICT",
     "CREATE TABLE t(a INT, b TEXT, CONSTRAINT c FOREIGN KEY (b, A) REFERENCES u(x, y) ON UPDATE CASCADE) STRICT",
+    "CREATE TABLE t(a INT PRIMARY KEY, b TEXT) WITHOUT ROWID, STRICT",
+    "CREATE TABLE t(a INTEGER PRIMARY KEY, b TEXT) strict,without rowid",
+    "CREATE TABLE t(a INT, b TEXT, CONSTRAINT k PRIMARY KEY (B, a)) STRICT, WITHOUT /* no */ ROWID",
 ]
 
 # Spellings that SQLite takes too, which the program may refuse.

@@ -20,7 +20,10 @@ SELECT = "SELECT * FROM item"
 
 # What SQLite makes and the program doesn't serve: a name, what is made after a table that is served, and the fault's line.
 UNSERVED = {
-    "a table without rowids": ("CREATE TABLE x(a INTEGER PRIMARY KEY) STRICT, WITHOUT ROWID", NOT_YET),
+    "a table without rowids whose key descends": ("CREATE TABLE x(a INT PRIMARY KEY DESC) STRICT, WITHOUT ROWID", LEFT_OUT),
+    "a table without rowids whose key has a collation": (
+        "CREATE TABLE x(a TEXT COLLATE NOCASE PRIMARY KEY) STRICT, WITHOUT ROWID", LEFT_OUT,
+    ),
     "a partial index with a function": ("CREATE INDEX x ON item(name) WHERE abs(id) > 1", LEFT_OUT),
     "a view": ("CREATE VIEW x AS SELECT 1", LEFT_OUT),
     "AUTOINCREMENT": ("CREATE TABLE x(a INTEGER PRIMARY KEY AUTOINCREMENT) STRICT", LEFT_OUT),

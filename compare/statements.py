@@ -1,8 +1,8 @@
 #!/usr/bin/env python3
 """Compares what the program answers to random statements over random tables with what SQLite answers: expressions, WHERE,
-GROUP BY, HAVING, aggregates with FILTER, DISTINCT, ORDER BY, LIMIT and OFFSET over one table, over tables that are joined by inner
-and LEFT joins, or over none, some over the table of the schema's rows; and several of these that UNION, UNION ALL, INTERSECT and
-EXCEPT join. An operation or a total that leaves 64 bits is `fault 50: Overflow`, where SQLite goes on with a
+GROUP BY, HAVING, aggregates with FILTER, DISTINCT, ORDER BY, LIMIT and OFFSET over one table, with rowids or without, over tables
+that are joined by inner and LEFT joins, or over none, some over the table of the schema's rows; and several of these that UNION,
+UNION ALL, INTERSECT and EXCEPT join. An operation or a total that leaves 64 bits is `fault 50: Overflow`, where SQLite goes on with a
 floating-point number or stops; such statements are asked for that fault, or for any answer where it isn't reached.
 
 Run from any folder. The last line is 'N passed, M failed'. `--seed S --only N` makes one statement anew and prints it.
@@ -70,13 +70,22 @@ class Statement:
 
 
 def random_table(connection: sqlite3.Connection, name: str, rng: Random) -> dict[str, str]:
-    """Makes a table of some rows: its columns and their types."""
+    """Makes a table of some rows, with rowids or without: its columns and their types."""
     kinds = {f"c{place}": rng.choice(KINDS) for place in range(rng.randint(1, 5))}
     columns = [f"{column} {kind}" for column, kind in kinds.items()]
-    if rng.random() < 0.6:
+    options = "STRICT"
+    if rng.random() < 0.3:
+        key = rng.sample(list(kinds), rng.randint(1, min(3, len(kinds))))
+        if rng.random() < 0.5:
+            kinds["id"] = "INT"
+            columns.append("id INT")
+            key.insert(rng.randint(0, len(key)), "id")
+        columns.append(f"PRIMARY KEY ({', '.join(key)})")
+        options = "STRICT, WITHOUT ROWID"
+    elif rng.random() < 0.6:
         kinds["id"] = "INT"
         columns.append("id INTEGER PRIMARY KEY")
-    connection.execute(f"CREATE TABLE {name}({', '.join(columns)}) STRICT")
+    connection.execute(f"CREATE TABLE {name}({', '.join(columns)}) {options}")
     rows = (tuple(small_value(rng, kind) for kind in kinds.values()) for _ in range(rng.choice((0, 1, 5, 12, 40))))
     fill(connection, name, rows)
     return kinds

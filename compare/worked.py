@@ -865,6 +865,72 @@ BOUNDS = [
 ]
 
 
+PAIR = "CREATE TABLE pair(a INT, b TEXT, c BLOB, d INT NOT NULL, PRIMARY KEY (d, b)) STRICT, WITHOUT ROWID"
+# Rows of `pair` as their records have them, the key's columns first: d, b, a and c.
+PAIRS: list[tuple[Value, ...]] = [(-3, "x", None, b"ab"), (2, "", 40, None), (2, "a", 7, b""), (2, "b", 7, b"\xff"), (9, "a", -1, None)]
+
+# Statements over these pairs and the items of the shop, and what is written for them.
+PAIR_ANSWERS = {
+    "SELECT * FROM pair": "NULL,'x',X'6162',-3\n40,'',NULL,2\n7,'a',X'',2\n7,'b',X'FF',2\n-1,'a',NULL,9\n",
+    "SELECT b, d FROM pair": "'x',-3\n'',2\n'a',2\n'b',2\n'a',9\n",
+    "SELECT d, b, c, a, c FROM pair WHERE a": "2,'',NULL,40,NULL\n2,'a',X'',7,X''\n2,'b',X'FF',7,X'FF'\n9,'a',NULL,-1,NULL\n",
+    "SELECT a FROM pair ORDER BY a DESC, b LIMIT 3": "40\n7\n7\n",
+    "SELECT count(*), min(b), sum(d) FROM pair WHERE d > 0": "4,'',15\n",
+    "SELECT name, pair.b FROM item, pair WHERE pair.a = item.qty": "'bolt',''\n'cap','a'\n'cap','b'\n'nut','a'\n'nut','b'\n",
+    "SELECT pair.b, id FROM pair LEFT JOIN item ON item.id = pair.d": "'x',NULL\n'',2\n'a',2\n'b',2\n'a',NULL\n",
+    "SELECT DISTINCT d FROM pair WHERE b <> 'x'": "2\n9\n",
+}
+
+
+def paired(rows: list[bytes], sql: str = PAIR, **shape: int) -> tuple[bytes, Tree]:
+    """An image of the shop's items and a table without rowids of these records, and the latter's tree."""
+    writer = shop()
+    tree = writer.rowless("pair", sql, rows, **shape)
+    return bytes(writer.image()), tree
+
+
+def broken_pairs() -> Iterator[tuple[str, bytes, bytes]]:
+    """Tables without rowids that have to be refused, each with the fault's line."""
+    rows = [record(row) for row in PAIRS]
+    for what, other, line in (
+        ("a record without a column of the key", record([2]), fault_line(17, 3)),
+        ("a record with a value too many", record([2, "b", 7, None, None]), fault_line(17, 3)),
+        ("a number in the place of a text", record([2, 3, 7, None]), fault_line(15, 3)),
+        ("a number in the place of a blob", record([2, "b", 7, 7]), fault_line(23, "pair")),
+        ("a key that comes before the last", record([1, "b", 7, None]), fault_line(15, 3)),
+        ("a key that stands twice", record([2, "a", 8, None]), fault_line(15, 3)),
+    ):
+        image, _ = paired([*rows[:3], other, rows[4]])
+        yield what, image, line
+    image, _ = paired([*rows[:4], record(["9", "b", 7, None])])
+    yield "a text in the place of a number of the key", image, fault_line(23, "pair")
+    image, tree = paired(rows, leaf=2)
+    yield "the flag of a table's leaf", patched(image, tree.leaves[0], 0, b"\x0d"), fault_line(11, tree.leaves[0])
+    image, _ = paired([record([row, "b", 7, None]) for row in (1, 2, 4, 3, 5)], leaf=2)
+    yield "an entry between pages in a wrong place", image, fault_line(15, 4)
+
+
+def try_rowless(trial: Trial) -> None:
+    """Tables without rowids: rows on one leaf and on interior pages, rows that are older than columns, and broken ones."""
+    rows = [record(row) for row in PAIRS]
+    for shape in ({}, {"leaf": 2}, {"leaf": 1}):
+        image, _ = paired(rows, **shape)
+        trial.sound(f"a table without rowids, {shape}", image, PAIR_ANSWERS)
+    added = PAIR.replace(", PRIMARY", ", e TEXT DEFAULT 'none', f INT, PRIMARY")
+    image, _ = paired([*rows[:2], record([2, "a"]), record([2, "b", 7, None, "e"]), record([9, "a", 1, None, None, 5])], added)
+    wanted = "NULL,'x',X'6162',-3,'none',NULL\n40,'',NULL,2,'none',NULL\n"
+    wanted += "NULL,'a',NULL,2,'none',NULL\n7,'b',NULL,2,'e',NULL\n1,'a',NULL,9,NULL,5\n"
+    trial.sound("rows without rowids that are older than columns", image, {"SELECT * FROM pair": wanted})
+    long = [(row, "long " * (row * 40), row, b"\0" * row) for row in range(29)]
+    image, _ = paired([record(row) for row in long], leaf=2, fan=4)
+    lines = "".join(f"{a},'{b}',X'{c.hex()}',{d}\n" for d, b, a, c in long)
+    trial.sound("rows without rowids that go on in overflow pages", image, {"SELECT * FROM pair": lines})
+    image, _ = paired([])
+    trial.sound("a table without rowids that has no rows", image, {"SELECT * FROM pair": "", "SELECT count(*) FROM pair": "0\n"})
+    for what, image, line in broken_pairs():
+        trial.refused(what, image, line)
+
+
 def sized(size: int, reserved: int) -> tuple[Writer, str]:
     """Forty texts about the lengths at which a payload goes on in an overflow page, in pages with reserved bytes, and the
     lines of the rows."""
@@ -923,7 +989,7 @@ def main() -> int:
         trial = Trial(tally, Path(folder))
         for attempt in (
             *(try_answers, try_records, try_added_columns, try_schemas, try_many_leaves),
-            *(try_trees, try_chains, try_freelists, try_indexes, try_layouts, try_kept),
+            *(try_trees, try_chains, try_freelists, try_indexes, try_rowless, try_layouts, try_kept),
         ):
             attempt(trial)
     return tally.finish()

@@ -156,6 +156,18 @@ class Writer:
     def index(self, name: str, table: str, sql: str, entries: list[bytes], *, leaf: int = 1000, fan: int = 1000) -> Tree:
         """Adds an index of these entries, which are records in their order, so many on a leaf, and so many children under a
         page. Between two pages one entry stands on the page above them."""
+        tree = self.entry_tree(entries, leaf, fan)
+        self.object("index", name, table, tree.root, sql)
+        return tree
+
+    def rowless(self, name: str, sql: str, rows: list[bytes], *, leaf: int = 1000, fan: int = 1000) -> Tree:
+        """Adds a table without rowids of these rows, which are records in the order of the key, as an index of them."""
+        tree = self.entry_tree(rows, leaf, fan)
+        self.object("table", name, name, tree.root, sql)
+        return tree
+
+    def entry_tree(self, entries: list[bytes], leaf: int, fan: int) -> Tree:
+        """Adds the tree of these entries."""
         chains: list[list[int]] = []
         cells = [self.entry(payload, chains) for payload in entries]
         between = cells[leaf :: leaf + 1]
@@ -168,7 +180,6 @@ class Writer:
             groups = [self.entries_above(level[start : start + fan], between[start : start + fan - 1]) for start in starts]
             level, between = groups, between[fan - 1 :: fan]
             levels.insert(0, level)
-        self.object("index", name, table, levels[0][0], sql)
         return Tree(levels, chains)
 
     def entries_above(self, children: list[int], between: list[bytes]) -> int:

@@ -1,7 +1,7 @@
 -- From what the run of a plan writes to the answer of a query over the image.
 use Rattle.std.proofs.Common.{◌≡◌, ◌≢◌, ◌∙◌, inl, inr, ◌-◌, arith, false, ℕ, zero, suc, IsTrue, All, List, [], ◌∷◌, ◌++◌, map, Some, sym, refl, ap, subst}
 use Rattle.std.specs.List.{AllZip}
-use Rattle.std.proofs.lemmas.List.Elements.{All-append, All-cons, All-head, All-nil, All-tail, All-weaker}
+use Rattle.std.proofs.lemmas.List.Elements.{All-append, All-cons, All-nil, All-weaker}
 use Rattle.values.specs.Database.{Database}
 use Rattle.values.specs.Datum.{Datum, null, int, text, blob}
 use Rattle.values.specs.Row.{Row}
@@ -22,13 +22,12 @@ use Rattle.meaning.proofs.TypedLemmas.{Permits-typed}
 use Rattle.plans.specs.Plan.{once}
 use Rattle.table_copies.specs.Whole.{all_tables}
 use Rattle.tables.specs.ColumnTypes.{column_types, types_of}
-use Rattle.tables.specs.TableData.{ColumnData, HasRowids, IsByRowid, RowKeyData, TableData, schema_table}
+use Rattle.tables.specs.TableData.{ColumnData, TableData, schema_table}
 use Rattle.stored_rows.specs.Stored.{Fits, FitsColumn}
-use Rattle.table_walk.specs.Checked.{IsStoredTable}
+use Rattle.stored_tables.specs.Tables.{IsAnyStored}
 use Rattle.integrity.specs.Checked.{IsCheckFault}
 use Rattle.integrity.specs.Denotes.{Denotes}
-use Rattle.integrity.specs.Tables.{IsAnyStored, IsStoredBy}
-use Rattle.integrity.proofs.DenotesLemmas.{HasDatabase, IsStoredAs, database_of, rows_stored}
+use Rattle.integrity.proofs.DenotesLemmas.{HasDatabase, IsStoredAs, database_of}
 use Rattle.scan.specs.Coming.{Asks, size_of}
 use Rattle.operators.specs.Basis.{AreStored, Basis, IsTableAt}
 use Rattle.query_plans.specs.Answers.{AreWideFor, HitsOf, PlannedData, work_of}
@@ -98,56 +97,27 @@ cause_hits on planned e over (inr hits) = hits.1
 -- ---- what is said of the tables that the image denotes
 
 module _ (pages : Pages) where
-  -- a table with rowids is stored by them
-  by_rowid : (key : RowKeyData) (table : TableData) → IsByRowid key → IsStoredBy key pages table → IsStoredTable pages table
-  by_rowid (RowKeyData.Rowid place) table rowids is = is
-  by_rowid (RowKeyData.Primary places) table rowids is = absurd rowids
-
-  same_rows : (key : RowKeyData) (table : TableData) (rowids : IsByRowid key) (is : IsStoredBy key pages table)
-      → (by_rowid key table rowids is).rows ≡ rows_stored key pages table is
-  unfolding by_rowid
-  same_rows (RowKeyData.Rowid place) table rowids is = refl
-  same_rows (RowKeyData.Primary places) table rowids is = absurd rowids
-
-  pub all_by_rowid : (tables : List TableData) → All HasRowids tables → All (IsAnyStored pages) tables → All (IsStoredTable pages) tables
-  all_by_rowid [] rowids all = All-nil (IsStoredTable pages)
-  all_by_rowid (table ∷ tables) rowids all =
-      All-cons (IsStoredTable pages) table tables
-      (by_rowid table.key table (All-head HasRowids table tables rowids) (All-head (IsAnyStored pages) table tables all))
-      (all_by_rowid tables (All-tail HasRowids table tables rowids) (All-tail (IsAnyStored pages) table tables all))
-
-  -- the trees of tables with rowids, and their rows
-  sizes_of : (tables : List TableData) (rows : List (List Row)) → All HasRowids tables → AllZip (IsStoredAs pages) tables rows → List ℕ
-  sizes_of [] [] rowids all = []
-  sizes_of [] (first ∷ rows) rowids all = absurd all
-  sizes_of (table ∷ tables) [] rowids all = absurd all
-  sizes_of (table ∷ tables) (first ∷ rows) rowids all =
-      size_of pages table (by_rowid table.key table (All-head HasRowids table tables rowids) all.0.stored).levels
-      ∷ sizes_of tables rows (All-tail HasRowids table tables rowids) all.1
+  -- the trees of the tables, and their rows
+  sizes_of : (tables : List TableData) (rows : List (List Row)) → AllZip (IsStoredAs pages) tables rows → List ℕ
+  sizes_of [] [] all = []
+  sizes_of [] (first ∷ rows) all = absurd all
+  sizes_of (table ∷ tables) [] all = absurd all
+  sizes_of (table ∷ tables) (first ∷ rows) all = size_of pages table all.0.stored.levels ∷ sizes_of tables rows all.1
 
   abbrev basis : Datum → List Row → List (List Row) → List ℕ → Basis
   basis w schema rows sizes = record { w = w; db = record { schema = schema; tables = rows }; sizes = sizes; local = false; plan = once }
 
-  stored_at : (w : Datum) (schema : List Row) (tables : List TableData) (rows : List (List Row)) (rowids : All HasRowids tables)
-      (all : AllZip (IsStoredAs pages) tables rows) → AreStored pages tables (basis w schema rows (sizes_of tables rows rowids all))
+  stored_at : (w : Datum) (schema : List Row) (tables : List TableData) (rows : List (List Row)) (all : AllZip (IsStoredAs pages) tables rows)
+      → AreStored pages tables (basis w schema rows (sizes_of tables rows all))
   unfolding sizes_of
-  stored_at w schema [] rows rowids all at table found = absurd cc
-  stored_at w schema (here ∷ tables) [] rowids all at table found = absurd all
-  stored_at w schema (here ∷ tables) (first ∷ rows) rowids all zero table found =
-      subst (λ (t : TableData). IsTableAt pages (basis w schema (first ∷ rows) (sizes_of (here ∷ tables) (first ∷ rows) rowids all)) 0 t) (some_one here table found)
-      (record {
-        stored = by_rowid here.key here (All-head HasRowids here tables rowids) all.0.stored;
-        rows_are = same_rows here.key here (All-head HasRowids here tables rowids) all.0.stored ∙ all.0.rows_are;
-        size_is = refl;
-        unchained = λ local. absurd cc;
-      })
-  stored_at w schema (here ∷ tables) (first ∷ rows) rowids all (suc at) table found =
-      let rest = stored_at w schema tables rows (All-tail HasRowids here tables rowids) all.1 at table found in
+  stored_at w schema [] rows all at table found = absurd cc
+  stored_at w schema (here ∷ tables) [] all at table found = absurd all
+  stored_at w schema (here ∷ tables) (first ∷ rows) all zero table found =
+      subst (λ (t : TableData). IsTableAt pages (basis w schema (first ∷ rows) (sizes_of (here ∷ tables) (first ∷ rows) all)) 0 t) (some_one here table found)
+      (record { stored = all.0.stored; rows_are = all.0.rows_are; size_is = refl; unchained = λ local. absurd cc })
+  stored_at w schema (here ∷ tables) (first ∷ rows) all (suc at) table found =
+      let rest = stored_at w schema tables rows all.1 at table found in
       record { stored = rest.stored; rows_are = rest.rows_are; size_is = rest.size_is; unchained = rest.unchained }
-
--- the schema's own table has rowids too
-pub all_rowids : (tables : List TableData) → All HasRowids tables → All HasRowids (all_tables tables)
-all_rowids tables rowids = All-append HasRowids tables (schema_table ∷ []) rowids (All-cons HasRowids schema_table [] tt (All-nil HasRowids))
 
 module _ (pager : PagerState) (tables : List TableData) (prepared : PreparedData) (ready : IsReady pager tables) (is : IsPreparedFor tables prepared)
     (steady : IsTrue pager.source.steady) where
@@ -163,13 +133,13 @@ module _ (pager : PagerState) (tables : List TableData) (prepared : PreparedData
 
   on : Datum → Basis
   on w = basis (pages_of pager.source.bytes) w has.db.schema (with_schema has.db).tables
-      (sizes_of (pages_of pager.source.bytes) (all_tables tables) (with_schema has.db).tables (all_rowids tables ready.rowids) all_stored)
+      (sizes_of (pages_of pager.source.bytes) (all_tables tables) (with_schema has.db).tables all_stored)
 
   stored_on : (w : Datum) → AreStored (pages_seen pager) (all_tables tables) (on w)
   unfolding on
   stored_on w =
       subst (λ (p : Pages). AreStored p (all_tables tables) (on w)) same_pages
-      (stored_at (pages_of pager.source.bytes) w has.db.schema (all_tables tables) (with_schema has.db).tables (all_rowids tables ready.rowids) all_stored)
+      (stored_at (pages_of pager.source.bytes) w has.db.schema (all_tables tables) (with_schema has.db).tables all_stored)
 
   fits : meant.Fits (column_types tables) has.db
   fits = denoted_fits pager.source.bytes tables has.db has.denotes
@@ -243,16 +213,15 @@ module _ (pager : PagerState) (tables : List TableData) (prepared : PreparedData
   abbrev engine : EngineState
   engine = record { pager = pager; tables = tables }
 
-  stored : IsTrue pager.source.steady → All (IsStoredTable (pages_seen pager)) (all_tables tables)
+  stored : IsTrue pager.source.steady → All (IsAnyStored (pages_seen pager)) (all_tables tables)
   stored steady =
       let has = ready.stored steady in
-      subst (λ (p : Pages). All (IsStoredTable p) (all_tables tables)) (λ k. pages_in (sym (ready.header steady) k) pager.source.bytes)
-      (all_by_rowid (pages_of pager.source.bytes) (all_tables tables) (all_rowids tables ready.rowids)
+      subst (λ (p : Pages). All (IsAnyStored p) (all_tables tables)) (λ k. pages_in (sym (ready.header steady) k) pager.source.bytes)
       (All-append (IsAnyStored (pages_of pager.source.bytes)) tables (schema_table ∷ []) has.stored
-      (All-cons (IsAnyStored (pages_of pager.source.bytes)) schema_table [] has.own (All-nil (IsAnyStored (pages_of pager.source.bytes))))))
+      (All-cons (IsAnyStored (pages_of pager.source.bytes)) schema_table [] has.own (All-nil (IsAnyStored (pages_of pager.source.bytes)))))
 
   pub has_run : (new : EngineState) (report : Report) (before after : SinkFacts)
-      → WhereSteady pager (λ pages. All (IsStoredTable pages) (all_tables tables) → WritesAnswer pages (all_tables tables) prepared.planned before after report.rows)
+      → WhereSteady pager (λ pages. All (IsAnyStored pages) (all_tables tables) → WritesAnswer pages (all_tables tables) prepared.planned before after report.rows)
       → WhereSteady pager (λ pages. (on : Basis) → AreStored pages (all_tables tables) on
       → Asks on.local pager (work_of on.w on.db on.sizes prepared.planned) new.pager 0)
       → report.asked ≡ new.pager.asked - pager.asked → report.chained ≡ new.pager.chained - pager.chained
@@ -265,7 +234,7 @@ module _ (pager : PagerState) (tables : List TableData) (prepared : PreparedData
   }
 
   pub has_stopped : (e : Fault) (before after : SinkFacts)
-      → WhereSteady pager (λ pages. All (IsStoredTable pages) (all_tables tables) → WritesBeginning pages (all_tables tables) prepared.planned before after e)
+      → WhereSteady pager (λ pages. All (IsAnyStored pages) (all_tables tables) → WritesBeginning pages (all_tables tables) prepared.planned before after e)
       → IsRunFault e → HasStopped engine prepared before after e
   has_stopped e before after wrote only = record {
     only = only;
@@ -284,5 +253,5 @@ read_check fault (inl is) = subst (λ (x : Fault). IsCheckFault x) (sym is) tt
 read_check fault (inr is) = subst (λ (x : Fault). IsCheckFault x) (sym is) tt
 
 pub opening_fault : (source : SourceFacts) (fault : Fault) → IsOpenFault source fault → IsOpeningFault source fault
-opening_fault source fault (inl read) = record { only = inr (inl (read_check fault read)); cause = λ steady. inl read }
+opening_fault source fault (inl read) = record { only = inr (read_check fault read); cause = λ steady. inl read }
 opening_fault source fault (inr header) = record { only = inl header.0; cause = λ steady. inr (inl (header.1 steady)) }

@@ -1,13 +1,12 @@
 -- What contracts see of an engine.
 use Rattle.std.specs.Prelude.{◌≡◌, ◌⊎◌, ℕ, All, IsTrue, List, Result}
 use Rattle.values.specs.declared.fault.Fault.{Fault}
-use Rattle.values.specs.declared.fault.Fault.TheVariants.{NotYet}
 use Rattle.pager.specs.Calls.{IsReadFault, ReadsPages}
 use Rattle.pager.specs.Header.{IsHeaderFault, IsLeastBroken, KeepsAll, header_of}
 use Rattle.pager.specs.PagerState.{IsPageNumber, PagerState}
 use Rattle.pager.specs.Source.{SourceFacts}
-use Rattle.image.specs.Pages.{Pages, pages_of}
-use Rattle.tables.specs.TableData.{HasRowids, TableData}
+use Rattle.image.specs.Pages.{pages_of}
+use Rattle.tables.specs.TableData.{TableData}
 use Rattle.table_copies.specs.Whole.{all_tables}
 use Rattle.integrity.specs.Checked.{IsBrokenImage, IsExamined, IsCheckFault}
 use Rattle.integrity.specs.Denotes.{HasTables}
@@ -16,11 +15,10 @@ pub record EngineState : Type 0 where
   pub pager : PagerState
   pub tables : List TableData
 
--- The roots of the tables are pages, that of the schema's own too, and all of them have rowids; over a steady source the tables
--- are the image's, and each is stored.
+-- The roots of the tables are pages, that of the schema's own too; over a steady source the tables are the image's, and each is
+-- stored.
 pub record IsReady (pager : PagerState) (tables : List TableData) : Type 0 where
   pub roots : All (λ table. IsPageNumber pager table.root) (all_tables tables)
-  pub rowids : All HasRowids tables
   pub header : IsTrue pager.source.steady → pager.header ≡ header_of pager.source.bytes
   pub stored : IsTrue pager.source.steady → HasTables (pages_of pager.source.bytes) tables
 
@@ -38,25 +36,15 @@ pub record IsOpenedOver (source : SourceFacts) (capacity : ℕ) (engine : Engine
   pub tables : IsTrue source.steady → HasTables (pages_of source.bytes) engine.tables
   pub unbroken : IsTrue source.steady → (fault : Fault) → IsExamined fault → ¬ IsBrokenImage (pages_of source.bytes) fault
 
--- What isn't served yet: the pages have a table without rowids.
-pub record IsBeyond (pages : Pages) : Type 0 where
-  pub tables : List TableData
-  pub has : HasTables pages tables
-  pub some : ¬ All HasRowids tables
-
--- the condition of pages that a fault says is broken, or why the image isn't served yet
-abbrev pub IsPagesFault : Pages → Fault → Type 0
-IsPagesFault pages fault = IsBrokenImage pages fault ⊎ ((fault ≡ NotYet) × IsBeyond pages)
-
 -- The condition of an image that a fault says is broken: the least of the header's, or, of an image that keeps all of
--- these, one of its tables; or why the image isn't served yet.
+-- these, one of its tables.
 abbrev pub IsImageFault : List ℕ → Fault → Type 0
-IsImageFault image fault = IsLeastBroken image fault ⊎ (KeepsAll image × IsPagesFault (pages_of image) fault)
+IsImageFault image fault = IsLeastBroken image fault ⊎ (KeepsAll image × IsBrokenImage (pages_of image) fault)
 
--- Why none was opened: a fault of reading, one of the header or one of the check, or a table without rowids. Over a steady source another fault than
--- one of reading has its condition.
+-- Why none was opened: a fault of reading, one of the header or one of the check. Over a steady source another fault than one of
+-- reading has its condition.
 pub record IsOpeningFault (source : SourceFacts) (fault : Fault) : Type 0 where
-  pub only : IsHeaderFault fault ⊎ IsCheckFault fault ⊎ (fault ≡ NotYet)
+  pub only : IsHeaderFault fault ⊎ IsCheckFault fault
   pub cause : IsTrue source.steady → IsReadFault fault ⊎ IsImageFault source.bytes fault
 
 -- a call that reads pages of the image, and has the same tables

@@ -1,9 +1,8 @@
 //! An engine, which answers queries over one image.
-ghost use Rattle.std.specs.Prelude.{◌↔◌, All, IfErr, IsTrue, MatchResult};
+ghost use Rattle.std.specs.Prelude.{IfErr, MatchResult};
 ghost use Rattle.std.specs.NonZero.{non_zero_usize_get};
 ghost use Rattle.pager.specs.Calls.{HandsBack};
 ghost use Rattle.values.specs.Fault.{Counts};
-ghost use Rattle.tables.specs.TableData.{HasRowids};
 ghost use Rattle.shell.specs.Prepared.{IsPreparedFor, Means, Refuses};
 ghost use Rattle.shell.specs.PreparedView.{prepared_data};
 ghost use Rattle.shell.specs.Run.{HasRun, HasStopped};
@@ -21,13 +20,6 @@ use std::num::NonZeroUsize;
 use table_copies::with_schema_table;
 use tables::Table;
 use values::{Fault, Sink};
-
-/// Whether each of the tables has rowids: others aren't read by queries yet.
-fn have_rowids(tables: &[Table]) -> bool
-    ensures { IsTrue result ↔ All HasRowids tables.now }
-{
-    tables.iter().all(|table| table.has_rowids())
-}
 
 /// An image that was checked whole, and its tables: queries are run over these and, behind them, the table of the schema's rows.
 #[derive(Drop)]
@@ -66,26 +58,23 @@ impl<S: Source> Engine<S> {
     ///
     /// # Errors
     ///
-    /// The least condition of the header that is broken; then those of the image's tables and rows; `NotYet` where none is, and the
-    /// image has a table without rowids; `ReadFailed` where the source failed, and `NoMemory`. The source is handed back.
+    /// The least condition of the header that is broken; then those of the image's tables and rows; `ReadFailed` where the source
+    /// failed, and `NoMemory`. The source is handed back.
     pub fn open(alloc: Global, source: S, cache: NonZeroUsize) -> Result<Engine<S>, (Fault, S)>
         ensures outcome { MatchResult result (IsOpenedOver (S.facts source) (non_zero_usize_get cache)) (λ e. IsOpeningFault (S.facts source) e.0) }
         ensures back { IfErr result (λ e. HandsBack e.0 (S.facts source) (S.facts e.1)) }
     {
         let mut pager = Pager::open(alloc, source, cache)?;
         match check(alloc, &mut pager) {
-            Ok(checked) if have_rowids(checked.tables()) => {
-                match with_schema_table(alloc, checked.tables()) {
-                    Ok(tables) => Ok(Engine {
-                        pager,
-                        checked,
-                        tables,
-                        alloc,
-                    }),
-                    Err(_) => Err((Fault::NoMemory, pager.into_source())),
-                }
-            }
-            Ok(_) => Err((Fault::NotYet, pager.into_source())),
+            Ok(checked) => match with_schema_table(alloc, checked.tables()) {
+                Ok(tables) => Ok(Engine {
+                    pager,
+                    checked,
+                    tables,
+                    alloc,
+                }),
+                Err(_) => Err((Fault::NoMemory, pager.into_source())),
+            },
             Err(fault) => Err((fault, pager.into_source())),
         }
     }

@@ -8,8 +8,7 @@ use Rattle.image.specs.Pages.{Pages}
 use Rattle.integrity.specs.Checked.{IsBrokenImage}
 use Rattle.integrity.specs.CheckedView.{checked_data}
 use Rattle.shell.proofs.RunLemmas.{opening_fault, pages_opened}
-use Rattle.shell.specs.State.{IsBeyond}
-use Rattle.tables.specs.TableData.{HasRowids, TableData, schema_table}
+use Rattle.tables.specs.TableData.{TableData, schema_table}
 use Rattle.shell.proofs.engine.Engine.open.Goals as goal
 
 pub returns-in_err-pager-clause-outcome : goal.returns-in_err-pager-clause-outcome
@@ -19,7 +18,7 @@ returns-in_err-pager-clause-outcome g c =
 
 pub returns-in-Err-clause-outcome : goal.returns-in-Err-clause-outcome
 returns-in-Err-clause-outcome g c = record {
-  only = inr (inl c.in-Err.ensures.outcome.only);
+  only = inr c.in-Err.ensures.outcome.only;
   cause = λ steady.
       let opened = c.in_ok-pager.ensures.outcome.is in
       let now : IsTrue c.in_ok-pager.pager.state.source.steady = ap (λ s. s.source.steady) opened ∙ steady in
@@ -27,7 +26,7 @@ returns-in-Err-clause-outcome g c = record {
       ⊎_elim inl
       (λ found. inr (inr (
         c.in_ok-pager.ensures.outcome.kept steady,
-        inl (subst (λ (q : Pages). IsBrokenImage q c.in-Err.fault) (pages_opened _ _ _ _ opened header) found),
+        subst (λ (q : Pages). IsBrokenImage q c.in-Err.fault) (pages_opened _ _ _ _ opened header) found,
       )))
       (c.in-Err.ensures.outcome.cause now);
 }
@@ -55,47 +54,14 @@ invariant_of-result g c =
         roots = All-append (λ (table : TableData). IsPageNumber c.check.new.pager.state table.root) tables (schema_table ∷ []) others
             (All-cons (λ (table : TableData). IsPageNumber c.check.new.pager.state table.root) schema_table [] own
             (All-nil (λ (table : TableData). IsPageNumber c.check.new.pager.state table.root)));
-        rowids = subst (λ (ts : List TableData). All HasRowids ts) c.tables.ensures (c.have_rowids.ensures.0 c.if-have_rowids.true);
         header = search rules;
         stored = search rules;
       };
       all_are = first_of (search rules, cc);
     }
 
-pub returns-in-Ok-2-clause-outcome : goal.returns-in-Ok-2-clause-outcome
-returns-in-Ok-2-clause-outcome g c = record {
-  only = inr (inr refl);
-  cause = λ steady.
-      let opened = c.in_ok-pager.ensures.outcome.is in
-      let now : IsTrue c.in_ok-pager.pager.state.source.steady = ap (λ s. s.source.steady) opened ∙ steady in
-      let header : c.in_ok-pager.pager.state.header ≡ header_of c.in_ok-pager.pager.state.source.bytes = search rules in
-      inr (inr (
-        c.in_ok-pager.ensures.outcome.kept steady,
-        inr (
-          refl,
-          subst IsBeyond (pages_opened _ _ _ _ opened header) (record {
-            tables = (checked_data c.in-Ok.checked).tables;
-            has = c.in-Ok.ensures.outcome.tables now;
-            some = λ all.
-                let have : IsTrue c.have_rowids.result = c.have_rowids.ensures.1 (subst (λ (ts : List TableData). All HasRowids ts) (sym c.tables.ensures) all) in
-                let none = c.if-have_rowids.false in
-                absurd cc;
-          }),
-        ),
-      ));
-}
-
-pub returns-in-Ok-2-clause-back : goal.returns-in-Ok-2-clause-back
-returns-in-Ok-2-clause-back g c =
-    let opened = c.in_ok-pager.ensures.outcome.is in
-    let failures = ap (λ (s : SourceFacts). s.failures) c.into_source-in-Ok-2.ensures.facts ∙ c.in-Ok.ensures.reads.failures ∙ ap (λ s. s.source.failures) opened in
-    record {
-      same = search rules;
-      failures = ((λ e. absurd cc), (λ differ. absurd (differ failures)));
-    }
-
 pub returns-in-Err-with_schema_table-clause-outcome : goal.returns-in-Err-with_schema_table-clause-outcome
-returns-in-Err-with_schema_table-clause-outcome g c = record { only = inr (inl tt); cause = λ steady. inl (inr refl) }
+returns-in-Err-with_schema_table-clause-outcome g c = record { only = inr tt; cause = λ steady. inl (inr refl) }
 
 pub returns-in-Err-with_schema_table-clause-back : goal.returns-in-Err-with_schema_table-clause-back
 returns-in-Err-with_schema_table-clause-back g c =
