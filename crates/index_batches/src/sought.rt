@@ -5,6 +5,7 @@ ghost use Rattle.wanted_entries.specs.Bags.{IsAbove, IsAtMost, IsWithin};
 use entry_batches::Batch;
 
 /// A batch of entries that rows of a table want, and which rowids it is for: those of all rows that want one of these.
+#[derive(Drop)]
 pub struct SoughtBatch<'b> {
     /// How many columns the index has.
     pub columns: usize,
