@@ -1,0 +1,4 @@
+pub mod CodeLemmas
+pub mod KeptLemmas
+pub mod GatherLemmas
+pub mod BatchLemmas
