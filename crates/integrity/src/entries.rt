@@ -13,9 +13,10 @@ ghost use Rattle.integrity.specs.Checked.{IsCheckFault};
 ghost use Rattle.integrity.specs.Indexes.{AreBrokenEntries, AreItsEntries, IsCheckedIndexOf, IsCheckedIndexWith, IsCheckedWith};
 
 use crate::index_trees::{IndexCounts, directions_of, places_of};
-use index_rows::{TableIndex, is_index_of};
+use index_rows::TableIndex;
 use indexes::Index;
 use pager::{Pager, Source};
+use row_batches::is_index_of;
 use schema::is_same_name;
 use std::alloc::Global;
 use tables::Table;

@@ -38,7 +38,8 @@ use Rattle.index_rows.specs.Checked.{IsCheckedTable, IsCheckedTableIndex}
 use Rattle.index_rows.specs.Compared.{IsDifferentIndex, IsIndexOf}
 use Rattle.index_rows.specs.Entries.{indexed_by, width_by}
 use Rattle.index_rows.specs.Kept.{condition_of, keeps_row}
-use Rattle.index_rows.specs.Rows.{HoldsTableRows, kind_of}
+use Rattle.index_rows.specs.Rows.{HoldsTableRows}
+use Rattle.stored_tables.specs.Tables.{kind_of}
 use Rattle.index_rows.proofs.CompareLemmas.{BeginsKeyed, TellsCell, begins_keyed, counted_are, entries_of_index, holds_of_index, its_rows, its_tree, kept_rows, other_count, places_are, places_of_index}
 use Rattle.index_rows.proofs.LookLemmas.{as_row}
 use Rattle.index_rows.proofs.RowLemmas.{StoresBy}
