@@ -1,7 +1,7 @@
 #!/usr/bin/env python3
 """Compares what the program answers to random statements over random tables with what SQLite answers: expressions, WHERE,
 GROUP BY, HAVING, aggregates with FILTER, DISTINCT, ORDER BY, LIMIT and OFFSET over one table, with rowids or without, over tables
-that are joined by inner and LEFT joins, or over none, some over the table of the schema's rows; and several of these that UNION,
+that are joined by joins of each kind, or over none, some over the table of the schema's rows; and several of these that UNION,
 UNION ALL, INTERSECT and EXCEPT join. An operation or a total that leaves 64 bits is `fault 50: Overflow`, where SQLite goes on with a
 floating-point number or stops; such statements are asked for that fault, or for any answer where it isn't reached.
 
@@ -29,7 +29,10 @@ STATEMENTS, FEW = 3000, 300
 SCHEMA_NAMES = ("sqlite_schema", "sqlite_master", "SQLite_Schema")
 SCHEMA_KINDS = {"type": "TEXT", "name": "TEXT", "tbl_name": "TEXT", "rootpage": "INT", "sql": "TEXT"}
 # What joins a table with ON or USING.
-JOINS = ("JOIN", "INNER JOIN", "inner  join", "LEFT JOIN", "LEFT OUTER JOIN", "left  join")
+JOINS = (
+    *("JOIN", "INNER JOIN", "inner  join", "LEFT JOIN", "LEFT OUTER JOIN", "left  join"),
+    *("RIGHT JOIN", "right OUTER  join", "FULL JOIN", "FULL OUTER JOIN"),
+)
 # What joins SELECTs.
 OPERATORS = ("UNION", "UNION ALL", "INTERSECT", "EXCEPT", "union  all", "except")
 
@@ -134,12 +137,13 @@ def joined_source(rng: Random, tables: dict[str, dict[str, str]]) -> Source:
     chosen = [rng.choice(list(tables)) for _ in range(rng.choice((2, 2, 2, 3)))]
     names = [f"{table}{place}" for place, table in enumerate(chosen)]
     maker, text, width, pairs = Maker(rng, Columns({})), "", 0, []
+    words = [rng.choice(JOINS) for _ in chosen]
     for place, (table, called) in enumerate(zip(chosen, names)):
         kinds = tables[table]
         maker.columns.names.update({f"{called}.{column}": kind for column, kind in kinds.items()})
         same = [column for column, kind in kinds.items() if tables[chosen[0]].get(column) == kind]
         width += len(kinds)
-        joined, word = f"{table} {rng.choice(('AS ', ''))}{called}", rng.choice(JOINS)
+        joined, word = f"{table} {rng.choice(('AS ', ''))}{called}", words[place]
         if place == 0:
             text = f" FROM {joined}"
         elif place == 1 and same and rng.random() < 0.25:
@@ -147,7 +151,8 @@ def joined_source(rng: Random, tables: dict[str, dict[str, str]]) -> Source:
             text += f" {word} {joined} USING ({', '.join(using)})"
             width -= len(using)
         elif rng.random() < 0.6:
-            text += f" {word} {joined} ON {random_condition(rng, maker, called, kinds)}"
+            is_plain = is_inner(word) and any(map(pads_left, words[place + 1 :]))
+            text += f" {word} {joined} ON {equal_columns(rng, maker, called, kinds) if is_plain else random_condition(rng, maker, called, kinds)}"
         else:
             text += f"{rng.choice((',', ' CROSS JOIN', ' JOIN'))} {joined}"
         pairs.append(choices(table, called, kinds))
@@ -155,16 +160,32 @@ def joined_source(rng: Random, tables: dict[str, dict[str, str]]) -> Source:
     return Source(text, f" FROM {', '.join(pairs)}", maker, width, widths)
 
 
+def is_inner(word: str) -> bool:
+    """Whether this joins tables by an inner join."""
+    return word.split()[0].upper() in ("JOIN", "INNER")
+
+
+def pads_left(word: str) -> bool:
+    """Whether this is a RIGHT or FULL join. Left of one SQLite 3.40.1 is wrong about an inner join with a condition that is never
+    true, and gives no row: so ON of such joins is an equality of columns, and `worked.py` has a row of the other."""
+    return word.split()[0].upper() in ("RIGHT", "FULL")
+
+
 def choices(table: str, called: str, kinds: dict[str, str]) -> str:
     """The rows of a table, and NULLs as they stand where none of them does."""
     return f"(SELECT * FROM {table} UNION ALL SELECT {', '.join(['NULL'] * len(kinds))}) AS {called}"
 
 
-def random_condition(rng: Random, maker: Maker, called: str, kinds: dict[str, str]) -> str:
-    """An ON: mostly that a column of the table is one of those before it, and sometimes anything."""
+def equal_columns(rng: Random, maker: Maker, called: str, kinds: dict[str, str]) -> str:
+    """That a column of the table is one of those before it, or where none has its type, one of its own."""
     column, kind = rng.choice(list(kinds.items()))
     others = [name for name in maker.columns.of(kind) if not name.startswith(f"{called}.")]
-    equal = f"{rng.choice(others)} = {called}.{column}" if others else maker.make("INT", 1)
+    return f"{rng.choice(others or [f'{called}.{column}'])} = {called}.{column}"
+
+
+def random_condition(rng: Random, maker: Maker, called: str, kinds: dict[str, str]) -> str:
+    """An ON: mostly that a column of the table is one of those before it, and sometimes anything."""
+    equal = equal_columns(rng, maker, called, kinds)
     return rng.choice((equal, equal, f"{equal} AND {maker.make('INT', 1)}", maker.make("INT", 2)))
 
 
