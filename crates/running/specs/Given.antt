@@ -1,0 +1,88 @@
+-- The rows that a plan which is run has given, and what is still to come. (SELECT)
+use Rattle.std.specs.Prelude.{◌≡◌, ◌⊎◌, ◌^◌, ⊤, Bool, true, false, ℕ, List, [], ◌∷◌, ◌++◌, map}
+use Rattle.std.specs.Global.{Global, Vec}
+use Rattle.std.specs.Vec.Iter.{into_iter_items, into_iter_len}
+use Rattle.std.specs.declared.vec.IntoIter.{IntoIter}
+use Rattle.values.specs.Database.{Database}
+use Rattle.values.specs.Datum.{Datum}
+use Rattle.values.specs.Row.{Row}
+use Rattle.values.specs.declared.value.Value.{Value}
+use Rattle.values.specs.declared.fault.Fault.{Fault}
+use Rattle.values.specs.declared.fault.Fault.TheVariants.{Overflow}
+use Rattle.pager.specs.Calls.{IsReadFault}
+use Rattle.image.specs.Pages.{Pages}
+use Rattle.tables.specs.TableData.{TableData}
+use Rattle.expr.specs.Term.{Term}
+use Rattle.expr.specs.View.{term}
+use Rattle.plans.specs.Plan.{PlanData}
+use Rattle.operators.specs.Basis.{AreStored, Basis}
+use Rattle.operators.specs.Left.{IsPlanOf, plan_of, steps}
+use Rattle.results.specs.Coming.{IsComing}
+use Rattle.distinct_results.specs.Coming.{IsDistinctComing}
+use Rattle.query_plans.specs.Answers.{HitsOf, IsAnswerOf, IsPlannedOver, PlannedData}
+use Rattle.select_plans.specs.Laws.{PlanReaches}
+use Rattle.running.specs.GatheredView.{gathered_data, rows_data}
+use Rattle.running.specs.declared.rows.Running.{Running}
+use Rattle.running.specs.declared.rows.Running.TheVariants.{Rows, Distinct, Waiting, Giving}
+
+-- why a plan stops over a steady source: reading failed, or it reaches an operation out of range
+abbrev pub IsRowCause : Basis → PlannedData → Fault → Type 0
+IsRowCause on planned fault = IsReadFault fault ⊎ ((fault ≡ Overflow) × HitsOf on.w on.db planned)
+
+-- the next row is the first of these, or there is none
+abbrev pub GivesFirst : Bool → List Row → List Row → Row → Type 0
+GivesFirst true old new row = old ≡ row ∷ new
+GivesFirst false old new row = old ≡ []
+
+-- the rows that were gathered and weren't given yet
+abbrev pub rows_left : IntoIter (Vec Value) Global → List Row
+rows_left rows = rows_data (into_iter_items rows)
+
+-- what is to come makes an answer of the rows that were given
+pub record Completes (on : Basis) (planned : PlannedData) (IsToCome : List Row → ℕ → Type 0) (given : List Row) : Type 0 where
+  pub rest : List Row
+  pub ahead : ℕ
+  pub answer : IsAnswerOf on.w on.db planned (given ++ rest)
+  pub to_come : IsToCome rest ahead
+
+-- Rows that come one by one over this plan, with these result columns, do so whatever is said of the tables that are stored; and
+-- what the plan or a result column reaches is reached by what is run.
+pub record Comes (pages : Pages) (tables : List TableData) (planned : PlannedData) (plan : PlanData) (columns : List Term)
+    (IsToCome : Basis → List Row → ℕ → Type 0) (given : List Row) : Type 0 where
+  pub rows : (on : Basis) → AreStored pages tables on → on.plan ≡ plan → Completes on planned (IsToCome on) given
+  pub hits : (w : Datum) (db : Database) → PlanReaches w db plan columns → HitsOf w db planned
+
+-- These rows were given, and what is to come makes an answer of them: as they come one by one, all of them where they are yet
+-- to be gathered, and else those that were gathered.
+abbrev pub HasGiven : Pages → List TableData → PlannedData → Running → List Row → Type 0
+HasGiven pages tables planned (Rows results) given =
+    Comes pages tables planned (plan_of results.op) (map term results.columns.items) (λ on. IsComing pages tables on results) given
+HasGiven pages tables planned (Distinct distinct) given =
+    Comes pages tables planned (plan_of distinct.results.op) (map term distinct.results.columns.items) (λ on. IsDistinctComing pages tables on distinct) given
+HasGiven pages tables planned (Waiting gathered) given = (given ≡ []) × (planned ≡ gathered_data gathered)
+HasGiven pages tables planned (Giving rows) given =
+    (on : Basis) → AreStored pages tables on → IsAnswerOf on.w on.db planned (given ++ rows_left rows)
+
+-- a row more was given, or those that were are an answer
+abbrev pub HasAnswered : Bool → Pages → List TableData → PlannedData → Running → List Row → Row → Type 0
+HasAnswered true pages tables planned running given row = HasGiven pages tables planned running (given ++ row ∷ [])
+HasAnswered false pages tables planned running given row = (on : Basis) → AreStored pages tables on → IsAnswerOf on.w on.db planned given
+
+-- its tables and their columns are some of the catalog
+abbrev pub IsRunOver : List TableData → Running → Type 0
+IsRunOver tables (Rows results) = IsPlanOf tables (plan_of results.op)
+IsRunOver tables (Distinct distinct) = IsPlanOf tables (plan_of distinct.results.op)
+IsRunOver tables (Waiting gathered) = IsPlannedOver tables (gathered_data gathered)
+IsRunOver tables (Giving rows) = ⊤
+
+-- a plan was opened: no row was given
+pub record IsOpened (planned : PlannedData) (running : Running) : Type 0 where
+  pub given : (pages : Pages) (tables : List TableData) → HasGiven pages tables planned running []
+  pub over : (tables : List TableData) → IsPlannedOver tables planned → IsRunOver tables running
+
+-- a measure that falls with each row, over any source; no more rows are gathered than there are addresses
+abbrev pub steps_left : Running → ℕ
+steps_left (Rows results) = steps results.op
+steps_left (Distinct distinct) = steps distinct.results.op
+steps_left (Waiting gathered) = 2 ^ 64
+steps_left (Giving rows) = into_iter_len rows

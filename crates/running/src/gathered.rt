@@ -1,0 +1,69 @@
+//! Plans whose rows are all gathered before the first is given.
+ghost use Rattle.std.specs.Prelude.{◌<◌, All, IfErr, IsTrue, MatchResult, map};
+ghost use Rattle.std.specs.Vec.Iter.{into_iter_len};
+ghost use Rattle.values.specs.Datum.{datum_of};
+ghost use Rattle.pager.specs.Calls.{ReadsPages};
+ghost use Rattle.pager.specs.PagerState.{IsPageNumber};
+ghost use Rattle.image.specs.Pages.{WhereSteady};
+ghost use Rattle.operators.specs.Basis.{AreStored, Basis, IsOperatorFault};
+ghost use Rattle.query_plans.specs.Answers.{IsAnswerOf, IsPlannedOver};
+ghost use Rattle.running.specs.Given.{GivesFirst, IsRowCause, rows_left};
+ghost use Rattle.running.specs.GatheredView.{gathered_data, rows_data};
+
+use compound_results::{Compound, compound_rows};
+use distinct_results::{SortedDistinct, sorted_distinct_rows};
+use pager::{Pager, Source};
+use sorted_results::{SortedSelection, sorted_rows};
+use std::alloc::Global;
+use std::vec::IntoIter;
+use tables::Table;
+use values::{Fault, Value};
+
+/// What is run where no row is given before all are known. (SELECT)
+#[derive(Drop)]
+pub enum Gathered {
+    /// Rows in order.
+    Sorted(SortedSelection),
+    /// Rows in order, each once.
+    SortedDistinct(SortedDistinct),
+    /// Rows of SELECTs that operators join.
+    Compound(Compound),
+}
+
+/// All of its rows. Its faults are those of an operator.
+pub(crate) fn gathered_rows<S: Source>(
+    alloc: Global,
+    pager: &mut Pager<S>,
+    tables: &[Table],
+    gathered: &Gathered,
+) -> Result<Vec<Vec<Value>>, Fault>
+    requires roots { All (λ table. IsPageNumber pager.old.state table.root) tables.now }
+    requires planned { IsPlannedOver tables.now (gathered_data gathered.now) }
+    ensures rows { WhereSteady pager.old.state (λ pages. (on : Basis) → AreStored pages tables.now on → MatchResult result
+        (λ rows. IsAnswerOf on.w on.db (gathered_data gathered.now) (rows_data rows.items))
+        (IsRowCause on (gathered_data gathered.now))) }
+    ensures only { IfErr result IsOperatorFault }
+    ensures reads { ReadsPages result pager.old.state pager.new.state }
+{
+    match gathered {
+        Gathered::Sorted(selection) => sorted_rows(alloc, pager, tables, selection),
+        Gathered::SortedDistinct(selection) => sorted_distinct_rows(
+            alloc, pager, tables, selection,
+        ),
+        Gathered::Compound(joined) => compound_rows(alloc, pager, tables, joined),
+    }
+}
+
+/// Puts the next of these rows into `row`, or tells that there is none.
+pub(crate) fn give(rows: &mut IntoIter<Vec<Value>>, row: &mut Vec<Value>) -> bool
+    ensures rows { GivesFirst result (rows_left rows.old) (rows_left rows.new) (map datum_of row.new.items) }
+    ensures left { IsTrue result → into_iter_len rows.new < into_iter_len rows.old }
+{
+    match rows.next() {
+        Some(next) => {
+            *row = next;
+            true
+        }
+        None => false,
+    }
+}

@@ -1,0 +1,118 @@
+//! A plan that is run.
+ghost use Rattle.std.specs.Prelude.{◌<◌, All, IfErr, IfOk, IsTrue, List, MatchResult, map};
+ghost use Rattle.values.specs.Datum.{datum_of};
+ghost use Rattle.values.specs.Row.{Row};
+ghost use Rattle.pager.specs.Calls.{ReadsPages};
+ghost use Rattle.pager.specs.PagerState.{IsPageNumber};
+ghost use Rattle.image.specs.Pages.{WhereSteady};
+ghost use Rattle.operators.specs.Basis.{AreStored, Basis, IsOperatorFault};
+ghost use Rattle.query_plans.specs.Answers.{PlannedData, planned_data};
+ghost use Rattle.results.specs.Coming.{selection_data};
+ghost use Rattle.running.specs.GatheredView.{gathered_data};
+ghost use Rattle.running.specs.Given.{HasAnswered, HasGiven, IsOpened, IsRowCause, IsRunOver, steps_left};
+
+use crate::columns::selection_of;
+use crate::gathered::{Gathered, gathered_rows, give};
+use distinct_results::DistinctResults;
+use pager::{Pager, Source};
+use query_plans::Planned;
+use results::{Results, Selection};
+use std::alloc::{AllocError, Global};
+use std::vec::IntoIter;
+use tables::Table;
+use values::{Fault, Value};
+
+/// A plan that is run, and where it stands. (SELECT)
+#[derive(Drop)]
+pub enum Running {
+    /// Rows in no order, as they are computed.
+    Rows(Results),
+    /// The same, each once.
+    Distinct(DistinctResults),
+    /// Rows that are to be gathered.
+    Waiting(Gathered),
+    /// Of the rows that were gathered those that are still to be given.
+    Giving(IntoIter<Vec<Value>>),
+}
+
+/// Columns of each row of a table, before the first.
+fn columns_opened(alloc: Global, table: usize, places: Vec<usize>) -> Result<Running, AllocError>
+    ensures { IfOk result (IsOpened (PlannedData.columns table places.items)) }
+{
+    let selection = selection_of(alloc, table, places.as_slice())?;
+    let results = Results::open(alloc, &selection)?;
+    Ok(Running::Rows(results))
+}
+
+/// Rows in no order, before the first.
+fn rows_opened(alloc: Global, selection: Selection) -> Result<Running, AllocError>
+    ensures { IfOk result (IsOpened (PlannedData.rows (selection_data selection))) }
+{
+    let results = Results::open(alloc, &selection)?;
+    Ok(Running::Rows(results))
+}
+
+/// The same, each once.
+fn distinct_opened(alloc: Global, selection: Selection) -> Result<Running, AllocError>
+    ensures { IfOk result (IsOpened (PlannedData.distinct (selection_data selection))) }
+{
+    let distinct = DistinctResults::open(alloc, &selection)?;
+    Ok(Running::Distinct(distinct))
+}
+
+/// What is to be gathered.
+fn waiting(gathered: Gathered) -> Running
+    ensures { IsOpened (gathered_data gathered) result }
+{
+    Running::Waiting(gathered)
+}
+
+impl Running {
+    /// A plan before its first row. It reads no page.
+    pub fn open(alloc: Global, planned: Planned) -> Result<Running, AllocError>
+        ensures { IfOk result (IsOpened (planned_data planned)) }
+    {
+        match planned {
+            Planned::Columns(table, places) => columns_opened(alloc, table, places),
+            Planned::Rows(selection) => rows_opened(alloc, selection),
+            Planned::Distinct(selection) => distinct_opened(alloc, selection),
+            Planned::Sorted(selection) => Ok(waiting(Gathered::Sorted(selection))),
+            Planned::SortedDistinct(selection) => Ok(waiting(Gathered::SortedDistinct(selection))),
+            Planned::Compound(joined) => Ok(waiting(Gathered::Compound(joined))),
+        }
+    }
+
+    /// Puts the next row into `row`, or tells that there is none. It isn't called again after `false` or a fault. Its faults are
+    /// `ReadFailed`, `NoMemory`, `Overflow`, and `Changed`, which comes only where the source no longer has the bytes that were
+    /// checked.
+    pub fn next<S: Source>(
+        &mut self,
+        alloc: Global,
+        pager: &mut Pager<S>,
+        tables: &[Table],
+        row: &mut Vec<Value>,
+    ) -> Result<bool, Fault>
+        requires roots { All (λ table. IsPageNumber pager.old.state table.root) tables.now }
+        requires planned { IsRunOver tables.now self.old }
+        ensures rows { WhereSteady pager.old.state (λ pages. (planned : PlannedData) (given : List Row) → HasGiven pages tables.now planned self.old given
+            → MatchResult result (λ found. HasAnswered found pages tables.now planned self.new given (map datum_of row.new.items))
+            (λ e. (on : Basis) → AreStored pages tables.now on → IsRowCause on planned e)) }
+        ensures over { IsRunOver tables.now self.new }
+        ensures left { IfOk result (λ found. IsTrue found → steps_left self.new < steps_left self.old) }
+        ensures only { IfErr result IsOperatorFault }
+        ensures reads { ReadsPages result pager.old.state pager.new.state }
+    {
+        match self {
+            Running::Rows(results) => results.next(alloc, pager, tables, row),
+            Running::Distinct(distinct) => distinct.next(alloc, pager, tables, row),
+            Running::Waiting(gathered) => {
+                let rows = gathered_rows(alloc, pager, tables, gathered)?;
+                let mut left = rows.into_iter();
+                let found = give(&mut left, row);
+                *self = Running::Giving(left);
+                Ok(found)
+            }
+            Running::Giving(rows) => Ok(give(rows, row)),
+        }
+    }
+}
