@@ -80,7 +80,7 @@ module _ (pages : Pages) where
     schema = rows;
     indexes = catalog.indexes;
     catalog = has;
-    own = stored_table pages schema_table own own_checked;
+    own = let is = stored_table pages schema_table own own_checked in record { levels = is.levels; rows = is.rows; few = is.few; stored = is.stored };
     stored = stored_tables catalog.tables trees (within_key pages.count rows catalog has.says) checked;
   }
 

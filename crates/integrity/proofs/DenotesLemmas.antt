@@ -64,6 +64,10 @@ database_of image tables has =
         rows = each pages (HoldsAnyRows pages) (λ table is. holds_rows pages table.key table is.levels is.rows is.stored) tables has.stored;
         fit = each pages (λ table rows. All (Fits table) rows) (λ table is. rows_fit pages table.key table is.levels is.rows is.stored) tables has.stored;
       };
-      own = record { stored = has.own; rows_are = one_rows pages schema_table has.own.rows has.schema (holds_rows pages schema_table.key schema_table has.own) has.catalog.stored };
+      own = record {
+        stored = has.own;
+        rows_are = one_rows pages schema_table has.own.rows has.schema
+            (holds_rows pages schema_table.key schema_table has.own.levels has.own.rows has.own.stored) has.catalog.stored;
+      };
       stored = each pages (IsStoredAs pages) (λ table is. record { stored = is; rows_are = refl }) tables has.stored;
     }
