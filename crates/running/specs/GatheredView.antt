@@ -9,12 +9,12 @@ use Rattle.distinct_results.specs.Sorted.{sorted_distinct_data}
 use Rattle.compound_results.specs.Compounds.{compound_data}
 use Rattle.query_plans.specs.Answers.{PlannedData, compound, sorted, sorted_distinct}
 use Rattle.running.specs.declared.gathered.Gathered.{Gathered}
-use Rattle.running.specs.declared.gathered.Gathered.TheVariants.{Sorted, SortedDistinct, Compound'}
+use Rattle.running.specs.declared.gathered.Gathered.TheVariants.{Sorted, SortedDistinct, Compound}
 
 abbrev pub gathered_data : Gathered → PlannedData
 gathered_data (Sorted selection) = sorted (sorted_data selection)
 gathered_data (SortedDistinct selection) = sorted_distinct (sorted_distinct_data selection)
-gathered_data (Compound' p joined) = compound (compound_data joined)
+gathered_data (Compound joined) = compound (compound_data joined)
 
 abbrev pub rows_data : List (Vec Value) → List Row
 rows_data rows = map (λ row. map datum_of row.items) rows
