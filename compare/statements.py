@@ -133,7 +133,8 @@ def one_source(rng: Random, table: str, kinds: dict[str, str]) -> Source:
 
 
 def joined_source(rng: Random, tables: dict[str, dict[str, str]]) -> Source:
-    """Two or three tables behind FROM, some of them the same, whose columns are written with their names before them."""
+    """Two or three tables behind FROM, some of them the same, whose columns are written with their names before them. USING stands
+    where no RIGHT or FULL join does, since beside one SQLite takes `t.c` for what `c` alone is; `worked.py` has rows of these."""
     chosen = [rng.choice(list(tables)) for _ in range(rng.choice((2, 2, 2, 3)))]
     names = [f"{table}{place}" for place, table in enumerate(chosen)]
     maker, text, width, pairs = Maker(rng, Columns({})), "", 0, []
@@ -146,7 +147,7 @@ def joined_source(rng: Random, tables: dict[str, dict[str, str]]) -> Source:
         joined, word = f"{table} {rng.choice(('AS ', ''))}{called}", words[place]
         if place == 0:
             text = f" FROM {joined}"
-        elif place == 1 and same and rng.random() < 0.25:
+        elif place == 1 and same and not any(map(pads_left, words[1:])) and rng.random() < 0.25:
             using = rng.sample(same, rng.randint(1, min(2, len(same))))
             text += f" {word} {joined} USING ({', '.join(using)})"
             width -= len(using)

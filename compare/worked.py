@@ -115,6 +115,8 @@ ANSWERS = {
     "SELECT id, item FROM item FULL JOIN gift ON 1 WHERE id < 3": "1,NULL\n2,NULL\n",
     "SELECT id, item FROM gift FULL JOIN item ON 1": "1,NULL\n2,NULL\n3,NULL\n4,NULL\n",
     "SELECT item, g.item FROM gift g RIGHT JOIN sale USING (item) WHERE n < 5": "3,NULL\n9,NULL\n",
+    "SELECT item, g.item FROM gift g FULL JOIN sale USING (item) ORDER BY 1, n": "1,NULL\n3,NULL\n3,NULL\n9,NULL\n",
+    "SELECT item, s.item, g.item FROM sale s FULL JOIN gift g USING (item) ORDER BY n": "9,9,NULL\n3,3,NULL\n1,1,NULL\n3,3,NULL\n",
     "SELECT item.id, s.n, t.n FROM item LEFT JOIN sale s ON item.id = s.item AND s.n > 2 RIGHT JOIN sale t ON s.n = t.n": "1,5,5\n3,9,9\nNULL,NULL,2\nNULL,NULL,1\n",
     "SELECT a.id, n, b.id FROM item a RIGHT JOIN sale ON item = a.id JOIN item b ON b.id = n": "3,2,2\nNULL,1,1\n",
     "SELECT name, count(n) FROM item FULL JOIN sale ON item = id GROUP BY name ORDER BY name": "NULL,1\n'bolt',1\n'cap',2\n'nut',0\n",
