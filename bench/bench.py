@@ -25,9 +25,9 @@ FOLDER = Path(__file__).resolve().parent
 TOP = FOLDER.parent
 sys.path.insert(0, str(TOP / "compare"))
 
+from measured import INDEXED_TARGET, INDEXES, STATEMENTS, Statement  # noqa: E402
 from program import PROGRAM, build, give_up  # noqa: E402
 from reading import reading_lines  # noqa: E402
-from statements import INDEXED_TARGET, INDEXES, STATEMENTS, Statement  # noqa: E402
 
 ROWS = 1_000_000
 RUNS = 5
