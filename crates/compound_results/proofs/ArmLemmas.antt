@@ -5,7 +5,7 @@ use Rattle.values.specs.declared.fault.Fault.{Fault}
 use Rattle.pager.specs.Calls.{SameImage}
 use Rattle.pager.specs.PagerState.{PagerState}
 use Rattle.image.specs.Pages.{Pages, WhereSteady}
-use Rattle.tables.specs.TableData.{TableData}
+use Rattle.sources.specs.SourceData.{SourceData}
 use Rattle.meaning.specs.Query.{Operator}
 use Rattle.plans.specs.Plan.{PlanData, work}
 use Rattle.scan.specs.Coming.{Asks}
@@ -19,8 +19,8 @@ use Rattle.compound_results.specs.Joined.{joined_rows}
 abbrev pub over_plan : Basis → PlanData → Basis
 over_plan on plan = record on { plan = plan }
 
-pub stored_over : (pages : Pages) (tables : List TableData) (on : Basis) (plan : PlanData) → AreStored pages tables on → AreStored pages tables (over_plan on plan)
-stored_over pages tables on plan has at table is =
+pub stored_over : (pages : Pages) (sources : List SourceData) (on : Basis) (plan : PlanData) → AreStored pages sources on → AreStored pages sources (over_plan on plan)
+stored_over pages sources on plan has at table is =
     let said = has at table is in
     record { stored = said.stored; rows_are = said.rows_are; size_is = said.size_is; unchained = said.unchained }
 
@@ -32,16 +32,16 @@ Asks-both local start first mid second now before beside = record {
   chains = λ is. beside.chains is ∙ before.chains is;
 }
 
-module _ (start : PagerState) (tables : List TableData) (left : ArmsData) (operator : Operator) (arm : ArmData) (whole : ArmsData)
+module _ (start : PagerState) (sources : List SourceData) (left : ArmsData) (operator : Operator) (arm : ArmData) (whole : ArmsData)
     (whole_is : whole ≡ joined left operator arm) where
   -- what is said of all arms, where it is of those before the last and of the last
-  whole_says : (Says : Basis → ArmsData → Type 0) → WhereSteady start (λ pages. (on : Basis) → AreStored pages tables on → Says on (joined left operator arm))
-      → WhereSteady start (λ pages. (on : Basis) → AreStored pages tables on → Says on whole)
+  whole_says : (Says : Basis → ArmsData → Type 0) → WhereSteady start (λ pages. (on : Basis) → AreStored pages sources on → Says on (joined left operator arm))
+      → WhereSteady start (λ pages. (on : Basis) → AreStored pages sources on → Says on whole)
   whole_says Says says steady on has = subst (Says on) (sym whole_is) (says steady on has)
 
   -- a fault in the arms before the last
-  pub before_fails : (fault : Fault) → WhereSteady start (λ pages. (on : Basis) → AreStored pages tables on → IsArmsCause on left fault)
-      → WhereSteady start (λ pages. (on : Basis) → AreStored pages tables on → IsArmsCause on whole fault)
+  pub before_fails : (fault : Fault) → WhereSteady start (λ pages. (on : Basis) → AreStored pages sources on → IsArmsCause on left fault)
+      → WhereSteady start (λ pages. (on : Basis) → AreStored pages sources on → IsArmsCause on whole fault)
   before_fails fault says = whole_says (λ on arms. IsArmsCause on arms fault) (λ steady on has. of on (says steady on has))
     where
       of : (on : Basis) → IsArmsCause on left fault → IsArmsCause on (joined left operator arm) fault
@@ -50,11 +50,11 @@ module _ (start : PagerState) (tables : List TableData) (left : ArmsData) (opera
 
   module _ (mid : PagerState) (image : SameImage start mid) where
     -- in the last
-    pub beside_fails : (fault : Fault) → WhereSteady mid (λ pages. (on : Basis) → AreStored pages tables on → IsArmCause on arm fault)
-        → WhereSteady start (λ pages. (on : Basis) → AreStored pages tables on → IsArmsCause on whole fault)
+    pub beside_fails : (fault : Fault) → WhereSteady mid (λ pages. (on : Basis) → AreStored pages sources on → IsArmCause on arm fault)
+        → WhereSteady start (λ pages. (on : Basis) → AreStored pages sources on → IsArmsCause on whole fault)
     beside_fails fault says =
         whole_says (λ on arms. IsArmsCause on arms fault)
-        (λ steady on has. of on (at_start start mid image (λ pages. (on : Basis) → AreStored pages tables on → IsArmCause on arm fault) says steady on has))
+        (λ steady on has. of on (at_start start mid image (λ pages. (on : Basis) → AreStored pages sources on → IsArmCause on arm fault) says steady on has))
       where
         of : (on : Basis) → IsArmCause on arm fault → IsArmsCause on (joined left operator arm) fault
         of on (inl read) = inl read
@@ -62,15 +62,15 @@ module _ (start : PagerState) (tables : List TableData) (left : ArmsData) (opera
 
     -- the rows of both, joined
     pub both_joined : (before beside rows : List Row) (now : PagerState) → rows ≡ joined_rows operator before beside
-        → WhereSteady start (λ pages. (on : Basis) → AreStored pages tables on → (before ≡ rows_of_arms on.w on.db left) × Asks on.local start (work_of_arms on.w on.db on.sizes left) mid 0)
-        → WhereSteady mid (λ pages. (on : Basis) → AreStored pages tables on → (beside ≡ arm_rows on.w on.db arm) × Asks on.local mid (work on.w on.db on.sizes arm.plan) now 0)
-        → WhereSteady start (λ pages. (on : Basis) → AreStored pages tables on → (rows ≡ rows_of_arms on.w on.db whole) × Asks on.local start (work_of_arms on.w on.db on.sizes whole) now 0)
+        → WhereSteady start (λ pages. (on : Basis) → AreStored pages sources on → (before ≡ rows_of_arms on.w on.db left) × Asks on.local start (work_of_arms on.w on.db on.sizes left) mid 0)
+        → WhereSteady mid (λ pages. (on : Basis) → AreStored pages sources on → (beside ≡ arm_rows on.w on.db arm) × Asks on.local mid (work on.w on.db on.sizes arm.plan) now 0)
+        → WhereSteady start (λ pages. (on : Basis) → AreStored pages sources on → (rows ≡ rows_of_arms on.w on.db whole) × Asks on.local start (work_of_arms on.w on.db on.sizes whole) now 0)
     both_joined before beside rows now is first second =
         whole_says (λ on arms. (rows ≡ rows_of_arms on.w on.db arms) × Asks on.local start (work_of_arms on.w on.db on.sizes arms) now 0)
         (λ steady on has.
         let x = first steady on has in
         let y = at_start start mid image
-        (λ pages. (on : Basis) → AreStored pages tables on → (beside ≡ arm_rows on.w on.db arm) × Asks on.local mid (work on.w on.db on.sizes arm.plan) now 0) second steady on has in (
+        (λ pages. (on : Basis) → AreStored pages sources on → (beside ≡ arm_rows on.w on.db arm) × Asks on.local mid (work on.w on.db on.sizes arm.plan) now 0) second steady on has in (
           is ∙ ap (λ rows. joined_rows operator rows beside) x.0 ∙ ap (joined_rows operator (rows_of_arms on.w on.db left)) y.0,
           Asks-both on.local start (work_of_arms on.w on.db on.sizes left) mid (work on.w on.db on.sizes arm.plan) now x.1 y.1,
         ))

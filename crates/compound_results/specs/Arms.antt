@@ -3,7 +3,7 @@ use Rattle.std.specs.Prelude.{◌⊎◌, ◌+◌, Any, Bool, ℕ, List, if◌the
 use Rattle.values.specs.Database.{Database}
 use Rattle.values.specs.Datum.{Datum}
 use Rattle.values.specs.Row.{Row}
-use Rattle.tables.specs.TableData.{TableData}
+use Rattle.sources.specs.SourceData.{SourceData}
 use Rattle.expr.specs.Term.{Term}
 use Rattle.expr.specs.View.{term}
 use Rattle.meaning.specs.Query.{Operator}
@@ -63,6 +63,6 @@ module _ (w : Datum) (db : Database) where
   ArmsHit (joined left operator arm) = ArmsHit left ⊎ ArmHits arm
 
 -- their tables and the columns of these are some of the catalog
-abbrev pub ArePlannedOver : List TableData → ArmsData → Type 0
-ArePlannedOver tables (one arm) = IsPlanOf tables arm.plan
-ArePlannedOver tables (joined left operator arm) = ArePlannedOver tables left × IsPlanOf tables arm.plan
+abbrev pub ArePlannedOver : List SourceData → ArmsData → Type 0
+ArePlannedOver sources (one arm) = IsPlanOf sources arm.plan
+ArePlannedOver sources (joined left operator arm) = ArePlannedOver sources left × IsPlanOf sources arm.plan

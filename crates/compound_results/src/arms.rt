@@ -2,7 +2,7 @@
 ghost use Rattle.std.specs.Prelude.{◌≡◌, All, IfErr, MatchResult, map};
 ghost use Rattle.values.specs.Datum.{datum_of};
 ghost use Rattle.pager.specs.Calls.{ReadsPages};
-ghost use Rattle.pager.specs.PagerState.{IsPageNumber};
+ghost use Rattle.sources.specs.Coming.{IsRooted};
 ghost use Rattle.image.specs.Pages.{WhereSteady};
 ghost use Rattle.plans.specs.Plan.{work};
 ghost use Rattle.plans.specs.PlanView.{plan_data};
@@ -21,7 +21,7 @@ use plans::Plan;
 use results::Results;
 use std::alloc::Global;
 use syntax::CompoundOperator;
-use tables::Table;
+use sources::Sources;
 use values::{Fault, Value};
 
 /// What one of the SELECTs that are joined computes of the rows of a plan. (SELECT)
@@ -47,12 +47,12 @@ pub enum Arms {
 fn arm_rows<S: Source>(
     alloc: Global,
     pager: &mut Pager<S>,
-    tables: &[Table],
+    sources: &Sources<'_>,
     arm: &Arm,
 ) -> Result<Vec<Vec<Value>>, Fault>
-    requires roots { All (λ table. IsPageNumber pager.old.state table.root) tables.now }
-    requires planned { IsPlanOf tables.now (plan_data arm.now.plan) }
-    ensures rows { WhereSteady pager.old.state (λ pages. (on : Basis) → AreStored pages tables.now on
+    requires roots { All (IsRooted pager.old.state.header) sources.now }
+    requires planned { IsPlanOf sources.now (plan_data arm.now.plan) }
+    ensures rows { WhereSteady pager.old.state (λ pages. (on : Basis) → AreStored pages sources.now on
         → MatchResult result
         (λ rows. (map (λ row. map datum_of row.items) rows.items ≡ arming.arm_rows on.w on.db (arm_data arm.now))
         × Asks on.local pager.old.state (work on.w on.db on.sizes (plan_data arm.now.plan)) pager.new.state 0)
@@ -61,7 +61,7 @@ fn arm_rows<S: Source>(
     ensures reads { ReadsPages result pager.old.state pager.new.state }
 {
     let results = Results::of_all(alloc, &arm.plan, arm.columns.as_slice())?;
-    let rows = gather(alloc, pager, tables, results)?;
+    let rows = gather(alloc, pager, sources, results)?;
     let shown = once_if(alloc, rows, arm.distinct)?;
     Ok(shown)
 }
@@ -70,12 +70,12 @@ fn arm_rows<S: Source>(
 pub(crate) fn arms_rows<S: Source>(
     alloc: Global,
     pager: &mut Pager<S>,
-    tables: &[Table],
+    sources: &Sources<'_>,
     arms: &Arms,
 ) -> Result<Vec<Vec<Value>>, Fault>
-    requires roots { All (λ table. IsPageNumber pager.old.state table.root) tables.now }
-    requires planned { ArePlannedOver tables.now (arms_data arms.now) }
-    ensures rows { WhereSteady pager.old.state (λ pages. (on : Basis) → AreStored pages tables.now on
+    requires roots { All (IsRooted pager.old.state.header) sources.now }
+    requires planned { ArePlannedOver sources.now (arms_data arms.now) }
+    ensures rows { WhereSteady pager.old.state (λ pages. (on : Basis) → AreStored pages sources.now on
         → MatchResult result
         (λ rows. (map (λ row. map datum_of row.items) rows.items ≡ rows_of_arms on.w on.db (arms_data arms.now))
         × Asks on.local pager.old.state (work_of_arms on.w on.db on.sizes (arms_data arms.now)) pager.new.state 0)
@@ -84,10 +84,10 @@ pub(crate) fn arms_rows<S: Source>(
     ensures reads { ReadsPages result pager.old.state pager.new.state }
 {
     match arms {
-        Arms::One(arm) => arm_rows(alloc, pager, tables, arm),
+        Arms::One(arm) => arm_rows(alloc, pager, sources, arm),
         Arms::Joined(left, operator, arm) => {
-            let before = arms_rows(alloc, pager, tables, left)?;
-            let beside = arm_rows(alloc, pager, tables, arm)?;
+            let before = arms_rows(alloc, pager, sources, left)?;
+            let beside = arm_rows(alloc, pager, sources, arm)?;
             let rows = join(alloc, *operator, before, beside)?;
             Ok(rows)
         }

@@ -2,7 +2,7 @@
 ghost use Rattle.std.specs.Prelude.{All, IfErr, MatchResult, map};
 ghost use Rattle.values.specs.Datum.{datum_of};
 ghost use Rattle.pager.specs.Calls.{ReadsPages};
-ghost use Rattle.pager.specs.PagerState.{IsPageNumber};
+ghost use Rattle.sources.specs.Coming.{IsRooted};
 ghost use Rattle.image.specs.Pages.{WhereSteady};
 ghost use Rattle.scan.specs.Coming.{Asks};
 ghost use Rattle.operators.specs.Basis.{AreStored, Basis, IsOperatorFault};
@@ -14,7 +14,7 @@ use distinct_results::{ResultKey, shown_rows, sort_rows};
 use pager::{Pager, Source};
 use results::Slice;
 use std::alloc::Global;
-use tables::Table;
+use sources::Sources;
 use values::{Fault, Value};
 
 /// SELECTs that are joined, with the ORDER BY and LIMIT behind the last. (SELECT, "Compound Select Statements")
@@ -30,12 +30,12 @@ pub struct Compound {
 pub fn compound_rows<S: Source>(
     alloc: Global,
     pager: &mut Pager<S>,
-    tables: &[Table],
+    sources: &Sources<'_>,
     compound: &Compound,
 ) -> Result<Vec<Vec<Value>>, Fault>
-    requires roots { All (λ table. IsPageNumber pager.old.state table.root) tables.now }
-    requires planned { ArePlannedOver tables.now (arms_data compound.now.arms) }
-    ensures rows { WhereSteady pager.old.state (λ pages. (on : Basis) → AreStored pages tables.now on
+    requires roots { All (IsRooted pager.old.state.header) sources.now }
+    requires planned { ArePlannedOver sources.now (arms_data compound.now.arms) }
+    ensures rows { WhereSteady pager.old.state (λ pages. (on : Basis) → AreStored pages sources.now on
         → MatchResult result
         (λ rows. IsCompoundAnswer on.w on.db (compound_data compound.now) (map (λ row. map datum_of row.items) rows.items)
         × Asks on.local pager.old.state (work_of_arms on.w on.db on.sizes (arms_data compound.now.arms)) pager.new.state 0)
@@ -43,7 +43,7 @@ pub fn compound_rows<S: Source>(
     ensures only { IfErr result IsOperatorFault }
     ensures reads { ReadsPages result pager.old.state pager.new.state }
 {
-    let mut rows = arms_rows(alloc, pager, tables, &compound.arms)?;
+    let mut rows = arms_rows(alloc, pager, sources, &compound.arms)?;
     sort_rows(compound.order.as_slice(), &mut rows)?;
     let slice = Slice::new(compound.limit, compound.offset);
     let shown = shown_rows(alloc, rows, slice)?;

@@ -5,7 +5,7 @@ use Rattle.values.specs.Database.{Database}
 use Rattle.values.specs.Datum.{Datum}
 use Rattle.values.specs.Row.{Row}
 use Rattle.image.specs.Pages.{Pages}
-use Rattle.tables.specs.TableData.{TableData}
+use Rattle.sources.specs.SourceData.{SourceData}
 use Rattle.meaning.specs.Answer.{limited, skipped}
 use Rattle.plans.specs.Plan.{rows_of}
 use Rattle.operators.specs.Basis.{Basis}
@@ -20,10 +20,10 @@ abbrev pub distinct_answer_of : Datum → Database → SelectionData → List Ro
 distinct_answer_of w db selection = limited selection.limit (skipped selection.offset (firsts (result_rows w selection.columns (rows_of w db selection.plan))))
 
 -- These rows are to come, and so many pages may still be asked for. They are what is given of the result rows to come.
-pub record IsDistinctComingOf (pages : Pages) (tables : List TableData) (on : Basis) (results : Results) (first : FirstRows) (rest : List Row) (ahead : ℕ) : Type 0 where
+pub record IsDistinctComingOf (pages : Pages) (sources : List SourceData) (on : Basis) (results : Results) (first : FirstRows) (rest : List Row) (ahead : ℕ) : Type 0 where
   pub rows : List Row
-  pub coming : IsComing pages tables on results rows ahead
+  pub coming : IsComing pages sources on results rows ahead
   pub rest_is : rest ≡ to_come first rows
 
-abbrev pub IsDistinctComing : Pages → List TableData → Basis → DistinctResults → List Row → ℕ → Type 0
-IsDistinctComing pages tables on distinct rest ahead = IsDistinctComingOf pages tables on distinct.results distinct.first rest ahead
+abbrev pub IsDistinctComing : Pages → List SourceData → Basis → DistinctResults → List Row → ℕ → Type 0
+IsDistinctComing pages sources on distinct rest ahead = IsDistinctComingOf pages sources on distinct.results distinct.first rest ahead

@@ -2,7 +2,7 @@
 ghost use Rattle.std.specs.Prelude.{◌≡◌, ℕ, All, IfErr, IfOk, List, MatchResult, map};
 ghost use Rattle.values.specs.Datum.{Datum, datum_of};
 ghost use Rattle.pager.specs.Calls.{ReadsPages};
-ghost use Rattle.pager.specs.PagerState.{IsPageNumber};
+ghost use Rattle.sources.specs.Coming.{IsRooted};
 ghost use Rattle.image.specs.Pages.{WhereSteady};
 ghost use Rattle.expr.specs.View.{term};
 ghost use Rattle.plans.specs.Plan.{work};
@@ -22,7 +22,7 @@ use pager::{Pager, Source};
 use plans::Plan;
 use results::Slice;
 use std::alloc::{AllocError, Global};
-use tables::Table;
+use sources::Sources;
 use values::{Fault, Value};
 
 /// What a SELECT DISTINCT in order computes of the rows of a plan. (SELECT)
@@ -40,13 +40,13 @@ pub struct SortedDistinct {
 fn gather<S: Source>(
     alloc: Global,
     pager: &mut Pager<S>,
-    tables: &[Table],
+    sources: &Sources<'_>,
     distinct: DistinctResults,
 ) -> Result<Vec<Vec<Value>>, Fault>
-    requires roots { All (λ table. IsPageNumber pager.old.state table.root) tables.now }
-    requires planned { IsPlanOf tables.now (plan_of distinct.results.op) }
-    ensures rows { WhereSteady pager.old.state (λ pages. (on : Basis) (rest : List (List Datum)) (ahead : ℕ) → AreStored pages tables.now on
-        → IsDistinctComing pages tables.now on distinct rest ahead
+    requires roots { All (IsRooted pager.old.state.header) sources.now }
+    requires planned { IsPlanOf sources.now (plan_of distinct.results.op) }
+    ensures rows { WhereSteady pager.old.state (λ pages. (on : Basis) (rest : List (List Datum)) (ahead : ℕ) → AreStored pages sources.now on
+        → IsDistinctComing pages sources.now on distinct rest ahead
         → MatchResult result
         (λ rows. (map (λ row. map datum_of row.items) rows.items ≡ rest) × Asks on.local pager.old.state ahead pager.new.state 0)
         (IsResultCause on (map term distinct.results.columns.items))) }
@@ -56,7 +56,7 @@ fn gather<S: Source>(
     let mut distinct = distinct;
     let mut row = Vec::new(alloc);
     let mut rows = Vec::new(alloc);
-    'rows: while distinct.next(alloc, pager, tables, &mut row)? {
+    'rows: while distinct.next(alloc, pager, sources, &mut row)? {
         rows.push(row)?;
         row = Vec::new(alloc);
     }
@@ -86,12 +86,12 @@ pub fn shown_rows(
 pub fn sorted_distinct_rows<S: Source>(
     alloc: Global,
     pager: &mut Pager<S>,
-    tables: &[Table],
+    sources: &Sources<'_>,
     selection: &SortedDistinct,
 ) -> Result<Vec<Vec<Value>>, Fault>
-    requires roots { All (λ table. IsPageNumber pager.old.state table.root) tables.now }
-    requires planned { IsPlanOf tables.now (plan_data selection.now.plan) }
-    ensures rows { WhereSteady pager.old.state (λ pages. (on : Basis) → AreStored pages tables.now on → on.plan ≡ plan_data selection.now.plan
+    requires roots { All (IsRooted pager.old.state.header) sources.now }
+    requires planned { IsPlanOf sources.now (plan_data selection.now.plan) }
+    ensures rows { WhereSteady pager.old.state (λ pages. (on : Basis) → AreStored pages sources.now on → on.plan ≡ plan_data selection.now.plan
         → MatchResult result
         (λ rows. IsSortedDistinctAnswer on.w on.db (sorted_distinct_data selection.now) (map (λ row. map datum_of row.items) rows.items)
         × Asks on.local pager.old.state (work on.w on.db on.sizes on.plan) pager.new.state 0)
@@ -102,7 +102,7 @@ pub fn sorted_distinct_rows<S: Source>(
     let all = Slice::new(None, 0);
     let columns = selection.columns.as_slice();
     let distinct = DistinctResults::sliced(alloc, &selection.plan, columns, all)?;
-    let mut rows = gather(alloc, pager, tables, distinct)?;
+    let mut rows = gather(alloc, pager, sources, distinct)?;
     sort_rows(selection.order.as_slice(), &mut rows)?;
     let slice = Slice::new(selection.limit, selection.offset);
     let shown = shown_rows(alloc, rows, slice)?;

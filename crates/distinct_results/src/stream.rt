@@ -2,9 +2,9 @@
 ghost use Rattle.std.specs.Prelude.{◌≡◌, ◌<◌, ℕ, All, IfErr, IfOk, IsTrue, List, MatchResult, Some, map};
 ghost use Rattle.values.specs.Datum.{Datum, datum_of};
 ghost use Rattle.pager.specs.Calls.{ReadsPages};
-ghost use Rattle.pager.specs.PagerState.{IsPageNumber};
+ghost use Rattle.sources.specs.Coming.{IsRooted};
 ghost use Rattle.image.specs.Pages.{Pages, WhereSteady};
-ghost use Rattle.tables.specs.TableData.{TableData};
+ghost use Rattle.sources.specs.SourceData.{SourceData};
 ghost use Rattle.expr.specs.View.{term};
 ghost use Rattle.plans.specs.Plan.{rows_of, work};
 ghost use Rattle.plans.specs.PlanView.{plan_data};
@@ -21,7 +21,7 @@ use pager::{Pager, Source};
 use plans::Plan;
 use results::{Results, Selection, Slice};
 use std::alloc::{AllocError, Global};
-use tables::Table;
+use sources::Sources;
 use values::{Fault, Row, Value};
 
 /// The rows of a SELECT DISTINCT that is run: each result row once, where the plan first has it.
@@ -36,8 +36,8 @@ impl DistinctResults {
     pub fn open(alloc: Global, selection: &Selection) -> Result<DistinctResults, AllocError>
         ensures plan { IfOk result (λ distinct. plan_of distinct.results.op ≡ plan_data selection.now.plan) }
         ensures columns { IfOk result (λ distinct. map term distinct.results.columns.items ≡ map term selection.now.columns.items) }
-        ensures rows { IfOk result (λ distinct. (pages : Pages) (tables : List TableData) (on : Basis) → on.plan ≡ plan_data selection.now.plan
-            → IsDistinctComing pages tables on distinct (distinct_answer_of on.w on.db (selection_data selection.now)) (work on.w on.db on.sizes on.plan)) }
+        ensures rows { IfOk result (λ distinct. (pages : Pages) (sources : List SourceData) (on : Basis) → on.plan ≡ plan_data selection.now.plan
+            → IsDistinctComing pages sources on distinct (distinct_answer_of on.w on.db (selection_data selection.now)) (work on.w on.db on.sizes on.plan)) }
     {
         let slice = Slice::new(selection.limit, selection.offset);
         let columns = selection.columns.as_slice();
@@ -54,8 +54,8 @@ impl DistinctResults {
     ) -> Result<DistinctResults, AllocError>
         ensures plan { IfOk result (λ distinct. plan_of distinct.results.op ≡ plan_data plan.now) }
         ensures columns { IfOk result (λ distinct. map term distinct.results.columns.items ≡ map term columns.now) }
-        ensures rows { IfOk result (λ distinct. (pages : Pages) (tables : List TableData) (on : Basis) → on.plan ≡ plan_data plan.now
-            → IsDistinctComing pages tables on distinct (sliced slice (firsts (result_rows on.w (map term columns.now) (rows_of on.w on.db on.plan))))
+        ensures rows { IfOk result (λ distinct. (pages : Pages) (sources : List SourceData) (on : Basis) → on.plan ≡ plan_data plan.now
+            → IsDistinctComing pages sources on distinct (sliced slice (firsts (result_rows on.w (map term columns.now) (rows_of on.w on.db on.plan))))
             (work on.w on.db on.sizes on.plan)) }
     {
         let results = Results::of_all(alloc, plan, columns)?;
@@ -69,27 +69,27 @@ impl DistinctResults {
         &mut self,
         alloc: Global,
         pager: &mut Pager<S>,
-        tables: &[Table],
+        sources: &Sources<'_>,
         out: &mut Vec<Value>,
     ) -> Result<bool, Fault>
-        requires roots { All (λ table. IsPageNumber pager.old.state table.root) tables.now }
-        requires planned { IsPlanOf tables.now (plan_of self.old.results.op) }
-        ensures rows { WhereSteady pager.old.state (λ pages. (on : Basis) (rest : List (List Datum)) (ahead : ℕ) → AreStored pages tables.now on
-            → IsDistinctComing pages tables.now on self.old rest ahead
+        requires roots { All (IsRooted pager.old.state.header) sources.now }
+        requires planned { IsPlanOf sources.now (plan_of self.old.results.op) }
+        ensures rows { WhereSteady pager.old.state (λ pages. (on : Basis) (rest : List (List Datum)) (ahead : ℕ) → AreStored pages sources.now on
+            → IsDistinctComing pages sources.now on self.old rest ahead
             → MatchResult result
             (λ found. Gives found on.local pager.old.state ahead pager.new.state rest (map datum_of out.new.items)
-            (IsDistinctComing pages tables.now on self.new))
+            (IsDistinctComing pages sources.now on self.new))
             (IsResultCause on (map term self.old.results.columns.items))) }
         ensures done { self.old.first.slice.left ≡ Some 0 → pager.new.state ≡ pager.old.state }
         ensures plan { plan_of self.new.results.op ≡ plan_of self.old.results.op }
         ensures columns { map term self.new.results.columns.items ≡ map term self.old.results.columns.items }
-        ensures left { IfOk result (λ found. IsTrue found → steps self.new.results.op < steps self.old.results.op) }
+        ensures left { IfOk result (λ found. IsTrue found → steps sources.now self.new.results.op < steps sources.now self.old.results.op) }
         ensures only { IfErr result IsOperatorFault }
         ensures reads { ReadsPages result pager.old.state pager.new.state }
     {
         'rows: while !self.first.is_done() {
             let mut row = Vec::new(alloc);
-            if !self.results.next(alloc, pager, tables, &mut row)? {
+            if !self.results.next(alloc, pager, sources, &mut row)? {
                 return Ok(false);
             }
             if self.first.meet(alloc, Row::from(row), out)? {

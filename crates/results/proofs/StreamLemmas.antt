@@ -7,7 +7,7 @@ use Rattle.values.specs.declared.fault.Fault.TheVariants.{NoMemory, Overflow}
 use Rattle.pager.specs.Calls.{SameImage}
 use Rattle.pager.specs.PagerState.{PagerState}
 use Rattle.image.specs.Pages.{WhereSteady, pages_seen}
-use Rattle.tables.specs.TableData.{TableData}
+use Rattle.sources.specs.SourceData.{SourceData}
 use Rattle.expr.specs.Meaning.{eval}
 use Rattle.expr.specs.Term.{Term}
 use Rattle.meaning.specs.Valuation.{term_values}
@@ -27,15 +27,15 @@ use Rattle.results.specs.Coming.{IsComing, IsComingOf, IsResultCause, result_row
 use Rattle.results.proofs.SliceLemmas.{none_sliced}
 
 -- what is still to come of what was at the start
-abbrev pub ComingAt : PagerState → List TableData → Results → Op → Row → List Term → Slice → PagerState → Type 0
-ComingAt start tables first op row columns slice now =
-    WhereSteady start (λ pages. (on : Basis) (rest : List Row) (ahead : ℕ) → AreStored pages tables on → IsComing pages tables on first rest ahead
-    → (left : ℕ) × IsComingOf pages tables on op row columns slice rest left × Asks on.local start ahead now left)
+abbrev pub ComingAt : PagerState → List SourceData → Results → Op → Row → List Term → Slice → PagerState → Type 0
+ComingAt start sources first op row columns slice now =
+    WhereSteady start (λ pages. (on : Basis) (rest : List Row) (ahead : ℕ) → AreStored pages sources on → IsComing pages sources on first rest ahead
+    → (left : ℕ) × IsComingOf pages sources on op row columns slice rest left × Asks on.local start ahead now left)
 
-abbrev pub StillComing : PagerState → List TableData → Results → Results → PagerState → Type 0
-StillComing start tables first self now =
-    WhereSteady start (λ pages. (on : Basis) (rest : List Row) (ahead : ℕ) → AreStored pages tables on → IsComing pages tables on first rest ahead
-    → (left : ℕ) × IsComing pages tables on self rest left × Asks on.local start ahead now left)
+abbrev pub StillComing : PagerState → List SourceData → Results → Results → PagerState → Type 0
+StillComing start sources first self now =
+    WhereSteady start (λ pages. (on : Basis) (rest : List Row) (ahead : ℕ) → AreStored pages sources on → IsComing pages sources on first rest ahead
+    → (left : ℕ) × IsComing pages sources on self rest left × Asks on.local start ahead now left)
 
 -- a slice gives the next row, or passes it over
 abbrev pub GivesFirst : Slice → Slice → Type 0
@@ -49,11 +49,11 @@ pub plan_cause : (on : Basis) (columns : List Term) (e : Fault) → IsCause on e
 plan_cause on columns e (inl read) = inl read
 plan_cause on columns e (inr over) = inr (over.0, inl over.1)
 
-module _ (start now : PagerState) (image : SameImage start now) (tables : List TableData) (first : Results) (op : Op) (row : Row) (columns : List Term) (slice : Slice)
-    (keeps : ComingAt start tables first op row columns slice now)
-    (steady : IsTrue start.source.steady) (on : Basis) (rest : List Row) (ahead : ℕ) (has : AreStored (pages_seen start) tables on)
-    (coming : IsComing (pages_seen start) tables on first rest ahead) where
-  here : (left : ℕ) × IsComingOf (pages_seen start) tables on op row columns slice rest left × Asks on.local start ahead now left
+module _ (start now : PagerState) (image : SameImage start now) (sources : List SourceData) (first : Results) (op : Op) (row : Row) (columns : List Term) (slice : Slice)
+    (keeps : ComingAt start sources first op row columns slice now)
+    (steady : IsTrue start.source.steady) (on : Basis) (rest : List Row) (ahead : ℕ) (has : AreStored (pages_seen start) sources on)
+    (coming : IsComing (pages_seen start) sources on first rest ahead) where
+  here : (left : ℕ) × IsComingOf (pages_seen start) sources on op row columns slice rest left × Asks on.local start ahead now left
   here = keeps steady on rest ahead has coming
 
   -- LIMIT leaves no further row
@@ -65,28 +65,28 @@ module _ (start now : PagerState) (image : SameImage start now) (tables : List T
 
   -- what is said of the rows that the operator has to give
   pub op_says : (Then : Basis → Type 0)
-      → WhereSteady now (λ pages. (on : Basis) (rows : List Row) (more : ℕ) → AreStored pages tables on → IsLeft pages tables on op row rows more → Then on)
+      → WhereSteady now (λ pages. (on : Basis) (rows : List Row) (more : ℕ) → AreStored pages sources on → IsLeft pages sources on op row rows more → Then on)
       → Then on
   op_says Then says =
-      at_start start now image (λ pages. (on : Basis) (rows : List Row) (more : ℕ) → AreStored pages tables on → IsLeft pages tables on op row rows more → Then on) says steady
+      at_start start now image (λ pages. (on : Basis) (rows : List Row) (more : ℕ) → AreStored pages sources on → IsLeft pages sources on op row rows more → Then on) says steady
       on here.1.rows here.0 has here.1.is_left
 
   module _ (new : Op) (after : Row) (then : PagerState) where
     abbrev pub CallsOp : Bool → Type 0
-    CallsOp found = WhereSteady now (Called tables op new found row after now then)
+    CallsOp found = WhereSteady now (Called sources op new found row after now then)
 
     -- the operator has no further row
     pub op_ended : CallsOp false → GivesNone on.local start ahead then rest
     op_ended called =
-        let none = at_start start now image (Called tables op new false row after now then) called steady on here.1.rows here.0 has here.1.is_left in
+        let none = at_start start now image (Called sources op new false row after now then) called steady on here.1.rows here.0 has here.1.is_left in
         record {
           rest_is = here.1.rest_is ∙ none_sliced slice (result_rows on.w columns here.1.rows) (ap (result_rows on.w columns) none.rest_is);
           asks = Asks-then on.local start ahead now here.0 then 0 here.2 none.asks;
         }
 
     module _ (called : CallsOp true) where
-      given : GivesNext on.local now here.0 then here.1.rows after (IsLeft (pages_seen start) tables on new after)
-      given = at_start start now image (Called tables op new true row after now then) called steady on here.1.rows here.0 has here.1.is_left
+      given : GivesNext on.local now here.0 then here.1.rows after (IsLeft (pages_seen start) sources on new after)
+      given = at_start start now image (Called sources op new true row after now then) called steady on here.1.rows here.0 has here.1.is_left
 
       all_among : All (Contains (rows_of on.w on.db on.plan)) (after ∷ given.later)
       all_among = subst (λ (rows : List Row). All (Contains (rows_of on.w on.db on.plan)) rows) given.rest_is here.1.among
@@ -108,7 +108,7 @@ module _ (start now : PagerState) (image : SameImage start now) (tables : List T
 
       -- the row is given
       pub row_given : (out : Row) (next : Slice) → out ≡ term_values (eval on.w) columns after → GivesFirst slice next
-          → GivesNext on.local start ahead then rest out (IsComingOf (pages_seen start) tables on new after columns next)
+          → GivesNext on.local start ahead then rest out (IsComingOf (pages_seen start) sources on new after columns next)
       row_given out next is gives = record {
         later = sliced next (result_rows on.w columns given.later);
         left = given.left;
@@ -121,7 +121,7 @@ module _ (start now : PagerState) (image : SameImage start now) (tables : List T
 
       -- it is passed over
       pub row_passed : (next : Slice) → PassesFirst slice next
-          → (left : ℕ) × IsComingOf (pages_seen start) tables on new after columns next rest left × Asks on.local start ahead then left
+          → (left : ℕ) × IsComingOf (pages_seen start) sources on new after columns next rest left × Asks on.local start ahead then left
       row_passed next passes = (
         given.left,
         record {

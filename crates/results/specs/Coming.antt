@@ -7,7 +7,7 @@ use Rattle.values.specs.declared.fault.Fault.{Fault}
 use Rattle.values.specs.declared.fault.Fault.TheVariants.{Overflow}
 use Rattle.pager.specs.Calls.{IsReadFault}
 use Rattle.image.specs.Pages.{Pages}
-use Rattle.tables.specs.TableData.{TableData}
+use Rattle.sources.specs.SourceData.{SourceData}
 use Rattle.expr.specs.Meaning.{eval}
 use Rattle.expr.specs.Term.{Term}
 use Rattle.expr.specs.View.{term}
@@ -54,13 +54,13 @@ IsResultCause on columns fault =
 
 -- Of an operator whose row buffer holds this row: these rows are to come, and so many pages may still be asked for. They are
 -- those that LIMIT and OFFSET leave of the result rows of what the operator has to give, which are rows of the plan.
-pub record IsComingOf (pages : Pages) (tables : List TableData) (on : Basis) (op : Op) (row : Row) (columns : List Term) (slice : Slice)
+pub record IsComingOf (pages : Pages) (sources : List SourceData) (on : Basis) (op : Op) (row : Row) (columns : List Term) (slice : Slice)
     (rest : List Row) (ahead : ℕ) : Type 0 where
   pub rows : List Row
-  pub is_left : IsLeft pages tables on op row rows ahead
+  pub is_left : IsLeft pages sources on op row rows ahead
   pub rest_is : rest ≡ sliced slice (result_rows on.w columns rows)
   pub among : All (Contains (rows_of on.w on.db on.plan)) rows
 
-abbrev pub IsComing : Pages → List TableData → Basis → Results → List Row → ℕ → Type 0
-IsComing pages tables on results rest ahead =
-    IsComingOf pages tables on results.op (map datum_of results.row.items) (map term results.columns.items) results.slice rest ahead
+abbrev pub IsComing : Pages → List SourceData → Basis → Results → List Row → ℕ → Type 0
+IsComing pages sources on results rest ahead =
+    IsComingOf pages sources on results.op (map datum_of results.row.items) (map term results.columns.items) results.slice rest ahead

@@ -3,9 +3,9 @@ ghost use Rattle.std.specs.Prelude.{◌≡◌, ◌<◌, ℕ, All, IfErr, IfOk, I
 ghost use Rattle.values.specs.Datum.{datum_of};
 ghost use Rattle.values.specs.Row.{Row};
 ghost use Rattle.pager.specs.Calls.{ReadsPages};
-ghost use Rattle.pager.specs.PagerState.{IsPageNumber};
+ghost use Rattle.sources.specs.Coming.{IsRooted};
 ghost use Rattle.image.specs.Pages.{Pages, WhereSteady};
-ghost use Rattle.tables.specs.TableData.{TableData};
+ghost use Rattle.sources.specs.SourceData.{SourceData};
 ghost use Rattle.expr.specs.View.{term};
 ghost use Rattle.plans.specs.Plan.{rows_of, work};
 ghost use Rattle.plans.specs.PlanView.{plan_data};
@@ -20,7 +20,7 @@ use operators::{Op, copies};
 use pager::{Pager, Source};
 use plans::Plan;
 use std::alloc::{AllocError, Global};
-use tables::Table;
+use sources::Sources;
 use values::{Fault, Value};
 
 /// What a SELECT in no order computes of the rows of a plan. (SELECT)
@@ -48,8 +48,8 @@ impl Results {
     pub fn open(alloc: Global, selection: &Selection) -> Result<Results, AllocError>
         ensures plan { IfOk result (λ results. plan_of results.op ≡ plan_data selection.now.plan) }
         ensures columns { IfOk result (λ results. map term results.columns.items ≡ map term selection.now.columns.items) }
-        ensures rows { IfOk result (λ results. (pages : Pages) (tables : List TableData) (on : Basis) → on.plan ≡ plan_data selection.now.plan
-            → IsComing pages tables on results (answer_of on.w on.db (selection_data selection.now)) (work on.w on.db on.sizes on.plan)) }
+        ensures rows { IfOk result (λ results. (pages : Pages) (sources : List SourceData) (on : Basis) → on.plan ≡ plan_data selection.now.plan
+            → IsComing pages sources on results (answer_of on.w on.db (selection_data selection.now)) (work on.w on.db on.sizes on.plan)) }
     {
         let op = Op::open(alloc, &selection.plan)?;
         let columns = copies(alloc, selection.columns.as_slice())?;
@@ -67,8 +67,8 @@ impl Results {
     pub fn of_all(alloc: Global, plan: &Plan, columns: &[Expr]) -> Result<Results, AllocError>
         ensures plan { IfOk result (λ results. plan_of results.op ≡ plan_data plan.now) }
         ensures columns { IfOk result (λ results. map term results.columns.items ≡ map term columns.now) }
-        ensures rows { IfOk result (λ results. (pages : Pages) (tables : List TableData) (on : Basis) → on.plan ≡ plan_data plan.now
-            → IsComing pages tables on results (result_rows on.w (map term columns.now) (rows_of on.w on.db on.plan)) (work on.w on.db on.sizes on.plan)) }
+        ensures rows { IfOk result (λ results. (pages : Pages) (sources : List SourceData) (on : Basis) → on.plan ≡ plan_data plan.now
+            → IsComing pages sources on results (result_rows on.w (map term columns.now) (rows_of on.w on.db on.plan)) (work on.w on.db on.sizes on.plan)) }
     {
         let op = Op::open(alloc, plan)?;
         let columns = copies(alloc, columns)?;
@@ -88,26 +88,26 @@ impl Results {
         &mut self,
         alloc: Global,
         pager: &mut Pager<S>,
-        tables: &[Table],
+        sources: &Sources<'_>,
         out: &mut Vec<Value>,
     ) -> Result<bool, Fault>
-        requires roots { All (λ table. IsPageNumber pager.old.state table.root) tables.now }
-        requires planned { IsPlanOf tables.now (plan_of self.old.op) }
-        ensures rows { WhereSteady pager.old.state (λ pages. (on : Basis) (rest : List Row) (ahead : ℕ) → AreStored pages tables.now on
-            → IsComing pages tables.now on self.old rest ahead
+        requires roots { All (IsRooted pager.old.state.header) sources.now }
+        requires planned { IsPlanOf sources.now (plan_of self.old.op) }
+        ensures rows { WhereSteady pager.old.state (λ pages. (on : Basis) (rest : List Row) (ahead : ℕ) → AreStored pages sources.now on
+            → IsComing pages sources.now on self.old rest ahead
             → MatchResult result
             (λ found. Gives found on.local pager.old.state ahead pager.new.state rest (map datum_of out.new.items)
-            (IsComing pages tables.now on self.new))
+            (IsComing pages sources.now on self.new))
             (IsResultCause on (map term self.old.columns.items))) }
         ensures done { self.old.slice.left ≡ Some 0 → pager.new.state ≡ pager.old.state }
         ensures plan { plan_of self.new.op ≡ plan_of self.old.op }
         ensures columns { map term self.new.columns.items ≡ map term self.old.columns.items }
-        ensures left { IfOk result (λ found. IsTrue found → steps self.new.op < steps self.old.op) }
+        ensures left { IfOk result (λ found. IsTrue found → steps sources.now self.new.op < steps sources.now self.old.op) }
         ensures only { IfErr result IsOperatorFault }
         ensures reads { ReadsPages result pager.old.state pager.new.state }
     {
         'rows: while !self.slice.is_done() {
-            if !self.op.next(alloc, pager, tables, &mut self.row)? {
+            if !self.op.next(alloc, pager, sources, &mut self.row)? {
                 return Ok(false);
             }
             if self.slice.gives() {

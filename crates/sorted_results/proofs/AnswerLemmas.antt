@@ -5,7 +5,7 @@ use Rattle.values.specs.Database.{Database}
 use Rattle.values.specs.Datum.{Datum, datum_of}
 use Rattle.values.specs.Row.{Row}
 use Rattle.image.specs.Pages.{Pages}
-use Rattle.tables.specs.TableData.{TableData}
+use Rattle.sources.specs.SourceData.{SourceData}
 use Rattle.meaning.specs.Answer.{key_directions, limited, skipped}
 use Rattle.meaning.specs.Body.{Output}
 use Rattle.meaning.proofs.AnswerLemmas.{limited-map, skipped-map}
@@ -57,9 +57,9 @@ module _ (w : Datum) (db : Database) (selection : SortedData) (most : Option ℕ
   }
 
 -- an operator of the plan that is run, before its first row
-pub all_left : (pages : Pages) (tables : List TableData) (on : Basis) (op : Op) (plan : PlanData) → on.plan ≡ plan
-    → ((Hits on.w on.db plan → Hits on.w on.db on.plan) → IsLeft pages tables on op [] (rows_of on.w on.db plan) (work on.w on.db on.sizes plan))
-    → IsLeft pages tables on op [] (rows_of on.w on.db on.plan) (work on.w on.db on.sizes on.plan)
-all_left pages tables on op plan same opens =
-    subst (λ (p : PlanData). IsLeft pages tables on op [] (rows_of on.w on.db p) (work on.w on.db on.sizes p)) (sym same)
+pub all_left : (pages : Pages) (sources : List SourceData) (on : Basis) (op : Op) (plan : PlanData) → on.plan ≡ plan
+    → ((Hits on.w on.db plan → Hits on.w on.db on.plan) → IsLeft pages sources on op [] (rows_of on.w on.db plan) (work on.w on.db on.sizes plan))
+    → IsLeft pages sources on op [] (rows_of on.w on.db on.plan) (work on.w on.db on.sizes on.plan)
+all_left pages sources on op plan same opens =
+    subst (λ (p : PlanData). IsLeft pages sources on op [] (rows_of on.w on.db p) (work on.w on.db on.sizes p)) (sym same)
     (opens (λ hits. subst (Hits on.w on.db) (sym same) hits))

@@ -7,7 +7,7 @@ use Rattle.values.specs.declared.fault.Fault.TheVariants.{NoMemory, Overflow}
 use Rattle.pager.specs.Calls.{SameImage}
 use Rattle.pager.specs.PagerState.{PagerState}
 use Rattle.image.specs.Pages.{WhereSteady, pages_seen}
-use Rattle.tables.specs.TableData.{TableData}
+use Rattle.sources.specs.SourceData.{SourceData}
 use Rattle.expr.specs.Meaning.{Overflows, eval}
 use Rattle.expr.specs.Term.{Term}
 use Rattle.meaning.specs.Answer.{key_directions}
@@ -77,51 +77,51 @@ slice_whole first last done given all =
 -- ---- rows that are gathered
 
 -- of the rows to come the outputs of some were made, of which the first are kept, and the others are still to come
-abbrev pub Gathering : PagerState → List TableData → Op → Op → Row → List Term → List Key → FirstOutputs → PagerState → Type 0
-Gathering start tables first op row columns order kept now =
-    WhereSteady start (λ pages. (on : Basis) (rows : List Row) (ahead : ℕ) → AreStored pages tables on → IsLeft pages tables on first [] rows ahead
+abbrev pub Gathering : PagerState → List SourceData → Op → Op → Row → List Term → List Key → FirstOutputs → PagerState → Type 0
+Gathering start sources first op row columns order kept now =
+    WhereSteady start (λ pages. (on : Basis) (rows : List Row) (ahead : ℕ) → AreStored pages sources on → IsLeft pages sources on first [] rows ahead
     → All (Contains (rows_of on.w on.db on.plan)) rows
-    → (made : List Output) × (rest : List Row) × (left : ℕ) × IsLeft pages tables on op row rest left
+    → (made : List Output) × (rest : List Row) × (left : ℕ) × IsLeft pages sources on op row rest left
     × (outputs_over on.w columns order rows ≡ made ++ outputs_over on.w columns order rest)
     × All (Contains (rows_of on.w on.db on.plan)) rest × Asks on.local start ahead now left × KeepsFirst (key_directions order) kept made)
 
-pub Gathering-start : (start : PagerState) (tables : List TableData) (op : Op) (columns : List Term) (order : List Key) (kept : FirstOutputs)
-    → KeepsFirst (key_directions order) kept [] → Gathering start tables op op [] columns order kept start
-Gathering-start start tables op columns order kept none steady on rows ahead has left among =
+pub Gathering-start : (start : PagerState) (sources : List SourceData) (op : Op) (columns : List Term) (order : List Key) (kept : FirstOutputs)
+    → KeepsFirst (key_directions order) kept [] → Gathering start sources op op [] columns order kept start
+Gathering-start start sources op columns order kept none steady on rows ahead has left among =
     ([], rows, ahead, left, refl, among, Asks-none on.local start ahead, none)
 
-module _ (start now : PagerState) (image : SameImage start now) (tables : List TableData) (first op : Op) (row : Row) (columns : List Term) (order : List Key) (kept : FirstOutputs)
-    (keeps : Gathering start tables first op row columns order kept now)
-    (steady : IsTrue start.source.steady) (on : Basis) (rows : List Row) (ahead : ℕ) (has : AreStored (pages_seen start) tables on)
-    (left : IsLeft (pages_seen start) tables on first [] rows ahead) (among : All (Contains (rows_of on.w on.db on.plan)) rows) where
-  here : (made : List Output) × (rest : List Row) × (left : ℕ) × IsLeft (pages_seen start) tables on op row rest left
+module _ (start now : PagerState) (image : SameImage start now) (sources : List SourceData) (first op : Op) (row : Row) (columns : List Term) (order : List Key) (kept : FirstOutputs)
+    (keeps : Gathering start sources first op row columns order kept now)
+    (steady : IsTrue start.source.steady) (on : Basis) (rows : List Row) (ahead : ℕ) (has : AreStored (pages_seen start) sources on)
+    (left : IsLeft (pages_seen start) sources on first [] rows ahead) (among : All (Contains (rows_of on.w on.db on.plan)) rows) where
+  here : (made : List Output) × (rest : List Row) × (left : ℕ) × IsLeft (pages_seen start) sources on op row rest left
       × (outputs_over on.w columns order rows ≡ made ++ outputs_over on.w columns order rest)
       × All (Contains (rows_of on.w on.db on.plan)) rest × Asks on.local start ahead now left × KeepsFirst (key_directions order) kept made
   here = keeps steady on rows ahead has left among
 
   -- what is said of the rows that the operator has to give
   pub gather_says : (Then : Basis → Type 0)
-      → WhereSteady now (λ pages. (on : Basis) (rows : List Row) (more : ℕ) → AreStored pages tables on → IsLeft pages tables on op row rows more → Then on)
+      → WhereSteady now (λ pages. (on : Basis) (rows : List Row) (more : ℕ) → AreStored pages sources on → IsLeft pages sources on op row rows more → Then on)
       → Then on
   gather_says Then says =
-      at_start start now image (λ pages. (on : Basis) (rows : List Row) (more : ℕ) → AreStored pages tables on → IsLeft pages tables on op row rows more → Then on) says steady
+      at_start start now image (λ pages. (on : Basis) (rows : List Row) (more : ℕ) → AreStored pages sources on → IsLeft pages sources on op row rows more → Then on) says steady
       on here.1 here.2 has here.3
 
   module _ (new : Op) (after : Row) (then : PagerState) where
     abbrev pub CallsOp : Bool → Type 0
-    CallsOp found = WhereSteady now (Called tables op new found row after now then)
+    CallsOp found = WhereSteady now (Called sources op new found row after now then)
 
     -- all were gathered
     pub gathered_all : CallsOp false → KeepsFirst (key_directions order) kept (outputs_over on.w columns order rows) × Asks on.local start ahead then 0
     gathered_all called =
-        let none = at_start start now image (Called tables op new false row after now then) called steady on here.1 here.2 has here.3 in
+        let none = at_start start now image (Called sources op new false row after now then) called steady on here.1 here.2 has here.3 in
         let whole : here.0 ≡ outputs_over on.w columns order rows =
         sym (append-nil here.0) ∙ ap (λ rest. here.0 ++ outputs_over on.w columns order rest) (sym none.rest_is) ∙ sym here.4 in
         (subst (KeepsFirst (key_directions order) kept) whole here.7, Asks-then on.local start ahead now here.2 then 0 here.6 none.asks)
 
     module _ (called : CallsOp true) where
-      given : GivesNext on.local now here.2 then here.1 after (IsLeft (pages_seen start) tables on new after)
-      given = at_start start now image (Called tables op new true row after now then) called steady on here.1 here.2 has here.3
+      given : GivesNext on.local now here.2 then here.1 after (IsLeft (pages_seen start) sources on new after)
+      given = at_start start now image (Called sources op new true row after now then) called steady on here.1 here.2 has here.3
 
       all_among : All (Contains (rows_of on.w on.db on.plan)) (after ∷ given.later)
       all_among = subst (λ (rows : List Row). All (Contains (rows_of on.w on.db on.plan)) rows) given.rest_is here.5
@@ -135,7 +135,7 @@ module _ (start now : PagerState) (image : SameImage start now) (tables : List T
       -- an output more
       pub gathered_more : (more : Output) (then_kept : FirstOutputs) → more ≡ output (eval on.w) order (term_values (eval on.w) columns after) after
           → ((all : List Output) → KeepsFirst (key_directions order) kept all → KeepsFirst (key_directions order) then_kept (all ++ more ∷ []))
-          → (made : List Output) × (rest : List Row) × (left : ℕ) × IsLeft (pages_seen start) tables on new after rest left
+          → (made : List Output) × (rest : List Row) × (left : ℕ) × IsLeft (pages_seen start) sources on new after rest left
           × (outputs_over on.w columns order rows ≡ made ++ outputs_over on.w columns order rest)
           × All (Contains (rows_of on.w on.db on.plan)) rest × Asks on.local start ahead then left × KeepsFirst (key_directions order) then_kept made
       gathered_more more then_kept is goes_on = (

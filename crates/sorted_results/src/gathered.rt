@@ -3,7 +3,7 @@ ghost use Rattle.std.specs.Prelude.{◌≡◌, ◌⊎◌, ◌++◌, [], ℕ, All
 ghost use Rattle.values.specs.Datum.{Datum, datum_of};
 ghost use Rattle.values.specs.Row.{Row};
 ghost use Rattle.pager.specs.Calls.{ReadsPages};
-ghost use Rattle.pager.specs.PagerState.{IsPageNumber};
+ghost use Rattle.sources.specs.Coming.{IsRooted};
 ghost use Rattle.image.specs.Pages.{WhereSteady};
 ghost use Rattle.expr.specs.Meaning.{eval};
 ghost use Rattle.expr.specs.View.{term};
@@ -30,7 +30,7 @@ use pager::{Pager, Source};
 use plans::Plan;
 use results::{Slice, push_results};
 use std::alloc::{AllocError, Global};
-use tables::Table;
+use sources::Sources;
 use values::{Fault, Value};
 
 /// What a SELECT in order computes of the rows of a plan. (SELECT)
@@ -71,16 +71,16 @@ fn rows_looked_at(limit: Option<i64>, offset: i64) -> Option<usize>
 fn gather<S: Source>(
     alloc: Global,
     pager: &mut Pager<S>,
-    tables: &[Table],
+    sources: &Sources<'_>,
     op: Op,
     columns: &[Expr],
     order: &[Key],
     most: Option<usize>,
 ) -> Result<Vec<Output>, Fault>
-    requires roots { All (λ table. IsPageNumber pager.old.state table.root) tables.now }
-    requires planned { IsPlanOf tables.now (plan_of op) }
-    ensures rows { WhereSteady pager.old.state (λ pages. (on : Basis) (rows : List Row) (ahead : ℕ) → AreStored pages tables.now on
-        → IsLeft pages tables.now on op [] rows ahead → All (Contains (rows_of on.w on.db on.plan)) rows
+    requires roots { All (IsRooted pager.old.state.header) sources.now }
+    requires planned { IsPlanOf sources.now (plan_of op) }
+    ensures rows { WhereSteady pager.old.state (λ pages. (on : Basis) (rows : List Row) (ahead : ℕ) → AreStored pages sources.now on
+        → IsLeft pages sources.now on op [] rows ahead → All (Contains (rows_of on.w on.db on.plan)) rows
         → MatchResult result
         (λ outputs. BeginsAll (comes_before (key_directions (map key_data order.now))) most (map output_data outputs.items)
         (outputs_over on.w (map term columns.now) (map key_data order.now) rows)
@@ -92,7 +92,7 @@ fn gather<S: Source>(
     let mut op = op;
     let mut row = Vec::new(alloc);
     let mut first = FirstOutputs::new(alloc, most);
-    'rows: while op.next(alloc, pager, tables, &mut row)? {
+    'rows: while op.next(alloc, pager, sources, &mut row)? {
         let output = output_of(alloc, columns, order, row.as_slice())?;
         first.push(order, output)?;
     }
@@ -123,12 +123,12 @@ fn shown_rows(
 pub fn sorted_rows<S: Source>(
     alloc: Global,
     pager: &mut Pager<S>,
-    tables: &[Table],
+    sources: &Sources<'_>,
     selection: &SortedSelection,
 ) -> Result<Vec<Vec<Value>>, Fault>
-    requires roots { All (λ table. IsPageNumber pager.old.state table.root) tables.now }
-    requires planned { IsPlanOf tables.now (plan_data selection.now.plan) }
-    ensures rows { WhereSteady pager.old.state (λ pages. (on : Basis) → AreStored pages tables.now on → on.plan ≡ plan_data selection.now.plan
+    requires roots { All (IsRooted pager.old.state.header) sources.now }
+    requires planned { IsPlanOf sources.now (plan_data selection.now.plan) }
+    ensures rows { WhereSteady pager.old.state (λ pages. (on : Basis) → AreStored pages sources.now on → on.plan ≡ plan_data selection.now.plan
         → MatchResult result
         (λ rows. IsSortedAnswer on.w on.db (sorted_data selection.now) (map (λ row. map datum_of row.items) rows.items)
         × Asks on.local pager.old.state (work on.w on.db on.sizes on.plan) pager.new.state 0)
@@ -141,7 +141,7 @@ pub fn sorted_rows<S: Source>(
     let outputs = gather(
         alloc,
         pager,
-        tables,
+        sources,
         op,
         selection.columns.as_slice(),
         selection.order.as_slice(),

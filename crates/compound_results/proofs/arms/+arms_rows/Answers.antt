@@ -13,7 +13,7 @@ returns-in_err-before-in-Joined-clause-rows g n c = λ steady on has.
     let operator = operator_of c.in-Joined.operator in
     let arm = arm_data c.in-Joined.arm in
     rw (p.1, p.2)
-    (before_fails c.args.pager.now.state c.args.tables.now (arms_data c.deref.result.now) operator arm (arms_data c.args.arms.now)
+    (before_fails c.args.pager.now.state c.args.sources.now (arms_data c.deref.result.now) operator arm (arms_data c.args.arms.now)
     (ap arms_data c.in-Joined.is ∙ ap (λ (a : Arms). joined (arms_data a) operator arm) (sym c.deref.ensures))
     c.in_err-before-in-Joined.field-0.0 c.in_err-before-in-Joined.ensures.rows steady on has)
 
@@ -23,7 +23,7 @@ returns-in_err-beside-in-Joined-clause-rows g n c = λ steady on has.
     let operator = operator_of c.in-Joined.operator in
     let arm = arm_data c.in-Joined.arm in
     rw (p.1, p.2)
-    (beside_fails c.args.pager.now.state c.args.tables.now (arms_data c.deref.result.now) operator arm (arms_data c.args.arms.now)
+    (beside_fails c.args.pager.now.state c.args.sources.now (arms_data c.deref.result.now) operator arm (arms_data c.args.arms.now)
     (ap arms_data c.in-Joined.is ∙ ap (λ (a : Arms). joined (arms_data a) operator arm) (sym c.deref.ensures))
     _ c.in_ok-before-in-Joined.ensures.reads.image
     c.in_err-beside-in-Joined.field-0.0 c.in_err-beside-in-Joined.ensures.rows steady on has)
@@ -32,7 +32,7 @@ pub returns-in_ok-rows-in-Joined-clause-rows : goal.returns-in_ok-rows-in-Joined
 returns-in_ok-rows-in-Joined-clause-rows g n c =
     let operator = operator_of c.in-Joined.operator in
     let arm = arm_data c.in-Joined.arm in
-    both_joined c.args.pager.now.state c.args.tables.now (arms_data c.deref.result.now) operator arm (arms_data c.args.arms.now)
+    both_joined c.args.pager.now.state c.args.sources.now (arms_data c.deref.result.now) operator arm (arms_data c.args.arms.now)
     (ap arms_data c.in-Joined.is ∙ ap (λ (a : Arms). joined (arms_data a) operator arm) (sym c.deref.ensures))
     _ c.in_ok-before-in-Joined.ensures.reads.image
     (map (λ row. map datum_of row.items) c.in_ok-before-in-Joined.before.items) (map (λ row. map datum_of row.items) c.in_ok-beside-in-Joined.beside.items)

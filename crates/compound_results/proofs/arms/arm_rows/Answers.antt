@@ -17,8 +17,8 @@ returns-in_err-rows-clause-rows g c = λ steady on has.
     let over = over_plan on plan in
     rw (p.1, p.2)
     (subst (λ columns. IsResultCause over columns c.in_err-rows.field-0.0) (c.in_ok-results.ensures.columns ∙ ap (map term) c.as_slice.ensures.value)
-    (c.in_err-rows.ensures.rows steady over _ (work on.w on.db on.sizes plan) (stored_over pages c.args.tables.now on plan has)
-    (c.in_ok-results.ensures.rows pages c.args.tables.now over refl)))
+    (c.in_err-rows.ensures.rows steady over _ (work on.w on.db on.sizes plan) (stored_over pages c.args.sources.now on plan has)
+    (c.in_ok-results.ensures.rows pages c.args.sources.now over refl)))
 
 pub returns-clause-rows : goal.returns-clause-rows
 returns-clause-rows g c = λ steady on has.
@@ -26,8 +26,8 @@ returns-clause-rows g c = λ steady on has.
     let arm = c.args.arm.now in
     let plan = plan_data arm.plan in
     let over = over_plan on plan in
-    let gathered = c.in_ok-rows.ensures.rows steady over _ (work on.w on.db on.sizes plan) (stored_over pages c.args.tables.now on plan has)
-    (c.in_ok-results.ensures.rows pages c.args.tables.now over refl) in (
+    let gathered = c.in_ok-rows.ensures.rows steady over _ (work on.w on.db on.sizes plan) (stored_over pages c.args.sources.now on plan has)
+    (c.in_ok-results.ensures.rows pages c.args.sources.now over refl) in (
       c.in_ok-shown.ensures
           ∙ ap (each_once_if arm.distinct)
           (gathered.0 ∙ ap (λ columns. result_rows on.w (map term columns) (rows_of on.w on.db plan)) c.as_slice.ensures.value),

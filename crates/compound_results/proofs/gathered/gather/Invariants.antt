@@ -13,8 +13,8 @@ invariant-rows g l = record {
   failures : l.pager.state.source.failures ≡ l.fn.pager.state.source.failures;
   plan : plan_of l.results.op ≡ plan_of l.fn.results.op;
   columns : map term l.results.columns.items ≡ map term l.fn.results.columns.items;
-  rows : Gathering IsComing l.fn.pager.state l.tables l.fn.results l.results (map (λ row. map datum_of row.items) l.rows.items) l.pager.state;
+  rows : Gathering IsComing l.fn.pager.state l.sources l.fn.results l.results (map (λ row. map datum_of row.items) l.rows.items) l.pager.state;
 }
 
 abbrev pub decreases-rows : goal.decreases-rows
-decreases-rows g l = steps l.results.op
+decreases-rows g l = steps l.sources l.results.op

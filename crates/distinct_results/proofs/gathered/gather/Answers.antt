@@ -15,7 +15,7 @@ rows-init g c = record {
   failures = refl;
   plan = refl;
   columns = refl;
-  rows = rw c.new-rows.ensures.items (Gathering-start IsDistinctComing c.args.pager.now.state c.args.tables.now c.args.distinct);
+  rows = rw c.new-rows.ensures.items (Gathering-start IsDistinctComing c.args.pager.now.state c.args.sources.now c.args.distinct);
 }
 
 pub returns-in_err-next-clause-rows : goal.returns-in_err-next-clause-rows
@@ -23,7 +23,7 @@ returns-in_err-next-clause-rows g c = λ steady on rest ahead has coming.
     let p = err_from_is_err_and c.from_residual.result c.from_residual.ensures.1 in
     rw (p.1, p.2)
     (subst (λ columns. IsResultCause on columns c.in_err-next.field-0.0) c.rows.invariant.columns
-    (gather_says IsDistinctComing _ c.rows.pager.state c.rows.invariant.image c.args.tables.now c.args.distinct c.rows.distinct (map (λ row. map datum_of row.items) c.rows.rows.items)
+    (gather_says IsDistinctComing _ c.rows.pager.state c.rows.invariant.image c.args.sources.now c.args.distinct c.rows.distinct (map (λ row. map datum_of row.items) c.rows.rows.items)
     c.rows.invariant.rows steady on rest ahead has coming (λ on. IsResultCause on (map term c.rows.distinct.results.columns.items) c.in_err-next.field-0.0)
     c.in_err-next.ensures.rows))
 
@@ -35,13 +35,13 @@ rows-preserved g c = record {
   columns = c.in_ok-next.ensures.columns ∙ c.rows.invariant.columns;
   rows = λ steady on rest ahead has coming.
       rw (c.in_ok-push.ensures.items, map_push (λ row. map datum_of row.items) c.rows.rows.items c.next.new.out)
-      (gathered_more IsDistinctComing _ c.rows.pager.state c.rows.invariant.image c.args.tables.now c.args.distinct c.rows.distinct (map (λ row. map datum_of row.items) c.rows.rows.items)
+      (gathered_more IsDistinctComing _ c.rows.pager.state c.rows.invariant.image c.args.sources.now c.args.distinct c.rows.distinct (map (λ row. map datum_of row.items) c.rows.rows.items)
       c.rows.invariant.rows steady on rest ahead has coming c.next.new.self (map datum_of c.next.new.out.items) c.next.new.pager.state
       (rw c.if-branch.true at c.in_ok-next.ensures.rows));
 }
 
 pub returns-clause-rows : goal.returns-clause-rows
 returns-clause-rows g c = λ steady on rest ahead has coming.
-    gathered_all IsDistinctComing _ c.rows.pager.state c.rows.invariant.image c.args.tables.now c.args.distinct c.rows.distinct (map (λ row. map datum_of row.items) c.rows.rows.items)
+    gathered_all IsDistinctComing _ c.rows.pager.state c.rows.invariant.image c.args.sources.now c.args.distinct c.rows.distinct (map (λ row. map datum_of row.items) c.rows.rows.items)
     c.rows.invariant.rows steady on rest ahead has coming c.next.new.self (map datum_of c.next.new.out.items) c.next.new.pager.state
     (rw c.if-branch.false at c.in_ok-next.ensures.rows)

@@ -13,8 +13,8 @@ invariant-rows g l = record {
   failures : l.pager.state.source.failures ≡ l.fn.pager.state.source.failures;
   plan : plan_of l.distinct.results.op ≡ plan_of l.fn.distinct.results.op;
   columns : map term l.distinct.results.columns.items ≡ map term l.fn.distinct.results.columns.items;
-  rows : Gathering IsDistinctComing l.fn.pager.state l.tables l.fn.distinct l.distinct (map (λ row. map datum_of row.items) l.rows.items) l.pager.state;
+  rows : Gathering IsDistinctComing l.fn.pager.state l.sources l.fn.distinct l.distinct (map (λ row. map datum_of row.items) l.rows.items) l.pager.state;
 }
 
 abbrev pub decreases-rows : goal.decreases-rows
-decreases-rows g l = steps l.distinct.results.op
+decreases-rows g l = steps l.sources l.distinct.results.op

@@ -18,7 +18,7 @@ returns-in_err-rows-clause-rows g c = λ steady on has same.
     let pages = pages_seen c.args.pager.now.state in
     rw (p.1, p.2)
     (subst (λ columns. IsResultCause on columns c.in_err-rows.field-0.0) (c.in_ok-distinct.ensures.columns ∙ ap (map term) c.as_slice-columns.ensures.value)
-    (c.in_err-rows.ensures.rows steady on _ (work on.w on.db on.sizes on.plan) has (c.in_ok-distinct.ensures.rows pages c.args.tables.now on same)))
+    (c.in_err-rows.ensures.rows steady on _ (work on.w on.db on.sizes on.plan) has (c.in_ok-distinct.ensures.rows pages c.args.sources.now on same)))
 
 pub returns-clause-rows : goal.returns-clause-rows
 returns-clause-rows g c = λ steady on has same.
@@ -27,7 +27,7 @@ returns-clause-rows g c = λ steady on has same.
     let wanted = sorted_distinct_data selection in
     let offset = selection.offset in
     let fits : SFits w64 offset = search rules in
-    let gathered = c.in_ok-rows.ensures.rows steady on _ (work on.w on.db on.sizes on.plan) has (c.in_ok-distinct.ensures.rows pages c.args.tables.now on same) in (
+    let gathered = c.in_ok-rows.ensures.rows steady on _ (work on.w on.db on.sizes on.plan) has (c.in_ok-distinct.ensures.rows pages c.args.sources.now on same) in (
       is_answer (λ row. map datum_of row.items) on.w wanted.order wanted.limit wanted.offset _ selection.order.items c.in_ok-rows.rows.items c.sort_rows.new.rows.items c.new-slice.result _
           refl
           (gathered.0

@@ -13,8 +13,8 @@ invariant-rows g l = record {
   failures : l.pager.state.source.failures ≡ l.fn.pager.state.source.failures;
   plan : plan_of l.op ≡ plan_of l.fn.op;
   most : l.first.most ≡ l.fn.most;
-  rows : Gathering l.fn.pager.state l.tables l.fn.op l.op (map datum_of l.row.items) (map term l.columns) (map key_data l.order) l.first l.pager.state;
+  rows : Gathering l.fn.pager.state l.sources l.fn.op l.op (map datum_of l.row.items) (map term l.columns) (map key_data l.order) l.first l.pager.state;
 }
 
 abbrev pub decreases-rows : goal.decreases-rows
-decreases-rows g l = steps l.op
+decreases-rows g l = steps l.sources l.op

@@ -20,7 +20,7 @@ returns-in_err-outputs-clause-rows g c = λ steady on has same.
     let pages = pages_seen c.args.pager.now.state in
     rw (p.1, p.2)
     ((rw (c.as_slice-2.ensures.value, c.as_slice.ensures.value) at (c.in_err-outputs.ensures.rows steady)) on (rows_of on.w on.db on.plan) (work on.w on.db on.sizes on.plan) has
-    (all_left pages c.args.tables.now on c.in_ok-op.op (plan_data c.args.selection.now.plan) same (c.in_ok-op.ensures.rows pages c.args.tables.now on []))
+    (all_left pages c.args.sources.now on c.in_ok-op.op (plan_data c.args.selection.now.plan) same (c.in_ok-op.ensures.rows pages c.args.sources.now on []))
     (All-contains_itself (rows_of on.w on.db on.plan)))
 
 pub returns-clause-rows : goal.returns-clause-rows
@@ -31,7 +31,7 @@ returns-clause-rows g c = λ steady on has same.
     let fits : SFits w64 offset = search rules in
     let gathered =
     (rw (c.as_slice-2.ensures.value, c.as_slice.ensures.value) at (c.in_ok-outputs.ensures.rows steady)) on (rows_of on.w on.db on.plan) (work on.w on.db on.sizes on.plan) has
-    (all_left pages c.args.tables.now on c.in_ok-op.op (plan_data selection.plan) same (c.in_ok-op.ensures.rows pages c.args.tables.now on []))
+    (all_left pages c.args.sources.now on c.in_ok-op.op (plan_data selection.plan) same (c.in_ok-op.ensures.rows pages c.args.sources.now on []))
     (All-contains_itself (rows_of on.w on.db on.plan)) in (
       is_answer on.w on.db (sorted_data selection) c.rows_looked_at-most.result c.in_ok-outputs.outputs.items c.new-slice.result _
           (subst (λ (p : PlanData). BeginsAll (comes_before (key_directions (map key_data selection.order.items))) c.rows_looked_at-most.result (map output_data c.in_ok-outputs.outputs.items)

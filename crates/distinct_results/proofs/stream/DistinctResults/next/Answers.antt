@@ -14,19 +14,19 @@ returns-in_err-next-clause-rows g c = λ steady on rest ahead has coming.
     let p = err_from_is_err_and c.from_residual.result c.from_residual.ensures.1 in
     rw (p.1, p.2)
     (subst (λ columns. IsResultCause on columns c.in_err-next.field-0.0) c.rows.invariant.columns
-    (results_say _ c.rows.pager.state c.rows.invariant.image c.args.tables.now c.args.self.now c.rows.self.results c.rows.self.first
+    (results_say _ c.rows.pager.state c.rows.invariant.image c.args.sources.now c.args.self.now c.rows.self.results c.rows.self.first
     c.rows.invariant.rows steady on rest ahead has coming (λ on. IsResultCause on (map term c.rows.self.results.columns.items) c.in_err-next.field-0.0)
     c.in_err-next.ensures.rows))
 
 pub returns-then-not-branch-clause-rows : goal.returns-then-not-branch-clause-rows
 returns-then-not-branch-clause-rows g c = λ steady on rest ahead has coming.
-    results_ended _ c.rows.pager.state c.rows.invariant.image c.args.tables.now c.args.self.now c.rows.self.results c.rows.self.first
+    results_ended _ c.rows.pager.state c.rows.invariant.image c.args.sources.now c.args.self.now c.rows.self.results c.rows.self.first
     c.rows.invariant.rows steady on rest ahead has coming c.next.new.self (map datum_of c.next.new.out.items) c.next.new.pager.state
     (rw c.if-not-branch.true at c.in_ok-next.ensures.rows)
 
 pub returns-then-branch-clause-rows : goal.returns-then-branch-clause-rows
 returns-then-branch-clause-rows g c = λ steady on rest ahead has coming.
-    row_given _ c.rows.pager.state c.rows.invariant.image c.args.tables.now c.args.self.now c.rows.self.results c.rows.self.first
+    row_given _ c.rows.pager.state c.rows.invariant.image c.args.sources.now c.args.self.now c.rows.self.results c.rows.self.first
     c.rows.invariant.rows steady on rest ahead has coming c.next.new.self (map datum_of c.next.new.out.items) c.next.new.pager.state
     (rw c.if-not-branch.false at c.in_ok-next.ensures.rows) (map datum_of c.meet.new.out.items) c.meet.new.self
     (c.in_ok-meet.ensures.out c.if-branch.true ∙ c.from.ensures)
@@ -44,7 +44,7 @@ rows-preserved g c = record {
       omega (arith, less, low);
   done = λ none. absurd (c.is_done.ensures.more c.rows-test.true (ap (λ (first : FirstRows). first.slice.left) (c.rows.invariant.done none).0 ∙ none));
   rows = λ steady on rest ahead has coming.
-      row_passed _ c.rows.pager.state c.rows.invariant.image c.args.tables.now c.args.self.now c.rows.self.results c.rows.self.first
+      row_passed _ c.rows.pager.state c.rows.invariant.image c.args.sources.now c.args.self.now c.rows.self.results c.rows.self.first
       c.rows.invariant.rows steady on rest ahead has coming c.next.new.self (map datum_of c.next.new.out.items) c.next.new.pager.state
       (rw c.if-not-branch.false at c.in_ok-next.ensures.rows) c.meet.new.self
       (subst (λ (row : Row). PassesRow c.rows.self.first c.meet.new.self row) c.from.ensures (c.in_ok-meet.ensures.passed c.if-branch.false));
@@ -52,5 +52,5 @@ rows-preserved g c = record {
 
 pub returns-clause-rows : goal.returns-clause-rows
 returns-clause-rows g c = λ steady on rest ahead has coming.
-    slice_ended _ c.rows.pager.state c.rows.invariant.image c.args.tables.now c.args.self.now c.rows.self.results c.rows.self.first
+    slice_ended _ c.rows.pager.state c.rows.invariant.image c.args.sources.now c.args.self.now c.rows.self.results c.rows.self.first
     c.rows.invariant.rows steady on rest ahead has coming (c.is_done.ensures.done c.rows-test.false)

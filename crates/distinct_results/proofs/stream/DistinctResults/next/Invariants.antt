@@ -11,10 +11,10 @@ invariant-rows g l = record {
   failures : l.pager.state.source.failures ≡ l.fn.pager.state.source.failures;
   plan : plan_of l.self.results.op ≡ plan_of l.fn.self.results.op;
   columns : map term l.self.results.columns.items ≡ map term l.fn.self.results.columns.items;
-  steps : steps l.self.results.op ≤ steps l.fn.self.results.op;
+  steps : steps l.sources l.self.results.op ≤ steps l.sources l.fn.self.results.op;
   done : l.fn.self.first.slice.left ≡ Some 0 → (l.self.first ≡ l.fn.self.first) × (l.pager.state ≡ l.fn.pager.state);
-  rows : StillComing l.fn.pager.state l.tables l.fn.self l.self.results l.self.first l.pager.state;
+  rows : StillComing l.fn.pager.state l.sources l.fn.self l.self.results l.self.first l.pager.state;
 }
 
 abbrev pub decreases-rows : goal.decreases-rows
-decreases-rows g l = steps l.self.results.op
+decreases-rows g l = steps l.sources l.self.results.op

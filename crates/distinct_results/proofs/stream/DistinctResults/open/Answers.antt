@@ -10,14 +10,14 @@ use Rattle.distinct_results.specs.Firsts.{firsts}
 use Rattle.distinct_results.proofs.stream.DistinctResults.open.Goals as goal
 
 pub returns-clause-rows : goal.returns-clause-rows
-returns-clause-rows c = λ pages tables on same.
+returns-clause-rows c = λ pages sources on same.
     let selection = c.args.selection.now in
     let offset = selection.offset in
     let fits : SFits w64 offset = search rules in
     let all = firsts (result_rows on.w (map term selection.columns.items) (rows_of on.w on.db on.plan)) in
-    subst (λ rest. IsDistinctComing pages tables on c.in_ok-distinct.distinct rest (work on.w on.db on.sizes on.plan))
+    subst (λ rest. IsDistinctComing pages sources on c.in_ok-distinct.distinct rest (work on.w on.db on.sizes on.plan))
     (ap (λ columns. sliced c.new-slice.result (firsts (result_rows on.w (map term columns) (rows_of on.w on.db on.plan)))) c.as_slice-columns.ensures.value
     ∙ c.new-slice.ensures all
     ∙ ap (λ (n : ℤ). limited selection.limit (skipped n all)) (to_z-of_z w64 offset fits)
     ∙ ap (λ (p : PlanData). limited selection.limit (skipped offset (firsts (result_rows on.w (map term selection.columns.items) (rows_of on.w on.db p))))) same)
-    (c.in_ok-distinct.ensures.rows pages tables on same)
+    (c.in_ok-distinct.ensures.rows pages sources on same)

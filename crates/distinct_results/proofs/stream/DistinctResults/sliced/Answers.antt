@@ -5,8 +5,8 @@ use Rattle.results.specs.Coming.{result_rows}
 use Rattle.distinct_results.proofs.stream.DistinctResults.sliced.Goals as goal
 
 pub returns-clause-rows : goal.returns-clause-rows
-returns-clause-rows c = λ pages tables on same. record {
+returns-clause-rows c = λ pages sources on same. record {
   rows = result_rows on.w (map term c.args.columns.now) (rows_of on.w on.db on.plan);
-  coming = c.in_ok-results.ensures.rows pages tables on same;
+  coming = c.in_ok-results.ensures.rows pages sources on same;
   rest_is = sym (c.new-first.ensures (result_rows on.w (map term c.args.columns.now) (rows_of on.w on.db on.plan)));
 }

@@ -14,12 +14,12 @@ returns-in_err-next-clause-rows g c = λ steady on rest ahead has coming.
     let p = err_from_is_err_and c.from_residual.result c.from_residual.ensures.1 in
     rw (p.1, p.2)
     (plan_cause on _ _
-    (op_says _ c.rows.pager.state c.rows.invariant.image c.args.tables.now c.args.self.now c.rows.self.op (map datum_of c.rows.self.row.items) (map term c.rows.self.columns.items) c.rows.self.slice
+    (op_says _ c.rows.pager.state c.rows.invariant.image c.args.sources.now c.args.self.now c.rows.self.op (map datum_of c.rows.self.row.items) (map term c.rows.self.columns.items) c.rows.self.slice
     c.rows.invariant.rows steady on rest ahead has coming (λ on. IsCause on c.in_err-next.field-0.0) c.in_err-next.ensures.rows))
 
 pub returns-then-not-branch-clause-rows : goal.returns-then-not-branch-clause-rows
 returns-then-not-branch-clause-rows g c = λ steady on rest ahead has coming.
-    op_ended _ c.rows.pager.state c.rows.invariant.image c.args.tables.now c.args.self.now c.rows.self.op (map datum_of c.rows.self.row.items) (map term c.rows.self.columns.items) c.rows.self.slice
+    op_ended _ c.rows.pager.state c.rows.invariant.image c.args.sources.now c.args.self.now c.rows.self.op (map datum_of c.rows.self.row.items) (map term c.rows.self.columns.items) c.rows.self.slice
     c.rows.invariant.rows steady on rest ahead has coming c.next.new.self (map datum_of c.next.new.row.items) c.next.new.pager.state
     (rw c.if-not-branch.true at c.in_ok-next.ensures.rows)
 
@@ -28,14 +28,14 @@ returns-in_err-push_results-clause-rows g c = λ steady on rest ahead has coming
     let p = err_from_is_err_and c.from_residual-in_err-push_results.result c.from_residual-in_err-push_results.ensures.1 in
     rw (p.1, p.2)
     (subst (λ columns. IsResultCause on columns c.in_err-push_results.field-0.0) c.rows.invariant.columns
-    (column_cause _ c.rows.pager.state c.rows.invariant.image c.args.tables.now c.args.self.now c.rows.self.op (map datum_of c.rows.self.row.items) (map term c.rows.self.columns.items) c.rows.self.slice
+    (column_cause _ c.rows.pager.state c.rows.invariant.image c.args.sources.now c.args.self.now c.rows.self.op (map datum_of c.rows.self.row.items) (map term c.rows.self.columns.items) c.rows.self.slice
     c.rows.invariant.rows steady on rest ahead has coming c.next.new.self (map datum_of c.next.new.row.items) c.next.new.pager.state
     (rw c.if-not-branch.false at c.in_ok-next.ensures.rows) _ c.in_err-push_results.ensures.only
     (λ is. rw (c.as_slice.ensures.value, c.as_slice-then-gives.ensures.value) at (c.in_err-push_results.ensures.overflow (cc is)))))
 
 pub returns-then-gives-clause-rows : goal.returns-then-gives-clause-rows
 returns-then-gives-clause-rows g c = λ steady on rest ahead has coming.
-    row_given _ c.rows.pager.state c.rows.invariant.image c.args.tables.now c.args.self.now c.rows.self.op (map datum_of c.rows.self.row.items) (map term c.rows.self.columns.items) c.rows.self.slice
+    row_given _ c.rows.pager.state c.rows.invariant.image c.args.sources.now c.args.self.now c.rows.self.op (map datum_of c.rows.self.row.items) (map term c.rows.self.columns.items) c.rows.self.slice
     c.rows.invariant.rows steady on rest ahead has coming c.next.new.self (map datum_of c.next.new.row.items) c.next.new.pager.state
     (rw c.if-not-branch.false at c.in_ok-next.ensures.rows) (map datum_of c.push_results.new.out.items) c.gives.new.self
     (rw (c.as_slice.ensures.value, c.as_slice-then-gives.ensures.value, c.clear.ensures.items) at (c.in_ok-push_results.ensures.values on.w))
@@ -53,12 +53,12 @@ rows-preserved g c = record {
       omega (arith, less, low);
   done = λ none. absurd (c.is_done.ensures.more c.rows-test.true (ap (λ (s : Slice). s.left) (c.rows.invariant.done none).0 ∙ none));
   rows = λ steady on rest ahead has coming.
-      row_passed _ c.rows.pager.state c.rows.invariant.image c.args.tables.now c.args.self.now c.rows.self.op (map datum_of c.rows.self.row.items) (map term c.rows.self.columns.items) c.rows.self.slice
+      row_passed _ c.rows.pager.state c.rows.invariant.image c.args.sources.now c.args.self.now c.rows.self.op (map datum_of c.rows.self.row.items) (map term c.rows.self.columns.items) c.rows.self.slice
       c.rows.invariant.rows steady on rest ahead has coming c.next.new.self (map datum_of c.next.new.row.items) c.next.new.pager.state
       (rw c.if-not-branch.false at c.in_ok-next.ensures.rows) c.gives.new.self (c.gives.ensures.passed c.if-gives.false);
 }
 
 pub returns-clause-rows : goal.returns-clause-rows
 returns-clause-rows g c = λ steady on rest ahead has coming.
-    slice_ended _ c.rows.pager.state c.rows.invariant.image c.args.tables.now c.args.self.now c.rows.self.op (map datum_of c.rows.self.row.items) (map term c.rows.self.columns.items) c.rows.self.slice
+    slice_ended _ c.rows.pager.state c.rows.invariant.image c.args.sources.now c.args.self.now c.rows.self.op (map datum_of c.rows.self.row.items) (map term c.rows.self.columns.items) c.rows.self.slice
     c.rows.invariant.rows steady on rest ahead has coming (c.is_done.ensures.done c.rows-test.false)

@@ -9,14 +9,14 @@ use Rattle.results.specs.Slices.{sliced}
 use Rattle.results.proofs.stream.Results.of_all.Goals as goal
 
 pub returns-clause-rows : goal.returns-clause-rows
-returns-clause-rows c = λ pages tables on same.
+returns-clause-rows c = λ pages sources on same.
     let shown = map term c.args.columns.now in
     let all = result_rows on.w shown (rows_of on.w on.db on.plan) in
     record {
       rows = rows_of on.w on.db on.plan;
       is_left =
-          subst (λ (p : PlanData). IsLeft pages tables on c.in_ok-op.op (map datum_of c.new-row.result.items) (rows_of on.w on.db p) (work on.w on.db on.sizes p)) (sym same)
-          (c.in_ok-op.ensures.rows pages tables on (map datum_of c.new-row.result.items) (λ hits. subst (Hits on.w on.db) (sym same) hits));
+          subst (λ (p : PlanData). IsLeft pages sources on c.in_ok-op.op (map datum_of c.new-row.result.items) (rows_of on.w on.db p) (work on.w on.db on.sizes p)) (sym same)
+          (c.in_ok-op.ensures.rows pages sources on (map datum_of c.new-row.result.items) (λ hits. subst (Hits on.w on.db) (sym same) hits));
       rest_is =
           sym (c.new-slice.ensures all)
           ∙ ap (λ columns. sliced c.new-slice.result (result_rows on.w columns (rows_of on.w on.db on.plan))) (sym c.in_ok-columns.ensures);

@@ -12,7 +12,7 @@ use Rattle.results.specs.Slices.{sliced}
 use Rattle.results.proofs.stream.Results.open.Goals as goal
 
 pub returns-clause-rows : goal.returns-clause-rows
-returns-clause-rows c = λ pages tables on same.
+returns-clause-rows c = λ pages sources on same.
     let slice = c.new-slice.result in
     let selected = map term c.args.selection.now.columns.items in
     let offset = c.args.selection.now.offset in
@@ -21,8 +21,8 @@ returns-clause-rows c = λ pages tables on same.
     record {
       rows = rows_of on.w on.db on.plan;
       is_left =
-          subst (λ (p : PlanData). IsLeft pages tables on c.in_ok-op.op (map datum_of c.new-row.result.items) (rows_of on.w on.db p) (work on.w on.db on.sizes p)) (sym same)
-          (c.in_ok-op.ensures.rows pages tables on (map datum_of c.new-row.result.items) (λ hits. subst (Hits on.w on.db) (sym same) hits));
+          subst (λ (p : PlanData). IsLeft pages sources on c.in_ok-op.op (map datum_of c.new-row.result.items) (rows_of on.w on.db p) (work on.w on.db on.sizes p)) (sym same)
+          (c.in_ok-op.ensures.rows pages sources on (map datum_of c.new-row.result.items) (λ hits. subst (Hits on.w on.db) (sym same) hits));
       rest_is =
           ap (λ (n : ℤ). limited c.args.selection.now.limit (skipped n all)) (sym (to_z-of_z w64 offset fits))
           ∙ sym (c.new-slice.ensures all)
