@@ -1,11 +1,12 @@
-//! Plans that are run row by row. It promises that the rows that an operator gives are exactly those that its plan stands
-//! for, in their order, whatever stands for results out of range; that `Overflow` comes only where the plan reaches one;
-//! that no more pages are asked for than the plan's work, and none of overflow chains where no cell has one; and that over
-//! any source it returns, falls by a measure and tells of a failed read.
+//! Plans that are run row by row, over the tables of the catalog and lists of rows kept in memory. It promises that the rows that an
+//! operator gives are exactly those that its plan stands for, in their order, whatever stands for results out of range; that
+//! `Overflow` comes only where the plan reaches one; that no more pages are asked for than the plan's work, none for kept rows, and
+//! none of overflow chains where no cell has one; and that over any source of bytes it returns, falls by a measure and tells of a
+//! failed read.
 //!
-//! The modules, in the order in which data passes them: `nest` (a table behind the rows before it), `flagged` (a table that a RIGHT
-//! or FULL JOIN puts there), `gathering` (groups, and how many of them were given), `tree` (a plan's tables, conditions and groups)
-//! and `laws` of the definitions.
+//! The modules, in the order in which data passes them: `nest` (what is read anew behind the rows before it), `flagged` (the rows of
+//! what a RIGHT or FULL JOIN puts there), `gathering` (groups, and how many of them were given), `tree` (a plan's sources, conditions
+//! and groups) and `laws` of the definitions.
 #![tactic(auto)]
 
 mod flagged;
