@@ -19,8 +19,8 @@ use expr::Expr;
 use operators::{Op, copies};
 use pager::{Pager, Source};
 use plans::Plan;
-use std::alloc::{AllocError, Global};
 use sources::Sources;
+use std::alloc::{AllocError, Global};
 use values::{Fault, Value};
 
 /// What a SELECT in no order computes of the rows of a plan. (SELECT)
