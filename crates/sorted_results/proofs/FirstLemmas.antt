@@ -18,7 +18,7 @@ use Rattle.sorted_results.specs.declared.keys.Output.{Output as Made}
 use Rattle.sorted_results.specs.Firsts.{AreAtMost, BeginsAll, HasRoom, IsBehind, IsKeptOf, KeepsOf, comes_before}
 use Rattle.sorted_results.specs.KeyView.{output_data}
 use Rattle.sorted_results.proofs.AnswerLemmas.{get_map, sorted_map}
-use Rattle.meaning.proofs.OrderLemmas.{IsSortedBy-ascending, IsSortedBy-rises, IsUnder, Rises, ascending-itself, ascending-rises, ascending-same}
+use Rattle.meaning.proofs.OrderLemmas.{IsSortedBy-rises, IsUnder, Rises, ascending-itself, ascending-rises, ascending-same}
 
 -- two rows of a permutation change sides
 ends_turned : {X : Type 0} (xs ys zs : List X) → IsPermutation ((xs ++ ys) ++ zs) ((xs ++ zs) ++ ys)

@@ -29,8 +29,8 @@ use operators::Op;
 use pager::{Pager, Source};
 use plans::Plan;
 use results::{Slice, push_results};
-use std::alloc::{AllocError, Global};
 use sources::Sources;
+use std::alloc::{AllocError, Global};
 use values::{Fault, Value};
 
 /// What a SELECT in order computes of the rows of a plan. (SELECT)

@@ -1,6 +1,5 @@
-use Rattle.std.proofs.Common.{rules, ◌≡◌, ◌∙◌, ◌+◌, List, drop, take, Option, ℤ, Some, SFits, pos, sym, ap, w64}
+use Rattle.std.proofs.Common.{rules, SFits, w64}
 use Rattle.std.proofs.lemmas.Int.{to_z-of_z}
-use Rattle.meaning.specs.Answer.{limited, skipped}
 use Rattle.sorted_results.proofs.LimitLemmas.{looked_at}
 use Rattle.sorted_results.proofs.gathered.rows_looked_at.Goals as goal
 
