@@ -21,8 +21,8 @@ use expr::Expr;
 use pager::{Pager, Source};
 use plans::Plan;
 use results::Slice;
-use std::alloc::{AllocError, Global};
 use sources::Sources;
+use std::alloc::{AllocError, Global};
 use values::{Fault, Value};
 
 /// What a SELECT DISTINCT in order computes of the rows of a plan. (SELECT)

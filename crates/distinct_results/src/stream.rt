@@ -20,8 +20,8 @@ use expr::Expr;
 use pager::{Pager, Source};
 use plans::Plan;
 use results::{Results, Selection, Slice};
-use std::alloc::{AllocError, Global};
 use sources::Sources;
+use std::alloc::{AllocError, Global};
 use values::{Fault, Row, Value};
 
 /// The rows of a SELECT DISTINCT that is run: each result row once, where the plan first has it.
