@@ -15,14 +15,12 @@ use Rattle.compound_results.specs.Arms.{ArmData, ArmsData, arm_rows, joined, row
 use Rattle.compound_results.specs.Compounds.{IsArmCause, IsArmsCause}
 use Rattle.compound_results.specs.Joined.{joined_rows}
 
--- the same with another plan, which no word of the tables names
+-- the same with another plan, which no word of the sources names
 abbrev pub over_plan : Basis → PlanData → Basis
 over_plan on plan = record on { plan = plan }
 
 pub stored_over : (pages : Pages) (sources : List SourceData) (on : Basis) (plan : PlanData) → AreStored pages sources on → AreStored pages sources (over_plan on plan)
-stored_over pages sources on plan has at table is =
-    let said = has at table is in
-    record { stored = said.stored; rows_are = said.rows_are; size_is = said.size_is; unchained = said.unchained }
+stored_over pages sources on plan has = has
 
 -- what two readings ask for, one after the other
 pub Asks-both : (local : Bool) (start : PagerState) (first : ℕ) (mid : PagerState) (second : ℕ) (now : PagerState)

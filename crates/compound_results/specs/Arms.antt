@@ -62,7 +62,7 @@ module _ (w : Datum) (db : Database) where
   ArmsHit (one arm) = ArmHits arm
   ArmsHit (joined left operator arm) = ArmsHit left ⊎ ArmHits arm
 
--- their tables and the columns of these are some of the catalog
+-- what they read is some of the sources, with columns that these have
 abbrev pub ArePlannedOver : List SourceData → ArmsData → Type 0
 ArePlannedOver sources (one arm) = IsPlanOf sources arm.plan
 ArePlannedOver sources (joined left operator arm) = ArePlannedOver sources left × IsPlanOf sources arm.plan

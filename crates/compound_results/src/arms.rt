@@ -19,9 +19,9 @@ use expr::Expr;
 use pager::{Pager, Source};
 use plans::Plan;
 use results::Results;
+use sources::Sources;
 use std::alloc::Global;
 use syntax::CompoundOperator;
-use sources::Sources;
 use values::{Fault, Value};
 
 /// What one of the SELECTs that are joined computes of the rows of a plan. (SELECT)

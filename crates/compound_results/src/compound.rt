@@ -13,8 +13,8 @@ use crate::arms::{Arms, arms_rows};
 use distinct_results::{ResultKey, shown_rows, sort_rows};
 use pager::{Pager, Source};
 use results::Slice;
-use std::alloc::Global;
 use sources::Sources;
+use std::alloc::Global;
 use values::{Fault, Value};
 
 /// SELECTs that are joined, with the ORDER BY and LIMIT behind the last. (SELECT, "Compound Select Statements")

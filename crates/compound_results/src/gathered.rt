@@ -12,8 +12,8 @@ ghost use Rattle.results.specs.Coming.{IsComing, IsResultCause};
 
 use pager::{Pager, Source};
 use results::Results;
-use std::alloc::Global;
 use sources::Sources;
+use std::alloc::Global;
 use values::{Fault, Value};
 
 /// The rows that are still to come.
