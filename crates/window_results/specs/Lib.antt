@@ -1,4 +1,3 @@
-pub mod FunctionView
 pub mod Framed
 pub mod Known
 pub mod Over

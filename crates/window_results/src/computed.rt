@@ -5,15 +5,15 @@ ghost use Rattle.expr.specs.Meaning.{Overflows, eval};
 ghost use Rattle.expr.specs.View.{term};
 ghost use Rattle.meaning.specs.Hits.{function_terms};
 ghost use Rattle.window_order.specs.Placed.{rows_in};
-ghost use Rattle.window_results.specs.FunctionView.{function_data};
+ghost use Rattle.window_terms.specs.FunctionView.{function_data};
 ghost use Rattle.window_results.specs.Known.{known_for, known_of, shifted_of};
 
 use crate::framed::Framed;
-use crate::functions::Function;
 use expr::{Expr, eval};
 use std::alloc::Global;
 use values::{Fault, Value};
 use window_order::Sequence;
+use window_terms::Function;
 
 /// The values along a sequence of which each row gets that of another, and what stands on each where there is no such row.
 #[derive(Drop)]

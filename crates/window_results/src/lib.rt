@@ -3,17 +3,14 @@
 //! `Overflow` comes only where an argument reaches an operation out of range on a row of the partition, or the number of a
 //! function leaves 64 bits at a place as the definition says.
 //!
-//! The modules, in the order in which data passes them: `functions` (what is called), `framed` (functions of the values of a
-//! frame), `computed` (what is computed once of a sequence) and `results` (the value at a place, and those
-//! of all places, put where their rows stand).
+//! The modules, in the order in which data passes them: `framed` (functions of the values of a frame), `computed` (what is
+//! computed once of a sequence) and `results` (the value at a place, and those of all places, put where their rows stand).
 #![tactic(auto)]
 
 mod computed;
 mod framed;
-mod functions;
 mod results;
 
 pub use computed::{Computed, Shifted, compute};
 pub use framed::Framed;
-pub use functions::Function;
 pub use results::put_values;

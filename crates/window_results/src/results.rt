@@ -10,18 +10,18 @@ ghost use Rattle.meaning.specs.Windows.{places, window_result};
 ghost use Rattle.meaning.specs.Windows as windows;
 ghost use Rattle.query_trees.specs.SelectView.{frame_of};
 ghost use Rattle.window_order.specs.Placed.{keys_in, rows_in, ways_in};
-ghost use Rattle.window_results.specs.FunctionView.{function_data};
+ghost use Rattle.window_terms.specs.FunctionView.{function_data};
 ghost use Rattle.window_results.specs.Known.{IsAsLong, known_for, known_of, known_result};
 ghost use Rattle.window_results.specs.Over.{IsOver};
 ghost use Rattle.window_results.specs.Put.{AreWanted, PutsEach, numbers_in};
 
 use crate::computed::{Computed, compute};
-use crate::functions::Function;
 use frames::ranges_of;
 use query_trees::Frame;
 use std::alloc::Global;
 use values::{Fault, Value};
 use window_order::Sequence;
+use window_terms::Function;
 use window_values::{dense_rank, lag, lead, ntile, rank, row_number};
 
 /// The number of the bucket of a row, from 1. Where there are no buckets, for which no statement asks, each row is one.

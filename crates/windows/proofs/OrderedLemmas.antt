@@ -21,10 +21,10 @@ use Rattle.window_order.specs.Entries.{keys_of, rows_of}
 use Rattle.window_entries.specs.Tags.{tags_of}
 use Rattle.window_partitions.specs.Tagged.{AreAlike, terms_of}
 use Rattle.window_partitions.proofs.AlikeLemmas.{sort_values-as_terms}
-use Rattle.window_results.specs.FunctionView.{function_data}
+use Rattle.window_terms.specs.FunctionView.{function_data}
 use Rattle.window_results.specs.Put.{PutsEach}
-use Rattle.windows.specs.declared.calls.WindowCall.{WindowCall}
-use Rattle.windows.specs.CallView.{call_data, window_data}
+use Rattle.window_terms.specs.declared.calls.WindowCall.{WindowCall}
+use Rattle.window_terms.specs.CallView.{call_data, window_data}
 use Rattle.windows.proofs.PartLemmas.{any_left, any_permutation, any_right, any_weaker, directions-sort_terms, same_numbers, same_rows, terms-sort_terms}
 
 -- what is known of rows that are put in order

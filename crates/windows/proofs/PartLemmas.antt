@@ -17,7 +17,7 @@ use Rattle.window_partitions.specs.Partition.{IsPartition}
 use Rattle.window_partitions.specs.Tagged.{AreAlike, rows_of_tags, terms_of}
 use Rattle.window_partitions.proofs.AlikeLemmas.{rows-of_tags}
 use Rattle.window_results.specs.Put.{AreWanted}
-use Rattle.windows.specs.CallView.{sort_terms}
+use Rattle.window_terms.specs.CallView.{sort_terms}
 use Rattle.windows.specs.Wanted.{wanted}
 use Rattle.windows.proofs.NumberedLemmas.{length-numbered_after, some_place}
 use Rattle.windows.proofs.WantedLemmas.{given_here, wanted_here}

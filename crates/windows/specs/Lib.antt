@@ -1,2 +1,1 @@
-pub mod CallView
 pub mod Wanted

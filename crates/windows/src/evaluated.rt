@@ -8,14 +8,14 @@ ghost use Rattle.meaning.specs.Sequence.{value_at};
 ghost use Rattle.window_order.specs.Entries.{rows_of};
 ghost use Rattle.window_entries.specs.Tags.{tags_of};
 ghost use Rattle.window_partitions.specs.Partition.{ArePartitions, part_at};
-ghost use Rattle.windows.specs.CallView.{call_data, window_data};
+ghost use Rattle.window_terms.specs.CallView.{call_data, window_data};
 ghost use Rattle.windows.specs.Wanted.{IsReachedBy, column_of, wanted};
 
-use crate::calls::WindowCall;
 use crate::parts::put_part;
 use std::alloc::{AllocError, Global};
 use values::{Fault, Value};
 use window_partitions::{Partitions, partitioned};
+use window_terms::WindowCall;
 
 /// So many NULLs.
 fn nulls(alloc: Global, count: usize) -> Result<Vec<Value>, AllocError>

@@ -4,14 +4,12 @@
 //! of range on a row, or the number of a call leaves 64 bits there as the definition says. Each window is evaluated in
 //! `n log n`.
 //!
-//! The modules, in the order in which data passes them: `calls` (what is called, over which window), `parts` (one partition),
-//! `evaluated` (all rows) and `laws` of the definitions.
+//! The modules, in the order in which data passes them: `parts` (one partition), `evaluated` (all rows) and `laws` of the
+//! definitions.
 #![tactic(auto)]
 
-mod calls;
 mod evaluated;
 pub mod laws;
 mod parts;
 
-pub use calls::{Window, WindowCall};
 pub use evaluated::{evaluate, evaluate_all};

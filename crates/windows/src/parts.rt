@@ -9,17 +9,17 @@ ghost use Rattle.query_trees.specs.SelectView.{direction_of};
 ghost use Rattle.window_order.specs.Entries.{IsInOrder, keys_of, rows_of};
 ghost use Rattle.window_entries.specs.Tags.{tags_of};
 ghost use Rattle.window_partitions.specs.Partition.{IsPartition};
-ghost use Rattle.window_results.specs.FunctionView.{function_data};
+ghost use Rattle.window_terms.specs.FunctionView.{function_data};
 ghost use Rattle.window_results.specs.Put.{AreWanted, PutsEach};
-ghost use Rattle.windows.specs.CallView.{call_data, window_data};
+ghost use Rattle.window_terms.specs.CallView.{call_data, window_data};
 ghost use Rattle.windows.specs.Wanted.{wanted};
 
-use crate::calls::WindowCall;
 use std::alloc::Global;
 use values::{Fault, Value};
 use window_order::{Entry, Sequence, peer_groups};
 use window_partitions::ordered;
 use window_results::put_values;
+use window_terms::WindowCall;
 
 /// Puts the value of a call at each place of the sequence of a partition where its row stands among those that are given. Its
 /// faults are `Overflow` and `NoMemory`.

@@ -3,7 +3,7 @@ use Rattle.std.proofs.lemmas.Result.{err_from_is_err_and}
 use Rattle.expr.specs.View.{term}
 use Rattle.meaning.specs.Hits.{function_terms}
 use Rattle.window_order.specs.Placed.{rows_in}
-use Rattle.window_results.specs.FunctionView.{function_data}
+use Rattle.window_terms.specs.FunctionView.{function_data}
 use Rattle.window_results.proofs.KnownLemmas.{first_reached, second_reached}
 use Rattle.window_results.proofs.computed.compute.Goals as goal
 

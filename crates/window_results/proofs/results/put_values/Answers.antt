@@ -3,7 +3,7 @@ use Rattle.std.proofs.lemmas.Result.{on_ok_weaker}
 use Rattle.values.specs.Datum.{null}
 use Rattle.expr.specs.Meaning.{eval}
 use Rattle.window_order.specs.Placed.{keys_in, rows_in}
-use Rattle.window_results.specs.FunctionView.{function_data}
+use Rattle.window_terms.specs.FunctionView.{function_data}
 use Rattle.window_results.specs.Known.{IsAsLong, Known}
 use Rattle.window_results.proofs.KnownLemmas.{known_size, same_length}
 use Rattle.window_results.proofs.results.put_values.Goals as goal

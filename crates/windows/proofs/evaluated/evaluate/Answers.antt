@@ -12,7 +12,7 @@ use Rattle.std.specs.List.{Any}
 use Rattle.meaning.specs.Hits.{call_terms}
 use Rattle.meaning.specs.Windows.{row_at}
 use Rattle.window_entries.specs.Tags.{tags_of}
-use Rattle.windows.specs.CallView.{call_data, window_data}
+use Rattle.window_terms.specs.CallView.{call_data, window_data}
 use Rattle.windows.proofs.AllLemmas.{all_values, rows_given}
 use Rattle.windows.proofs.OrderedLemmas.{reached_by_partition}
 use Rattle.windows.proofs.evaluated.evaluate.Goals as goal

@@ -4,8 +4,8 @@ use Rattle.std.proofs.lemmas.Result.{err_from_is_err_and}
 use Rattle.values.specs.Datum.{datum_of}
 use Rattle.values.specs.declared.value.Value.{Value}
 use Rattle.window_entries.proofs.ValueLemmas.{any_made, made_more, map-map}
-use Rattle.windows.specs.declared.calls.WindowCall.{WindowCall}
-use Rattle.windows.specs.CallView.{call_data}
+use Rattle.window_terms.specs.declared.calls.WindowCall.{WindowCall}
+use Rattle.window_terms.specs.CallView.{call_data}
 use Rattle.windows.specs.Wanted.{IsReachedBy, column_of}
 use Rattle.windows.proofs.evaluated.evaluate_all.Goals as goal
 

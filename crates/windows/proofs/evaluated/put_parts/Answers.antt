@@ -5,7 +5,7 @@ use Rattle.values.specs.Row.{Row}
 use Rattle.expr.specs.Meaning.{Overflows, eval}
 use Rattle.meaning.specs.Hits.{call_terms}
 use Rattle.window_entries.specs.Tags.{tags_of}
-use Rattle.windows.specs.CallView.{call_data, window_data}
+use Rattle.window_terms.specs.CallView.{call_data, window_data}
 use Rattle.windows.specs.Wanted.{wanted}
 use Rattle.windows.proofs.AllLemmas.{All-slice, one_part_more, part_before, rows_before, tags_before}
 use Rattle.windows.proofs.evaluated.put_parts.Goals as goal

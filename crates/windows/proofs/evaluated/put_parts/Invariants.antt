@@ -5,7 +5,7 @@ use Rattle.expr.specs.Meaning.{eval}
 use Rattle.meaning.specs.Sequence.{value_at}
 use Rattle.window_entries.specs.Tags.{tags_of}
 use Rattle.window_partitions.specs.Partition.{ArePartitions, part_at}
-use Rattle.windows.specs.CallView.{call_data, window_data}
+use Rattle.window_terms.specs.CallView.{call_data, window_data}
 use Rattle.windows.specs.Wanted.{wanted}
 use Rattle.windows.proofs.evaluated.put_parts.Given as goal
 

@@ -2,8 +2,8 @@
 use Rattle.expr.specs.View.{term}
 use Rattle.meaning.specs.Query.{WindowFunction}
 use Rattle.aggregates.specs.AggregateView.{aggregate_data}
-use Rattle.window_results.specs.declared.functions.Function.{Function}
-use Rattle.window_results.specs.declared.functions.Function.TheVariants as functions
+use Rattle.window_terms.specs.declared.functions.Function.{Function}
+use Rattle.window_terms.specs.declared.functions.Function.TheVariants as functions
 
 abbrev pub function_data : Function → WindowFunction
 function_data (functions.Aggregate a) = WindowFunction.aggregate (aggregate_data a)

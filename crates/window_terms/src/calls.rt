@@ -1,10 +1,10 @@
 //! Calls over windows.
 ghost use Rattle.std.specs.Prelude.{◌≡◌, length};
 
+use crate::functions::Function;
 use expr::Expr;
 use query_trees::Frame;
 use syntax::Direction;
-use window_results::Function;
 
 /// A window, in whose expressions inner queries have been answered. (Window Functions)
 #[derive(Drop)]

@@ -4,9 +4,9 @@ use Rattle.expr.specs.Term.{Term}
 use Rattle.expr.specs.View.{term}
 use Rattle.meaning.specs.Query as query
 use Rattle.query_trees.specs.SelectView.{direction_of, frame_of}
-use Rattle.window_results.specs.FunctionView.{function_data}
-use Rattle.windows.specs.declared.calls.Window.{Window}
-use Rattle.windows.specs.declared.calls.WindowCall.{WindowCall}
+use Rattle.window_terms.specs.FunctionView.{function_data}
+use Rattle.window_terms.specs.declared.calls.Window.{Window}
+use Rattle.window_terms.specs.declared.calls.WindowCall.{WindowCall}
 
 -- each term with its direction
 abbrev pub sort_terms : List Term → List query.Direction → List query.SortTerm

@@ -1,0 +1,3 @@
+pub mod FunctionView
+pub mod CallView
+pub mod Reached
