@@ -11,7 +11,7 @@ use Rattle.meaning.specs.Examples.{items, whole}
 use Rattle.meaning.specs.OneTable.{shown}
 use Rattle.meaning.specs.Query.{always}
 use Rattle.meaning.specs.Valuation.{kept}
-use Rattle.plans.specs.Examples.{emptied, emptied_from, emptied_rows, emptied_where, example_sizes, full_sold, full_sold_rows, ids, is_seven, never, nothing_kept, padded, padded_rows, right_from, right_sold, right_sold_rows, sale_of, sevens, sevens_rows, sold, sold_rows}
+use Rattle.plans.specs.Examples.{emptied, emptied_from, emptied_rows, emptied_where, example_sizes, full_sold, full_sold_rows, ids, is_seven, never, nothing_kept, padded, padded_rows, right_from, right_sold, right_sold_rows, sale_of, sevens, sevens_rows, sold, sold_rows, summed, summed_rows}
 use Rattle.plans.specs.JoinPlan.{IsJoinPlan}
 use Rattle.plans.specs.Plan.{flagged, joined, once, rows_of, work}
 use Rattle.plans.specs.Stands.{StandsFor}
@@ -49,6 +49,10 @@ module _ (w : Datum) where
       × (map (shown (0 ∷ 5 ∷ 6 ∷ [])) (kept (values_over w items emptied_from) emptied_where (body.rows_of w items emptied_from)) ≡ emptied_rows)
   unfolding settle same is_null truth condition test_of comparison
   emptied_shows = (refl, refl, refl)
+
+  pub summed_shows : (rows_of w items summed ≡ summed_rows) × (work w items example_sizes summed ≡ 5)
+  unfolding settle same is_null truth condition test_of comparison
+  summed_shows = (refl, refl)
 
 pub emptied_is_planned : IsJoinPlan (0 ∷ 5 ∷ 6 ∷ []) emptied_from (conjuncts emptied_where) emptied
 emptied_is_planned = record {

@@ -9,3 +9,4 @@ pub mod JoinHitLemmas
 pub mod WrittenLemmas
 pub mod WrittenHitLemmas
 pub mod WholeLemmas
+pub mod WindowedLemmas

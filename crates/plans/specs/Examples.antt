@@ -1,13 +1,13 @@
 -- Plans over the two tables of the examples of queries, with their rows and their work.
-use Rattle.std.specs.Prelude.{Bool, ℕ, true, false, List, [], ◌∷◌}
+use Rattle.std.specs.Prelude.{Bool, ℕ, true, false, List, [], ◌∷◌, codes}
 use Rattle.expr.specs.declared.tree.Comparison.TheVariants.{Eq, Lt}
 use Rattle.expr.specs.Term.{Term, column, compare, literal}
-use Rattle.values.specs.Datum.{null}
+use Rattle.values.specs.Datum.{null, text}
 use Rattle.values.specs.Row.{Row}
-use Rattle.meaning.specs.Examples.{item, sale, whole}
-use Rattle.meaning.specs.Query.{From, always, inner, only, right}
+use Rattle.meaning.specs.Examples.{aggregate_of, default_frame, item, over, sale, whole}
+use Rattle.meaning.specs.Query.{AggregateFunction, From, WindowFunction, always, inner, only, right}
 use Rattle.meaning.specs.Query as q
-use Rattle.plans.specs.Plan.{NestedData, PlanData, flagged, joined, kept, once}
+use Rattle.plans.specs.Plan.{NestedData, PlanData, flagged, joined, kept, once, windowed}
 use Rattle.plans.specs.Stands.{one_table}
 
 -- the tables have trees of so many pages
@@ -102,3 +102,17 @@ emptied =
 
 abbrev pub emptied_rows : List Row
 emptied_rows = (null ∷ whole 3 ∷ whole 2 ∷ []) ∷ (null ∷ whole 9 ∷ whole 1 ∷ []) ∷ []
+
+-- ---- windows
+
+-- sum(qty) OVER (ORDER BY qty) beside each item, in the table's order
+abbrev pub summed : PlanData
+summed = windowed (joined once (record { table = 0; columns = 0 ∷ 1 ∷ 2 ∷ []; tests = []; padded = false })) (record {
+  window = over (column 2) default_frame;
+  function = WindowFunction.aggregate (aggregate_of AggregateFunction.sum (column 2));
+} ∷ [])
+
+abbrev pub summed_rows : List Row
+summed_rows =
+    (whole 1 ∷ text (codes "bolt") ∷ whole 40 ∷ whole 54 ∷ []) ∷ (whole 2 ∷ text (codes "nut") ∷ null ∷ null ∷ [])
+    ∷ (whole 3 ∷ text (codes "cap") ∷ whole 7 ∷ whole 14 ∷ []) ∷ (whole 4 ∷ text (codes "nut") ∷ whole 7 ∷ whole 14 ∷ []) ∷ []

@@ -3,3 +3,4 @@ pub mod PlanView
 pub mod Stands
 pub mod Examples
 pub mod JoinPlan
+pub mod WindowedPlan

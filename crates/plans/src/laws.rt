@@ -7,9 +7,10 @@ ghost use Rattle.meaning.specs.Body.{values_over};
 ghost use Rattle.meaning.specs.Examples.{items};
 ghost use Rattle.meaning.specs.OneTable.{shown};
 ghost use Rattle.meaning.specs.Valuation.{kept};
-ghost use Rattle.plans.specs.Examples.{emptied, emptied_from, emptied_rows, emptied_where, example_sizes, full_sold, full_sold_rows, is_seven, nothing_kept, padded, padded_rows, right_from, right_sold, right_sold_rows, sevens, sevens_rows, sold, sold_rows};
+ghost use Rattle.plans.specs.Examples.{emptied, emptied_from, emptied_rows, emptied_where, example_sizes, full_sold, full_sold_rows, is_seven, nothing_kept, padded, padded_rows, right_from, right_sold, right_sold_rows, sevens, sevens_rows, sold, sold_rows, summed, summed_rows};
 ghost use Rattle.plans.specs.JoinPlan.{InnerInTurn, IsJoinPlan, JoinHits, JoinIsBag, JoinIsWhere};
 ghost use Rattle.plans.specs.Plan.{rows_of, work};
+ghost use Rattle.plans.specs.WindowedPlan.{WindowedInOrder};
 ghost use Rattle.plans.specs.Stands.{KeptIsWhere, NothingIsWhere, OneTableHits, OneTableIsWhere, OneTableWorks, StandsFor, StandsForItself};
 
 /// Where all columns are read that an expression names, it stands for itself.
@@ -45,9 +46,15 @@ pub fn inner_joins_are_in_turn()
     ensures { InnerInTurn }
 {}
 
+/// The rows of a plan of windows are those of the plan below, in their order, each with a value behind it for each call.
+pub fn windowed_rows_are_in_order()
+    ensures { WindowedInOrder }
+{}
+
 /// A table of four rows, whose third column is compared and may be NULL; a condition that is false without a row; a
 /// second table behind the first; one that is padded; a RIGHT and a FULL JOIN; and a RIGHT JOIN behind an inner join whose ON is
-/// always false, which leaves each row of the last table alone, and its plan, where that ON stays at its table.
+/// always false, which leaves each row of the last table alone, and its plan, where that ON stays at its table; and a running sum
+/// beside each row of a table.
 pub fn examples()
     ensures stands { StandsFor (0 ∷ 2 ∷ []) (is_seven 1) (is_seven 2) }
     ensures sevens { (w : Datum) → (rows_of w items sevens ≡ sevens_rows) × (work w items example_sizes sevens ≡ 5) }
@@ -59,5 +66,6 @@ pub fn examples()
     ensures full { (w : Datum) → (rows_of w items full_sold ≡ full_sold_rows) × (work w items example_sizes full_sold ≡ 8) }
     ensures emptied { (w : Datum) → (rows_of w items emptied ≡ emptied_rows) × (work w items example_sizes emptied ≡ 20)
         × (map (shown (0 ∷ 5 ∷ 6 ∷ [])) (kept (values_over w items emptied_from) emptied_where (body.rows_of w items emptied_from)) ≡ emptied_rows) }
+    ensures summed { (w : Datum) → (rows_of w items summed ≡ summed_rows) × (work w items example_sizes summed ≡ 5) }
     ensures planned { IsJoinPlan (0 ∷ 5 ∷ 6 ∷ []) emptied_from (conjuncts emptied_where) emptied }
 {}

@@ -1,4 +1,4 @@
-use Rattle.plans.proofs.ExampleLemmas.{emptied_is_planned, emptied_shows, full_shows, nothing_shows, padded_shows, right_shows, seven_stands, sevens_show, sold_shows}
+use Rattle.plans.proofs.ExampleLemmas.{emptied_is_planned, emptied_shows, full_shows, nothing_shows, padded_shows, right_shows, seven_stands, sevens_show, sold_shows, summed_shows}
 use Rattle.plans.proofs.laws.examples.Goals as goal
 
 pub returns-clause-stands : goal.returns-clause-stands
@@ -27,3 +27,6 @@ returns-clause-emptied c = emptied_shows
 
 pub returns-clause-planned : goal.returns-clause-planned
 returns-clause-planned c = emptied_is_planned
+
+pub returns-clause-summed : goal.returns-clause-summed
+returns-clause-summed c = summed_shows
