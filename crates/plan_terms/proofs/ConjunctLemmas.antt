@@ -1,25 +1,18 @@
 -- A condition over the columns that are read, split at AND.
-use Rattle.std.proofs.Common.{◌≡◌, ◌∙◌, ◌==◌, All, Bool, true, not, Contains, ℕ, List, [], ◌∷◌, ◌++◌, ◌≤◌, length, map, IsPermutation, refl, sym, ap, subst}
-use Rattle.std.specs.List.{filter}
-use Rattle.std.proofs.Math.Dec.{eqb-suc-zero}
-use Rattle.std.proofs.lemmas.List.{length-map, map-append}
-use Rattle.std.proofs.lemmas.List.Elements.{All-append, All-cons, All-filter, All-head, All-nil, All-tail, filter_agree, filter_passes}
-use Rattle.std.proofs.lemmas.List.Sorted.{IsPermutation-filter_both, IsPermutation-map}
+use Rattle.std.proofs.Common.{◌≡◌, ◌∙◌, All, Contains, ℕ, List, [], ◌∷◌, ◌++◌, ◌≤◌, length, map, refl, sym, subst}
+use Rattle.std.proofs.lemmas.List.{map-append}
+use Rattle.std.proofs.lemmas.List.Elements.{All-append, All-cons, All-head, All-nil, All-tail}
 use Rattle.values.specs.Datum.{Datum}
-use Rattle.values.specs.Row.{Row}
-use Rattle.expr.specs.Columns.{Agree, columns_of, columns_of_all, columns_of_arms}
+use Rattle.expr.specs.Columns.{columns_of}
 use Rattle.expr.specs.Conjuncts.{conjuncts}
 use Rattle.expr.specs.declared.tree.Comparison.TheVariants.{Ge, Le}
 use Rattle.expr.specs.Filled.{filled}
-use Rattle.expr.specs.Term.{Term, Terms, Arms, literal, column, call, arithmetic, concat, compare, is, and, or, between, among, coalesce, choice, choice_of, null_if, like, none, answer, more, no_arms, arm}
-use Rattle.expr.proofs.ColumnLemmas.{depends_on_columns}
+use Rattle.expr.specs.Term.{Term, literal, column, call, arithmetic, concat, compare, is, and, or, between, among, coalesce, choice, choice_of, null_if, like}
 use Rattle.expr.proofs.FilledLemmas.{fills_conjuncts}
-use Rattle.meaning.specs.OneTable.{shown}
 use Rattle.plans.specs.Stands.{AreTestsOf, StandsFor}
-use Rattle.plans.proofs.RowLemmas.{filter-map}
 use Rattle.plan_terms.specs.Names.{answers_of}
 use Rattle.plan_terms.specs.Over.{AreTestsOver, IsOver}
-use Rattle.plan_terms.specs.Placed.{place_in, placed, placed_all, placed_arms}
+use Rattle.plan_terms.specs.Placed.{placed}
 use Rattle.plan_terms.proofs.PlacedLemmas.{AreOver, Over, first, later, placed_stands}
 
 both : {A B : Type 0} (f : A → B) (xs ys : List A) (us vs : List B) → us ≡ map f xs → vs ≡ map f ys → us ++ vs ≡ map f (xs ++ ys)

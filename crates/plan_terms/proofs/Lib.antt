@@ -1,3 +1,4 @@
 pub mod PlacedLemmas
+pub mod ItselfLemmas
 pub mod OverLemmas
 pub mod ConjunctLemmas

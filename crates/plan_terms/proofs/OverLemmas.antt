@@ -12,7 +12,7 @@ use Rattle.expr.specs.declared.tree.Expr.{Expr}
 use Rattle.query_trees.specs.TermView.{term}
 use Rattle.query_trees.specs.declared.terms.Term as tree
 use Rattle.plan_terms.specs.Names.{answers_of}
-use Rattle.plan_terms.specs.Over.{IsOver, StandsOver}
+use Rattle.plan_terms.specs.Over.{IsOver}
 
 -- tests of each element, joined, decide whether all hold
 pub decides_all : {X : Type 0} (p : X → Bool) (P : X → Type 0) → ((x : X) → MatchBool (p x) (P x) (¬ P x))
@@ -99,12 +99,12 @@ module _ (read : List ℕ) (inner : ℕ) (terms : List tree.Term) (i : ℕ) (t :
   pub over_more : All (IsOver read inner) (map term (take i terms)) → IsOver read inner (term t) → All (IsOver read inner) (map term (take (i + 1) terms))
   over_more all over = subst (All (IsOver read inner)) (sym taken) (All-push (IsOver read inner) (map term (take i terms)) (term t) all over)
 
-  pub stand_more : (es : List Expr) (e : Expr) → AllZip (StandsOver read inner) (map expressions.term es) (map term (take i terms)) → StandsOver read inner (expressions.term e) (term t)
-      → AllZip (StandsOver read inner) (map expressions.term (es ++ e ∷ [])) (map term (take (i + 1) terms))
-  stand_more es e all stands =
-      subst (λ ts. AllZip (StandsOver read inner) (map expressions.term (es ++ e ∷ [])) ts) (sym taken)
-      (subst (λ es. AllZip (StandsOver read inner) es (map term (take i terms) ++ term t ∷ [])) (sym (map-append expressions.term es (e ∷ [])))
-      (AllZip-push (StandsOver read inner) (map expressions.term es) (map term (take i terms)) (expressions.term e) (term t) all stands))
+  pub zip_more : (R : Term → Term → Type 0) (es : List Expr) (e : Expr) → AllZip R (map expressions.term es) (map term (take i terms)) → R (expressions.term e) (term t)
+      → AllZip R (map expressions.term (es ++ e ∷ [])) (map term (take (i + 1) terms))
+  zip_more R es e all stands =
+      subst (λ ts. AllZip R (map expressions.term (es ++ e ∷ [])) ts) (sym taken)
+      (subst (λ es. AllZip R es (map term (take i terms) ++ term t ∷ [])) (sym (map-append expressions.term es (e ∷ [])))
+      (AllZip-push R (map expressions.term es) (map term (take i terms)) (expressions.term e) (term t) all stands))
 
   pub not_all : ¬ IsOver read inner (term t) → ¬ All (IsOver read inner) (map term terms)
   not_all refused all =

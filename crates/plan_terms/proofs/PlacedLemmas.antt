@@ -44,7 +44,7 @@ prefix_len-le p (x ∷ xs) = by_test (p x) (prefix_len-le p xs)
     by_test true rest = omega (arith, rest)
     by_test false rest = omega arith
 
-place_in-first : (read : List ℕ) (at : ℕ) → place_in read at ≡ position_or_len (λ c. c == at) read
+pub place_in-first : (read : List ℕ) (at : ℕ) → place_in read at ≡ position_or_len (λ c. c == at) read
 place_in-first read at = by_test (ltb (position_or_len (λ c. c == at) read) (length read)) refl
   where
     by_test : (b : Bool) → ltb (position_or_len (λ c. c == at) read) (length read) ≡ b
@@ -102,7 +102,7 @@ module _ (read : List ℕ) (inner : ℕ) where
   abbrev pub OverArms : Arms → Type 0
   OverArms rest = AreOver read inner (columns_of_arms rest) (answers_of_arms rest)
 
-no_answer : (answers : List (List Datum)) (k : ℕ) → length answers ≤ k → slice_index_or answers k [] ≡ []
+pub no_answer : (answers : List (List Datum)) (k : ℕ) → length answers ≤ k → slice_index_or answers k [] ≡ []
 no_answer [] k few = refl
 no_answer (a ∷ answers) zero few = absurd (omega (arith, few))
 no_answer (a ∷ answers) (suc k) few = no_answer answers k (omega (arith, few))

@@ -1,5 +1,6 @@
 -- Which terms stand over the columns that are read, and what expressions over these stand for.
-use Rattle.std.specs.Prelude.{◌≤◌, All, Contains, ℕ, List, length}
+use Rattle.std.specs.Prelude.{◌≡◌, ◌≤◌, All, Contains, ℕ, List, length}
+use Rattle.std.specs.List.{range_with_len}
 use Rattle.values.specs.Datum.{Datum}
 use Rattle.expr.specs.Columns.{columns_of}
 use Rattle.expr.specs.Conjuncts.{conjuncts}
@@ -21,3 +22,11 @@ StandsOver read inner e t = (answers : List (List Datum)) → length answers ≤
 abbrev pub AreTestsOver : List ℕ → ℕ → List Term → Term → Type 0
 AreTestsOver read inner tests condition =
     (answers : List (List Datum)) → length answers ≤ inner → AreTestsOf read tests (conjuncts (filled answers condition))
+
+-- each column up to some place is read, in its place
+abbrev pub AreWhole : List ℕ → Type 0
+AreWhole read = read ≡ range_with_len 0 (length read)
+
+-- an expression is the term itself, whatever so many inner queries answer
+abbrev pub IsItself : ℕ → Term → Term → Type 0
+IsItself inner e t = (answers : List (List Datum)) → length answers ≤ inner → e ≡ filled answers t

@@ -2,7 +2,7 @@
 ghost use Rattle.std.specs.Prelude.{◌≡◌, ◌==◌, All, IfOk, MatchBool, MatchOption, map, nat_le, ⊤};
 ghost use Rattle.std.specs.List.{AllZip, list_all, list_any};
 ghost use Rattle.expr.specs.View as expressions;
-ghost use Rattle.plan_terms.specs.Over.{IsOver, StandsOver};
+ghost use Rattle.plan_terms.specs.Over.{AreWhole, IsItself, IsOver, StandsOver};
 ghost use Rattle.query_trees.specs.TermView.{term};
 
 use crate::names::{push_answers, push_columns};
@@ -45,7 +45,8 @@ pub(crate) fn is_over(
 }
 
 /// The expression of a term over the columns that are read, beside so many inner queries. There is none exactly where the term
-/// names a column that isn't read, or the answer of one of these queries. (SQL Language Expressions)
+/// names a column that isn't read, or the answer of one of these queries. Where each column stands in its place, it is the term
+/// itself. (SQL Language Expressions)
 pub fn expr_over(
     alloc: Global,
     read: &[usize],
@@ -54,6 +55,7 @@ pub fn expr_over(
 ) -> Result<Option<Expr>, AllocError>
     ensures over { IfOk result (λ e. MatchOption e (¬ IsOver read.now inner (term t.now)) (λ _. IsOver read.now inner (term t.now))) }
     ensures stands { IfOk result (λ e. MatchOption e ⊤ (λ e. StandsOver read.now inner (expressions.term e) (term t.now))) }
+    ensures itself { IfOk result (λ e. MatchOption e ⊤ (λ e. AreWhole read.now → IsItself inner (expressions.term e) (term t.now))) }
 {
     if is_over(alloc, read, inner, t)? {
         Ok(Some(place(alloc, read, t)?))
@@ -73,6 +75,8 @@ pub fn exprs_over(
         (λ _. All (IsOver read.now inner) (map term terms.now))) }
     ensures stand { IfOk result (λ es. MatchOption es ⊤
         (λ es. AllZip (StandsOver read.now inner) (map expressions.term es.items) (map term terms.now))) }
+    ensures itself { IfOk result (λ es. MatchOption es ⊤
+        (λ es. AreWhole read.now → AllZip (IsItself inner) (map expressions.term es.items) (map term terms.now))) }
 {
     let mut es = Vec::with_capacity(alloc, terms.len())?;
     for t in terms {

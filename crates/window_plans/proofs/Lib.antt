@@ -1,0 +1,4 @@
+pub mod ItselfLemmas
+pub mod SeenLemmas
+pub mod RowLemmas
+pub mod HitLemmas
