@@ -4,3 +4,4 @@ pub mod PartLemmas
 pub mod AllLemmas
 pub mod OrderedLemmas
 pub mod LawLemmas
+pub mod BehindLemmas

@@ -4,12 +4,14 @@
 //! of range on a row, or the number of a call leaves 64 bits there as the definition says. Each window is evaluated in
 //! `n log n`.
 //!
-//! The modules, in the order in which data passes them: `parts` (one partition), `evaluated` (all rows) and `laws` of the
-//! definitions.
+//! The modules, in the order in which data passes them: `parts` (one partition), `evaluated` (all rows), `windowed` (the rows with
+//! their values behind them) and `laws` of the definitions.
 #![tactic(auto)]
 
 mod evaluated;
 pub mod laws;
 mod parts;
+mod windowed;
 
 pub use evaluated::{evaluate, evaluate_all};
+pub use windowed::windowed_rows;
