@@ -6,5 +6,6 @@ pub mod StepLemmas
 pub mod StartLemmas
 pub mod BasisLemmas
 pub mod GroupLemmas
+pub mod WindowLemmas
 pub mod FlaggedLemmas
 pub mod ReadLemmas

@@ -5,8 +5,8 @@
 //! failed read.
 //!
 //! The modules, in the order in which data passes them: `nest` (what is read anew behind the rows before it), `flagged` (the rows of
-//! what a RIGHT or FULL JOIN puts there), `gathering` (groups, and how many of them were given), `tree` (a plan's sources, conditions
-//! and groups) and `laws` of the definitions.
+//! what a RIGHT or FULL JOIN puts there), `gathering` (groups, and how many of them were given), `windowing` (rows with the values
+//! of windows, and which of them are left), `tree` (a plan's sources, conditions, groups and windows) and `laws` of the definitions.
 #![tactic(auto)]
 
 mod flagged;
@@ -14,8 +14,10 @@ mod gathering;
 pub mod laws;
 mod nest;
 mod tree;
+mod windowing;
 
 pub use gathering::Gathering;
 pub use nest::Nest;
 pub use row_conditions::copies;
 pub use tree::Op;
+pub use windowing::Windowing;
