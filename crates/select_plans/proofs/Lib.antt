@@ -2,6 +2,7 @@ pub mod ReadLemmas
 pub mod TypedLemmas
 pub mod BaseLemmas
 pub mod MadeLemmas
+pub mod ColumnLemmas
 pub mod OverLemmas
 pub mod StandLemmas
 pub mod FormLemmas

@@ -1,8 +1,6 @@
--- The tables and columns of the plan of a typed SELECT are the catalog's.
-use Rattle.std.proofs.Common.{◌≡◌, ◌∙◌, ◌+◌, ◌<◌, arith, All, Bool, false, ℕ, ℤ, List, [], ◌∷◌, ◌++◌, length, map, option_map, slice_get, Option, Some, None, true, sym, ap, subst}
-use Rattle.std.proofs.lemmas.List.{length-map}
+-- The sources and columns of the plan of a typed SELECT are some of those that have the catalog's columns.
+use Rattle.std.proofs.Common.{◌≡◌, ◌+◌, ◌<◌, arith, All, Bool, false, ℕ, ℤ, List, [], ◌∷◌, ◌++◌, length, map, Option, Some, None, true, sym, subst}
 use Rattle.std.proofs.lemmas.List.Elements.{All-cons, All-head, All-nil, All-tail}
-use Rattle.std.proofs.lemmas.Option.{slice_get-map, slice_get_within}
 use Rattle.values.specs.declared.value.Ty.{Ty}
 use Rattle.expr.specs.Conjuncts.{conjuncts}
 use Rattle.expr.specs.Filled.{filled}
@@ -10,34 +8,22 @@ use Rattle.expr.specs.Term.{Term}
 use Rattle.meaning.specs.Query.{From, Grouping, JoinKind, Key, Select, Source, from_width, full, inner, joined, nothing, right, source_width, table, with_inner}
 use Rattle.meaning.specs.Typed.{FromHasTypes, IsTyped, SourceHasTypes}
 use Rattle.operators.specs.Left.{IsPlanOf}
+use Rattle.sources.specs.SourceData.{SourceData}
 use Rattle.plan_terms.proofs.PlacedLemmas.{All-back}
 use Rattle.plans.specs.JoinPlan.{IsEarlyPlan, IsJoinPlan, IsPlanBy, IsWritten, columns_before, has_right, joined_by}
 use Rattle.plans.specs.Plan.{PlanData, once}
 use Rattle.plans.specs.Stands.{tested}
 use Rattle.plans.proofs.JoinLemmas.{before_within}
+use Rattle.select_plans.specs.Columns.{HaveColumns}
 use Rattle.select_plans.specs.Laws.{of_select}
 use Rattle.select_plans.specs.Made.{IsMadeOver, IsOverRows}
 use Rattle.select_plans.specs.Served.{HasServedForm}
 use Rattle.select_plans.specs.Read.{terms_in}
+use Rattle.select_plans.proofs.ColumnLemmas.{IsColumnsAt, columns_at}
 use Rattle.select_plans.proofs.ReadLemmas.{all_read}
 use Rattle.select_plans.proofs.TypedLemmas.{query_within, source_is}
-use Rattle.tables.specs.ColumnTypes.{column_types, types_of}
-use Rattle.tables.specs.TableData.{TableData}
 use Rattle.table_plans.specs.Input.{input_from}
 use Rattle.table_plans.specs.declared.inputs.Input.{Input}
-
-some_same : {A : Type 0} (a b : A) → Some a ≡ Some b → a ≡ b
-some_same a b e = cc
-
--- columns within those of the catalog's types are columns of the table
-pub nest_of : (tables : List TableData) (at : ℕ) (row : List Ty) (read : List ℕ) → slice_get (column_types tables) at ≡ Some row → All (λ c. c < length row) read
-    → (at < length tables) × ((table : TableData) → slice_get tables at ≡ Some table → All (λ c. c < length table.columns) read)
-nest_of tables at row read found within = (
-  subst (λ n. at < n) (length-map tables types_of) (slice_get_within (column_types tables) at row found),
-  (λ table is.
-      let same : row ≡ types_of table = some_same row (types_of table) (sym found ∙ slice_get-map types_of tables at ∙ ap (option_map types_of) is) in
-      subst (λ n. All (λ c. c < n) read) (ap length same ∙ length-map table.columns (λ c. c.ty)) within),
-)
 
 shifted : (m n : ℕ) (cs : List ℕ) → All (λ c. c < m + n) (map (λ c. m + c) cs) → All (λ c. c < n) cs
 shifted m n [] all = All-nil (λ c. c < n)
@@ -45,88 +31,89 @@ shifted m n (c ∷ cs) all =
     let here : m + c < m + n = All-head (λ c. c < m + n) (m + c) (map (λ c. m + c) cs) all in
     All-cons (λ c. c < n) c cs (omega (arith, here)) (shifted m n cs (All-tail (λ c. c < m + n) (m + c) (map (λ c. m + c) cs) all))
 
-tested_of : (tables : List TableData) (tests : List Term) (plan : PlanData) → IsPlanOf tables plan → IsPlanOf tables (tested tests plan)
-tested_of tables [] plan of = of
-tested_of tables (test ∷ tests) plan of = of
+tested_of : (sources : List SourceData) (tests : List Term) (plan : PlanData) → IsPlanOf sources plan → IsPlanOf sources (tested tests plan)
+tested_of sources [] plan of = of
+tested_of sources (test ∷ tests) plan of = of
 
--- a typed table behind such a plan
-nest_over : (tables : List TableData) (m : ℕ) (source : Source) (at width : ℕ) (r : List Ty) (read places : List ℕ) → source ≡ table at width
-    → SourceHasTypes (column_types tables) source r → All (λ c. c < m + source_width source) read → read ≡ columns_before m read ++ map (λ c. m + c) places
-    → (at < length tables) × ((table : TableData) → slice_get tables at ≡ Some table → All (λ c. c < length table.columns) places)
-nest_over tables m source at width r read places same typed within read_is =
-    let table_is = source_is (column_types tables) source at width r same typed in
-    let behind : All (λ c. c < m + source_width source) (map (λ c. m + c) places) =
-    All-back (λ c. c < m + source_width source) (columns_before m read) (map (λ c. m + c) places)
-    (subst (λ cs. All (λ c. c < m + source_width source) cs) read_is within) in
-    nest_of tables at r places table_is.0 (subst (λ n. All (λ c. c < n) places) (sym table_is.1) (shifted m (source_width source) places behind))
+module _ (catalog : List (List Ty)) (sources : List SourceData) (have : HaveColumns catalog sources) where
+  -- a typed table behind such a plan
+  nest_over : (m : ℕ) (source : Source) (at width : ℕ) (r : List Ty) (read places : List ℕ) → source ≡ table at width
+      → SourceHasTypes catalog source r → All (λ c. c < m + source_width source) read → read ≡ columns_before m read ++ map (λ c. m + c) places
+      → IsColumnsAt sources at places
+  nest_over m source at width r read places same typed within read_is =
+      let table_is = source_is catalog source at width r same typed in
+      let behind : All (λ c. c < m + source_width source) (map (λ c. m + c) places) =
+      All-back (λ c. c < m + source_width source) (columns_before m read) (map (λ c. m + c) places)
+      (subst (λ cs. All (λ c. c < m + source_width source) cs) read_is within) in
+      columns_at catalog sources have at r places table_is.0 (subst (λ n. All (λ c. c < n) places) (sym table_is.1) (shifted m (source_width source) places behind))
 
--- the plan of typed tables, of which these columns are read
-early_over : (tables : List TableData) (from : From) → (answers types : List Ty) → FromHasTypes (column_types tables) answers from types
-    → (read : List ℕ) → All (λ c. c < from_width from) read → (conditions : List Term) (plan : PlanData) → IsEarlyPlan read from conditions plan → IsPlanOf tables plan
-early_over tables nothing answers types typed read within conditions plan of = subst (IsPlanOf tables) (sym of.plan_is) (tested_of tables of.tests once tt)
-early_over tables (joined from inner source on) answers types typed read within conditions plan of =
-    let m = from_width from in
-    let nest = nest_over tables m source of.at of.width typed.1 read of.columns of.source_is typed.3 within of.read_is in
-    subst (IsPlanOf tables) (sym of.plan_is) (
-      early_over tables from answers typed.0 typed.2 (columns_before m read) (before_within m read) of.early of.left of.before,
-      record { table = nest.0; columns = nest.1 },
-    )
-early_over tables (joined from JoinKind.left source on) answers types typed read within conditions plan of =
-    let m = from_width from in
-    let nest = nest_over tables m source of.at of.width typed.1 read of.columns of.source_is typed.3 within of.read_is in
-    subst (IsPlanOf tables) (sym of.plan_is)
-    (tested_of tables of.above (PlanData.joined of.left (record { table = of.at; columns = of.columns; tests = of.tests; padded = true })) (
-      early_over tables from answers typed.0 typed.2 (columns_before m read) (before_within m read) of.early of.left of.before,
-      record { table = nest.0; columns = nest.1 },
-    ))
-early_over tables (joined from right source on) answers types typed read within conditions plan of = absurd of
-early_over tables (joined from full source on) answers types typed read within conditions plan of = absurd of
-early_over tables (with_inner from query) answers types typed read within conditions plan of = absurd of
+  -- the plan of typed tables, of which these columns are read
+  early_over : (from : From) → (answers types : List Ty) → FromHasTypes catalog answers from types
+      → (read : List ℕ) → All (λ c. c < from_width from) read → (conditions : List Term) (plan : PlanData) → IsEarlyPlan read from conditions plan → IsPlanOf sources plan
+  early_over nothing answers types typed read within conditions plan of = subst (IsPlanOf sources) (sym of.plan_is) (tested_of sources of.tests once tt)
+  early_over (joined from inner source on) answers types typed read within conditions plan of =
+      let m = from_width from in
+      let nest = nest_over m source of.at of.width typed.1 read of.columns of.source_is typed.3 within of.read_is in
+      subst (IsPlanOf sources) (sym of.plan_is) (
+        early_over from answers typed.0 typed.2 (columns_before m read) (before_within m read) of.early of.left of.before,
+        record { table = nest.0; columns = nest.1 },
+      )
+  early_over (joined from JoinKind.left source on) answers types typed read within conditions plan of =
+      let m = from_width from in
+      let nest = nest_over m source of.at of.width typed.1 read of.columns of.source_is typed.3 within of.read_is in
+      subst (IsPlanOf sources) (sym of.plan_is)
+      (tested_of sources of.above (PlanData.joined of.left (record { table = of.at; columns = of.columns; tests = of.tests; padded = true })) (
+        early_over from answers typed.0 typed.2 (columns_before m read) (before_within m read) of.early of.left of.before,
+        record { table = nest.0; columns = nest.1 },
+      ))
+  early_over (joined from right source on) answers types typed read within conditions plan of = absurd of
+  early_over (joined from full source on) answers types typed read within conditions plan of = absurd of
+  early_over (with_inner from query) answers types typed read within conditions plan of = absurd of
 
--- a table by a join of each kind
-joined_over : (tables : List TableData) (kind : JoinKind) (left : PlanData) (before at : ℕ) (columns : List ℕ) (tests : List Term) → IsPlanOf tables left
-    → (at < length tables) × ((table : TableData) → slice_get tables at ≡ Some table → All (λ c. c < length table.columns) columns)
-    → IsPlanOf tables (joined_by kind left before at columns tests)
-joined_over tables inner left before at columns tests of nest = (of, record { table = nest.0; columns = nest.1 })
-joined_over tables JoinKind.left left before at columns tests of nest = (of, record { table = nest.0; columns = nest.1 })
-joined_over tables right left before at columns tests of nest = (of, record { table = nest.0; columns = nest.1 })
-joined_over tables full left before at columns tests of nest = (of, record { table = nest.0; columns = nest.1 })
+  -- a table by a join of each kind
+  joined_over : (kind : JoinKind) (left : PlanData) (before at : ℕ) (columns : List ℕ) (tests : List Term) → IsPlanOf sources left
+      → IsColumnsAt sources at columns
+      → IsPlanOf sources (joined_by kind left before at columns tests)
+  joined_over inner left before at columns tests of nest = (of, record { table = nest.0; columns = nest.1 })
+  joined_over JoinKind.left left before at columns tests of nest = (of, record { table = nest.0; columns = nest.1 })
+  joined_over right left before at columns tests of nest = (of, record { table = nest.0; columns = nest.1 })
+  joined_over full left before at columns tests of nest = (of, record { table = nest.0; columns = nest.1 })
 
-written_over : (tables : List TableData) (from : From) → (answers types : List Ty) → FromHasTypes (column_types tables) answers from types
-    → (read : List ℕ) → All (λ c. c < from_width from) read → (plan : PlanData) → IsWritten read from plan → IsPlanOf tables plan
-written_over tables nothing answers types typed read within plan of = subst (IsPlanOf tables) (sym of) tt
-written_over tables (joined from kind source on) answers types typed read within plan of =
-    let m = from_width from in
-    subst (IsPlanOf tables) (sym of.plan_is)
-    (joined_over tables kind of.left (length (columns_before m read)) of.at of.columns of.tests
-    (written_over tables from answers typed.0 typed.2 (columns_before m read) (before_within m read) of.left of.before)
-    (nest_over tables m source of.at of.width typed.1 read of.columns of.source_is typed.3 within of.read_is))
-written_over tables (with_inner from query) answers types typed read within plan of = absurd of
+  written_over : (from : From) → (answers types : List Ty) → FromHasTypes catalog answers from types
+      → (read : List ℕ) → All (λ c. c < from_width from) read → (plan : PlanData) → IsWritten read from plan → IsPlanOf sources plan
+  written_over nothing answers types typed read within plan of = subst (IsPlanOf sources) (sym of) tt
+  written_over (joined from kind source on) answers types typed read within plan of =
+      let m = from_width from in
+      subst (IsPlanOf sources) (sym of.plan_is)
+      (joined_over kind of.left (length (columns_before m read)) of.at of.columns of.tests
+      (written_over from answers typed.0 typed.2 (columns_before m read) (before_within m read) of.left of.before)
+      (nest_over m source of.at of.width typed.1 read of.columns of.source_is typed.3 within of.read_is))
+  written_over (with_inner from query) answers types typed read within plan of = absurd of
 
-from_over : (tables : List TableData) (from : From) → (answers types : List Ty) → FromHasTypes (column_types tables) answers from types
-    → (read : List ℕ) → All (λ c. c < from_width from) read → (conditions : List Term) (plan : PlanData) → IsJoinPlan read from conditions plan → IsPlanOf tables plan
-from_over tables from answers types typed read within conditions plan of = by_kind (has_right from) of
-  where
-    by_kind : (b : Bool) → IsPlanBy b read from conditions plan → IsPlanOf tables plan
-    by_kind false of = early_over tables from answers types typed read within conditions plan of
-    by_kind true of =
-        subst (IsPlanOf tables) (sym of.plan_is)
-        (tested_of tables of.tests of.below (written_over tables from answers types typed read within of.below of.below_is))
+  from_over : (from : From) → (answers types : List Ty) → FromHasTypes catalog answers from types
+      → (read : List ℕ) → All (λ c. c < from_width from) read → (conditions : List Term) (plan : PlanData) → IsJoinPlan read from conditions plan → IsPlanOf sources plan
+  from_over from answers types typed read within conditions plan of = by_kind (has_right from) of
+    where
+      by_kind : (b : Bool) → IsPlanBy b read from conditions plan → IsPlanOf sources plan
+      by_kind false of = early_over from answers types typed read within conditions plan of
+      by_kind true of =
+          subst (IsPlanOf sources) (sym of.plan_is)
+          (tested_of sources of.tests of.below (written_over from answers types typed read within of.below of.below_is))
 
-module _ (tables : List TableData) (input : Input) (s : Select) (form : HasServedForm (input_from input) s) where
-  -- what is read behind FROM and WHERE, and groups of it
-  rows_over : (read : List ℕ) (grouping : Option Grouping) (below : PlanData) (known : List ℕ) (plan : PlanData) → IsOverRows read grouping below known plan
-      → IsPlanOf tables below → IsPlanOf tables plan
-  rows_over read None below known plan over of = subst (IsPlanOf tables) (sym over.1) of
-  rows_over read (Some g) below known plan over of = subst (IsPlanOf tables) (sym over.1.plan_is) of
+  module _ (input : Input) (s : Select) (form : HasServedForm (input_from input) s) where
+    -- what is read behind FROM and WHERE, and groups of it
+    rows_over : (read : List ℕ) (grouping : Option Grouping) (below : PlanData) (known : List ℕ) (plan : PlanData) → IsOverRows read grouping below known plan
+        → IsPlanOf sources below → IsPlanOf sources plan
+    rows_over read None below known plan over of = subst (IsPlanOf sources) (sym over.1) of
+    rows_over read (Some g) below known plan over of = subst (IsPlanOf sources) (sym over.1.plan_is) of
 
-  pub plan_over : (order : List Key) (limit : Option ℤ) (offset : ℤ) (plan : PlanData) (es : List Term)
-      → IsTyped (column_types tables) (of_select (input_from input) s order limit offset) → IsMadeOver input s order plan es → IsPlanOf tables plan
-  plan_over order limit offset plan es typed made =
-      let from = input_from input in
-      let within = query_within (column_types tables) from form.source s form.windowless order limit offset typed.0 typed.1 in
-      let body = typed.1.body in
-      rows_over made.read s.grouping made.below made.columns plan made.rows_are
-      (from_over tables from body.0 body.1 body.3 made.read
-      (all_read (λ c. c < from_width from) made.read (terms_in from s order) made.are_read within)
-      (conjuncts (filled [] s.condition)) made.below made.below_is)
+    pub plan_over : (order : List Key) (limit : Option ℤ) (offset : ℤ) (plan : PlanData) (es : List Term)
+        → IsTyped catalog (of_select (input_from input) s order limit offset) → IsMadeOver input s order plan es → IsPlanOf sources plan
+    plan_over order limit offset plan es typed made =
+        let from = input_from input in
+        let within = query_within catalog from form.source s form.windowless order limit offset typed.0 typed.1 in
+        let body = typed.1.body in
+        rows_over made.read s.grouping made.below made.columns plan made.rows_are
+        (from_over from body.0 body.1 body.3 made.read
+        (all_read (λ c. c < from_width from) made.read (terms_in from s order) made.are_read within)
+        (conjuncts (filled [] s.condition)) made.below made.below_is)

@@ -14,8 +14,8 @@ use Rattle.plan_terms.specs.Over.{StandsOver}
 use Rattle.plans.specs.JoinPlan.{AreWideBefore}
 use Rattle.plans.specs.Plan.{Hits, PlanData, Reaches, rows_of}
 use Rattle.results.specs.Permitted.{SeesRows}
-use Rattle.tables.specs.ColumnTypes.{column_types}
-use Rattle.tables.specs.TableData.{TableData}
+use Rattle.sources.specs.SourceData.{SourceData}
+use Rattle.select_plans.specs.Columns.{HaveColumns}
 use Rattle.select_plans.specs.Made.{IsMadeOver}
 use Rattle.select_plans.specs.Served.{AreOfGroups, HasServedForm}
 use Rattle.table_plans.specs.declared.inputs.Input.{Input}
@@ -41,11 +41,12 @@ MadeIsHit = (w : Datum) (db : Database) (input : Input) (s : Select) (order : Li
     → AllZip (StandsOver made.columns 0) us terms → PlanReaches w db plan (es ++ us)
     → FromHits w db (answers_in w db (input_from input)) (input_from input) false ⊎ SelectHits w db (input_from input) s terms
 
--- where it is typed over a catalog, the tables and columns of the plan are some of this
+-- where it is typed over a catalog, the sources and columns of the plan are some of those that have this one's columns
 abbrev pub MadeIsOver : Type 0
-MadeIsOver = (tables : List TableData) (input : Input) (s : Select) (order : List Key) (limit : Option ℤ) (offset : ℤ) (plan : PlanData) (es : List Term)
-    → HasServedForm (input_from input) s → IsTyped (column_types tables) (of_select (input_from input) s order limit offset)
-    → IsMadeOver input s order plan es → IsPlanOf tables plan
+MadeIsOver = (catalog : List (List Ty)) (sources : List SourceData) → HaveColumns catalog sources
+    → (input : Input) (s : Select) (order : List Key) (limit : Option ℤ) (offset : ℤ) (plan : PlanData) (es : List Term)
+    → HasServedForm (input_from input) s → IsTyped catalog (of_select (input_from input) s order limit offset)
+    → IsMadeOver input s order plan es → IsPlanOf sources plan
 
 -- over groups a typed SELECT names values of a group's row alone
 abbrev pub TypedIsOfGroups : Type 0

@@ -1,3 +1,4 @@
+pub mod Columns
 pub mod Served
 pub mod Read
 pub mod Made

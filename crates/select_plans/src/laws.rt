@@ -1,4 +1,5 @@
 //! What holds of the definitions alone.
+ghost use Rattle.select_plans.specs.Columns.{TablesHaveColumns};
 ghost use Rattle.select_plans.specs.Laws.{MadeHasRows, MadeIsHit, MadeIsOver, TypedIsOfGroups};
 
 /// A plan that is made of a SELECT has the rows on which it computes its result columns, and what the plan reaches, and what the
@@ -8,7 +9,12 @@ pub fn made_has_rows()
     ensures hits { MadeIsHit }
 {}
 
-/// The tables and columns of a plan that is made of a typed SELECT are the catalog's.
+/// Tables alone have the columns that the catalog of their types says.
+pub fn tables_have_columns()
+    ensures { TablesHaveColumns }
+{}
+
+/// The sources and columns of a plan that is made of a typed SELECT are some of those that have the catalog's columns.
 pub fn made_is_over()
     ensures { MadeIsOver }
 {}
