@@ -13,7 +13,6 @@ use Rattle.select_plans.proofs.MadeLemmas.{made_has_rows, made_is_hit}
 use Rattle.select_plans.proofs.OverLemmas.{plan_over}
 use Rattle.table_plans.specs.Input.{input_from}
 use Rattle.table_plans.specs.declared.inputs.Input.{Input}
-use Rattle.tables.specs.ColumnTypes.{column_types}
 
 -- a plan over what the SELECT stands on
 arm_over : (input : Input) (s : Select) (arm : ArmData) → HasServedForm (input_from input) s → IsMadeOver input s [] arm.plan arm.columns → arm.distinct ≡ s.distinct
@@ -23,10 +22,10 @@ arm_over input s arm form made distinct = record {
   hits = λ w db wide hits.
       made_is_hit w db input s [] [] arm.plan arm.columns [] form wide made tt
       (subst (λ (es : List Term). PlanReaches w db arm.plan es) (sym (append-nil arm.columns)) hits);
-  over = λ tables types typed.
-      plan_over tables input s form [] None (pos 0) arm.plan arm.columns (
+  over = λ catalog sources have types typed.
+      plan_over catalog sources have input s form [] None (pos 0) arm.plan arm.columns (
         types,
-        record { body = typed; order = All-nil (λ (key : Key). IsKeyTerm (column_types tables) (select (input_from input) s) types key.by) },
+        record { body = typed; order = All-nil (λ (key : Key). IsKeyTerm catalog (select (input_from input) s) types key.by) },
       ) made;
 }
 

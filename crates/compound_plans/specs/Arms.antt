@@ -9,9 +9,9 @@ use Rattle.operators.specs.Left.{IsPlanOf}
 use Rattle.plans.specs.JoinPlan.{AreWideBefore}
 use Rattle.compound_results.specs.Arms.{ArmData}
 use Rattle.compound_results.specs.Permitted.{HitsWithin, IsArmOf}
+use Rattle.select_plans.specs.Columns.{HaveColumns}
 use Rattle.select_plans.specs.Served.{IsServedSelect}
-use Rattle.tables.specs.ColumnTypes.{column_types}
-use Rattle.tables.specs.TableData.{TableData}
+use Rattle.sources.specs.SourceData.{SourceData}
 
 -- one of them; ORDER BY stands behind all of them, and has no terms over the rows of one
 abbrev pub IsServedArm : From → Select → Type 0
@@ -23,8 +23,10 @@ AreServed (select from s) = IsServedArm from s
 AreServed (compound body operator from s) = AreServed body × IsServedArm from s
 
 -- Where the tables hold what FROM says of them, the arm has the rows on which the SELECT computes its result columns, in some order,
--- and reaches nothing that the SELECT can't reach. Its tables and columns are those of a catalog over which the SELECT is typed.
+-- and reaches nothing that the SELECT can't reach. Its sources and columns are some of those that have the columns of a catalog over
+-- which the SELECT is typed.
 pub record IsArmFor (from : From) (s : Select) (arm : ArmData) : Type 0 where
   pub is_arm : (w : Datum) (db : Database) → AreWideBefore db from → IsArmOf w db from s arm
   pub hits : (w : Datum) (db : Database) → AreWideBefore db from → HitsWithin w db from s arm
-  pub over : (tables : List TableData) (types : List Ty) → BodyHasTypes (column_types tables) (select from s) types → IsPlanOf tables arm.plan
+  pub over : (catalog : List (List Ty)) (sources : List SourceData) → HaveColumns catalog sources → (types : List Ty) → BodyHasTypes catalog (select from s) types
+      → IsPlanOf sources arm.plan
