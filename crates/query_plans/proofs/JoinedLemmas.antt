@@ -8,12 +8,12 @@ use Rattle.compound_results.specs.Compounds.{CompoundData}
 use Rattle.compound_results.specs.Permitted.{AreArmsOf, HitsWithin, IsArmOf}
 use Rattle.compound_results.proofs.PermittedLemmas.{compound_hits_are_hits, compound_is_permitted}
 use Rattle.meaning.specs.Query.{Body, From, QueryData, Select, compound, select}
-use Rattle.meaning.specs.Typed.{BodyHasTypes, IsTyped}
+use Rattle.meaning.specs.Typed.{BodyHasTypes}
 use Rattle.plans.specs.JoinPlan.{AreWideBefore}
-use Rattle.query_plans.specs.Answers.{AreWideFor, IsPlanFor, IsPlannedOver, PlannedData}
+use Rattle.query_plans.specs.Answers.{AreWideFor, IsPlanFor, IsPlannedAsTyped, PlannedData}
 use Rattle.query_plans.specs.Made.{IsJoined}
-use Rattle.tables.specs.ColumnTypes.{column_types}
-use Rattle.tables.specs.TableData.{TableData}
+use Rattle.select_plans.specs.Columns.{HaveColumns}
+use Rattle.sources.specs.SourceData.{SourceData}
 
 -- what holds of each arm where its tables hold what FROM says of them
 each_told : (db : Database) (Is : From → Select → ArmData → Type 0) → ((from : From) (s : Select) (arm : ArmData) → AreWideBefore db from → IsArmFor from s arm → Is from s arm)
@@ -24,13 +24,13 @@ each_told db Is told (compound body operator from s) (one arm) wide of = absurd 
 each_told db Is told (compound body operator from s) (joined left other arm) wide of =
     (each_told db Is told body left wide.0 of.0, of.1, told from s arm wide.1 of.2)
 
-each_over : (tables : List TableData) (body : Body) (types : List Ty) (arms : ArmsData) → BodyHasTypes (column_types tables) body types → AreArmsOf IsArmFor body arms
-    → ArePlannedOver tables arms
-each_over tables (select from s) types (one arm) typed of = of.over tables types typed
-each_over tables (select from s) types (joined left other arm) typed of = absurd of
-each_over tables (compound body operator from s) types (one arm) typed of = absurd of
-each_over tables (compound body operator from s) types (joined left other arm) typed of =
-    (each_over tables body types left typed.0 of.0, of.2.over tables types typed.1)
+module _ (catalog : List (List Ty)) (sources : List SourceData) (have : HaveColumns catalog sources) where
+  each_over : (body : Body) (types : List Ty) (arms : ArmsData) → BodyHasTypes catalog body types → AreArmsOf IsArmFor body arms → ArePlannedOver sources arms
+  each_over (select from s) types (one arm) typed of = of.over catalog sources have types typed
+  each_over (select from s) types (joined left other arm) typed of = absurd of
+  each_over (compound body operator from s) types (one arm) typed of = absurd of
+  each_over (compound body operator from s) types (joined left other arm) typed of =
+      (each_over body types left typed.0 of.0, of.2.over catalog sources have types typed.1)
 
 module _ (query : QueryData) (whole : CompoundData) (made : IsJoined query whole) where
   pub joined_is_plan : IsPlanFor query (PlannedData.compound whole)
@@ -49,5 +49,5 @@ module _ (query : QueryData) (whole : CompoundData) (made : IsJoined query whole
         (each_told db (HitsWithin w db) (λ from s arm wide of. of.hits w db wide) query.body whole.arms wide made.arms) hits;
   }
 
-  pub joined_over : (tables : List TableData) → IsTyped (column_types tables) query → IsPlannedOver tables (PlannedData.compound whole)
-  joined_over tables typed = each_over tables query.body typed.0 whole.arms typed.1.body made.arms
+  pub joined_over : IsPlannedAsTyped query (PlannedData.compound whole)
+  joined_over catalog sources have typed = each_over catalog sources have query.body typed.0 whole.arms typed.1.body made.arms

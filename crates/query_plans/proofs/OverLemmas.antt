@@ -1,6 +1,7 @@
--- The tables and columns of what is run for a typed query are the catalog's.
+-- The sources and columns of what is run for a typed query are some of those that have the catalog's columns.
 use Rattle.std.proofs.Common.{◌≡◌, ◌+◌, ◌<◌, arith, All, ℕ, ℤ, List, [], ◌∷◌, ◌++◌, length, map, Option, ap, subst}
 use Rattle.std.proofs.lemmas.List.Elements.{All-cons, All-head, All-nil, All-tail}
+use Rattle.values.specs.declared.value.Ty.{Ty}
 use Rattle.expr.specs.Columns.{columns_of}
 use Rattle.expr.specs.Term.{Term, column}
 use Rattle.meaning.specs.Hits.{order_terms}
@@ -11,14 +12,15 @@ use Rattle.plan_terms.proofs.PlacedLemmas.{All-front}
 use Rattle.plans.specs.Plan.{PlanData}
 use Rattle.query_plans.specs.Answers.{IsPlannedOver, PlannedData, columns, compound, distinct, rows, sorted, sorted_distinct}
 use Rattle.query_plans.specs.Made.{IsMade}
+use Rattle.select_plans.specs.Columns.{HaveColumns}
 use Rattle.select_plans.specs.Laws.{of_select}
 use Rattle.select_plans.specs.Made.{IsMadeOver}
 use Rattle.select_plans.specs.Read.{row_terms, select_terms}
 use Rattle.select_plans.specs.Served.{HasServedForm}
-use Rattle.select_plans.proofs.OverLemmas.{nest_of, plan_over}
+use Rattle.select_plans.proofs.ColumnLemmas.{columns_at}
+use Rattle.select_plans.proofs.OverLemmas.{plan_over}
 use Rattle.select_plans.proofs.TypedLemmas.{query_within}
-use Rattle.tables.specs.ColumnTypes.{column_types}
-use Rattle.tables.specs.TableData.{TableData}
+use Rattle.sources.specs.SourceData.{SourceData}
 use Rattle.table_plans.specs.Input.{input_from}
 use Rattle.table_plans.specs.Planned.{on_terms}
 use Rattle.table_plans.specs.declared.inputs.Input.{Input}
@@ -31,14 +33,15 @@ places_within n (c ∷ places) all =
     (All-head (λ c. c < n) c [] (All-head (λ t. All (λ c. c < n) (columns_of t)) (column c) (map column places) all))
     (places_within n places (All-tail (λ t. All (λ c. c < n) (columns_of t)) (column c) (map column places) all))
 
-module _ (tables : List TableData) (input : Input) (s : Select) (form : HasServedForm (input_from input) s) (order : List Key) (limit : Option ℤ) (offset : ℤ) where
-  abbrev over : (plan : PlanData) (es : List Term) → IsTyped (column_types tables) (of_select (input_from input) s order limit offset)
-      → IsMadeOver input s order plan es → IsPlanOf tables plan
-  over plan es typed made = plan_over tables input s form order limit offset plan es typed made
+module _ (catalog : List (List Ty)) (sources : List SourceData) (have : HaveColumns catalog sources) (input : Input) (s : Select)
+    (form : HasServedForm (input_from input) s) (order : List Key) (limit : Option ℤ) (offset : ℤ) where
+  abbrev over : (plan : PlanData) (es : List Term) → IsTyped catalog (of_select (input_from input) s order limit offset)
+      → IsMadeOver input s order plan es → IsPlanOf sources plan
+  over plan es typed made = plan_over catalog sources have input s form order limit offset plan es typed made
 
   -- columns alone
-  pub made_over : (p : PlannedData) → IsMade input s order limit offset p → IsTyped (column_types tables) (of_select (input_from input) s order limit offset)
-      → IsPlannedOver tables p
+  pub made_over : (p : PlannedData) → IsMade input s order limit offset p → IsTyped catalog (of_select (input_from input) s order limit offset)
+      → IsPlannedOver sources p
   made_over (rows selection) made typed = over selection.plan selection.columns typed made.made
   made_over (sorted selection) made typed = over selection.plan selection.columns typed made.made
   made_over (distinct selection) made typed = over selection.plan selection.columns typed made.made
@@ -46,8 +49,8 @@ module _ (tables : List TableData) (input : Input) (s : Select) (form : HasServe
   made_over (compound joined) made typed = absurd made
   made_over (columns at places) made typed =
       let from = input_from input in
-      let within = query_within (column_types tables) from form.source s form.windowless order limit offset typed.0 typed.1 in
-      let one = subst (λ from. IsTyped (column_types tables) (of_select from s order limit offset)) made.from_is typed in
+      let within = query_within catalog from form.source s form.windowless order limit offset typed.0 typed.1 in
+      let one = subst (λ from. IsTyped catalog (of_select from s order limit offset)) made.from_is typed in
       let source = one.1.body.3 in
       let named : All (λ t. All (λ c. c < from_width from) (columns_of t)) (map column places) =
       subst (λ ts. All (λ t. All (λ c. c < from_width from) (columns_of t)) ts) made.columns_are
@@ -58,5 +61,5 @@ module _ (tables : List TableData) (input : Input) (s : Select) (form : HasServe
       let wide : from_width from ≡ 0 + made.width = ap from_width made.from_is in
       let same : made.width ≡ length source.1 = source.3.1 in
       let long : from_width from ≡ length source.1 = omega (arith, wide, same) in
-      let nest = nest_of tables at source.1 places source.3.0 (subst (λ n. All (λ c. c < n) places) long (places_within (from_width from) places named)) in
+      let nest = columns_at catalog sources have at source.1 places source.3.0 (subst (λ n. All (λ c. c < n) places) long (places_within (from_width from) places named)) in
       record { table = nest.0; columns = nest.1 }

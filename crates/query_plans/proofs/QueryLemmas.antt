@@ -3,7 +3,7 @@ use Rattle.std.proofs.Common.{◌≡◌, ◌∙◌, ℤ, IfOk, MatchOption, List
 use Rattle.std.specs.Prelude.{⊤}
 use Rattle.meaning.specs.Query.{From, Key, QueryData, Select, select}
 use Rattle.meaning.specs.Typed.{IsTyped}
-use Rattle.query_plans.specs.Answers.{IsPlanFor, IsPlannedOver, PlannedData, planned_data}
+use Rattle.query_plans.specs.Answers.{IsPlanFor, IsPlannedAsTyped, PlannedData, planned_data}
 use Rattle.query_plans.specs.Made.{IsMade}
 use Rattle.query_plans.specs.Served.{IsServed}
 use Rattle.query_plans.specs.declared.planned.Planned.{Planned}
@@ -11,8 +11,6 @@ use Rattle.query_plans.proofs.MadeLemmas.{made_is_plan}
 use Rattle.query_plans.proofs.OverLemmas.{made_over}
 use Rattle.select_plans.specs.Laws.{of_select}
 use Rattle.select_plans.specs.Served.{HasServedForm}
-use Rattle.tables.specs.ColumnTypes.{column_types}
-use Rattle.tables.specs.TableData.{TableData}
 use Rattle.table_plans.specs.Input.{input_from}
 use Rattle.table_plans.specs.declared.inputs.Input.{Input}
 
@@ -31,8 +29,8 @@ module _ (query : QueryData) (from : From) (s : Select) (input : Input) (order :
   pub is_plan : IsPlanFor query p
   is_plan = subst (λ (q : QueryData). IsPlanFor q p) same (made_is_plan input s form order limit offset p made)
 
-  pub is_over : (tables : List TableData) → IsTyped (column_types tables) query → IsPlannedOver tables p
-  is_over tables typed = made_over tables input s form order limit offset p made (subst (IsTyped (column_types tables)) (sym same) typed)
+  pub is_over : IsPlannedAsTyped query p
+  is_over catalog sources have typed = made_over catalog sources have input s form order limit offset p made (subst (IsTyped catalog) (sym same) typed)
 
 -- the plan of a SELECT, or none
 pub told_plan : (q : QueryData) (Made : PlannedData → Type 0) (P : Type 0) (planned : Option Planned) → (¬ P → ¬ IsServed q)

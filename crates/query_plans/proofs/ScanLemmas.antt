@@ -1,5 +1,5 @@
 -- FROM of one table alone.
-use Rattle.std.proofs.Common.{◌≡◌, ◌∙◌, false, List, [], ◌∷◌, get_or, length, sym, arith}
+use Rattle.std.proofs.Common.{◌≡◌, ◌∙◌, List, [], ◌∷◌, get_or, length, sym, arith}
 use Rattle.meaning.specs.Query.{always, inner, joined, nothing, only, table}
 use Rattle.naming.specs.Sources.{kind_of}
 use Rattle.query_trees.specs.TermView.{term}

@@ -3,14 +3,16 @@ use Rattle.std.specs.Prelude.{◌≡◌, ◌++◌, false, ℕ, List, [], map}
 use Rattle.values.specs.Database.{Database}
 use Rattle.values.specs.Datum.{Datum}
 use Rattle.values.specs.Row.{Row}
+use Rattle.values.specs.declared.value.Ty.{Ty}
 use Rattle.meaning.specs.Answer.{Permits}
 use Rattle.meaning.specs.Hits as meaning
 use Rattle.meaning.specs.Hits.{order_terms}
 use Rattle.meaning.specs.OneTable.{shown}
 use Rattle.meaning.specs.Query.{Body, QueryData}
+use Rattle.meaning.specs.Typed.{IsTyped}
 use Rattle.plans.specs.JoinPlan.{AreWideBefore}
 use Rattle.plans.specs.Plan.{table_rows, table_size, work}
-use Rattle.tables.specs.TableData.{TableData}
+use Rattle.sources.specs.SourceData.{SourceData}
 use Rattle.operators.specs.Left.{IsNestOf, IsPlanOf}
 use Rattle.results.specs.Coming.{SelectionData, answer_of, selection_data}
 use Rattle.sorted_results.specs.Sorted.{IsSortedAnswer, SortedData, sorted_data}
@@ -18,6 +20,7 @@ use Rattle.distinct_results.specs.Coming.{distinct_answer_of}
 use Rattle.distinct_results.specs.Sorted.{IsSortedDistinctAnswer, sorted_distinct_data}
 use Rattle.compound_results.specs.Arms.{ArePlannedOver, ArmsHit, work_of_arms}
 use Rattle.compound_results.specs.Compounds.{CompoundData, IsCompoundAnswer, compound_data}
+use Rattle.select_plans.specs.Columns.{HaveColumns}
 use Rattle.select_plans.specs.Laws.{PlanReaches}
 use Rattle.query_plans.specs.declared.planned.Planned.{Planned}
 use Rattle.query_plans.specs.declared.planned.Planned.TheVariants as p
@@ -77,11 +80,16 @@ pub record IsPlanFor (query : QueryData) (planned : PlannedData) : Type 0 where
   pub permits : (w : Datum) (db : Database) (answer : List Row) → AreWideFor db query.body → IsAnswerOf w db planned answer → Permits w db query answer
   pub hits : (w : Datum) (db : Database) → AreWideFor db query.body → HitsOf w db planned → meaning.Hits w db query
 
--- its tables and their columns are some of the catalog
-abbrev pub IsPlannedOver : List TableData → PlannedData → Type 0
-IsPlannedOver tables (columns at places) = IsNestOf tables (record { table = at; columns = places; tests = []; padded = false })
-IsPlannedOver tables (rows selection) = IsPlanOf tables selection.plan
-IsPlannedOver tables (sorted selection) = IsPlanOf tables selection.plan
-IsPlannedOver tables (distinct selection) = IsPlanOf tables selection.plan
-IsPlannedOver tables (sorted_distinct selection) = IsPlanOf tables selection.plan
-IsPlannedOver tables (compound joined) = ArePlannedOver tables joined.arms
+-- its sources and their columns are some of these
+abbrev pub IsPlannedOver : List SourceData → PlannedData → Type 0
+IsPlannedOver sources (columns at places) = IsNestOf sources (record { table = at; columns = places; tests = []; padded = false })
+IsPlannedOver sources (rows selection) = IsPlanOf sources selection.plan
+IsPlannedOver sources (sorted selection) = IsPlanOf sources selection.plan
+IsPlannedOver sources (distinct selection) = IsPlanOf sources selection.plan
+IsPlannedOver sources (sorted_distinct selection) = IsPlanOf sources selection.plan
+IsPlannedOver sources (compound joined) = ArePlannedOver sources joined.arms
+
+-- where the query is typed over a catalog, these are some of any sources that have its columns
+abbrev pub IsPlannedAsTyped : QueryData → PlannedData → Type 0
+IsPlannedAsTyped query planned = (catalog : List (List Ty)) (sources : List SourceData) → HaveColumns catalog sources → IsTyped catalog query
+    → IsPlannedOver sources planned

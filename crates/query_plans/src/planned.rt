@@ -8,7 +8,7 @@ use sorted_results::SortedSelection;
 /// What is run for a query. (SELECT)
 #[derive(Drop)]
 pub enum Planned {
-    /// These columns of each row of the table at this place of the catalog.
+    /// These columns of each row of the source at this place, mostly a table of the catalog.
     Columns(usize, Vec<usize>),
     /// Rows in no order.
     Rows(Selection),

@@ -1,16 +1,13 @@
 //! The plan of a query.
-ghost use Rattle.std.specs.Prelude.{◌≡◌, ◌++◌, IfOk, List, MatchOption, false, map, true, ⊤};
+ghost use Rattle.std.specs.Prelude.{◌≡◌, ◌++◌, IfOk, MatchOption, false, map, true, ⊤};
 ghost use Rattle.distinct_results.specs.Permitted.{AreResults};
 ghost use Rattle.meaning.specs.Hits.{order_terms};
-ghost use Rattle.meaning.specs.Typed.{IsTyped};
 ghost use Rattle.order_keys.specs.KeyView.{key_of};
-ghost use Rattle.query_plans.specs.Answers.{IsPlanFor, IsPlannedOver, planned_data};
+ghost use Rattle.query_plans.specs.Answers.{IsPlanFor, IsPlannedAsTyped, planned_data};
 ghost use Rattle.query_plans.specs.Made.{IsMade};
 ghost use Rattle.query_plans.specs.Served.{IsServed};
 ghost use Rattle.query_trees.specs.SelectView.{select_of};
 ghost use Rattle.select_plans.specs.Served.{AreOfGroups};
-ghost use Rattle.tables.specs.ColumnTypes.{column_types};
-ghost use Rattle.tables.specs.TableData.{TableData};
 ghost use Rattle.statement_names.specs.NamedView.{query_data};
 ghost use Rattle.table_plans.specs.TableJoins.{AreTableJoins};
 ghost use Rattle.table_plans.specs.Input.{input_from};
@@ -120,8 +117,7 @@ fn alone_of(
 pub fn plan(alloc: Global, query: &Query) -> Result<Option<Planned>, AllocError>
     ensures plan { IfOk result (λ planned. MatchOption planned (¬ IsServed (query_data query.now))
         (λ p. IsPlanFor (query_data query.now) (planned_data p))) }
-    ensures over { IfOk result (λ planned. MatchOption planned ⊤ (λ p. (tables : List TableData)
-        → IsTyped (column_types tables) (query_data query.now) → IsPlannedOver tables (planned_data p))) }
+    ensures over { IfOk result (λ planned. MatchOption planned ⊤ (λ p. IsPlannedAsTyped (query_data query.now) (planned_data p))) }
 {
     let single = match &query.body {
         Body::Select(single) => single,

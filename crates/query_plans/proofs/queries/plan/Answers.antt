@@ -8,11 +8,10 @@ use Rattle.compound_results.specs.Compounds.{compound_data}
 use Rattle.distinct_results.specs.Permitted.{AreResults}
 use Rattle.meaning.specs.Hits.{order_terms}
 use Rattle.meaning.specs.Query.{Key as QueryKey, compound, select}
-use Rattle.meaning.specs.Typed.{IsTyped}
 use Rattle.naming.specs.Statement.{operator_of}
 use Rattle.order_keys.specs.KeyView.{key_of}
 use Rattle.order_keys.specs.declared.terms.Key.{Key}
-use Rattle.query_plans.specs.Answers.{IsPlannedOver}
+use Rattle.query_plans.specs.Answers.{IsPlannedAsTyped}
 use Rattle.query_plans.specs.Made.{IsMade}
 use Rattle.query_plans.proofs.JoinedLemmas.{joined_is_plan, joined_over}
 use Rattle.query_plans.proofs.QueryLemmas.{is_over, is_plan, told_over, told_plan}
@@ -20,8 +19,6 @@ use Rattle.query_plans.proofs.ServedLemmas.{not_alone, not_together}
 use Rattle.query_trees.specs.SelectView.{select_of}
 use Rattle.select_plans.specs.Served.{AreOfGroups}
 use Rattle.statement_names.specs.NamedView.{query_data}
-use Rattle.tables.specs.ColumnTypes.{column_types}
-use Rattle.tables.specs.TableData.{TableData}
 use Rattle.query_plans.proofs.queries.plan.Goals as goal
 
 pub returns-in-None-clause-plan : goal.returns-in-None-clause-plan
@@ -39,8 +36,8 @@ returns-in-Some-clause-plan c =
     joined_is_plan (query_data c.args.query.now) (compound_data c.in-Some.joined) (rw c.in-Some.is at c.in_ok-compound_of-in-Compound.ensures)
 
 pub returns-in-Some-clause-over : goal.returns-in-Some-clause-over
-returns-in-Some-clause-over c = λ tables typed.
-    joined_over (query_data c.args.query.now) (compound_data c.in-Some.joined) (rw c.in-Some.is at c.in_ok-compound_of-in-Compound.ensures) tables typed
+returns-in-Some-clause-over c =
+    joined_over (query_data c.args.query.now) (compound_data c.in-Some.joined) (rw c.in-Some.is at c.in_ok-compound_of-in-Compound.ensures)
 
 pub returns-clause-plan : goal.returns-clause-plan
 returns-clause-plan c =
@@ -73,7 +70,7 @@ returns-clause-over c =
     let same : order ≡ q.order = ap (λ (keys : List Key). map key_of keys) c.as_slice.ensures.value in
     let offset = to_z w64 (of_z w64 c.args.query.now.offset) in
     told_over (λ p. IsMade c.in-Some-2.input s order c.args.query.now.limit offset p)
-    (λ p. (tables : List TableData) → IsTyped (column_types tables) q → IsPlannedOver tables p)
+    (IsPlannedAsTyped q)
     ((s.distinct ≡ true → AreResults order) × AreOfGroups s.grouping (s.columns ++ order_terms order)) _
     (λ p made. is_over q (tables_of single.tables) s c.in-Some-2.input order c.args.query.now.limit offset p
     body served.0 same refl (to_z-of_z w64 c.args.query.now.offset (search rules)) served.1 made)
