@@ -10,7 +10,7 @@ use Rattle.values.specs.declared.fault.Fault.{Fault}
 use Rattle.values.specs.declared.value.Value.{Value}
 use Rattle.pager.specs.PagerState.{PagerState}
 use Rattle.image.specs.Pages.{Pages, WhereSteady, pages_seen}
-use Rattle.tables.specs.TableData.{TableData}
+use Rattle.sources.specs.SourceData.{SourceData}
 use Rattle.expr.specs.Term.{Term}
 use Rattle.expr.specs.View.{term}
 use Rattle.meaning.specs.Hits.{order_terms}
@@ -36,25 +36,23 @@ use Rattle.running.specs.declared.rows.Running.{Running}
 use Rattle.running.specs.declared.rows.Running.TheVariants.{Rows, Distinct, Waiting, Giving}
 use Rattle.running.proofs.ColumnLemmas.{columns_answer, columns_reach_none}
 
--- what is said of tables, whatever plan is run
+-- what is said of sources, whatever plan is run
 abbrev pub with_plan : Basis → PlanData → Basis
 with_plan on plan = record on { plan = plan }
 
-pub stored_with : (pages : Pages) (tables : List TableData) (on : Basis) (plan : PlanData) → AreStored pages tables on → AreStored pages tables (with_plan on plan)
-stored_with pages tables on plan has = λ at table found.
-    let is = has at table found in
-    record { stored = is.stored; rows_are = is.rows_are; size_is = is.size_is; unchained = is.unchained }
+pub stored_with : (pages : Pages) (sources : List SourceData) (on : Basis) (plan : PlanData) → AreStored pages sources on → AreStored pages sources (with_plan on plan)
+stored_with pages sources on plan has = λ at source found. has at source found
 
 -- what a call of a stream says, whatever is to come
-abbrev pub Says : Pages → List TableData → (Basis → List Row → ℕ → Type 0) → (Basis → List Row → ℕ → Type 0) → Type 0
-Says pages tables IsToCome Then = (on : Basis) (rest : List Row) (ahead : ℕ) → AreStored pages tables on → IsToCome on rest ahead → Then on rest ahead
+abbrev pub Says : Pages → List SourceData → (Basis → List Row → ℕ → Type 0) → (Basis → List Row → ℕ → Type 0) → Type 0
+Says pages sources IsToCome Then = (on : Basis) (rest : List Row) (ahead : ℕ) → AreStored pages sources on → IsToCome on rest ahead → Then on rest ahead
 
-module _ (pages : Pages) (tables : List TableData) (planned : PlannedData) (plan : PlanData) (columns : List Term) (IsToCome : Basis → List Row → ℕ → Type 0) (given : List Row)
-    (comes : Comes pages tables planned plan columns IsToCome given) (old new : PagerState) (row : Row) where
+module _ (pages : Pages) (sources : List SourceData) (planned : PlannedData) (plan : PlanData) (columns : List Term) (IsToCome : Basis → List Row → ℕ → Type 0) (given : List Row)
+    (comes : Comes pages sources planned plan columns IsToCome given) (old new : PagerState) (row : Row) where
   -- a row more
   pub next_comes : (plan' : PlanData) (columns' : List Term) (IsLeft : Basis → List Row → ℕ → Type 0) → plan' ≡ plan → columns' ≡ columns
-      → Says pages tables IsToCome (λ on rest ahead. GivesNext on.local old ahead new rest row (IsLeft on))
-      → Comes pages tables planned plan' columns' IsLeft (given ++ row ∷ [])
+      → Says pages sources IsToCome (λ on rest ahead. GivesNext on.local old ahead new rest row (IsLeft on))
+      → Comes pages sources planned plan' columns' IsLeft (given ++ row ∷ [])
   next_comes plan' columns' IsLeft plans terms says = record {
     rows = λ on has same.
         let here = comes.rows on has (same ∙ plans) in
@@ -73,19 +71,19 @@ module _ (pages : Pages) (tables : List TableData) (planned : PlannedData) (plan
   }
 
   -- no row more
-  pub none_comes : Says pages tables IsToCome (λ on rest ahead. GivesNone on.local old ahead new rest)
-      → (on : Basis) → AreStored pages tables on → IsAnswerOf on.w on.db planned given
+  pub none_comes : Says pages sources IsToCome (λ on rest ahead. GivesNone on.local old ahead new rest)
+      → (on : Basis) → AreStored pages sources on → IsAnswerOf on.w on.db planned given
   none_comes says on has =
-      let stored = stored_with pages tables on plan has in
+      let stored = stored_with pages sources on plan has in
       let here = comes.rows (with_plan on plan) stored refl in
       let none = says (with_plan on plan) here.rest here.ahead stored here.to_come in
       subst (IsAnswerOf on.w on.db planned) (ap (λ (rest : List Row). given ++ rest) none.rest_is ∙ append-nil given) here.answer
 
   -- a fault has its cause
-  pub comes_cause : (e : Fault) → Says pages tables IsToCome (λ on rest ahead. IsResultCause on columns e)
-      → (on : Basis) → AreStored pages tables on → IsRowCause on planned e
+  pub comes_cause : (e : Fault) → Says pages sources IsToCome (λ on rest ahead. IsResultCause on columns e)
+      → (on : Basis) → AreStored pages sources on → IsRowCause on planned e
   comes_cause e says on has =
-      let stored = stored_with pages tables on plan has in
+      let stored = stored_with pages sources on plan has in
       let here = comes.rows (with_plan on plan) stored refl in
       cause (says (with_plan on plan) here.rest here.ahead stored here.to_come)
     where
@@ -95,50 +93,50 @@ module _ (pages : Pages) (tables : List TableData) (planned : PlannedData) (plan
 
 -- ---- what is run, a row further
 
-module _ (start now : PagerState) (tables : List TableData) (row : Row) where
+module _ (start now : PagerState) (sources : List SourceData) (row : Row) where
   -- what a call says of what is run
   abbrev pub Steps : Running → Running → Result Bool Fault → Type 0
   Steps old new result =
-      WhereSteady start (λ pages. (planned : PlannedData) (given : List Row) → HasGiven pages tables planned old given
-      → MatchResult result (λ found. HasAnswered found pages tables planned new given row) (λ e. (on : Basis) → AreStored pages tables on → IsRowCause on planned e))
+      WhereSteady start (λ pages. (planned : PlannedData) (given : List Row) → HasGiven pages sources planned old given
+      → MatchResult result (λ found. HasAnswered found pages sources planned new given row) (λ e. (on : Basis) → AreStored pages sources on → IsRowCause on planned e))
 
   module _ (old new : Results) (plans : plan_of new.op ≡ plan_of old.op) (terms : map term new.columns.items ≡ map term old.columns.items) where
     pub rows_step : (result : Result Bool Fault)
-        → WhereSteady start (λ pages. (on : Basis) (rest : List Row) (ahead : ℕ) → AreStored pages tables on → IsComing pages tables on old rest ahead
-        → MatchResult result (λ found. Gives found on.local start ahead now rest row (IsComing pages tables on new)) (IsResultCause on (map term old.columns.items)))
+        → WhereSteady start (λ pages. (on : Basis) (rest : List Row) (ahead : ℕ) → AreStored pages sources on → IsComing pages sources on old rest ahead
+        → MatchResult result (λ found. Gives found on.local start ahead now rest row (IsComing pages sources on new)) (IsResultCause on (map term old.columns.items)))
         → Steps (Rows old) (Rows new) result
     rows_step (Ok true) says steady planned given comes =
-        next_comes (pages_seen start) tables planned (plan_of old.op) (map term old.columns.items) (λ on. IsComing (pages_seen start) tables on old) given comes start now row
-        (plan_of new.op) (map term new.columns.items) (λ on. IsComing (pages_seen start) tables on new) plans terms (says steady)
+        next_comes (pages_seen start) sources planned (plan_of old.op) (map term old.columns.items) (λ on. IsComing (pages_seen start) sources on old) given comes start now row
+        (plan_of new.op) (map term new.columns.items) (λ on. IsComing (pages_seen start) sources on new) plans terms (says steady)
     rows_step (Ok false) says steady planned given comes =
-        none_comes (pages_seen start) tables planned (plan_of old.op) (map term old.columns.items) (λ on. IsComing (pages_seen start) tables on old) given comes start now row
+        none_comes (pages_seen start) sources planned (plan_of old.op) (map term old.columns.items) (λ on. IsComing (pages_seen start) sources on old) given comes start now row
         (says steady)
     rows_step (Err e) says steady planned given comes =
-        comes_cause (pages_seen start) tables planned (plan_of old.op) (map term old.columns.items) (λ on. IsComing (pages_seen start) tables on old) given comes start now row
+        comes_cause (pages_seen start) sources planned (plan_of old.op) (map term old.columns.items) (λ on. IsComing (pages_seen start) sources on old) given comes start now row
         e (says steady)
 
   module _ (old new : DistinctResults) (plans : plan_of new.results.op ≡ plan_of old.results.op)
       (terms : map term new.results.columns.items ≡ map term old.results.columns.items) where
     pub distinct_step : (result : Result Bool Fault)
-        → WhereSteady start (λ pages. (on : Basis) (rest : List Row) (ahead : ℕ) → AreStored pages tables on → IsDistinctComing pages tables on old rest ahead
-        → MatchResult result (λ found. Gives found on.local start ahead now rest row (IsDistinctComing pages tables on new))
+        → WhereSteady start (λ pages. (on : Basis) (rest : List Row) (ahead : ℕ) → AreStored pages sources on → IsDistinctComing pages sources on old rest ahead
+        → MatchResult result (λ found. Gives found on.local start ahead now rest row (IsDistinctComing pages sources on new))
         (IsResultCause on (map term old.results.columns.items)))
         → Steps (Distinct old) (Distinct new) result
     distinct_step (Ok true) says steady planned given comes =
-        next_comes (pages_seen start) tables planned (plan_of old.results.op) (map term old.results.columns.items)
-        (λ on. IsDistinctComing (pages_seen start) tables on old) given comes start now row
-        (plan_of new.results.op) (map term new.results.columns.items) (λ on. IsDistinctComing (pages_seen start) tables on new) plans terms (says steady)
+        next_comes (pages_seen start) sources planned (plan_of old.results.op) (map term old.results.columns.items)
+        (λ on. IsDistinctComing (pages_seen start) sources on old) given comes start now row
+        (plan_of new.results.op) (map term new.results.columns.items) (λ on. IsDistinctComing (pages_seen start) sources on new) plans terms (says steady)
     distinct_step (Ok false) says steady planned given comes =
-        none_comes (pages_seen start) tables planned (plan_of old.results.op) (map term old.results.columns.items)
-        (λ on. IsDistinctComing (pages_seen start) tables on old) given comes start now row (says steady)
+        none_comes (pages_seen start) sources planned (plan_of old.results.op) (map term old.results.columns.items)
+        (λ on. IsDistinctComing (pages_seen start) sources on old) given comes start now row (says steady)
     distinct_step (Err e) says steady planned given comes =
-        comes_cause (pages_seen start) tables planned (plan_of old.results.op) (map term old.results.columns.items)
-        (λ on. IsDistinctComing (pages_seen start) tables on old) given comes start now row e (says steady)
+        comes_cause (pages_seen start) sources planned (plan_of old.results.op) (map term old.results.columns.items)
+        (λ on. IsDistinctComing (pages_seen start) sources on old) given comes start now row e (says steady)
 
   -- of the rows that were gathered the next is given, or there is none
   pub giving_answers : (pages : Pages) (planned : PlannedData) (given : List Row) (old new : IntoIter (Vec Value) Global) (found : Bool)
       → GivesFirst found (rows_left old) (rows_left new) row
-      → HasGiven pages tables planned (Giving old) given → HasAnswered found pages tables planned (Giving new) given row
+      → HasGiven pages sources planned (Giving old) given → HasAnswered found pages sources planned (Giving new) given row
   giving_answers pages planned given old new true first all = λ on has.
       subst (IsAnswerOf on.w on.db planned)
       (ap (λ (rest : List Row). given ++ rest) first ∙ sym (append_assoc given (row ∷ []) (rows_left new))) (all on has)
@@ -152,7 +150,7 @@ module _ (start now : PagerState) (tables : List TableData) (row : Row) where
   module _ (gathered : Gathered) where
     -- the rows are gathered, and the first of them is given
     pub waiting_step : (rows : Vec (Vec Value)) (old new : IntoIter (Vec Value) Global) (found : Bool) → into_iter_items old ≡ rows.items
-        → WhereSteady start (λ pages. (on : Basis) → AreStored pages tables on → IsAnswerOf on.w on.db (gathered_data gathered) (rows_data rows.items))
+        → WhereSteady start (λ pages. (on : Basis) → AreStored pages sources on → IsAnswerOf on.w on.db (gathered_data gathered) (rows_data rows.items))
         → GivesFirst found (rows_left old) (rows_left new) row → Steps (Waiting gathered) (Giving new) (Ok found)
     waiting_step rows old new found items answers first steady planned given waits =
         giving_answers (pages_seen start) planned given old new found first
@@ -162,17 +160,17 @@ module _ (start now : PagerState) (tables : List TableData) (row : Row) where
         (ap rows_data (sym items) ∙ ap (λ (before : List Row). before ++ rows_left old) (sym waits.0)) (answers steady on has)))
 
     pub waiting_stops : (then : Running) (e : Fault)
-        → WhereSteady start (λ pages. (on : Basis) → AreStored pages tables on → IsRowCause on (gathered_data gathered) e) → Steps (Waiting gathered) then (Err e)
+        → WhereSteady start (λ pages. (on : Basis) → AreStored pages sources on → IsRowCause on (gathered_data gathered) e) → Steps (Waiting gathered) then (Err e)
     waiting_stops then e causes steady planned given waits = λ on has.
         subst (λ (p : PlannedData). IsRowCause on p e) (sym waits.1) (causes steady on has)
 
 -- ---- rows that are gathered
 
-module _ (start now : PagerState) (tables : List TableData) where
+module _ (start now : PagerState) (sources : List SourceData) where
   -- what is said of the rows of a plan that are gathered
   abbrev pub Gathers : PlannedData → Result (Vec (Vec Value)) Fault → Type 0
   Gathers planned result =
-      WhereSteady start (λ pages. (on : Basis) → AreStored pages tables on
+      WhereSteady start (λ pages. (on : Basis) → AreStored pages sources on
       → MatchResult result (λ rows. IsAnswerOf on.w on.db planned (rows_data rows.items)) (IsRowCause on planned))
 
   pub gathers_as : (planned other : PlannedData) (result : Result (Vec (Vec Value)) Fault) → planned ≡ other → Gathers other result → Gathers planned result
@@ -180,33 +178,33 @@ module _ (start now : PagerState) (tables : List TableData) where
 
   module _ (selection : SortedData) where
     pub sorted_gathers : (result : Result (Vec (Vec Value)) Fault)
-        → WhereSteady start (λ pages. (on : Basis) → AreStored pages tables on → on.plan ≡ selection.plan
+        → WhereSteady start (λ pages. (on : Basis) → AreStored pages sources on → on.plan ≡ selection.plan
         → MatchResult result (λ rows. IsSortedAnswer on.w on.db selection (rows_data rows.items) × Asks on.local start (work on.w on.db on.sizes on.plan) now 0)
         (IsResultCause on (selection.columns ++ order_terms selection.order)))
         → Gathers (PlannedData.sorted selection) result
-    sorted_gathers (Ok rows) says steady on has = (says steady (with_plan on selection.plan) (stored_with (pages_seen start) tables on selection.plan has) refl).0
+    sorted_gathers (Ok rows) says steady on has = (says steady (with_plan on selection.plan) (stored_with (pages_seen start) sources on selection.plan has) refl).0
     sorted_gathers (Err e) says steady on has =
-        cause (says steady (with_plan on selection.plan) (stored_with (pages_seen start) tables on selection.plan has) refl)
+        cause (says steady (with_plan on selection.plan) (stored_with (pages_seen start) sources on selection.plan has) refl)
       where
         cause : IsResultCause (with_plan on selection.plan) (selection.columns ++ order_terms selection.order) e → IsRowCause on (PlannedData.sorted selection) e
         cause (inl read) = inl read
         cause (inr over) = inr over
 
     pub distinct_gathers : (result : Result (Vec (Vec Value)) Fault)
-        → WhereSteady start (λ pages. (on : Basis) → AreStored pages tables on → on.plan ≡ selection.plan
+        → WhereSteady start (λ pages. (on : Basis) → AreStored pages sources on → on.plan ≡ selection.plan
         → MatchResult result (λ rows. IsSortedDistinctAnswer on.w on.db selection (rows_data rows.items) × Asks on.local start (work on.w on.db on.sizes on.plan) now 0)
         (IsResultCause on selection.columns))
         → Gathers (PlannedData.sorted_distinct selection) result
-    distinct_gathers (Ok rows) says steady on has = (says steady (with_plan on selection.plan) (stored_with (pages_seen start) tables on selection.plan has) refl).0
+    distinct_gathers (Ok rows) says steady on has = (says steady (with_plan on selection.plan) (stored_with (pages_seen start) sources on selection.plan has) refl).0
     distinct_gathers (Err e) says steady on has =
-        cause (says steady (with_plan on selection.plan) (stored_with (pages_seen start) tables on selection.plan has) refl)
+        cause (says steady (with_plan on selection.plan) (stored_with (pages_seen start) sources on selection.plan has) refl)
       where
         cause : IsResultCause (with_plan on selection.plan) selection.columns e → IsRowCause on (PlannedData.sorted_distinct selection) e
         cause (inl read) = inl read
         cause (inr over) = inr over
 
   pub compound_gathers : (joined : CompoundData) (result : Result (Vec (Vec Value)) Fault)
-      → WhereSteady start (λ pages. (on : Basis) → AreStored pages tables on
+      → WhereSteady start (λ pages. (on : Basis) → AreStored pages sources on
       → MatchResult result
       (λ rows. IsCompoundAnswer on.w on.db joined (rows_data rows.items) × Asks on.local start (work_of_arms on.w on.db on.sizes joined.arms) now 0)
       (IsArmsCause on joined.arms))
@@ -216,13 +214,13 @@ module _ (start now : PagerState) (tables : List TableData) where
 
 -- ---- the first row
 
-module _ (pages : Pages) (tables : List TableData) (selection : SelectionData) where
+module _ (pages : Pages) (sources : List SourceData) (selection : SelectionData) where
   -- all rows of a selection are to come
   pub rows_come : (planned : PlannedData) (results : Results) → plan_of results.op ≡ selection.plan → map term results.columns.items ≡ selection.columns
-      → ((on : Basis) → on.plan ≡ selection.plan → IsComing pages tables on results (answer_of on.w on.db selection) (work on.w on.db on.sizes on.plan))
+      → ((on : Basis) → on.plan ≡ selection.plan → IsComing pages sources on results (answer_of on.w on.db selection) (work on.w on.db on.sizes on.plan))
       → ((w : Datum) (db : Database) → IsAnswerOf w db planned (answer_of w db selection))
       → ((w : Datum) (db : Database) → PlanReaches w db selection.plan selection.columns → HitsOf w db planned)
-      → HasGiven pages tables planned (Rows results) []
+      → HasGiven pages sources planned (Rows results) []
   rows_come planned results plans terms coming answers hits = record {
     rows = λ on has same. record {
       rest = answer_of on.w on.db selection;
@@ -237,8 +235,8 @@ module _ (pages : Pages) (tables : List TableData) (selection : SelectionData) w
   }
 
   pub distinct_come : (distinct : DistinctResults) → plan_of distinct.results.op ≡ selection.plan → map term distinct.results.columns.items ≡ selection.columns
-      → ((on : Basis) → on.plan ≡ selection.plan → IsDistinctComing pages tables on distinct (distinct_answer_of on.w on.db selection) (work on.w on.db on.sizes on.plan))
-      → HasGiven pages tables (PlannedData.distinct selection) (Distinct distinct) []
+      → ((on : Basis) → on.plan ≡ selection.plan → IsDistinctComing pages sources on distinct (distinct_answer_of on.w on.db selection) (work on.w on.db on.sizes on.plan))
+      → HasGiven pages sources (PlannedData.distinct selection) (Distinct distinct) []
   distinct_come distinct plans terms coming = record {
     rows = λ on has same. record {
       rest = distinct_answer_of on.w on.db selection;
@@ -253,49 +251,49 @@ module _ (pages : Pages) (tables : List TableData) (selection : SelectionData) w
 
 -- a selection whose rows come one by one
 pub rows_opened : (selection : SelectionData) (results : Results) → plan_of results.op ≡ selection.plan → map term results.columns.items ≡ selection.columns
-    → ((pages : Pages) (tables : List TableData) (on : Basis) → on.plan ≡ selection.plan
-    → IsComing pages tables on results (answer_of on.w on.db selection) (work on.w on.db on.sizes on.plan))
+    → ((pages : Pages) (sources : List SourceData) (on : Basis) → on.plan ≡ selection.plan
+    → IsComing pages sources on results (answer_of on.w on.db selection) (work on.w on.db on.sizes on.plan))
     → IsOpened (PlannedData.rows selection) (Rows results)
 rows_opened selection results plans terms coming = record {
-  given = λ pages tables.
-      rows_come pages tables selection (PlannedData.rows selection) results plans terms (coming pages tables) (λ w db. refl) (λ w db reaches. reaches);
-  over = λ tables over. subst (λ (p : PlanData). IsPlanOf tables p) (sym plans) over;
+  given = λ pages sources.
+      rows_come pages sources selection (PlannedData.rows selection) results plans terms (coming pages sources) (λ w db. refl) (λ w db reaches. reaches);
+  over = λ sources over. subst (λ (p : PlanData). IsPlanOf sources p) (sym plans) over;
 }
 
 pub distinct_opened : (selection : SelectionData) (distinct : DistinctResults) → plan_of distinct.results.op ≡ selection.plan
     → map term distinct.results.columns.items ≡ selection.columns
-    → ((pages : Pages) (tables : List TableData) (on : Basis) → on.plan ≡ selection.plan
-    → IsDistinctComing pages tables on distinct (distinct_answer_of on.w on.db selection) (work on.w on.db on.sizes on.plan))
+    → ((pages : Pages) (sources : List SourceData) (on : Basis) → on.plan ≡ selection.plan
+    → IsDistinctComing pages sources on distinct (distinct_answer_of on.w on.db selection) (work on.w on.db on.sizes on.plan))
     → IsOpened (PlannedData.distinct selection) (Distinct distinct)
 distinct_opened selection distinct plans terms coming = record {
-  given = λ pages tables. distinct_come pages tables selection distinct plans terms (coming pages tables);
-  over = λ tables over. subst (λ (p : PlanData). IsPlanOf tables p) (sym plans) over;
+  given = λ pages sources. distinct_come pages sources selection distinct plans terms (coming pages sources);
+  over = λ sources over. subst (λ (p : PlanData). IsPlanOf sources p) (sym plans) over;
 }
 
 -- columns of each row of a table
 pub columns_opened : (at : ℕ) (places : List ℕ) (selection : SelectionData) → selection ≡ columns_selection at places
     → (results : Results) → plan_of results.op ≡ selection.plan → map term results.columns.items ≡ selection.columns
-    → ((pages : Pages) (tables : List TableData) (on : Basis) → on.plan ≡ selection.plan
-    → IsComing pages tables on results (answer_of on.w on.db selection) (work on.w on.db on.sizes on.plan))
+    → ((pages : Pages) (sources : List SourceData) (on : Basis) → on.plan ≡ selection.plan
+    → IsComing pages sources on results (answer_of on.w on.db selection) (work on.w on.db on.sizes on.plan))
     → IsOpened (PlannedData.columns at places) (Rows results)
 columns_opened at places selection same results plans terms coming = record {
-  given = λ pages tables.
-      rows_come pages tables selection (PlannedData.columns at places) results plans terms (coming pages tables)
+  given = λ pages sources.
+      rows_come pages sources selection (PlannedData.columns at places) results plans terms (coming pages sources)
       (λ w db. ap (answer_of w db) same ∙ columns_answer w db at places)
       (λ w db reaches. columns_reach_none w db at places (subst (λ (s : SelectionData). PlanReaches w db s.plan s.columns) same reaches));
-  over = λ tables over. subst (λ (p : PlanData). IsPlanOf tables p) (sym (plans ∙ ap (λ (s : SelectionData). s.plan) same)) (tt, over);
+  over = λ sources over. subst (λ (p : PlanData). IsPlanOf sources p) (sym (plans ∙ ap (λ (s : SelectionData). s.plan) same)) (tt, over);
 }
 
 -- ---- what was given begins an answer
 
 -- behind a row the rows are the front of an answer
-pub given_begins : (pages : Pages) (tables : List TableData) (planned : PlannedData) (running : Running) (given : List Row) (row : Row)
-    → HasGiven pages tables planned running (given ++ row ∷ []) → (on : Basis) → AreStored pages tables on
+pub given_begins : (pages : Pages) (sources : List SourceData) (planned : PlannedData) (running : Running) (given : List Row) (row : Row)
+    → HasGiven pages sources planned running (given ++ row ∷ []) → (on : Basis) → AreStored pages sources on
     → (rest : List Row) × IsAnswerOf on.w on.db planned ((given ++ row ∷ []) ++ rest)
-given_begins pages tables planned (Rows results) given row comes on has =
-    let here = comes.rows (with_plan on (plan_of results.op)) (stored_with pages tables on (plan_of results.op) has) refl in (here.rest, here.answer)
-given_begins pages tables planned (Distinct distinct) given row comes on has =
-    let here = comes.rows (with_plan on (plan_of distinct.results.op)) (stored_with pages tables on (plan_of distinct.results.op) has) refl in (here.rest, here.answer)
-given_begins pages tables planned (Waiting gathered) given row waits on has =
+given_begins pages sources planned (Rows results) given row comes on has =
+    let here = comes.rows (with_plan on (plan_of results.op)) (stored_with pages sources on (plan_of results.op) has) refl in (here.rest, here.answer)
+given_begins pages sources planned (Distinct distinct) given row comes on has =
+    let here = comes.rows (with_plan on (plan_of distinct.results.op)) (stored_with pages sources on (plan_of distinct.results.op) has) refl in (here.rest, here.answer)
+given_begins pages sources planned (Waiting gathered) given row waits on has =
     absurd (let long = length-append given (row ∷ []) in let none = ap length waits.0 in omega (arith, long, none))
-given_begins pages tables planned (Giving rows) given row all on has = (rows_left rows, all on has)
+given_begins pages sources planned (Giving rows) given row all on has = (rows_left rows, all on has)

@@ -11,7 +11,7 @@ use Rattle.values.specs.declared.fault.Fault.{Fault}
 use Rattle.values.specs.declared.fault.Fault.TheVariants.{Overflow}
 use Rattle.pager.specs.Calls.{IsReadFault}
 use Rattle.image.specs.Pages.{Pages}
-use Rattle.tables.specs.TableData.{TableData}
+use Rattle.sources.specs.SourceData.{SourceData}
 use Rattle.expr.specs.Term.{Term}
 use Rattle.expr.specs.View.{term}
 use Rattle.plans.specs.Plan.{PlanData}
@@ -45,44 +45,44 @@ pub record Completes (on : Basis) (planned : PlannedData) (IsToCome : List Row �
   pub answer : IsAnswerOf on.w on.db planned (given ++ rest)
   pub to_come : IsToCome rest ahead
 
--- Rows that come one by one over this plan, with these result columns, do so whatever is said of the tables that are stored; and
+-- Rows that come one by one over this plan, with these result columns, do so whatever is said of the sources that have rows; and
 -- what the plan or a result column reaches is reached by what is run.
-pub record Comes (pages : Pages) (tables : List TableData) (planned : PlannedData) (plan : PlanData) (columns : List Term)
+pub record Comes (pages : Pages) (sources : List SourceData) (planned : PlannedData) (plan : PlanData) (columns : List Term)
     (IsToCome : Basis → List Row → ℕ → Type 0) (given : List Row) : Type 0 where
-  pub rows : (on : Basis) → AreStored pages tables on → on.plan ≡ plan → Completes on planned (IsToCome on) given
+  pub rows : (on : Basis) → AreStored pages sources on → on.plan ≡ plan → Completes on planned (IsToCome on) given
   pub hits : (w : Datum) (db : Database) → PlanReaches w db plan columns → HitsOf w db planned
 
 -- These rows were given, and what is to come makes an answer of them: as they come one by one, all of them where they are yet
 -- to be gathered, and else those that were gathered.
-abbrev pub HasGiven : Pages → List TableData → PlannedData → Running → List Row → Type 0
-HasGiven pages tables planned (Rows results) given =
-    Comes pages tables planned (plan_of results.op) (map term results.columns.items) (λ on. IsComing pages tables on results) given
-HasGiven pages tables planned (Distinct distinct) given =
-    Comes pages tables planned (plan_of distinct.results.op) (map term distinct.results.columns.items) (λ on. IsDistinctComing pages tables on distinct) given
-HasGiven pages tables planned (Waiting gathered) given = (given ≡ []) × (planned ≡ gathered_data gathered)
-HasGiven pages tables planned (Giving rows) given =
-    (on : Basis) → AreStored pages tables on → IsAnswerOf on.w on.db planned (given ++ rows_left rows)
+abbrev pub HasGiven : Pages → List SourceData → PlannedData → Running → List Row → Type 0
+HasGiven pages sources planned (Rows results) given =
+    Comes pages sources planned (plan_of results.op) (map term results.columns.items) (λ on. IsComing pages sources on results) given
+HasGiven pages sources planned (Distinct distinct) given =
+    Comes pages sources planned (plan_of distinct.results.op) (map term distinct.results.columns.items) (λ on. IsDistinctComing pages sources on distinct) given
+HasGiven pages sources planned (Waiting gathered) given = (given ≡ []) × (planned ≡ gathered_data gathered)
+HasGiven pages sources planned (Giving rows) given =
+    (on : Basis) → AreStored pages sources on → IsAnswerOf on.w on.db planned (given ++ rows_left rows)
 
 -- a row more was given, or those that were are an answer
-abbrev pub HasAnswered : Bool → Pages → List TableData → PlannedData → Running → List Row → Row → Type 0
-HasAnswered true pages tables planned running given row = HasGiven pages tables planned running (given ++ row ∷ [])
-HasAnswered false pages tables planned running given row = (on : Basis) → AreStored pages tables on → IsAnswerOf on.w on.db planned given
+abbrev pub HasAnswered : Bool → Pages → List SourceData → PlannedData → Running → List Row → Row → Type 0
+HasAnswered true pages sources planned running given row = HasGiven pages sources planned running (given ++ row ∷ [])
+HasAnswered false pages sources planned running given row = (on : Basis) → AreStored pages sources on → IsAnswerOf on.w on.db planned given
 
--- its tables and their columns are some of the catalog
-abbrev pub IsRunOver : List TableData → Running → Type 0
-IsRunOver tables (Rows results) = IsPlanOf tables (plan_of results.op)
-IsRunOver tables (Distinct distinct) = IsPlanOf tables (plan_of distinct.results.op)
-IsRunOver tables (Waiting gathered) = IsPlannedOver tables (gathered_data gathered)
-IsRunOver tables (Giving rows) = ⊤
+-- its sources and their columns are some of these
+abbrev pub IsRunOver : List SourceData → Running → Type 0
+IsRunOver sources (Rows results) = IsPlanOf sources (plan_of results.op)
+IsRunOver sources (Distinct distinct) = IsPlanOf sources (plan_of distinct.results.op)
+IsRunOver sources (Waiting gathered) = IsPlannedOver sources (gathered_data gathered)
+IsRunOver sources (Giving rows) = ⊤
 
 -- a plan was opened: no row was given
 pub record IsOpened (planned : PlannedData) (running : Running) : Type 0 where
-  pub given : (pages : Pages) (tables : List TableData) → HasGiven pages tables planned running []
-  pub over : (tables : List TableData) → IsPlannedOver tables planned → IsRunOver tables running
+  pub given : (pages : Pages) (sources : List SourceData) → HasGiven pages sources planned running []
+  pub over : (sources : List SourceData) → IsPlannedOver sources planned → IsRunOver sources running
 
--- a measure that falls with each row, over any source; no more rows are gathered than there are addresses
-abbrev pub steps_left : Running → ℕ
-steps_left (Rows results) = steps results.op
-steps_left (Distinct distinct) = steps distinct.results.op
-steps_left (Waiting gathered) = 2 ^ 64
-steps_left (Giving rows) = into_iter_len rows
+-- a measure that falls with each row, over any source of bytes; no more rows are gathered than there are addresses
+abbrev pub steps_left : List SourceData → Running → ℕ
+steps_left sources (Rows results) = steps sources results.op
+steps_left sources (Distinct distinct) = steps sources distinct.results.op
+steps_left sources (Waiting gathered) = 2 ^ 64
+steps_left sources (Giving rows) = into_iter_len rows

@@ -3,7 +3,7 @@ ghost use Rattle.std.specs.Prelude.{◌<◌, All, IfErr, IsTrue, MatchResult, ma
 ghost use Rattle.std.specs.Vec.Iter.{into_iter_len};
 ghost use Rattle.values.specs.Datum.{datum_of};
 ghost use Rattle.pager.specs.Calls.{ReadsPages};
-ghost use Rattle.pager.specs.PagerState.{IsPageNumber};
+ghost use Rattle.sources.specs.Coming.{IsRooted};
 ghost use Rattle.image.specs.Pages.{WhereSteady};
 ghost use Rattle.operators.specs.Basis.{AreStored, Basis, IsOperatorFault};
 ghost use Rattle.query_plans.specs.Answers.{IsAnswerOf, IsPlannedOver};
@@ -14,9 +14,9 @@ use compound_results::{Compound, compound_rows};
 use distinct_results::{SortedDistinct, sorted_distinct_rows};
 use pager::{Pager, Source};
 use sorted_results::{SortedSelection, sorted_rows};
+use sources::Sources;
 use std::alloc::Global;
 use std::vec::IntoIter;
-use tables::Table;
 use values::{Fault, Value};
 
 /// What is run where no row is given before all are known. (SELECT)
@@ -34,23 +34,23 @@ pub enum Gathered {
 pub(crate) fn gathered_rows<S: Source>(
     alloc: Global,
     pager: &mut Pager<S>,
-    tables: &[Table],
+    sources: &Sources<'_>,
     gathered: &Gathered,
 ) -> Result<Vec<Vec<Value>>, Fault>
-    requires roots { All (λ table. IsPageNumber pager.old.state table.root) tables.now }
-    requires planned { IsPlannedOver tables.now (gathered_data gathered.now) }
-    ensures rows { WhereSteady pager.old.state (λ pages. (on : Basis) → AreStored pages tables.now on → MatchResult result
+    requires roots { All (IsRooted pager.old.state.header) sources.now }
+    requires planned { IsPlannedOver sources.now (gathered_data gathered.now) }
+    ensures rows { WhereSteady pager.old.state (λ pages. (on : Basis) → AreStored pages sources.now on → MatchResult result
         (λ rows. IsAnswerOf on.w on.db (gathered_data gathered.now) (rows_data rows.items))
         (IsRowCause on (gathered_data gathered.now))) }
     ensures only { IfErr result IsOperatorFault }
     ensures reads { ReadsPages result pager.old.state pager.new.state }
 {
     match gathered {
-        Gathered::Sorted(selection) => sorted_rows(alloc, pager, tables, selection),
+        Gathered::Sorted(selection) => sorted_rows(alloc, pager, sources, selection),
         Gathered::SortedDistinct(selection) => sorted_distinct_rows(
-            alloc, pager, tables, selection,
+            alloc, pager, sources, selection,
         ),
-        Gathered::Compound(joined) => compound_rows(alloc, pager, tables, joined),
+        Gathered::Compound(joined) => compound_rows(alloc, pager, sources, joined),
     }
 }
 

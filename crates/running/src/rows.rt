@@ -3,7 +3,7 @@ ghost use Rattle.std.specs.Prelude.{◌<◌, All, IfErr, IfOk, IsTrue, List, Mat
 ghost use Rattle.values.specs.Datum.{datum_of};
 ghost use Rattle.values.specs.Row.{Row};
 ghost use Rattle.pager.specs.Calls.{ReadsPages};
-ghost use Rattle.pager.specs.PagerState.{IsPageNumber};
+ghost use Rattle.sources.specs.Coming.{IsRooted};
 ghost use Rattle.image.specs.Pages.{WhereSteady};
 ghost use Rattle.operators.specs.Basis.{AreStored, Basis, IsOperatorFault};
 ghost use Rattle.query_plans.specs.Answers.{PlannedData, planned_data};
@@ -17,9 +17,9 @@ use distinct_results::DistinctResults;
 use pager::{Pager, Source};
 use query_plans::Planned;
 use results::{Results, Selection};
+use sources::Sources;
 use std::alloc::{AllocError, Global};
 use std::vec::IntoIter;
-use tables::Table;
 use values::{Fault, Value};
 
 /// A plan that is run, and where it stands. (SELECT)
@@ -89,24 +89,24 @@ impl Running {
         &mut self,
         alloc: Global,
         pager: &mut Pager<S>,
-        tables: &[Table],
+        sources: &Sources<'_>,
         row: &mut Vec<Value>,
     ) -> Result<bool, Fault>
-        requires roots { All (λ table. IsPageNumber pager.old.state table.root) tables.now }
-        requires planned { IsRunOver tables.now self.old }
-        ensures rows { WhereSteady pager.old.state (λ pages. (planned : PlannedData) (given : List Row) → HasGiven pages tables.now planned self.old given
-            → MatchResult result (λ found. HasAnswered found pages tables.now planned self.new given (map datum_of row.new.items))
-            (λ e. (on : Basis) → AreStored pages tables.now on → IsRowCause on planned e)) }
-        ensures over { IsRunOver tables.now self.new }
-        ensures left { IfOk result (λ found. IsTrue found → steps_left self.new < steps_left self.old) }
+        requires roots { All (IsRooted pager.old.state.header) sources.now }
+        requires planned { IsRunOver sources.now self.old }
+        ensures rows { WhereSteady pager.old.state (λ pages. (planned : PlannedData) (given : List Row) → HasGiven pages sources.now planned self.old given
+            → MatchResult result (λ found. HasAnswered found pages sources.now planned self.new given (map datum_of row.new.items))
+            (λ e. (on : Basis) → AreStored pages sources.now on → IsRowCause on planned e)) }
+        ensures over { IsRunOver sources.now self.new }
+        ensures left { IfOk result (λ found. IsTrue found → steps_left sources.now self.new < steps_left sources.now self.old) }
         ensures only { IfErr result IsOperatorFault }
         ensures reads { ReadsPages result pager.old.state pager.new.state }
     {
         match self {
-            Running::Rows(results) => results.next(alloc, pager, tables, row),
-            Running::Distinct(distinct) => distinct.next(alloc, pager, tables, row),
+            Running::Rows(results) => results.next(alloc, pager, sources, row),
+            Running::Distinct(distinct) => distinct.next(alloc, pager, sources, row),
             Running::Waiting(gathered) => {
-                let rows = gathered_rows(alloc, pager, tables, gathered)?;
+                let rows = gathered_rows(alloc, pager, sources, gathered)?;
                 let mut left = rows.into_iter();
                 let found = give(&mut left, row);
                 *self = Running::Giving(left);

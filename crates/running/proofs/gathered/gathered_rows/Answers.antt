@@ -9,21 +9,21 @@ use Rattle.running.proofs.gathered.gathered_rows.Goals as goal
 
 pub returns-in-Sorted-clause-rows : goal.returns-in-Sorted-clause-rows
 returns-in-Sorted-clause-rows g c =
-    gathers_as c.args.pager.now.state c.sorted_rows.new.pager.state c.args.tables.now (gathered_data c.args.gathered.now)
+    gathers_as c.args.pager.now.state c.sorted_rows.new.pager.state c.args.sources.now (gathered_data c.args.gathered.now)
     (PlannedData.sorted (sorted_data c.in-Sorted.selection)) c.sorted_rows.result (ap gathered_data c.in-Sorted.is)
-    (sorted_gathers c.args.pager.now.state c.sorted_rows.new.pager.state c.args.tables.now (sorted_data c.in-Sorted.selection) c.sorted_rows.result
+    (sorted_gathers c.args.pager.now.state c.sorted_rows.new.pager.state c.args.sources.now (sorted_data c.in-Sorted.selection) c.sorted_rows.result
     c.sorted_rows.ensures.rows)
 
 pub returns-in-SortedDistinct-clause-rows : goal.returns-in-SortedDistinct-clause-rows
 returns-in-SortedDistinct-clause-rows g c =
-    gathers_as c.args.pager.now.state c.sorted_distinct_rows.new.pager.state c.args.tables.now (gathered_data c.args.gathered.now)
+    gathers_as c.args.pager.now.state c.sorted_distinct_rows.new.pager.state c.args.sources.now (gathered_data c.args.gathered.now)
     (PlannedData.sorted_distinct (sorted_distinct_data c.in-SortedDistinct.selection)) c.sorted_distinct_rows.result (ap gathered_data c.in-SortedDistinct.is)
-    (distinct_gathers c.args.pager.now.state c.sorted_distinct_rows.new.pager.state c.args.tables.now (sorted_distinct_data c.in-SortedDistinct.selection)
+    (distinct_gathers c.args.pager.now.state c.sorted_distinct_rows.new.pager.state c.args.sources.now (sorted_distinct_data c.in-SortedDistinct.selection)
     c.sorted_distinct_rows.result c.sorted_distinct_rows.ensures.rows)
 
 pub returns-in-Compound-clause-rows : goal.returns-in-Compound-clause-rows
 returns-in-Compound-clause-rows g c =
-    gathers_as c.args.pager.now.state c.compound_rows.new.pager.state c.args.tables.now (gathered_data c.args.gathered.now)
+    gathers_as c.args.pager.now.state c.compound_rows.new.pager.state c.args.sources.now (gathered_data c.args.gathered.now)
     (PlannedData.compound (compound_data c.in-Compound.joined)) c.compound_rows.result (ap gathered_data c.in-Compound.is)
-    (compound_gathers c.args.pager.now.state c.compound_rows.new.pager.state c.args.tables.now (compound_data c.in-Compound.joined) c.compound_rows.result
+    (compound_gathers c.args.pager.now.state c.compound_rows.new.pager.state c.args.sources.now (compound_data c.in-Compound.joined) c.compound_rows.result
     c.compound_rows.ensures.rows)

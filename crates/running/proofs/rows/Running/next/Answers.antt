@@ -9,33 +9,33 @@ use Rattle.running.proofs.rows.Running.next.Goals as goal
 
 pub returns-in-Rows-clause-rows : goal.returns-in-Rows-clause-rows
 returns-in-Rows-clause-rows g c = λ steady planned given has.
-    rows_step c.args.pager.now.state c.next.new.pager.state c.args.tables.now (map datum_of c.next.new.out.items) c.in-Rows.results c.next.new.self c.next.ensures.plan
+    rows_step c.args.pager.now.state c.next.new.pager.state c.args.sources.now (map datum_of c.next.new.out.items) c.in-Rows.results c.next.new.self c.next.ensures.plan
     c.next.ensures.columns c.next.result c.next.ensures.rows steady planned given
-    (subst (λ (r : Running). HasGiven (pages_seen c.args.pager.now.state) c.args.tables.now planned r given) c.in-Rows.is has)
+    (subst (λ (r : Running). HasGiven (pages_seen c.args.pager.now.state) c.args.sources.now planned r given) c.in-Rows.is has)
 
 pub returns-in-Distinct-clause-rows : goal.returns-in-Distinct-clause-rows
 returns-in-Distinct-clause-rows g c = λ steady planned given has.
-    distinct_step c.args.pager.now.state c.next-in-Distinct.new.pager.state c.args.tables.now (map datum_of c.next-in-Distinct.new.out.items) c.in-Distinct.distinct
+    distinct_step c.args.pager.now.state c.next-in-Distinct.new.pager.state c.args.sources.now (map datum_of c.next-in-Distinct.new.out.items) c.in-Distinct.distinct
     c.next-in-Distinct.new.self c.next-in-Distinct.ensures.plan c.next-in-Distinct.ensures.columns c.next-in-Distinct.result c.next-in-Distinct.ensures.rows steady planned given
-    (subst (λ (r : Running). HasGiven (pages_seen c.args.pager.now.state) c.args.tables.now planned r given) c.in-Distinct.is has)
+    (subst (λ (r : Running). HasGiven (pages_seen c.args.pager.now.state) c.args.sources.now planned r given) c.in-Distinct.is has)
 
 pub returns-in-Giving-clause-rows : goal.returns-in-Giving-clause-rows
 returns-in-Giving-clause-rows g c = λ steady planned given has.
-    giving_step c.args.pager.now.state c.args.pager.now.state c.args.tables.now (map datum_of c.give.new.row.items) c.in-Giving.rows c.give.new.rows
+    giving_step c.args.pager.now.state c.args.pager.now.state c.args.sources.now (map datum_of c.give.new.row.items) c.in-Giving.rows c.give.new.rows
     c.give.result c.give.ensures.rows steady planned given
-    (subst (λ (r : Running). HasGiven (pages_seen c.args.pager.now.state) c.args.tables.now planned r given) c.in-Giving.is has)
+    (subst (λ (r : Running). HasGiven (pages_seen c.args.pager.now.state) c.args.sources.now planned r given) c.in-Giving.is has)
 
 pub returns-in_err-rows-in-Waiting-clause-rows : goal.returns-in_err-rows-in-Waiting-clause-rows
 returns-in_err-rows-in-Waiting-clause-rows g c = λ steady planned given has.
     let p = err_from_is_err_and c.from_residual.result c.from_residual.ensures.1 in
     rw (p.1, p.2)
-    (waiting_stops c.args.pager.now.state c.args.pager.now.state c.args.tables.now (map datum_of c.args.row.now.items) c.in-Waiting.gathered c.args.self.now _
+    (waiting_stops c.args.pager.now.state c.args.pager.now.state c.args.sources.now (map datum_of c.args.row.now.items) c.in-Waiting.gathered c.args.self.now _
     c.in_err-rows-in-Waiting.ensures.rows steady planned given
-    (subst (λ (r : Running). HasGiven (pages_seen c.args.pager.now.state) c.args.tables.now planned r given) c.in-Waiting.is has))
+    (subst (λ (r : Running). HasGiven (pages_seen c.args.pager.now.state) c.args.sources.now planned r given) c.in-Waiting.is has))
 
 pub returns-in_ok-rows-in-Waiting-clause-rows : goal.returns-in_ok-rows-in-Waiting-clause-rows
 returns-in_ok-rows-in-Waiting-clause-rows g c = λ steady planned given has.
-    waiting_step c.args.pager.now.state c.args.pager.now.state c.args.tables.now (map datum_of c.give-found.new.row.items) c.in-Waiting.gathered
+    waiting_step c.args.pager.now.state c.args.pager.now.state c.args.sources.now (map datum_of c.give-found.new.row.items) c.in-Waiting.gathered
     c.in_ok-rows-in-Waiting.rows c.into_iter-left.result c.give-found.new.rows c.give-found.result c.into_iter-left.ensures.rest
     c.in_ok-rows-in-Waiting.ensures.rows c.give-found.ensures.rows steady planned given
-    (subst (λ (r : Running). HasGiven (pages_seen c.args.pager.now.state) c.args.tables.now planned r given) c.in-Waiting.is has)
+    (subst (λ (r : Running). HasGiven (pages_seen c.args.pager.now.state) c.args.sources.now planned r given) c.in-Waiting.is has)
