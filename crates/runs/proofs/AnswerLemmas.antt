@@ -1,5 +1,5 @@
 -- From what was written to the answer of a plan.
-use Rattle.std.proofs.Common.{◌≡◌, ◌≢◌, ◌∙◌, ◌+◌, ◌^◌, ◌-◌, ◌≤◌, min, inl, inr, arith, Bool, true, false, ℕ, zero, suc, IsTrue, All, List, [], ◌∷◌, ◌++◌, length, map, slice_get, Some, Result, Ok, Err, refl, sym, ap, append-nil, subst, IsPermutation}
+use Rattle.std.proofs.Common.{◌≡◌, ◌∙◌, ◌^◌, ◌-◌, ◌≤◌, min, inl, inr, arith, Bool, true, false, ℕ, zero, suc, IsTrue, All, List, [], ◌∷◌, ◌++◌, length, map, slice_get, Some, Ok, Err, refl, sym, ap, append-nil, subst, IsPermutation}
 use Rattle.std.specs.List.{flat_map}
 use Rattle.std.proofs.lemmas.List.{length-map, map-append}
 use Rattle.std.proofs.lemmas.List.Elements.{All-head, All-tail}
@@ -12,20 +12,18 @@ use Rattle.values.specs.declared.fault.Fault.{Fault}
 use Rattle.values.specs.declared.fault.Fault.TheVariants.{WriteFailed}
 use Rattle.pager.specs.PagerState.{PagerState}
 use Rattle.image.specs.Pages.{Pages, WhereSteady, pages_seen}
-use Rattle.tables.specs.TableData.{TableData}
-use Rattle.stored_tables.specs.Tables.{IsAnyStored}
-use Rattle.stored_tables.proofs.TableLemmas.{stored_once}
-use Rattle.expr.specs.Term.{Term}
+use Rattle.sources.specs.Coming.{HasRows, IsStored}
+use Rattle.sources.specs.SourceData.{SourceData}
 use Rattle.expr.specs.Meaning.{eval}
 use Rattle.meaning.specs.Answer.{Ascends, key_directions, limited, skipped}
 use Rattle.meaning.specs.Body.{Output, plain_outputs}
 use Rattle.meaning.specs.Query.{Key}
 use Rattle.meaning.specs.OneTable.{shown}
-use Rattle.meaning.specs.Sequence.{ascending, keys_cmp}
+use Rattle.meaning.specs.Sequence.{ascending}
 use Rattle.meaning.proofs.AnswerLemmas.{is_before}
 use Rattle.meaning.proofs.KeyLemmas.{keys_cmp_total}
 use Rattle.meaning.proofs.OrderLemmas.{IsSortedBy-ascending, ascending-same}
-use Rattle.plans.specs.Plan.{PlanData, rows_of, table_rows, table_size, work}
+use Rattle.plans.specs.Plan.{rows_of, table_rows, table_size, work}
 use Rattle.scan.specs.Coming.{Asks}
 use Rattle.operators.specs.Basis.{AreStored, Basis, IsOperatorFault}
 use Rattle.operators.proofs.RowLemmas.{some_one}
@@ -37,60 +35,53 @@ use Rattle.explain.specs.Text.{row_text, rows_text}
 use Rattle.runs.specs.Faults.{IsOutsideFault, IsRunCause}
 use Rattle.runs.specs.Printed.{PrintsUntil}
 use Rattle.runs.specs.Runs.{WritesAnswer, WritesBeginning}
-use Rattle.runs.specs.Stream.{AsksFew, Streams, StreamsUntil}
+use Rattle.runs.specs.Stream.{Streams, StreamsUntil}
 use Rattle.runs.proofs.GivenLemmas.{not_operators, nothing_printed, stored_with, with_plan}
+use Rattle.runs.proofs.SourceLemmas.{HasSomeRows, same_rows, some_rows}
 use Rattle.runs.proofs.KindLemmas.{SortedIn, sorted_answers_in, sorted_hits_in, sorted_in, terms_in}
 
--- ---- columns of one table
+-- ---- columns of one source
 
 all_at : {X : Type 0} (P : X → Type 0) (xs : List X) (i : ℕ) (x : X) → All P xs → slice_get xs i ≡ Some x → P x
 all_at P [] i x all at = absurd cc
 all_at {X} P (first ∷ xs) zero x all at = subst (λ (z : X). P z) (some_one first x at) (All-head P first xs all)
 all_at P (first ∷ xs) (suc i) x all at = all_at P xs i x (All-tail P first xs all) at
 
-module _ (pages : Pages) (tables : List TableData) (at : ℕ) (places : List ℕ) (table : TableData) (found : slice_get tables at ≡ Some table) where
+-- what writes these columns of each row that a source has
+abbrev pub WritesOf : Pages → SourceData → (List Row → Type 0) → Type 0
+WritesOf pages source Writes = (local : Bool) (rows : List Row) (size : ℕ) → HasRows pages source local rows size → Writes rows
+
+module _ (pages : Pages) (sources : List SourceData) (at : ℕ) (places : List ℕ) (source : SourceData) (found : slice_get sources at ≡ Some source) where
   -- its rows are those that are said of it
-  said : (stored : IsAnyStored pages table) (on : Basis) → AreStored pages tables on → stored.rows ≡ table_rows on.db at
-  said stored on has =
-      let is = has at table found in
-      stored_once pages table stored is.stored ∙ is.rows_are
+  said : (local : Bool) (rows : List Row) (size : ℕ) → HasRows pages source local rows size → (on : Basis) → AreStored pages sources on → rows ≡ table_rows on.db at
+  said local rows size has on stored = same_rows pages source local on.local rows (table_rows on.db at) size (table_size on.sizes at) has (stored at source found)
 
-  module _ (all : All (IsAnyStored pages) tables) (old new : SinkFacts) where
-    stored : IsAnyStored pages table
-    stored = all_at (IsAnyStored pages) tables at table all found
+  module _ (all : All (IsStored pages) sources) (old new : SinkFacts) where
+    some : HasSomeRows pages source
+    some = some_rows pages source (all_at (IsStored pages) sources at source all found)
 
-    pub columns_answer : (n : ℕ) → ((is : IsAnyStored pages table) → Streams places is.rows n old new)
-        → WritesAnswer pages tables (PlannedData.columns at places) old new n
+    pub columns_answer : (n : ℕ) → WritesOf pages source (λ rows. Streams places rows n old new)
+        → WritesAnswer pages sources (PlannedData.columns at places) old new n
     columns_answer n streams = record {
-      given = map (shown places) stored.rows;
-      answer = λ on has. ap (map (shown places)) (said stored on has);
-      prints = streams stored;
+      given = map (shown places) some.rows;
+      answer = λ on has. ap (map (shown places)) (said false some.rows some.size some.has on has);
+      prints = streams false some.rows some.size some.has;
     }
 
-    pub columns_stopped : (e told : Fault) → ((is : IsAnyStored pages table) → StreamsUntil e places is.rows old new)
-        → (IsOutsideFault e → told ≡ e) → WritesBeginning pages tables (PlannedData.columns at places) old new told
+    pub columns_stopped : (e told : Fault) → WritesOf pages source (λ rows. StreamsUntil e places rows old new)
+        → (IsOutsideFault e → told ≡ e) → WritesBeginning pages sources (PlannedData.columns at places) old new told
     columns_stopped e told streams same =
-        let until = streams stored in
+        let until = streams false some.rows some.size some.has in
         let is_told = same until.outside in
         record {
           given = map (shown places) until.given;
           begins = λ on has. (
             map (shown places) until.rest,
-            sym (map-append (shown places) until.given until.rest) ∙ ap (map (shown places)) (until.whole ∙ said stored on has),
+            sym (map-append (shown places) until.given until.rest) ∙ ap (map (shown places)) (until.whole ∙ said false some.rows some.size some.has on has),
           );
           prints = subst (λ (f : Fault). PrintsUntil f (map (shown places) until.given) old new) (sym is_told) until.prints;
           cause = λ on has. inl (subst IsOutsideFault (sym is_told) until.outside);
         }
-
-  pub columns_few : (start now : PagerState) → ((is : IsAnyStored pages table) → AsksFew pages table is.levels start now)
-      → (on : Basis) → AreStored pages tables on → Asks on.local start (table_size on.sizes at) now 0
-  columns_few start now few on has =
-      let is = has at table found in
-      let here = few is.stored in
-      record {
-        pages = let most = here.asked in let size = is.size_is in omega (arith, most, size);
-        chains = λ local. here.unchained (is.unchained local);
-      }
 
 -- ---- rows in order
 
@@ -128,19 +119,19 @@ some_sorted true w db selection =
       record { ordered = some.ordered; same = some.same; ascends = some.ascends; shown = refl },
     )
 
-module _ (once : Bool) (start now : PagerState) (tables : List TableData) (selection : SortedData) (steady : IsTrue start.source.steady) where
+module _ (once : Bool) (start now : PagerState) (sources : List SourceData) (selection : SortedData) (steady : IsTrue start.source.steady) where
   -- a fault before the first row
   pub sorted_stopped : (e : Fault) (old : SinkFacts) → IsOperatorFault e
-      → WhereSteady start (λ pages. (on : Basis) → AreStored pages tables on → on.plan ≡ selection.plan
+      → WhereSteady start (λ pages. (on : Basis) → AreStored pages sources on → on.plan ≡ selection.plan
       → IsResultCause on (terms_in once selection) e)
-      → WritesBeginning (pages_seen start) tables (sorted_in once selection) old old e
+      → WritesBeginning (pages_seen start) sources (sorted_in once selection) old old e
   sorted_stopped e old only call = record {
     given = [];
     begins = λ on has. let some = some_sorted once on.w on.db selection in (some.0, sorted_answers_in once on.w on.db selection some.0 some.1);
     prints = nothing_printed e old (not_operators e only);
     cause = λ on has.
         cause_of (with_plan on selection.plan)
-        (call steady (with_plan on selection.plan) (stored_with (pages_seen start) tables on selection.plan has) refl);
+        (call steady (with_plan on selection.plan) (stored_with (pages_seen start) sources on selection.plan has) refl);
   }
     where
       cause_of : (on : Basis) → IsResultCause (with_plan on selection.plan) (terms_in once selection) e → IsRunCause on (sorted_in once selection) e
@@ -148,14 +139,14 @@ module _ (once : Bool) (start now : PagerState) (tables : List TableData) (selec
       cause_of on (inr over) = inr (over.0, sorted_hits_in once on.w on.db selection over.1)
 
   module _ (rows : List Row)
-      (call : WhereSteady start (λ pages. (on : Basis) → AreStored pages tables on → on.plan ≡ selection.plan
+      (call : WhereSteady start (λ pages. (on : Basis) → AreStored pages sources on → on.plan ≡ selection.plan
       → SortedIn once on.w on.db selection rows × Asks on.local start (work on.w on.db on.sizes on.plan) now 0)) where
-    said_of : (on : Basis) → AreStored (pages_seen start) tables on
+    said_of : (on : Basis) → AreStored (pages_seen start) sources on
         → SortedIn once on.w on.db selection rows × Asks on.local start (work on.w on.db on.sizes selection.plan) now 0
-    said_of on has = call steady (with_plan on selection.plan) (stored_with (pages_seen start) tables on selection.plan has) refl
+    said_of on has = call steady (with_plan on selection.plan) (stored_with (pages_seen start) sources on selection.plan has) refl
 
     pub sorted_answer : (old new : SinkFacts) (n : ℕ) → Writes {T = Unit {0}} (rows_text rows) (Ok tt) old new → n ≡ min (length rows) (2 ^ 64 - 1)
-        → WritesAnswer (pages_seen start) tables (sorted_in once selection) old new n
+        → WritesAnswer (pages_seen start) sources (sorted_in once selection) old new n
     sorted_answer old new n wrote counted = record {
       given = rows;
       answer = λ on has. sorted_answers_in once on.w on.db selection rows (said_of on has).0;
@@ -164,7 +155,7 @@ module _ (once : Bool) (start now : PagerState) (tables : List TableData) (selec
 
     -- a failed write of them
     pub sorted_cut : (e : Fault) (old new : SinkFacts) → e ≡ WriteFailed → Writes {T = Unit {0}} (rows_text rows) (Err e) old new
-        → WritesBeginning (pages_seen start) tables (sorted_in once selection) old new e
+        → WritesBeginning (pages_seen start) sources (sorted_in once selection) old new e
     sorted_cut e old new is wrote = record {
       given = rows;
       begins = λ on has. (
@@ -176,5 +167,5 @@ module _ (once : Bool) (start now : PagerState) (tables : List TableData) (selec
       cause = λ on has. inl (inr is);
     }
 
-    pub sorted_few : (on : Basis) → AreStored (pages_seen start) tables on → Asks on.local start (work on.w on.db on.sizes selection.plan) now 0
+    pub sorted_few : (on : Basis) → AreStored (pages_seen start) sources on → Asks on.local start (work on.w on.db on.sizes selection.plan) now 0
     sorted_few on has = (said_of on has).1

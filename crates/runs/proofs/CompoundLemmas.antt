@@ -8,7 +8,7 @@ use Rattle.values.specs.declared.fault.Fault.{Fault}
 use Rattle.values.specs.declared.fault.Fault.TheVariants.{WriteFailed}
 use Rattle.pager.specs.PagerState.{PagerState}
 use Rattle.image.specs.Pages.{WhereSteady, pages_seen}
-use Rattle.tables.specs.TableData.{TableData}
+use Rattle.sources.specs.SourceData.{SourceData}
 use Rattle.expr.specs.Meaning.{eval}
 use Rattle.meaning.specs.Answer.{limited, skipped}
 use Rattle.meaning.specs.Body.{plain_outputs}
@@ -35,11 +35,11 @@ cause_of : (on : Basis) (whole : CompoundData) (e : Fault) → IsArmsCause on wh
 cause_of on whole e (inl read) = inl (inl read)
 cause_of on whole e (inr over) = inr over
 
-module _ (start now : PagerState) (tables : List TableData) (whole : CompoundData) (steady : IsTrue start.source.steady) where
+module _ (start now : PagerState) (sources : List SourceData) (whole : CompoundData) (steady : IsTrue start.source.steady) where
   -- a fault before the first row
   pub joined_stopped : (e : Fault) (old : SinkFacts) → IsOperatorFault e
-      → WhereSteady start (λ pages. (on : Basis) → AreStored pages tables on → IsArmsCause on whole.arms e)
-      → WritesBeginning (pages_seen start) tables (PlannedData.compound whole) old old e
+      → WhereSteady start (λ pages. (on : Basis) → AreStored pages sources on → IsArmsCause on whole.arms e)
+      → WritesBeginning (pages_seen start) sources (PlannedData.compound whole) old old e
   joined_stopped e old only call = record {
     given = [];
     begins = λ on has. some_joined on.w on.db whole;
@@ -48,10 +48,10 @@ module _ (start now : PagerState) (tables : List TableData) (whole : CompoundDat
   }
 
   module _ (rows : List Row)
-      (call : WhereSteady start (λ pages. (on : Basis) → AreStored pages tables on
+      (call : WhereSteady start (λ pages. (on : Basis) → AreStored pages sources on
       → IsCompoundAnswer on.w on.db whole rows × Asks on.local start (work_of_arms on.w on.db on.sizes whole.arms) now 0)) where
     pub joined_answer : (old new : SinkFacts) (n : ℕ) → Writes {T = Unit {0}} (rows_text rows) (Ok tt) old new → n ≡ min (length rows) (2 ^ 64 - 1)
-        → WritesAnswer (pages_seen start) tables (PlannedData.compound whole) old new n
+        → WritesAnswer (pages_seen start) sources (PlannedData.compound whole) old new n
     joined_answer old new n wrote counted = record {
       given = rows;
       answer = λ on has. (call steady on has).0;
@@ -60,7 +60,7 @@ module _ (start now : PagerState) (tables : List TableData) (whole : CompoundDat
 
     -- a failed write of them
     pub joined_cut : (e : Fault) (old new : SinkFacts) → e ≡ WriteFailed → Writes {T = Unit {0}} (rows_text rows) (Err e) old new
-        → WritesBeginning (pages_seen start) tables (PlannedData.compound whole) old new e
+        → WritesBeginning (pages_seen start) sources (PlannedData.compound whole) old new e
     joined_cut e old new is wrote = record {
       given = rows;
       begins = λ on has. ([], subst (IsCompoundAnswer on.w on.db whole) (sym (append-nil rows)) (call steady on has).0);
@@ -68,5 +68,5 @@ module _ (start now : PagerState) (tables : List TableData) (whole : CompoundDat
       cause = λ on has. inl (inr is);
     }
 
-    pub joined_few : (on : Basis) → AreStored (pages_seen start) tables on → Asks on.local start (work_of_arms on.w on.db on.sizes whole.arms) now 0
+    pub joined_few : (on : Basis) → AreStored (pages_seen start) sources on → Asks on.local start (work_of_arms on.w on.db on.sizes whole.arms) now 0
     joined_few on has = (call steady on has).1

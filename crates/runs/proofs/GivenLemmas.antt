@@ -1,22 +1,22 @@
 -- Rows that are computed and written one after another.
-use Rattle.std.proofs.Common.{◌≡◌, ◌≢◌, ◌∙◌, ◌+◌, ◌-◌, ◌^◌, ◌⊎◌, inl, inr, min, arith, Bool, ℕ, IsTrue, List, [], ◌∷◌, ◌++◌, length, map, Result, Ok, Err, refl, sym, ap, append-nil, append_assoc, subst}
+use Rattle.std.proofs.Common.{◌≡◌, ◌≢◌, ◌∙◌, ◌+◌, ◌-◌, ◌^◌, inl, inr, min, arith, Bool, ℕ, IsTrue, List, [], ◌∷◌, ◌++◌, length, Ok, Err, refl, sym, ap, append-nil, append_assoc, subst}
 use Rattle.std.proofs.lemmas.Grind.{common_steps}
 use Rattle.std.specs.Io.KnownBytes.{Appends}
 use Rattle.values.specs.Row.{Row}
 use Rattle.values.specs.Sink.{SinkFacts, Writes}
 use Rattle.values.specs.declared.fault.Fault.{Fault}
-use Rattle.values.specs.declared.fault.Fault.TheVariants.{Changed, Overflow, WriteFailed}
+use Rattle.values.specs.declared.fault.Fault.TheVariants.{WriteFailed}
 use Rattle.values.proofs.SinkLemmas.{Appends-none, Appends-then}
 use Rattle.pager.specs.PagerState.{PagerState}
-use Rattle.pager.specs.Calls.{IsReadFault, ReadsPages, SameImage}
+use Rattle.pager.specs.Calls.{IsReadFault, SameImage}
 use Rattle.pager.proofs.CallLemmas.{SameImage-trans}
 use Rattle.image.specs.Pages.{Pages, WhereSteady, pages_seen}
-use Rattle.tables.specs.TableData.{TableData}
+use Rattle.sources.specs.SourceData.{SourceData}
 use Rattle.expr.specs.Term.{Term}
 use Rattle.plans.specs.Plan.{PlanData, work}
 use Rattle.scan.specs.Coming.{Asks}
 use Rattle.scan.proofs.ComingLemmas.{Asks-none, Asks-then}
-use Rattle.operators.specs.Basis.{AreStored, Basis, Gives, GivesNext, GivesNone, IsOperatorFault}
+use Rattle.operators.specs.Basis.{AreStored, Basis, GivesNext, GivesNone, IsOperatorFault}
 use Rattle.operators.proofs.RowLemmas.{at_start}
 use Rattle.results.specs.Coming.{IsResultCause, SelectionData}
 use Rattle.select_plans.specs.Laws.{PlanReaches}
@@ -27,15 +27,13 @@ use Rattle.runs.specs.Runs.{WritesAnswer, WritesBeginning}
 use Rattle.runs.proofs.KindLemmas.{ComingIn, RowsOf, answer_in, answers_in, columns_in, hits_in, plan_in, planned_in}
 use Rattle.runs.proofs.StreamLemmas.{not_write}
 
--- ---- what is said of tables, whatever plan is run
+-- ---- what is said of sources, whatever plan is run
 
 abbrev pub with_plan : Basis → PlanData → Basis
 with_plan on plan = record on { plan = plan }
 
-pub stored_with : (pages : Pages) (tables : List TableData) (on : Basis) (plan : PlanData) → AreStored pages tables on → AreStored pages tables (with_plan on plan)
-stored_with pages tables on plan has = λ at table found.
-    let is = has at table found in
-    record { stored = is.stored; rows_are = is.rows_are; size_is = is.size_is; unchained = is.unchained }
+pub stored_with : (pages : Pages) (sources : List SourceData) (on : Basis) (plan : PlanData) → AreStored pages sources on → AreStored pages sources (with_plan on plan)
+stored_with pages sources on plan has = λ at source found. has at source found
 
 -- ---- faults
 
@@ -65,9 +63,9 @@ nothing_printed e old other = record { cut = λ is. absurd (other is); whole = �
 -- ---- the rows of a selection, all of them or each once
 
 -- a fault of reading before the first row
-pub none_given : (once : Bool) (start : PagerState) (tables : List TableData) (selection : SelectionData) (e : Fault) (old : SinkFacts) → IsReadFault e
-    → WritesBeginning (pages_seen start) tables (planned_in once selection) old old e
-none_given once start tables selection e old read = record {
+pub none_given : (once : Bool) (start : PagerState) (sources : List SourceData) (selection : SelectionData) (e : Fault) (old : SinkFacts) → IsReadFault e
+    → WritesBeginning (pages_seen start) sources (planned_in once selection) old old e
+none_given once start sources selection e old read = record {
   given = [];
   begins = λ on has. (answer_in once on.w on.db selection, answers_in once on.w on.db selection (answer_in once on.w on.db selection) refl);
   prints = nothing_printed e old (not_write e read);
@@ -75,15 +73,15 @@ none_given once start tables selection e old read = record {
 }
 
 -- behind the rows that were given others are to come, which with them are the answer
-pub record IsGiven (once : Bool) (start now : PagerState) (tables : List TableData) (on : Basis) (selection : SelectionData) (results : RowsOf once) (given : List Row) : Type 0 where
+pub record IsGiven (once : Bool) (start now : PagerState) (sources : List SourceData) (on : Basis) (selection : SelectionData) (results : RowsOf once) (given : List Row) : Type 0 where
   pub rest : List Row
   pub left : ℕ
   pub whole : answer_in once on.w on.db selection ≡ given ++ rest
-  pub coming : ComingIn once (pages_seen start) tables on results rest left
+  pub coming : ComingIn once (pages_seen start) sources on results rest left
   pub asks : Asks on.local start (work on.w on.db on.sizes selection.plan) now left
 
--- What the loop keeps: rows were given, whose text is written, and whatever is said of the tables, the others are to come.
-pub record Giving (once : Bool) (start now : PagerState) (tables : List TableData) (selection : SelectionData) (results : RowsOf once) (n : ℕ) (old new : SinkFacts) : Type 0 where
+-- What the loop keeps: rows were given, whose text is written, and whatever is said of the sources, the others are to come.
+pub record Giving (once : Bool) (start now : PagerState) (sources : List SourceData) (selection : SelectionData) (results : RowsOf once) (n : ℕ) (old new : SinkFacts) : Type 0 where
   pub given : List Row
   pub image : SameImage start now
   pub failures : now.source.failures ≡ start.source.failures
@@ -92,15 +90,15 @@ pub record Giving (once : Bool) (start now : PagerState) (tables : List TableDat
   pub columns : columns_in once results ≡ selection.columns
   pub written : Appends old.written new.written (rows_text given)
   pub counted : n ≡ min (length given) (2 ^ 64 - 1)
-  pub rows : IsTrue start.source.steady → (on : Basis) → AreStored (pages_seen start) tables on → on.plan ≡ selection.plan
-      → IsGiven once start now tables on selection results given
+  pub rows : IsTrue start.source.steady → (on : Basis) → AreStored (pages_seen start) sources on → on.plan ≡ selection.plan
+      → IsGiven once start now sources on selection results given
 
-pub Giving-start : (once : Bool) (start : PagerState) (tables : List TableData) (selection : SelectionData) (results : RowsOf once) (n : ℕ) (old : SinkFacts)
+pub Giving-start : (once : Bool) (start : PagerState) (sources : List SourceData) (selection : SelectionData) (results : RowsOf once) (n : ℕ) (old : SinkFacts)
     → SameImage start start → plan_in once results ≡ selection.plan → columns_in once results ≡ selection.columns
-    → ((pages : Pages) (tables : List TableData) (on : Basis) → on.plan ≡ selection.plan
-    → ComingIn once pages tables on results (answer_in once on.w on.db selection) (work on.w on.db on.sizes on.plan))
-    → n ≡ 0 → Giving once start start tables selection results n old old
-Giving-start once start tables selection results n old image plan columns coming none = record {
+    → ((pages : Pages) (sources : List SourceData) (on : Basis) → on.plan ≡ selection.plan
+    → ComingIn once pages sources on results (answer_in once on.w on.db selection) (work on.w on.db on.sizes on.plan))
+    → n ≡ 0 → Giving once start start sources selection results n old old
+Giving-start once start sources selection results n old image plan columns coming none = record {
   given = [];
   image = image;
   failures = refl;
@@ -114,42 +112,42 @@ Giving-start once start tables selection results n old image plan columns coming
     left = work on.w on.db on.sizes selection.plan;
     whole = refl;
     coming =
-        subst (λ (p : PlanData). ComingIn once (pages_seen start) tables on results (answer_in once on.w on.db selection) (work on.w on.db on.sizes p)) same
-        (coming (pages_seen start) tables on same);
+        subst (λ (p : PlanData). ComingIn once (pages_seen start) sources on results (answer_in once on.w on.db selection) (work on.w on.db on.sizes p)) same
+        (coming (pages_seen start) sources on same);
     asks = Asks-none on.local start (work on.w on.db on.sizes selection.plan);
   };
 }
 
-module _ (once : Bool) (start now : PagerState) (tables : List TableData) (selection : SelectionData) (results : RowsOf once) (n : ℕ) (old mid : SinkFacts)
-    (s : Giving once start now tables selection results n old mid) where
+module _ (once : Bool) (start now : PagerState) (sources : List SourceData) (selection : SelectionData) (results : RowsOf once) (n : ℕ) (old mid : SinkFacts)
+    (s : Giving once start now sources selection results n old mid) where
   -- what is said of the rows to come, over the plan that is run
   says : (Says : Pages → List Row → Basis → ℕ → Type 0)
-      → WhereSteady now (λ pages. (on : Basis) (rest : List Row) (ahead : ℕ) → AreStored pages tables on → ComingIn once pages tables on results rest ahead → Says pages rest on ahead)
-      → (steady : IsTrue start.source.steady) (on : Basis) (has : AreStored (pages_seen start) tables on) (same : on.plan ≡ selection.plan)
+      → WhereSteady now (λ pages. (on : Basis) (rest : List Row) (ahead : ℕ) → AreStored pages sources on → ComingIn once pages sources on results rest ahead → Says pages rest on ahead)
+      → (steady : IsTrue start.source.steady) (on : Basis) (has : AreStored (pages_seen start) sources on) (same : on.plan ≡ selection.plan)
       → Says (pages_seen start) (s.rows steady on has same).rest on (s.rows steady on has same).left
   says Says call steady on has same =
       let here = s.rows steady on has same in
       at_start start now s.image
-      (λ pages. (on : Basis) (rest : List Row) (ahead : ℕ) → AreStored pages tables on → ComingIn once pages tables on results rest ahead → Says pages rest on ahead)
+      (λ pages. (on : Basis) (rest : List Row) (ahead : ℕ) → AreStored pages sources on → ComingIn once pages sources on results rest ahead → Says pages rest on ahead)
       call steady on here.rest here.left has here.coming
 
   module _ (next : RowsOf once) (row : Row) (then : PagerState) where
     abbrev pub CallsNext : Type 0
     CallsNext =
-        WhereSteady now (λ pages. (on : Basis) (rest : List Row) (ahead : ℕ) → AreStored pages tables on → ComingIn once pages tables on results rest ahead
-        → GivesNext on.local now ahead then rest row (ComingIn once pages tables on next))
+        WhereSteady now (λ pages. (on : Basis) (rest : List Row) (ahead : ℕ) → AreStored pages sources on → ComingIn once pages sources on results rest ahead
+        → GivesNext on.local now ahead then rest row (ComingIn once pages sources on next))
 
     abbrev pub CallsNone : Type 0
     CallsNone =
-        WhereSteady now (λ pages. (on : Basis) (rest : List Row) (ahead : ℕ) → AreStored pages tables on → ComingIn once pages tables on results rest ahead
+        WhereSteady now (λ pages. (on : Basis) (rest : List Row) (ahead : ℕ) → AreStored pages sources on → ComingIn once pages sources on results rest ahead
         → GivesNone on.local now ahead then rest)
 
     -- a row more is given
-    more_given : (steady : IsTrue start.source.steady) (on : Basis) → AreStored (pages_seen start) tables on → on.plan ≡ selection.plan → CallsNext
-        → IsGiven once start then tables on selection next (s.given ++ (row ∷ []))
+    more_given : (steady : IsTrue start.source.steady) (on : Basis) → AreStored (pages_seen start) sources on → on.plan ≡ selection.plan → CallsNext
+        → IsGiven once start then sources on selection next (s.given ++ (row ∷ []))
     more_given steady on has same call =
         let here = s.rows steady on has same in
-        let gives = says (λ pages rest on ahead. GivesNext on.local now ahead then rest row (ComingIn once pages tables on next)) call steady on has same in
+        let gives = says (λ pages rest on ahead. GivesNext on.local now ahead then rest row (ComingIn once pages sources on next)) call steady on has same in
         record {
           rest = gives.later;
           left = gives.left;
@@ -161,7 +159,7 @@ module _ (once : Bool) (start now : PagerState) (tables : List TableData) (selec
     pub Giving-next : (new : SinkFacts) (n' : ℕ) → CallsNext → SameImage now then → then.source.failures ≡ now.source.failures
         → plan_in once next ≡ plan_in once results → columns_in once next ≡ columns_in once results
         → Writes {T = Unit {0}} (row_text row) (Ok tt) mid new → n' ≡ min (n + 1) (2 ^ 64 - 1)
-        → Giving once start then tables selection next n' old new
+        → Giving once start then sources selection next n' old new
     Giving-next new n' call image failures plan columns wrote is = record {
       given = s.given ++ (row ∷ []);
       image = SameImage-trans start now then s.image image;
@@ -177,11 +175,11 @@ module _ (once : Bool) (start now : PagerState) (tables : List TableData) (selec
     -- a failed write of the row
     pub Giving-cut : IsTrue start.source.steady → (e : Fault) (new : SinkFacts) → CallsNext → e ≡ WriteFailed
         → Writes {T = Unit {0}} (row_text row) (Err e) mid new
-        → WritesBeginning (pages_seen start) tables (planned_in once selection) old new e
+        → WritesBeginning (pages_seen start) sources (planned_in once selection) old new e
     Giving-cut steady e new call is wrote = record {
       given = s.given ++ (row ∷ []);
       begins = λ on has.
-          let there = more_given steady (with_plan on selection.plan) (stored_with (pages_seen start) tables on selection.plan has) refl call in (
+          let there = more_given steady (with_plan on selection.plan) (stored_with (pages_seen start) sources on selection.plan has) refl call in (
             there.rest,
             answers_in once on.w on.db selection ((s.given ++ (row ∷ [])) ++ there.rest) (sym there.whole),
           );
@@ -200,21 +198,21 @@ module _ (once : Bool) (start now : PagerState) (tables : List TableData) (selec
     }
 
     -- no row is to come
-    pub Giving-done : IsTrue start.source.steady → CallsNone → WritesAnswer (pages_seen start) tables (planned_in once selection) old mid n
+    pub Giving-done : IsTrue start.source.steady → CallsNone → WritesAnswer (pages_seen start) sources (planned_in once selection) old mid n
     Giving-done steady call = record {
       given = s.given;
       answer = λ on has.
-          let over = stored_with (pages_seen start) tables on selection.plan has in
+          let over = stored_with (pages_seen start) sources on selection.plan has in
           let here = s.rows steady (with_plan on selection.plan) over refl in
           let none = says (λ pages rest on ahead. GivesNone on.local now ahead then rest) call steady (with_plan on selection.plan) over refl in
           answers_in once on.w on.db selection s.given (sym (here.whole ∙ ap (λ rest. s.given ++ rest) none.rest_is ∙ append-nil s.given));
       prints = record { written = s.written; counted_is = s.counted };
     }
 
-    pub Giving-few : IsTrue start.source.steady → CallsNone → (on : Basis) → AreStored (pages_seen start) tables on
+    pub Giving-few : IsTrue start.source.steady → CallsNone → (on : Basis) → AreStored (pages_seen start) sources on
         → Asks on.local start (work on.w on.db on.sizes selection.plan) then 0
     Giving-few steady call on has =
-        let over = stored_with (pages_seen start) tables on selection.plan has in
+        let over = stored_with (pages_seen start) sources on selection.plan has in
         let here = s.rows steady (with_plan on selection.plan) over refl in
         let none = says (λ pages rest on ahead. GivesNone on.local now ahead then rest) call steady (with_plan on selection.plan) over refl in
         Asks-then on.local start (work on.w on.db on.sizes selection.plan) now here.left then 0 here.asks none.asks
@@ -231,17 +229,17 @@ module _ (once : Bool) (start now : PagerState) (tables : List TableData) (selec
 
   -- a fault before the next row
   pub Giving-stopped : IsTrue start.source.steady → (e : Fault) → IsOperatorFault e
-      → WhereSteady now (λ pages. (on : Basis) (rest : List Row) (ahead : ℕ) → AreStored pages tables on → ComingIn once pages tables on results rest ahead
+      → WhereSteady now (λ pages. (on : Basis) (rest : List Row) (ahead : ℕ) → AreStored pages sources on → ComingIn once pages sources on results rest ahead
       → IsResultCause on (columns_in once results) e)
-      → WritesBeginning (pages_seen start) tables (planned_in once selection) old mid e
+      → WritesBeginning (pages_seen start) sources (planned_in once selection) old mid e
   Giving-stopped steady e only call = record {
     given = s.given;
     begins = λ on has.
-        let here = s.rows steady (with_plan on selection.plan) (stored_with (pages_seen start) tables on selection.plan has) refl in
+        let here = s.rows steady (with_plan on selection.plan) (stored_with (pages_seen start) sources on selection.plan has) refl in
         (here.rest, answers_in once on.w on.db selection (s.given ++ here.rest) (sym here.whole));
     prints = record { cut = λ is. absurd (not_operators e only is); whole = λ _. s.written };
     cause = λ on has.
-        let over = stored_with (pages_seen start) tables on selection.plan has in
+        let over = stored_with (pages_seen start) sources on selection.plan has in
         cause_of e (with_plan on selection.plan) refl
         (says (λ pages rest on ahead. IsResultCause on (columns_in once results) e) call steady (with_plan on selection.plan) over refl);
   }

@@ -4,7 +4,7 @@ use Rattle.values.specs.Database.{Database}
 use Rattle.values.specs.Datum.{Datum}
 use Rattle.values.specs.Row.{Row}
 use Rattle.image.specs.Pages.{Pages}
-use Rattle.tables.specs.TableData.{TableData}
+use Rattle.sources.specs.SourceData.{SourceData}
 use Rattle.expr.specs.Term.{Term}
 use Rattle.expr.specs.View.{term}
 use Rattle.meaning.specs.Hits.{order_terms}
@@ -34,7 +34,7 @@ abbrev pub columns_in : (once : Bool) → RowsOf once → List Term
 columns_in false results = map term results.columns.items
 columns_in true distinct = map term distinct.results.columns.items
 
-abbrev pub ComingIn : (once : Bool) → Pages → List TableData → Basis → RowsOf once → List Row → ℕ → Type 0
+abbrev pub ComingIn : (once : Bool) → Pages → List SourceData → Basis → RowsOf once → List Row → ℕ → Type 0
 ComingIn false = IsComing
 ComingIn true = IsDistinctComing
 

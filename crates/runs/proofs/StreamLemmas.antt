@@ -67,7 +67,7 @@ row_written columns row (Err e) old new writes only = record {
 }
 
 -- the text of the columns of rows
-abbrev shown_text : List ℕ → List Row → List ℕ
+abbrev pub shown_text : List ℕ → List Row → List ℕ
 shown_text columns rows = rows_text (map (shown columns) rows)
 
 shown_text-append : (columns : List ℕ) (xs ys : List Row)
@@ -77,18 +77,18 @@ shown_text-append columns (x ∷ xs) ys =
     ap (λ t. row_text (shown columns x) ++ t) (shown_text-append columns xs ys)
     ∙ sym (append_assoc (row_text (shown columns x)) (shown_text columns xs) (shown_text columns ys))
 
-shown_text-push : (columns : List ℕ) (given : List Row) (row : Row)
+pub shown_text-push : (columns : List ℕ) (given : List Row) (row : Row)
     → shown_text columns (given ++ (row ∷ [])) ≡ shown_text columns given ++ row_text (shown columns row)
 shown_text-push columns given row =
     shown_text-append columns given (row ∷ [])
     ∙ ap (λ t. shown_text columns given ++ t) (append-nil (row_text (shown columns row)))
 
-length-shown : (columns : List ℕ) (rows : List Row) → length (map (shown columns) rows) ≡ length rows
+pub length-shown : (columns : List ℕ) (rows : List Row) → length (map (shown columns) rows) ≡ length rows
 length-shown columns [] = refl
 length-shown columns (row ∷ rows) = ap suc (length-shown columns rows)
 
 -- a fault among the later rows, after the first were written whole
-until_behind : (e : Fault) (columns : List ℕ) (given some more : List Row) (old mid new : SinkFacts)
+pub until_behind : (e : Fault) (columns : List ℕ) (given some more : List Row) (old mid new : SinkFacts)
     → Appends old.written mid.written (shown_text columns given) → StreamsUntil e columns some mid new
     → StreamsUntil e columns (given ++ (some ++ more)) old new
 until_behind e columns given some more old mid new before until = record {

@@ -1,4 +1,4 @@
--- What the run of a plan writes over tables that are stored. (SELECT)
+-- What the run of a plan writes over sources that have rows. (SELECT)
 use Rattle.std.specs.Prelude.{ℕ, List, ◌++◌}
 use Rattle.values.specs.Database.{Database}
 use Rattle.values.specs.Datum.{Datum}
@@ -6,7 +6,7 @@ use Rattle.values.specs.Row.{Row}
 use Rattle.values.specs.Sink.{SinkFacts}
 use Rattle.values.specs.declared.fault.Fault.{Fault}
 use Rattle.image.specs.Pages.{Pages}
-use Rattle.tables.specs.TableData.{TableData}
+use Rattle.sources.specs.SourceData.{SourceData}
 use Rattle.operators.specs.Basis.{AreStored, Basis}
 use Rattle.query_plans.specs.Answers.{IsAnswerOf, PlannedData}
 use Rattle.runs.specs.Faults.{IsRunCause}
@@ -17,14 +17,14 @@ abbrev pub BeginsAnswer : Datum → Database → PlannedData → List Row → Ty
 BeginsAnswer w db planned given = (rest : List Row) × IsAnswerOf w db planned (given ++ rest)
 
 -- What was written is the text of one list of rows, which the plan answers whatever stands for results out of range.
-pub record WritesAnswer (pages : Pages) (tables : List TableData) (planned : PlannedData) (old new : SinkFacts) (counted : ℕ) : Type 0 where
+pub record WritesAnswer (pages : Pages) (sources : List SourceData) (planned : PlannedData) (old new : SinkFacts) (counted : ℕ) : Type 0 where
   pub given : List Row
-  pub answer : (on : Basis) → AreStored pages tables on → IsAnswerOf on.w on.db planned given
+  pub answer : (on : Basis) → AreStored pages sources on → IsAnswerOf on.w on.db planned given
   pub prints : Prints given counted old new
 
 -- The same of the rows that were given before a fault, which an answer may begin with; and the fault has its cause.
-pub record WritesBeginning (pages : Pages) (tables : List TableData) (planned : PlannedData) (old new : SinkFacts) (fault : Fault) : Type 0 where
+pub record WritesBeginning (pages : Pages) (sources : List SourceData) (planned : PlannedData) (old new : SinkFacts) (fault : Fault) : Type 0 where
   pub given : List Row
-  pub begins : (on : Basis) → AreStored pages tables on → BeginsAnswer on.w on.db planned given
+  pub begins : (on : Basis) → AreStored pages sources on → BeginsAnswer on.w on.db planned given
   pub prints : PrintsUntil fault given old new
-  pub cause : (on : Basis) → AreStored pages tables on → IsRunCause on planned fault
+  pub cause : (on : Basis) → AreStored pages sources on → IsRunCause on planned fault

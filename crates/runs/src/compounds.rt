@@ -2,7 +2,7 @@
 ghost use Rattle.std.specs.Prelude.{◌≡◌, All, IfErr, MatchResult, OnOk, map};
 ghost use Rattle.values.specs.Fault.{Counts};
 ghost use Rattle.pager.specs.Calls.{ReadsPages};
-ghost use Rattle.pager.specs.PagerState.{IsPageNumber};
+ghost use Rattle.sources.specs.Coming.{IsRooted};
 ghost use Rattle.image.specs.Pages.{WhereSteady};
 ghost use Rattle.scan.specs.Coming.{Asks};
 ghost use Rattle.operators.specs.Basis.{AreStored, Basis};
@@ -15,30 +15,30 @@ ghost use Rattle.runs.specs.Runs.{WritesAnswer, WritesBeginning};
 use crate::selections::write_lines;
 use compound_results::{Compound, compound_rows};
 use pager::{Pager, Source};
+use sources::Sources;
 use std::alloc::Global;
-use tables::Table;
 use values::{Fault, Sink};
 
 /// Writes the rows of SELECTs that are joined as lines, once all are computed, and counts them. Its faults are those of a run.
 pub(crate) fn write_compound<S: Source, W: Sink>(
     alloc: Global,
     pager: &mut Pager<S>,
-    tables: &[Table],
+    sources: &Sources<'_>,
     compound: &Compound,
     out: &mut W,
 ) -> Result<u64, Fault>
-    requires roots { All (λ table. IsPageNumber pager.old.state table.root) tables.now }
-    requires planned { ArePlannedOver tables.now (arms_data compound.now.arms) }
+    requires roots { All (IsRooted pager.old.state.header) sources.now }
+    requires planned { ArePlannedOver sources.now (arms_data compound.now.arms) }
     ensures rows { WhereSteady pager.old.state (λ pages. MatchResult result
-        (WritesAnswer pages tables.now (PlannedData.compound (compound_data compound.now)) (W.facts out.old) (W.facts out.new))
-        (WritesBeginning pages tables.now (PlannedData.compound (compound_data compound.now)) (W.facts out.old) (W.facts out.new))) }
-    ensures pages { WhereSteady pager.old.state (λ pages. (on : Basis) → AreStored pages tables.now on
+        (WritesAnswer pages sources.now (PlannedData.compound (compound_data compound.now)) (W.facts out.old) (W.facts out.new))
+        (WritesBeginning pages sources.now (PlannedData.compound (compound_data compound.now)) (W.facts out.old) (W.facts out.new))) }
+    ensures pages { WhereSteady pager.old.state (λ pages. (on : Basis) → AreStored pages sources.now on
         → OnOk result (Asks on.local pager.old.state (work_of_arms on.w on.db on.sizes (arms_data compound.now.arms)) pager.new.state 0)) }
     ensures only { IfErr result IsRunFault }
     ensures reads { ReadsPages result pager.old.state pager.new.state }
     ensures writes { Counts Fault.WriteFailed result (W.facts out.old).failures (W.facts out.new).failures }
 {
-    let rows = compound_rows(alloc, pager, tables, compound)?;
+    let rows = compound_rows(alloc, pager, sources, compound)?;
     write_lines(rows.as_slice(), out)?;
     Ok(rows.len() as u64)
 }

@@ -2,7 +2,7 @@
 ghost use Rattle.std.specs.Prelude.{◌≡◌, All, IfErr, MatchResult, OnOk, map};
 ghost use Rattle.values.specs.Fault.{Counts};
 ghost use Rattle.pager.specs.Calls.{ReadsPages};
-ghost use Rattle.pager.specs.PagerState.{IsPageNumber};
+ghost use Rattle.sources.specs.Coming.{IsRooted};
 ghost use Rattle.image.specs.Pages.{WhereSteady};
 ghost use Rattle.plans.specs.Plan.{work};
 ghost use Rattle.plans.specs.PlanView.{plan_data};
@@ -20,8 +20,8 @@ use distinct_results::{DistinctResults, SortedDistinct, sorted_distinct_rows};
 use explain::values_text;
 use pager::{Pager, Source};
 use results::Selection;
+use sources::Sources;
 use std::alloc::Global;
-use tables::Table;
 use values::{Fault, Sink};
 
 /// Writes the rows of a SELECT DISTINCT in no order as lines, each as it is first computed, and counts them. Its faults are those
@@ -29,16 +29,16 @@ use values::{Fault, Sink};
 pub(crate) fn write_distinct<S: Source, W: Sink>(
     alloc: Global,
     pager: &mut Pager<S>,
-    tables: &[Table],
+    sources: &Sources<'_>,
     selection: &Selection,
     out: &mut W,
 ) -> Result<u64, Fault>
-    requires roots { All (λ table. IsPageNumber pager.old.state table.root) tables.now }
-    requires planned { IsPlanOf tables.now (plan_data selection.now.plan) }
+    requires roots { All (IsRooted pager.old.state.header) sources.now }
+    requires planned { IsPlanOf sources.now (plan_data selection.now.plan) }
     ensures rows { WhereSteady pager.old.state (λ pages. MatchResult result
-        (WritesAnswer pages tables.now (PlannedData.distinct (selection_data selection.now)) (W.facts out.old) (W.facts out.new))
-        (WritesBeginning pages tables.now (PlannedData.distinct (selection_data selection.now)) (W.facts out.old) (W.facts out.new))) }
-    ensures pages { WhereSteady pager.old.state (λ pages. (on : Basis) → AreStored pages tables.now on
+        (WritesAnswer pages sources.now (PlannedData.distinct (selection_data selection.now)) (W.facts out.old) (W.facts out.new))
+        (WritesBeginning pages sources.now (PlannedData.distinct (selection_data selection.now)) (W.facts out.old) (W.facts out.new))) }
+    ensures pages { WhereSteady pager.old.state (λ pages. (on : Basis) → AreStored pages sources.now on
         → OnOk result (Asks on.local pager.old.state (work on.w on.db on.sizes (plan_data selection.now.plan)) pager.new.state 0)) }
     ensures only { IfErr result IsRunFault }
     ensures reads { ReadsPages result pager.old.state pager.new.state }
@@ -47,7 +47,7 @@ pub(crate) fn write_distinct<S: Source, W: Sink>(
     let mut distinct = DistinctResults::open(alloc, selection)?;
     let mut row = Vec::new(alloc);
     let mut count = 0u64;
-    'rows: while distinct.next(alloc, pager, tables, &mut row)? {
+    'rows: while distinct.next(alloc, pager, sources, &mut row)? {
         values_text(row.as_slice(), out)?;
         count = count.saturating_add(1);
     }
@@ -58,22 +58,22 @@ pub(crate) fn write_distinct<S: Source, W: Sink>(
 pub(crate) fn write_sorted_distinct<S: Source, W: Sink>(
     alloc: Global,
     pager: &mut Pager<S>,
-    tables: &[Table],
+    sources: &Sources<'_>,
     selection: &SortedDistinct,
     out: &mut W,
 ) -> Result<u64, Fault>
-    requires roots { All (λ table. IsPageNumber pager.old.state table.root) tables.now }
-    requires planned { IsPlanOf tables.now (plan_data selection.now.plan) }
+    requires roots { All (IsRooted pager.old.state.header) sources.now }
+    requires planned { IsPlanOf sources.now (plan_data selection.now.plan) }
     ensures rows { WhereSteady pager.old.state (λ pages. MatchResult result
-        (WritesAnswer pages tables.now (PlannedData.sorted_distinct (sorted_distinct_data selection.now)) (W.facts out.old) (W.facts out.new))
-        (WritesBeginning pages tables.now (PlannedData.sorted_distinct (sorted_distinct_data selection.now)) (W.facts out.old) (W.facts out.new))) }
-    ensures pages { WhereSteady pager.old.state (λ pages. (on : Basis) → AreStored pages tables.now on
+        (WritesAnswer pages sources.now (PlannedData.sorted_distinct (sorted_distinct_data selection.now)) (W.facts out.old) (W.facts out.new))
+        (WritesBeginning pages sources.now (PlannedData.sorted_distinct (sorted_distinct_data selection.now)) (W.facts out.old) (W.facts out.new))) }
+    ensures pages { WhereSteady pager.old.state (λ pages. (on : Basis) → AreStored pages sources.now on
         → OnOk result (Asks on.local pager.old.state (work on.w on.db on.sizes (plan_data selection.now.plan)) pager.new.state 0)) }
     ensures only { IfErr result IsRunFault }
     ensures reads { ReadsPages result pager.old.state pager.new.state }
     ensures writes { Counts Fault.WriteFailed result (W.facts out.old).failures (W.facts out.new).failures }
 {
-    let rows = sorted_distinct_rows(alloc, pager, tables, selection)?;
+    let rows = sorted_distinct_rows(alloc, pager, sources, selection)?;
     write_lines(rows.as_slice(), out)?;
     Ok(rows.len() as u64)
 }

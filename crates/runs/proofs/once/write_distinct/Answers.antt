@@ -1,4 +1,4 @@
-use Rattle.std.proofs.Common.{◌∙◌, true, map, refl, sym, subst, inl, inr}
+use Rattle.std.proofs.Common.{true, map, refl, sym, subst, inr}
 use Rattle.std.proofs.lemmas.Result.{err_from_is_err_and}
 use Rattle.values.specs.Datum.{datum_of}
 use Rattle.pager.proofs.CallLemmas.{SameImage-none}
@@ -11,7 +11,7 @@ use Rattle.runs.proofs.once.write_distinct.Goals as goal
 pub returns-in_err-distinct-clause-rows : goal.returns-in_err-distinct-clause-rows
 returns-in_err-distinct-clause-rows g c = λ steady.
     let p = err_from_is_err_and c.from_residual.result c.from_residual.ensures.1 in
-    rw (p.1, p.2) (none_given true c.args.pager.now.state c.args.tables.now (selection_data c.args.selection.now) _ _ (inr refl))
+    rw (p.1, p.2) (none_given true c.args.pager.now.state c.args.sources.now (selection_data c.args.selection.now) _ _ (inr refl))
 
 pub rows-init : goal.rows-init
 rows-init g c =
@@ -19,7 +19,7 @@ rows-init g c =
     c.in_ok-distinct.ensures.rows refl
 
 pub next-requires-clause-planned : goal.next-requires-clause-planned
-next-requires-clause-planned g c = subst (λ (p : PlanData). IsPlanOf c.args.tables.now p) (sym c.rows.invariant.plan) c.requires.planned
+next-requires-clause-planned g c = subst (λ (p : PlanData). IsPlanOf c.args.sources.now p) (sym c.rows.invariant.plan) c.requires.planned
 
 pub returns-in_err-next-clause-rows : goal.returns-in_err-next-clause-rows
 returns-in_err-next-clause-rows g c = λ steady.

@@ -6,7 +6,7 @@ use Rattle.runs.proofs.once.write_distinct.Given as goal
 
 abbrev pub invariant-rows : goal.invariant-rows
 invariant-rows g l =
-    Giving true l.fn.pager.state l.pager.state l.tables (selection_data l.selection) l.distinct l.count (g.W.Sink.facts l.fn.out) (g.W.Sink.facts l.out)
+    Giving true l.fn.pager.state l.pager.state l.sources (selection_data l.selection) l.distinct l.count (g.W.Sink.facts l.fn.out) (g.W.Sink.facts l.out)
 
 abbrev pub decreases-rows : goal.decreases-rows
-decreases-rows g l = steps l.distinct.results.op
+decreases-rows g l = steps l.sources l.distinct.results.op

@@ -6,7 +6,7 @@ use Rattle.runs.proofs.selections.write_selection.Given as goal
 
 abbrev pub invariant-rows : goal.invariant-rows
 invariant-rows g l =
-    Giving false l.fn.pager.state l.pager.state l.tables (selection_data l.selection) l.results l.count (g.W.Sink.facts l.fn.out) (g.W.Sink.facts l.out)
+    Giving false l.fn.pager.state l.pager.state l.sources (selection_data l.selection) l.results l.count (g.W.Sink.facts l.fn.out) (g.W.Sink.facts l.out)
 
 abbrev pub decreases-rows : goal.decreases-rows
-decreases-rows g l = steps l.results.op
+decreases-rows g l = steps l.sources l.results.op

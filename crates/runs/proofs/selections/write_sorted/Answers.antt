@@ -10,7 +10,7 @@ pub returns-in_err-rows-clause-rows : goal.returns-in_err-rows-clause-rows
 returns-in_err-rows-clause-rows g c = λ steady.
     let p = err_from_is_err_and c.from_residual.result c.from_residual.ensures.1 in
     rw (p.1, p.2)
-    (sorted_stopped false c.args.pager.now.state c.sorted_rows.new.pager.state c.args.tables.now (sorted_data c.args.selection.now) steady _ _ c.in_err-rows.ensures.only
+    (sorted_stopped false c.args.pager.now.state c.sorted_rows.new.pager.state c.args.sources.now (sorted_data c.args.selection.now) steady _ _ c.in_err-rows.ensures.only
     c.in_err-rows.ensures.rows)
 
 pub returns-in_err-rows-clause-only : goal.returns-in_err-rows-clause-only
@@ -22,7 +22,7 @@ pub returns-in_err-write_lines-clause-rows : goal.returns-in_err-write_lines-cla
 returns-in_err-write_lines-clause-rows g c = λ steady.
     let p = err_from_is_err_and c.from_residual-in_err-write_lines.result c.from_residual-in_err-write_lines.ensures.1 in
     rw (p.1, p.2)
-    (sorted_cut false c.args.pager.now.state c.sorted_rows.new.pager.state c.args.tables.now (sorted_data c.args.selection.now) steady
+    (sorted_cut false c.args.pager.now.state c.sorted_rows.new.pager.state c.args.sources.now (sorted_data c.args.selection.now) steady
     (map (λ row. map datum_of row.items) c.in_ok-rows.rows.items) c.in_ok-rows.ensures.rows _ _ _ c.in_err-write_lines.ensures.only
     (rw (rows_text-map (λ row. map datum_of row.items) c.in_ok-rows.rows.items, ← c.as_slice.ensures.value) c.in_err-write_lines.ensures.writes))
 
@@ -30,12 +30,12 @@ pub returns-clause-rows : goal.returns-clause-rows
 returns-clause-rows g c = λ steady.
     let counted : c.len.result ≡ length c.in_ok-rows.rows.items = search rules in
     let few : c.len.result ≤ 2 ^ 64 - 1 = search rules in
-    sorted_answer false c.args.pager.now.state c.sorted_rows.new.pager.state c.args.tables.now (sorted_data c.args.selection.now) steady
+    sorted_answer false c.args.pager.now.state c.sorted_rows.new.pager.state c.args.sources.now (sorted_data c.args.selection.now) steady
     (map (λ row. map datum_of row.items) c.in_ok-rows.rows.items) c.in_ok-rows.ensures.rows _ _ _
     (rw (rows_text-map (λ row. map datum_of row.items) c.in_ok-rows.rows.items, ← c.as_slice.ensures.value) c.in_ok-write_lines.ensures.writes)
     (rows_counted _ c.in_ok-rows.rows.items _ counted few)
 
 pub returns-clause-pages : goal.returns-clause-pages
 returns-clause-pages g c = λ steady.
-    sorted_few false c.args.pager.now.state c.sorted_rows.new.pager.state c.args.tables.now (sorted_data c.args.selection.now) steady
+    sorted_few false c.args.pager.now.state c.sorted_rows.new.pager.state c.args.sources.now (sorted_data c.args.selection.now) steady
     (map (λ row. map datum_of row.items) c.in_ok-rows.rows.items) c.in_ok-rows.ensures.rows
