@@ -1,5 +1,6 @@
 -- The rows of a query without queries in it.
-use Rattle.std.proofs.Common.{◌≡◌, Bool, ℕ, ◌+◌, suc, List, [], ◌∷◌, ◌++◌, length, map, slice_index_or, cond, refl, sym, ap, subst, ◌∙◌, arith, IsPermutation, IsSortedByKey}
+use Rattle.std.proofs.Common.{◌≡◌, Bool, ℕ, ◌+◌, suc, List, [], ◌∷◌, ◌++◌, drop, length, map, take, slice_index_or, cond, refl, sym, ap, subst, ◌∙◌, arith, IsPermutation, IsSortedByKey}
+use Rattle.std.specs.List.{AllZip}
 use Rattle.std.proofs.lemmas.List.{get_or_append_left, length-append}
 use Rattle.std.proofs.Math.Seq.{get_or-append_seam}
 use Rattle.values.specs.Database.{Database}
@@ -8,8 +9,9 @@ use Rattle.values.specs.Row.{Row}
 use Rattle.expr.specs.Filled.{filled}
 use Rattle.expr.specs.Term.{Term}
 use Rattle.meaning.specs.Answer.{Permits, key_directions}
-use Rattle.meaning.specs.Body.{Output, SameTables, answers_in, body, body_rows, from_rows, outputs, plain_outputs, results, rows_of, select_outputs, source_rows, values_over}
+use Rattle.meaning.specs.Body.{Output, SameTables, answer_of, answers_in, body, body_rows, from_rows, outputs, plain_outputs, results, rows_of, select_outputs, source_rows, values_over}
 use Rattle.meaning.proofs.AnswerLemmas.{Permits-bags}
+use Rattle.meaning.proofs.BodyLemmas.{same_values}
 use Rattle.meaning.proofs.GroupLemmas.{map-map}
 use Rattle.meaning.specs.Query.{Body, Direction, From, Key, QueryData, Select, Source, compound, derived, from_width, joined, nothing, schema, select, source_width, table, with_inner}
 use Rattle.meaning.specs.Sequence.{keys_cmp}
@@ -20,7 +22,9 @@ use Rattle.settled_sources.proofs.MappedLemmas.{plain_mapped, results_mapped, se
 use Rattle.settled_sources.specs.Mapped.{mapped_key, mapped_select}
 use Rattle.settled_sources.specs.Within.{IsBodyWithin, IsFromWithin, IsSourceWithin}
 use Rattle.flat_queries.proofs.FilledLemmas.{again}
-use Rattle.flat_queries.specs.Flat.{answered, flat, flat_body, flat_from, flat_source, kept_in, kept_of, kept_source, last_from, with_kept}
+use Rattle.flat_queries.proofs.AnswerLemmas.{answers_of, are_own, as_answers, flat_is, zip_back, zip_front}
+use Rattle.flat_queries.specs.Flat.{flat, flat_from, flat_source, kept_in, kept_of, kept_source, with_kept}
+use Rattle.flat_queries.specs.FlatWith.{AreAnswers, flat_body_with, flat_with, last_answers, queries_in, queries_of}
 
 module _ (w : Datum) (db : Database) where
   -- the rows of these sources stand in a list, from this place on
@@ -48,6 +52,12 @@ module _ (w : Datum) (db : Database) where
     subst (λ tables. AreFrom tables (suc place) sources) (next_front front (source_rows w db source) (map (source_rows w db) sources))
         (behind_front (front ++ source_rows w db source ∷ []) (suc place) sources (omega (arith, long, length-append front (source_rows w db source ∷ [])))),
   )
+
+  -- expressions in which the values of inner queries stand in any order
+  pub behind : (other : Database) (answers : List (List Datum)) (place : ℕ) (from : From) → AllZip IsPermutation (answers_in w db from) answers
+      → (λ t. values_over w other (flat_from (filled answers) place from) (filled answers t)) ≡ values_over w db from
+  behind other answers place from alike =
+      (λ i t. eval w (again answers (answers_in w other (flat_from (filled answers) place from)) t i)) ∙ sym (same_values w (answers_in w db from) answers alike)
 
   -- a database with more tables
   module _ (kept : List Source) where
@@ -88,40 +98,28 @@ module _ (w : Datum) (db : Database) where
         ) refl
     from_same value f place (with_inner from query) is are = from_same value f place from is.0 are
 
-    pub no_answers : (f : Term → Term) (place : ℕ) (from : From) → answers_in w other (flat_from f place from) ≡ []
-    no_answers f place nothing = refl
-    no_answers f place (joined from kind source on) = no_answers f place from
-    no_answers f place (with_inner from query) = no_answers f place from
-
-    module _ (place : ℕ) (from : From) (is : IsFromWithin count from) (are : AreFrom other.tables place (kept_in from)) where
-      abbrev f : Term → Term
-      f = answered w db from
-
+    -- a SELECT with this FROM, in which these expressions stand, whose values are those of its own
+    module _ (f : Term → Term) (place : ℕ) (from : From) (is : IsFromWithin count from) (are : AreFrom other.tables place (kept_in from))
+        (behind_is : (λ t. values_over w other (flat_from f place from) (f t)) ≡ values_over w db from) where
       abbrev flat_one : From
       flat_one = flat_from f place from
 
-      pub filled_is : (t : Term) → filled (answers_in w other flat_one) (f t) ≡ filled (answers_in w db from) t
-      filled_is t = again (answers_in w db from) (answers_in w other flat_one) t
-
-      behind_is : (λ t. values_over w other flat_one (f t)) ≡ values_over w db from
-      behind_is = λ i t. eval w (filled_is t i)
-
-      pub rows_same : rows_of w other flat_one ≡ rows_of w db from
+      rows_same : rows_of w other flat_one ≡ rows_of w db from
       rows_same = from_same (values_over w other flat_one) f place from is are ∙ ap (λ (v : Valuation). from_rows w db v from) behind_is
 
-      pub results_same : (s : Select)
+      results_same : (s : Select)
           → results (values_over w other flat_one) w (mapped_select f s) (rows_of w other flat_one) ≡ results (values_over w db from) w s (rows_of w db from)
       results_same s =
           results_mapped (values_over w other flat_one) f w s (rows_of w other flat_one)
           ∙ ap (λ (v : Valuation). results v w s (rows_of w other flat_one)) behind_is ∙ ap (results (values_over w db from) w s) rows_same
 
-      pub plain_same : (order : List Key) (rows others : List Row) → rows ≡ others
+      plain_same : (order : List Key) (rows others : List Row) → rows ≡ others
           → plain_outputs (values_over w other flat_one) (map (mapped_key f) order) rows ≡ plain_outputs (values_over w db from) order others
       plain_same order rows others same =
           plain_mapped (values_over w other flat_one) f order rows
           ∙ ap (λ (v : Valuation). plain_outputs v order rows) behind_is ∙ ap (plain_outputs (values_over w db from) order) same
 
-      pub outputs_of : (order : List Key) (s : Select)
+      outputs_of : (order : List Key) (s : Select)
           → select_outputs (values_over w other flat_one) w (map (mapped_key f) order) (mapped_select f s) (rows_of w other flat_one)
           ≡ select_outputs (values_over w db from) w order s (rows_of w db from)
       outputs_of order s =
@@ -129,42 +127,66 @@ module _ (w : Datum) (db : Database) where
           ∙ ap (λ (v : Valuation). select_outputs v w order s (rows_of w other flat_one)) behind_is
           ∙ ap (select_outputs (values_over w db from) w order s) rows_same
 
-    pub body_same : (place : ℕ) (of : Body) → IsBodyWithin count of → AreFrom other.tables place (kept_of of)
-        → body_rows w other (flat_body w db place of) ≡ body_rows w db of
-    body_same place (select from s) is are = results_same place from is are s
-    body_same place (compound before operator from s) is are =
-        let last = last_of other.tables place (kept_of before) (kept_in from) are in
-        ap (λ (rows : List Row). combined operator rows (results (values_over w other (flat_from (answered w db from) (place + length (kept_of before)) from)) w
-        (mapped_select (answered w db from) s) (rows_of w other (flat_from (answered w db from) (place + length (kept_of before)) from))))
-        (body_same place before is.0 (first_of other.tables place (kept_of before) (kept_in from) are))
-        ∙ ap (combined operator (body_rows w db before)) (results_same (place + length (kept_of before)) from is.1 last s)
+    body_same : (answers : List (List Datum)) (place : ℕ) (of : Body) → IsBodyWithin count of → AreFrom other.tables place (kept_of of) → AreAnswers w db of answers
+        → body_rows w other (flat_body_with answers place of) ≡ body_rows w db of
+    body_same answers place (select from s) is are alike = results_same (filled answers) place from is are (behind other answers place from (as_answers w db from answers alike)) s
+    body_same answers place (compound before operator from s) is are alike =
+        let at = place + length (kept_of before) in
+        let own = drop (length (queries_of before)) answers in
+        let own_alike = as_answers w db from own (zip_back IsPermutation (answer_of w db) (queries_of before) (queries_in from) answers alike) in
+        ap (λ (rows : List Row). combined operator rows (results (values_over w other (flat_from (filled own) at from)) w
+        (mapped_select (filled own) s) (rows_of w other (flat_from (filled own) at from))))
+        (body_same (take (length (queries_of before)) answers) place before is.0 (first_of other.tables place (kept_of before) (kept_in from) are)
+        (zip_front IsPermutation (answer_of w db) (queries_of before) (queries_in from) answers alike))
+        ∙ ap (combined operator (body_rows w db before))
+        (results_same (filled own) at from is.1 (last_of other.tables place (kept_of before) (kept_in from) are) (behind other own at from own_alike) s)
 
     either : {A : Type 0} (b : Bool) (x x' y y' : A) → x ≡ x' → y ≡ y' → cond b x y ≡ cond b x' y'
     either b x x' y y' p q = ap (λ z. cond b z y) p ∙ ap (cond b x') q
 
-    pub outputs_same : (place : ℕ) (order : List Key) (of : Body) → IsBodyWithin count of → AreFrom other.tables place (kept_of of)
-        → outputs w other (map (mapped_key (answered w db (last_from of))) order) (flat_body w db place of) ≡ outputs w db order of
-    outputs_same place order (select from s) is are =
-        either s.distinct _ _ _ _ (plain_same place from is are order _ _ (body_same place (select from s) is are)) (outputs_of place from is are order s)
-    outputs_same place order (compound before operator from s) is are =
-        plain_same (place + length (kept_of before)) from is.1 (last_of other.tables place (kept_of before) (kept_in from) are) order _ _
-        (body_same place (compound before operator from s) is are)
-
-  pub flat_body_same : (query : QueryData) → IsBodyWithin (length db.tables) query.body
-      → body w (with_kept w db (kept_of query.body)) (flat w db (length db.tables) query) ≡ body w db query
-  flat_body_same query is = outputs_same (kept_of query.body) (length db.tables) query.order query.body is (all_from (kept_of query.body))
+    outputs_same : (answers : List (List Datum)) (place : ℕ) (order : List Key) (of : Body) → IsBodyWithin count of → AreFrom other.tables place (kept_of of)
+        → AreAnswers w db of answers
+        → outputs w other (map (mapped_key (filled (last_answers answers of))) order) (flat_body_with answers place of) ≡ outputs w db order of
+    outputs_same answers place order (select from s) is are alike =
+        let here = behind other answers place from (as_answers w db from answers alike) in
+        either s.distinct _ _ _ _ (plain_same (filled answers) place from is are here order _ _ (body_same answers place (select from s) is are alike))
+        (outputs_of (filled answers) place from is are here order s)
+    outputs_same answers place order (compound before operator from s) is are alike =
+        let at = place + length (kept_of before) in
+        let own = drop (length (queries_of before)) answers in
+        let own_alike = as_answers w db from own (zip_back IsPermutation (answer_of w db) (queries_of before) (queries_in from) answers alike) in
+        plain_same (filled own) at from is.1 (last_of other.tables place (kept_of before) (kept_in from) are) (behind other own at from own_alike) order _ _
+        (body_same answers place (compound before operator from s) is are alike)
 
   directions_are : (f : Term → Term) (order : List Key) → key_directions (map (mapped_key f) order) ≡ key_directions order
   directions_are f order = map-map (λ (key : Key). key.direction) (mapped_key f) order
 
-  pub flat_permits : (others : Database) (query : QueryData) (rows : List Row) → IsBodyWithin (length db.tables) query.body
-      → SameTables others (with_kept w db (kept_of query.body)) → Permits w others (flat w db (length db.tables) query) rows → Permits w db query rows
-  flat_permits others query rows is same permits =
-      let p = Permits-bags w others (with_kept w db (kept_of query.body)) (flat w db (length db.tables) query) rows same permits in
-      record {
-        ordered = p.ordered;
-        same = subst (λ (os : List Output). IsPermutation os p.ordered) (flat_body_same query is) p.same;
-        ascends = subst (λ (ds : List Direction). IsSortedByKey (λ (o : Output). o.keys) (keys_cmp ds) p.ordered)
-            (directions_are (answered w db (last_from query.body)) query.order) p.ascends;
-        shown = p.shown;
-      }
+  module _ (query : QueryData) (is : IsBodyWithin (length db.tables) query.body) where
+    flat_same : (answers : List (List Datum)) → AreAnswers w db query.body answers
+        → body w (with_kept w db (kept_of query.body)) (flat_with answers (length db.tables) query) ≡ body w db query
+    flat_same answers alike =
+        outputs_same (kept_of query.body) answers (length db.tables) query.order query.body is (all_from (kept_of query.body)) alike
+
+    pub flat_with_permits : (others : Database) (answers : List (List Datum)) (rows : List Row) → SameTables others (with_kept w db (kept_of query.body))
+        → AreAnswers w db query.body answers → Permits w others (flat_with answers (length db.tables) query) rows → Permits w db query rows
+    flat_with_permits others answers rows same alike permits =
+        let p = Permits-bags w others (with_kept w db (kept_of query.body)) (flat_with answers (length db.tables) query) rows same permits in
+        record {
+          ordered = p.ordered;
+          same = subst (λ (os : List Output). IsPermutation os p.ordered) (flat_same answers alike) p.same;
+          ascends = subst (λ (ds : List Direction). IsSortedByKey (λ (o : Output). o.keys) (keys_cmp ds) p.ordered)
+              (directions_are (filled (last_answers answers query.body)) query.order) p.ascends;
+          shown = p.shown;
+        }
+
+    -- with the values of its own inner queries, in their order
+    pub flat_body_same : body w (with_kept w db (kept_of query.body)) (flat w db (length db.tables) query) ≡ body w db query
+    flat_body_same =
+        ap (body w (with_kept w db (kept_of query.body))) (sym (flat_is w db (length db.tables) query))
+        ∙ flat_same (answers_of w db query.body) (are_own w db query.body)
+
+    pub flat_permits : (others : Database) (rows : List Row) → SameTables others (with_kept w db (kept_of query.body))
+        → Permits w others (flat w db (length db.tables) query) rows → Permits w db query rows
+    flat_permits others rows same permits =
+        flat_with_permits others (answers_of w db query.body) rows same (are_own w db query.body)
+        (subst (λ (q : QueryData). Permits w others q rows) (sym (flat_is w db (length db.tables) query)) permits)

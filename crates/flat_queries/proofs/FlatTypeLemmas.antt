@@ -28,7 +28,7 @@ zip_mapped R S f each [] (y ∷ ys) all = absurd all
 zip_mapped R S f each (x ∷ xs) [] all = absurd all
 zip_mapped R S f each (x ∷ xs) (y ∷ ys) all = (each x y all.0, zip_mapped R S f each xs ys all.1)
 
-zip_append : {A B : Type 0} (R : A → B → Type 0) (xs : List A) (ys : List B) (xs' : List A) (ys' : List B) → AllZip R xs ys → AllZip R xs' ys' → AllZip R (xs ++ xs') (ys ++ ys')
+pub zip_append : {A B : Type 0} (R : A → B → Type 0) (xs : List A) (ys : List B) (xs' : List A) (ys' : List B) → AllZip R xs ys → AllZip R xs' ys' → AllZip R (xs ++ xs') (ys ++ ys')
 zip_append R [] [] xs' ys' p q = q
 zip_append R [] (y ∷ ys) xs' ys' p q = absurd p
 zip_append R (x ∷ xs) [] xs' ys' p q = absurd p
@@ -91,7 +91,7 @@ module _ (answers : List Ty) (f : Term → Term) (still : (columns : List Ty) (t
   function_still types (WindowFunction.last_value x) ty has = still types x ty has
   function_still types (WindowFunction.nth_value x n) ty has = (still types x ty has.0, has.1)
 
-  computed_still : (row : List Ty) (s : Select) (types : List Ty) → ComputedHasTypes answers row s types → ComputedHasTypes [] row (mapped_select f s) types
+  pub computed_still : (row : List Ty) (s : Select) (types : List Ty) → ComputedHasTypes answers row s types → ComputedHasTypes [] row (mapped_select f s) types
   computed_still row s types has = record {
     inputs = has.inputs;
     values = has.values;
@@ -102,22 +102,22 @@ module _ (answers : List Ty) (f : Term → Term) (still : (columns : List Ty) (t
     types_are = has.types_are;
   }
 
-  select_still : (row : List Ty) (s : Select) (types : List Ty) → SelectHasTypes answers row s types → SelectHasTypes [] row (mapped_select f s) types
+  pub select_still : (row : List Ty) (s : Select) (types : List Ty) → SelectHasTypes answers row s types → SelectHasTypes [] row (mapped_select f s) types
   select_still row s types has =
       (has.0, computed_still row s has.0 has.1, zip_mapped (HasType has.0 answers) (HasType has.0 []) f (still has.0) s.columns types has.2)
 
 -- ---- the types of the sources that are no tables
 
 -- these stand in a list, from this place on
-abbrev ArePlaced : List (List Ty) → ℕ → List (List Ty) → Type 0
+abbrev pub ArePlaced : List (List Ty) → ℕ → List (List Ty) → Type 0
 ArePlaced all place [] = Unit {0}
 ArePlaced all place (types ∷ rest) = (slice_get all place ≡ Some types) × ArePlaced all (suc place) rest
 
-first_placed : (all : List (List Ty)) (place : ℕ) (xs ys : List (List Ty)) → ArePlaced all place (xs ++ ys) → ArePlaced all place xs
+pub first_placed : (all : List (List Ty)) (place : ℕ) (xs ys : List (List Ty)) → ArePlaced all place (xs ++ ys) → ArePlaced all place xs
 first_placed all place [] ys are = tt
 first_placed all place (x ∷ xs) ys are = (are.0, first_placed all (suc place) xs ys are.1)
 
-last_placed : (all : List (List Ty)) (place : ℕ) (xs ys : List (List Ty)) → ArePlaced all place (xs ++ ys) → ArePlaced all (place + length xs) ys
+pub last_placed : (all : List (List Ty)) (place : ℕ) (xs ys : List (List Ty)) → ArePlaced all place (xs ++ ys) → ArePlaced all (place + length xs) ys
 last_placed all place [] ys are = subst (λ n. ArePlaced all n ys) (omega arith) are
 last_placed all place (x ∷ xs) ys are = subst (λ n. ArePlaced all n ys) (omega arith) (last_placed all (suc place) xs ys are.1)
 
@@ -125,7 +125,7 @@ got_seam : {A : Type 0} (front : List A) (x : A) (rest : List A) → slice_get (
 got_seam [] x rest = refl
 got_seam (y ∷ front) x rest = got_seam front x rest
 
-got_front : {A : Type 0} (xs ys : List A) (at : ℕ) (x : A) → slice_get xs at ≡ Some x → slice_get (xs ++ ys) at ≡ Some x
+pub got_front : {A : Type 0} (xs ys : List A) (at : ℕ) (x : A) → slice_get xs at ≡ Some x → slice_get (xs ++ ys) at ≡ Some x
 got_front [] ys at x got = absurd cc
 got_front (y ∷ xs) ys zero x got = got
 got_front (y ∷ xs) ys (suc at) x got = got_front xs ys at x got
@@ -134,7 +134,7 @@ next_front : (front : List (List Ty)) (x : List Ty) (rest : List (List Ty)) → 
 next_front [] x rest = refl
 next_front (y ∷ front) x rest = ap (λ more. y ∷ more) (next_front front x rest)
 
-all_placed : (front : List (List Ty)) (place : ℕ) (kinds : List (List Ty)) → place ≡ length front → ArePlaced (front ++ kinds) place kinds
+pub all_placed : (front : List (List Ty)) (place : ℕ) (kinds : List (List Ty)) → place ≡ length front → ArePlaced (front ++ kinds) place kinds
 all_placed front place [] long = tt
 all_placed front place (types ∷ kinds) long = (
   subst (λ n. slice_get (front ++ types ∷ kinds) n ≡ Some types) (sym long) (got_seam front types kinds),
@@ -143,17 +143,17 @@ all_placed front place (types ∷ kinds) long = (
 )
 
 module _ (catalog : List (List Ty)) where
-  kinds_source : (source : Source) → List Ty → List (List Ty)
+  unfoldable pub kinds_source : (source : Source) → List Ty → List (List Ty)
   kinds_source (table at width) types = []
   kinds_source schema types = types ∷ []
   kinds_source (derived of) types = types ∷ []
 
-  kinds_from : (answers : List Ty) (from : From) (types : List Ty) → FromHasTypes catalog answers from types → List (List Ty)
+  unfoldable pub kinds_from : (answers : List Ty) (from : From) (types : List Ty) → FromHasTypes catalog answers from types → List (List Ty)
   kinds_from answers nothing types has = []
   kinds_from answers (joined from kind source on) types has = kinds_from answers from has.0 has.2 ++ kinds_source source has.1
   kinds_from answers (with_inner from query) types has = kinds_from answers from types has
 
-  kinds_of : (of : Body) (types : List Ty) → BodyHasTypes catalog of types → List (List Ty)
+  unfoldable pub kinds_of : (of : Body) (types : List Ty) → BodyHasTypes catalog of types → List (List Ty)
   kinds_of (select from s) types has = kinds_from has.0 from has.1 has.3
   kinds_of (compound before operator from s) types has = kinds_of before types has.0 ++ kinds_from has.1.0 from has.1.1 has.1.3
 
@@ -163,7 +163,7 @@ module _ (catalog : List (List Ty)) where
   source_kinds schema types has = (has, tt)
   source_kinds (derived of) types has = (has, tt)
 
-  from_kinds : (answers : List Ty) (from : From) (types : List Ty) (has : FromHasTypes catalog answers from types)
+  pub from_kinds : (answers : List Ty) (from : From) (types : List Ty) (has : FromHasTypes catalog answers from types)
       → AllZip (SourceHasTypes catalog) (kept_in from) (kinds_from answers from types has)
   unfolding kinds_from
   from_kinds answers nothing types has = tt
@@ -171,7 +171,7 @@ module _ (catalog : List (List Ty)) where
       zip_append (SourceHasTypes catalog) _ _ _ _ (from_kinds answers from has.0 has.2) (source_kinds source has.1 has.3)
   from_kinds answers (with_inner from query) types has = from_kinds answers from types has
 
-  of_kinds : (of : Body) (types : List Ty) (has : BodyHasTypes catalog of types) → AllZip (SourceHasTypes catalog) (kept_of of) (kinds_of of types has)
+  pub of_kinds : (of : Body) (types : List Ty) (has : BodyHasTypes catalog of types) → AllZip (SourceHasTypes catalog) (kept_of of) (kinds_of of types has)
   unfolding kinds_of
   of_kinds (select from s) types has = from_kinds has.0 from has.1 has.3
   of_kinds (compound before operator from s) types has =
@@ -187,7 +187,7 @@ module _ (catalog : List (List Ty)) where
     source_flat place schema types has are = (are.0, ap length (sym has))
     source_flat place (derived of) types has are = (are.0, body_width-is catalog of types has)
 
-    none_answered : (f : Term → Term) (place : ℕ) (from : From) → AnswersHaveTypes all (flat_from f place from) []
+    pub none_answered : (f : Term → Term) (place : ℕ) (from : From) → AnswersHaveTypes all (flat_from f place from) []
     none_answered f place nothing = refl
     none_answered f place (joined from kind source on) = none_answered f place from
     none_answered f place (with_inner from query) = none_answered f place from
@@ -244,7 +244,7 @@ module _ (catalog : List (List Ty)) where
             ),
           )
 
-  rows_typed : (w : Datum) (stand_in : IsOfType Int w) (db : Database) (fits : Fits catalog db) (sources : List Source) (kinds : List (List Ty))
+  pub rows_typed : (w : Datum) (stand_in : IsOfType Int w) (db : Database) (fits : Fits catalog db) (sources : List Source) (kinds : List (List Ty))
       → AllZip (SourceHasTypes catalog) sources kinds → AllZip FitTypes kinds (map (source_rows w db) sources)
   rows_typed w stand_in db fits [] [] all = tt
   rows_typed w stand_in db fits [] (types ∷ kinds) all = absurd all

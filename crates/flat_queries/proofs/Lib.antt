@@ -1,4 +1,11 @@
 pub mod FilledLemmas
+pub mod AnswerLemmas
 pub mod FlatLemmas
+pub mod SelectHitLemmas
 pub mod FlatHitLemmas
 pub mod FlatTypeLemmas
+pub mod PartLemmas
+pub mod FinerLemmas
+pub mod MeetLemmas
+pub mod WholeTypeLemmas
+pub mod ExampleLemmas

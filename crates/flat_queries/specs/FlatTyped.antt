@@ -4,9 +4,11 @@ use Rattle.std.specs.List.{AllZip}
 use Rattle.values.specs.Database.{Database}
 use Rattle.values.specs.Datum.{Datum}
 use Rattle.values.specs.declared.value.Ty.{Ty}
-use Rattle.meaning.specs.Query.{Body}
-use Rattle.meaning.specs.Typed.{BodyHasTypes, Fits, SourceHasTypes}
+use Rattle.meaning.specs.Body.{SameTables}
+use Rattle.meaning.specs.Query.{Body, QueryData}
+use Rattle.meaning.specs.Typed.{BodyHasTypes, Fits, HasTypes, SourceHasTypes}
 use Rattle.flat_queries.specs.Flat.{flat_body, kept_of, with_kept}
+use Rattle.flat_queries.specs.FlatWith.{AreAnswers, flat_with}
 
 -- The columns of the sources that are no tables have these types, over whose rows behind the tables the query without queries in it is
 -- typed as the query.
@@ -15,3 +17,11 @@ pub record IsFlatTyped (w : Datum) (db : Database) (catalog : List (List Ty)) (o
   pub sources : AllZip (SourceHasTypes catalog) (kept_of of) kinds
   pub typed : BodyHasTypes (catalog ++ kinds) (flat_body w db (length catalog) of) types
   pub fits : Fits (catalog ++ kinds) (with_kept w db (kept_of of))
+
+-- The same of a whole query with its ORDER BY, with the values of its inner queries in whichever order, over rows in whichever order.
+-- Where a column of these sources is NULL alone, expressions may take it for one type here and for another there.
+pub record IsFlatQueryTyped (w : Datum) (db : Database) (catalog : List (List Ty)) (query : QueryData) (types : List Ty) : Type 0 where
+  pub kinds : List (List Ty)
+  pub sources : AllZip (SourceHasTypes catalog) (kept_of query.body) kinds
+  pub typed : (answers : List (List Datum)) → AreAnswers w db query.body answers → HasTypes (catalog ++ kinds) (flat_with answers (length catalog) query) types
+  pub fits : (other : Database) → SameTables other (with_kept w db (kept_of query.body)) → Fits (catalog ++ kinds) other

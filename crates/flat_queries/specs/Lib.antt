@@ -1,2 +1,5 @@
 pub mod Flat
 pub mod FlatTyped
+pub mod FlatWith
+pub mod Parts
+pub mod Examples
