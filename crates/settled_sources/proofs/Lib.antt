@@ -3,3 +3,4 @@ pub mod SelectHitLemmas
 pub mod RowLemmas
 pub mod HitLemmas
 pub mod TypeLemmas
+pub mod ExampleLemmas

@@ -1,3 +1,4 @@
 pub mod Within
 pub mod Settled
 pub mod Mapped
+pub mod Examples

@@ -9,6 +9,7 @@ ghost use Rattle.meaning.specs.Body.{body};
 ghost use Rattle.meaning.specs.Hits.{Hits};
 ghost use Rattle.meaning.specs.Query.{QueryData};
 ghost use Rattle.meaning.specs.Typed.{Fits, HasTypes, IsTyped};
+ghost use Rattle.settled_sources.specs.Examples.{ShowLater};
 ghost use Rattle.settled_sources.specs.Settled.{settled, types_with_schema, with_schema};
 ghost use Rattle.settled_sources.specs.Within.{IsBodyWithin};
 
@@ -29,4 +30,9 @@ pub fn settled_is_typed()
     ensures typed { (catalog : List (List Ty)) (query : QueryData) (types : List Ty) → HasTypes catalog query types
         → HasTypes (types_with_schema catalog) (settled (length catalog) query) types }
     ensures fits { (catalog : List (List Ty)) (db : Database) → Fits catalog db → Fits (types_with_schema catalog) (with_schema db) }
+{}
+
+/// A query over the schema's table, at two depths, is one over the table behind two others, whose rows are computed.
+pub fn examples()
+    ensures { (w : Datum) → ShowLater w }
 {}
