@@ -5,9 +5,10 @@ use Rattle.values.specs.declared.fault.Fault.TheVariants.{NoMemory, NotYet}
 use Rattle.meaning.specs.Query.{QueryData}
 use Rattle.meaning.specs.Typed.{IsTyped}
 use Rattle.naming.specs.Statement.{Named}
-use Rattle.query_plans.specs.Answers.{IsPlanFor, IsPlannedOver}
+use Rattle.query_plans.specs.Answers.{IsPlanFor, IsPlannedAsTyped}
 use Rattle.query_plans.specs.Served.{IsServed}
 use Rattle.resolver.specs.Resolved.{Resolves}
+use Rattle.select_plans.proofs.ColumnLemmas.{tables_have_columns}
 use Rattle.table_copies.specs.Whole.{all_tables}
 use Rattle.tables.specs.ColumnTypes.{column_types}
 use Rattle.tables.specs.TableData.{TableData}
@@ -17,16 +18,17 @@ use Rattle.settled_sources.specs.Settled.{settled}
 use Rattle.shell.proofs.SettledLemmas.{typed_over}
 use Rattle.shell.specs.Prepared.{IsPreparedFor, Refuses, settled_over}
 use Rattle.shell.specs.PreparedView.{PreparedData}
+use Rattle.shell.specs.State.{sources_over}
 
 -- a plan of its query, over tables over which that is typed
 pub prepared_for : (tables : List TableData) (prepared : PreparedData) (named : Named) (place : ℕ) → place ≡ length tables → IsTyped (column_types tables) named.query
     → prepared.query ≡ named.query → IsPlanFor (settled place named.query) prepared.planned
-    → ((ts : List TableData) → IsTyped (column_types ts) (settled place named.query) → IsPlannedOver ts prepared.planned) → IsPreparedFor tables prepared
+    → IsPlannedAsTyped (settled place named.query) prepared.planned → IsPreparedFor tables prepared
 prepared_for tables prepared named place last typed same plan over = record {
   typed = subst (λ (q : QueryData). IsTyped (column_types tables) q) (sym same) typed;
   plan = subst (λ (q : QueryData). IsPlanFor (settled_over tables q) prepared.planned) (sym same)
       (subst (λ (n : ℕ). IsPlanFor (settled n named.query) prepared.planned) last plan);
-  over = over (all_tables tables)
+  over = over (column_types (all_tables tables)) (sources_over tables) (tables_have_columns (all_tables tables))
       (subst (λ (n : ℕ). IsTyped (column_types (all_tables tables)) (settled n named.query)) (sym last) (typed_over tables named.query typed));
 }
 

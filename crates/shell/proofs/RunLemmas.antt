@@ -1,7 +1,7 @@
 -- From what the run of a plan writes to the answer of a query over the image.
 use Rattle.std.proofs.Common.{◌≡◌, ◌≢◌, ◌∙◌, inl, inr, ◌-◌, arith, false, ℕ, zero, suc, IsTrue, All, List, [], ◌∷◌, ◌++◌, map, Some, sym, refl, ap, subst}
 use Rattle.std.specs.List.{AllZip}
-use Rattle.std.proofs.lemmas.List.Elements.{All-append, All-cons, All-nil, All-weaker}
+use Rattle.std.proofs.lemmas.List.Elements.{All-append, All-cons, All-map, All-nil, All-weaker}
 use Rattle.values.specs.Database.{Database}
 use Rattle.values.specs.Datum.{Datum, null, int, text, blob}
 use Rattle.values.specs.Row.{Row}
@@ -25,11 +25,14 @@ use Rattle.tables.specs.ColumnTypes.{column_types, types_of}
 use Rattle.tables.specs.TableData.{ColumnData, TableData, schema_table}
 use Rattle.stored_rows.specs.Stored.{Fits, FitsColumn}
 use Rattle.stored_tables.specs.Tables.{IsAnyStored}
+use Rattle.sources.specs.Coming.{IsStored}
+use Rattle.sources.specs.SourceData.{SourceData, of_table, sources_of}
+use Rattle.sources.proofs.StepLemmas.{tables_alone}
 use Rattle.integrity.specs.Checked.{IsCheckFault}
 use Rattle.integrity.specs.Denotes.{Denotes}
 use Rattle.integrity.proofs.DenotesLemmas.{HasDatabase, IsStoredAs, database_of}
 use Rattle.scan.specs.Coming.{Asks, size_of}
-use Rattle.operators.specs.Basis.{AreStored, Basis, IsTableAt}
+use Rattle.operators.specs.Basis.{AreStored, Basis, IsSourceAt}
 use Rattle.query_plans.specs.Answers.{AreWideFor, HitsOf, PlannedData, work_of}
 use Rattle.query_plans.proofs.WideLemmas.{typed_wide}
 use Rattle.runs.specs.Faults.{IsOutsideFault, IsRunCause, IsRunFault}
@@ -40,7 +43,7 @@ use Rattle.shell.proofs.SettledLemmas.{fits_over, hits_over, permits_over, typed
 use Rattle.shell.specs.Prepared.{IsPreparedFor, settled_over}
 use Rattle.shell.specs.PreparedView.{PreparedData}
 use Rattle.shell.specs.Run.{HasRun, HasStopped, TookFew}
-use Rattle.shell.specs.State.{EngineState, IsOpeningFault, IsReady}
+use Rattle.shell.specs.State.{EngineState, IsOpeningFault, IsReady, sources_over}
 use Rattle.shell.specs.declared.engine.Report.{Report}
 
 pub some_one : {X : Type 0} (x y : X) → Some x ≡ Some y → x ≡ y
@@ -94,6 +97,10 @@ cause_hits : (on : Basis) (planned : PlannedData) (e : Fault) → e ≡ Overflow
 cause_hits on planned e over (inl outside) = absurd (not_overflow e outside over)
 cause_hits on planned e over (inr hits) = hits.1
 
+-- what holds of each table holds of each source, where there are the tables alone
+pub all_alone : (IsSo : SourceData → Type 0) (tables : List TableData) → All (λ table. IsSo (of_table table)) tables → All IsSo (sources_of tables [])
+all_alone IsSo tables all = subst (All IsSo) (sym (tables_alone tables)) (All-map IsSo of_table tables all)
+
 -- ---- what is said of the tables that the image denotes
 
 module _ (pages : Pages) where
@@ -108,16 +115,15 @@ module _ (pages : Pages) where
   basis w schema rows sizes = record { w = w; db = record { schema = schema; tables = rows }; sizes = sizes; local = false; plan = once }
 
   stored_at : (w : Datum) (schema : List Row) (tables : List TableData) (rows : List (List Row)) (all : AllZip (IsStoredAs pages) tables rows)
-      → AreStored pages tables (basis w schema rows (sizes_of tables rows all))
+      → AreStored pages (sources_of tables []) (basis w schema rows (sizes_of tables rows all))
   unfolding sizes_of
-  stored_at w schema [] rows all at table found = absurd cc
-  stored_at w schema (here ∷ tables) [] all at table found = absurd all
-  stored_at w schema (here ∷ tables) (first ∷ rows) all zero table found =
-      subst (λ (t : TableData). IsTableAt pages (basis w schema (first ∷ rows) (sizes_of (here ∷ tables) (first ∷ rows) all)) 0 t) (some_one here table found)
+  stored_at w schema [] rows all at source found = absurd cc
+  stored_at w schema (here ∷ tables) [] all at source found = absurd all
+  stored_at w schema (here ∷ tables) (first ∷ rows) all zero source found =
+      subst (λ (s : SourceData). IsSourceAt pages (basis w schema (first ∷ rows) (sizes_of (here ∷ tables) (first ∷ rows) all)) 0 s)
+      (some_one (of_table here) source found)
       (record { stored = all.0.stored; rows_are = all.0.rows_are; size_is = refl; unchained = λ local. absurd cc })
-  stored_at w schema (here ∷ tables) (first ∷ rows) all (suc at) table found =
-      let rest = stored_at w schema tables rows all.1 at table found in
-      record { stored = rest.stored; rows_are = rest.rows_are; size_is = rest.size_is; unchained = rest.unchained }
+  stored_at w schema (here ∷ tables) (first ∷ rows) all (suc at) source found = stored_at w schema tables rows all.1 at source found
 
 module _ (pager : PagerState) (tables : List TableData) (prepared : PreparedData) (ready : IsReady pager tables) (is : IsPreparedFor tables prepared)
     (steady : IsTrue pager.source.steady) where
@@ -135,10 +141,10 @@ module _ (pager : PagerState) (tables : List TableData) (prepared : PreparedData
   on w = basis (pages_of pager.source.bytes) w has.db.schema (with_schema has.db).tables
       (sizes_of (pages_of pager.source.bytes) (all_tables tables) (with_schema has.db).tables all_stored)
 
-  stored_on : (w : Datum) → AreStored (pages_seen pager) (all_tables tables) (on w)
+  stored_on : (w : Datum) → AreStored (pages_seen pager) (sources_over tables) (on w)
   unfolding on
   stored_on w =
-      subst (λ (p : Pages). AreStored p (all_tables tables) (on w)) same_pages
+      subst (λ (p : Pages). AreStored p (sources_over tables) (on w)) same_pages
       (stored_at (pages_of pager.source.bytes) w has.db.schema (all_tables tables) (with_schema has.db).tables all_stored)
 
   fits : meant.Fits (column_types tables) has.db
@@ -150,7 +156,7 @@ module _ (pager : PagerState) (tables : List TableData) (prepared : PreparedData
       (typed_over tables prepared.query is.typed)
 
   -- what the plan answers, the query permits
-  pub prints_answer : (n : ℕ) (old new : SinkFacts) → WritesAnswer (pages_seen pager) (all_tables tables) prepared.planned old new n
+  pub prints_answer : (n : ℕ) (old new : SinkFacts) → WritesAnswer (pages_seen pager) (sources_over tables) prepared.planned old new n
       → PrintsAnswer pager.source.bytes tables prepared.query n old new
   unfolding on
   prints_answer n old new wrote = record {
@@ -171,7 +177,7 @@ module _ (pager : PagerState) (tables : List TableData) (prepared : PreparedData
   }
 
   -- what an answer of the plan begins with, one of the query begins with
-  pub prints_beginning : (e : Fault) (old new : SinkFacts) → WritesBeginning (pages_seen pager) (all_tables tables) prepared.planned old new e
+  pub prints_beginning : (e : Fault) (old new : SinkFacts) → WritesBeginning (pages_seen pager) (sources_over tables) prepared.planned old new e
       → PrintsBeginning e pager.source.bytes tables prepared.query old new
   unfolding on
   prints_beginning e old new wrote = record {
@@ -198,11 +204,11 @@ module _ (pager : PagerState) (tables : List TableData) (prepared : PreparedData
   }
 
   pub took_few : (new : PagerState) (report : Report)
-      → ((on : Basis) → AreStored (pages_seen pager) (all_tables tables) on → Asks on.local pager (work_of on.w on.db on.sizes prepared.planned) new 0)
+      → ((on : Basis) → AreStored (pages_seen pager) (sources_over tables) on → Asks on.local pager (work_of on.w on.db on.sizes prepared.planned) new 0)
       → report.asked ≡ new.asked - pager.asked → report.chained ≡ new.chained - pager.chained
-      → (on : Basis) → AreStored (pages_of pager.source.bytes) (all_tables tables) on → TookFew on prepared.planned report
+      → (on : Basis) → AreStored (pages_of pager.source.bytes) (sources_over tables) on → TookFew on prepared.planned report
   took_few new report few asked chained on are_stored =
-      let asks = few on (subst (λ (p : Pages). AreStored p (all_tables tables) on) same_pages are_stored) in
+      let asks = few on (subst (λ (p : Pages). AreStored p (sources_over tables) on) same_pages are_stored) in
       record {
         asked = let most = asks.pages in omega (arith, most, asked);
         unchained = λ local. let kept = asks.chains local in omega (arith, kept, chained);
@@ -213,16 +219,17 @@ module _ (pager : PagerState) (tables : List TableData) (prepared : PreparedData
   abbrev engine : EngineState
   engine = record { pager = pager; tables = tables }
 
-  stored : IsTrue pager.source.steady → All (IsAnyStored (pages_seen pager)) (all_tables tables)
+  stored : IsTrue pager.source.steady → All (IsStored (pages_seen pager)) (sources_over tables)
   stored steady =
       let has = ready.stored steady in
-      subst (λ (p : Pages). All (IsAnyStored p) (all_tables tables)) (λ k. pages_in (sym (ready.header steady) k) pager.source.bytes)
+      all_alone (IsStored (pages_seen pager)) (all_tables tables)
+      (subst (λ (p : Pages). All (IsAnyStored p) (all_tables tables)) (λ k. pages_in (sym (ready.header steady) k) pager.source.bytes)
       (All-append (IsAnyStored (pages_of pager.source.bytes)) tables (schema_table ∷ []) has.stored
-      (All-cons (IsAnyStored (pages_of pager.source.bytes)) schema_table [] has.own (All-nil (IsAnyStored (pages_of pager.source.bytes)))))
+      (All-cons (IsAnyStored (pages_of pager.source.bytes)) schema_table [] has.own (All-nil (IsAnyStored (pages_of pager.source.bytes))))))
 
   pub has_run : (new : EngineState) (report : Report) (before after : SinkFacts)
-      → WhereSteady pager (λ pages. All (IsAnyStored pages) (all_tables tables) → WritesAnswer pages (all_tables tables) prepared.planned before after report.rows)
-      → WhereSteady pager (λ pages. (on : Basis) → AreStored pages (all_tables tables) on
+      → WhereSteady pager (λ pages. All (IsStored pages) (sources_over tables) → WritesAnswer pages (sources_over tables) prepared.planned before after report.rows)
+      → WhereSteady pager (λ pages. (on : Basis) → AreStored pages (sources_over tables) on
       → Asks on.local pager (work_of on.w on.db on.sizes prepared.planned) new.pager 0)
       → report.asked ≡ new.pager.asked - pager.asked → report.chained ≡ new.pager.chained - pager.chained
       → HasRun engine new prepared before after report
@@ -234,7 +241,7 @@ module _ (pager : PagerState) (tables : List TableData) (prepared : PreparedData
   }
 
   pub has_stopped : (e : Fault) (before after : SinkFacts)
-      → WhereSteady pager (λ pages. All (IsAnyStored pages) (all_tables tables) → WritesBeginning pages (all_tables tables) prepared.planned before after e)
+      → WhereSteady pager (λ pages. All (IsStored pages) (sources_over tables) → WritesBeginning pages (sources_over tables) prepared.planned before after e)
       → IsRunFault e → HasStopped engine prepared before after e
   has_stopped e before after wrote only = record {
     only = only;

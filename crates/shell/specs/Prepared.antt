@@ -9,12 +9,12 @@ use Rattle.query_plans.specs.Answers.{IsPlanFor, IsPlannedOver}
 use Rattle.query_plans.specs.Served.{IsServed}
 use Rattle.resolver.specs.Resolved.{IsRefused, Resolves}
 use Rattle.settled_sources.specs.Settled.{settled}
-use Rattle.table_copies.specs.Whole.{all_tables}
 use Rattle.tables.specs.ColumnTypes.{column_types}
 use Rattle.tables.specs.TableData.{TableData}
 use Rattle.statement_texts.specs.StatementTexts.{IsAllowed, IsRefusedStatement, SpellsStatement}
 use Rattle.syntax.specs.StatementTree.{StatementTree}
 use Rattle.shell.specs.PreparedView.{PreparedData}
+use Rattle.shell.specs.State.{sources_over}
 
 -- the query with the schema's table as one more table, behind these
 abbrev pub settled_over : List TableData → QueryData → QueryData
@@ -25,7 +25,7 @@ settled_over tables query = settled (length tables) query
 pub record IsPreparedFor (tables : List TableData) (prepared : PreparedData) : Type 0 where
   pub typed : IsTyped (column_types tables) prepared.query
   pub plan : IsPlanFor (settled_over tables prepared.query) prepared.planned
-  pub over : IsPlannedOver (all_tables tables) prepared.planned
+  pub over : IsPlannedOver (sources_over tables) prepared.planned
 
 -- the text spells a statement within the limits, which is this over these tables
 pub record Spells (tables : List TableData) (text : List ℕ) (named : Named) : Type 0 where

@@ -6,11 +6,10 @@ use Rattle.image.specs.Pages.{pages_of}
 use Rattle.operators.specs.Basis.{AreStored, Basis}
 use Rattle.query_plans.specs.Answers.{PlannedData, work_of}
 use Rattle.runs.specs.Faults.{IsRunFault}
-use Rattle.table_copies.specs.Whole.{all_tables}
 use Rattle.shell.specs.declared.engine.Report.{Report}
 use Rattle.shell.specs.Answer.{PrintsAnswer, PrintsBeginning}
 use Rattle.shell.specs.PreparedView.{PreparedData}
-use Rattle.shell.specs.State.{EngineState}
+use Rattle.shell.specs.State.{EngineState, sources_over}
 
 -- of tables of which this is said, a run took no more pages than the work of what is run, and none of overflow chains where
 -- no cell has one
@@ -22,7 +21,7 @@ pub record TookFew (on : Basis) (planned : PlannedData) (report : Report) : Type
 -- the tables that are stored, the schema's own behind them. The report counts the pages that were asked for.
 pub record HasRun (old new : EngineState) (prepared : PreparedData) (before after : SinkFacts) (report : Report) : Type 0 where
   pub answer : IsTrue old.pager.source.steady → PrintsAnswer old.pager.source.bytes old.tables prepared.query report.rows before after
-  pub few : IsTrue old.pager.source.steady → (on : Basis) → AreStored (pages_of old.pager.source.bytes) (all_tables old.tables) on
+  pub few : IsTrue old.pager.source.steady → (on : Basis) → AreStored (pages_of old.pager.source.bytes) (sources_over old.tables) on
       → TookFew on prepared.planned report
   pub asked : report.asked ≡ new.pager.asked - old.pager.asked
   pub chained : report.chained ≡ new.pager.chained - old.pager.chained

@@ -1,5 +1,5 @@
 -- What contracts see of an engine.
-use Rattle.std.specs.Prelude.{◌≡◌, ◌⊎◌, ℕ, All, IsTrue, List, Result}
+use Rattle.std.specs.Prelude.{◌≡◌, ◌⊎◌, ℕ, All, IsTrue, List, [], Result}
 use Rattle.values.specs.declared.fault.Fault.{Fault}
 use Rattle.pager.specs.Calls.{IsReadFault, ReadsPages}
 use Rattle.pager.specs.Header.{IsHeaderFault, IsLeastBroken, KeepsAll, header_of}
@@ -8,12 +8,17 @@ use Rattle.pager.specs.Source.{SourceFacts}
 use Rattle.image.specs.Pages.{pages_of}
 use Rattle.tables.specs.TableData.{TableData}
 use Rattle.table_copies.specs.Whole.{all_tables}
+use Rattle.sources.specs.SourceData.{SourceData, sources_of}
 use Rattle.integrity.specs.Checked.{IsBrokenImage, IsExamined, IsCheckFault}
 use Rattle.integrity.specs.Denotes.{HasTables}
 
 pub record EngineState : Type 0 where
   pub pager : PagerState
   pub tables : List TableData
+
+-- what queries are run over: the tables, the schema's own behind them, and no kept rows
+abbrev pub sources_over : List TableData → List SourceData
+sources_over tables = sources_of (all_tables tables) []
 
 -- The roots of the tables are pages, that of the schema's own too; over a steady source the tables are the image's, and each is
 -- stored.

@@ -13,6 +13,7 @@ use integrity::{Checked, check};
 use pager::{Pager, Source};
 use resolver::resolve;
 use runs::write_answer;
+use sources::Sources;
 use statement_texts::read_select;
 use std::alloc::Global;
 use std::marker::Model;
@@ -119,8 +120,14 @@ impl<S: Source> Engine<S> {
         ensures writes { Counts Fault.WriteFailed result (W.facts out.old).failures (W.facts out.new).failures }
     {
         let (asked, chained) = (self.pager.asked(), self.pager.chained());
-        let tables = self.tables.as_slice();
-        let rows = write_answer(self.alloc, &mut self.pager, tables, &prepared.planned, out)?;
+        let sources = Sources::new(self.tables.as_slice(), &[]);
+        let rows = write_answer(
+            self.alloc,
+            &mut self.pager,
+            &sources,
+            &prepared.planned,
+            out,
+        )?;
         Ok(Report {
             rows,
             asked: self.pager.asked() - asked,

@@ -1,13 +1,10 @@
 //! Queries whose names are resolved, and what is run for them.
-ghost use Rattle.std.specs.Prelude.{◌≡◌, ◌⊎◌, IfErr, IfOk, List, map, string_bytes};
+ghost use Rattle.std.specs.Prelude.{◌≡◌, ◌⊎◌, IfErr, IfOk, map, string_bytes};
 ghost use Rattle.values.specs.Datum.{text};
 ghost use Rattle.values.specs.Sink.{Writes};
 ghost use Rattle.explain.specs.Text.{row_text};
-ghost use Rattle.meaning.specs.Typed.{IsTyped};
-ghost use Rattle.tables.specs.ColumnTypes.{column_types};
-ghost use Rattle.tables.specs.TableData.{TableData};
 ghost use Rattle.statement_names.specs.NamedView.{named_data, query_data};
-ghost use Rattle.query_plans.specs.Answers.{IsPlanFor, IsPlannedOver};
+ghost use Rattle.query_plans.specs.Answers.{IsPlanFor, IsPlannedAsTyped};
 ghost use Rattle.query_plans.specs.Served.{IsServed};
 ghost use Rattle.settled_sources.specs.Settled.{settled};
 ghost use Rattle.shell.specs.PreparedView.{prepared_data};
@@ -91,8 +88,7 @@ impl Prepared {
         ensures query { IfOk result (λ p. (prepared_data p).query ≡ query_data statement.query) }
         ensures names { IfOk result (λ p. (prepared_data p).names ≡ (named_data statement).names) }
         ensures plan { IfOk result (λ p. IsPlanFor (settled place (query_data statement.query)) (prepared_data p).planned) }
-        ensures over { IfOk result (λ p. (tables : List TableData) → IsTyped (column_types tables) (settled place (query_data statement.query))
-            → IsPlannedOver tables (prepared_data p).planned) }
+        ensures over { IfOk result (λ p. IsPlannedAsTyped (settled place (query_data statement.query)) (prepared_data p).planned) }
         ensures refused { IfErr result (λ e. (e ≡ Fault.NoMemory) ⊎ ((e ≡ Fault.NotYet) × (¬ IsServed (settled place (query_data statement.query))))) }
     {
         let NamedStatement { query, names, .. } = statement;
