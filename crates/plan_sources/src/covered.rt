@@ -6,7 +6,7 @@ ghost use Rattle.plans.specs.PlanView.{nested_data, plan_data};
 ghost use Rattle.query_plans.specs.Answers.{IsPlannedOver, planned_data};
 ghost use Rattle.sources.specs.SourceData.{sources_of};
 
-use crate::places::has_place;
+use crate::named::has_place;
 use compound_results::Arms;
 use plans::{Nested, Plan};
 use query_plans::Planned;

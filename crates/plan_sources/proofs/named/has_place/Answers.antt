@@ -1,7 +1,7 @@
 use Rattle.std.proofs.Common.{arith, refl, length}
 use Rattle.std.proofs.lemmas.Option.{slice_get_read}
 use Rattle.plan_sources.proofs.PlaceLemmas.{rows_there, table_there}
-use Rattle.plan_sources.proofs.places.has_place.Goals as goal
+use Rattle.plan_sources.proofs.named.has_place.Goals as goal
 
 pub returns-in-Some : goal.returns-in-Some
 returns-in-Some c =
