@@ -3,3 +3,4 @@ pub mod RunLemmas
 pub mod NameLemmas
 pub mod PreparedLemmas
 pub mod ServedLemmas
+pub mod SteppedLemmas

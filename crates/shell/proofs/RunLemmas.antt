@@ -33,17 +33,19 @@ use Rattle.integrity.specs.Denotes.{Denotes}
 use Rattle.integrity.proofs.DenotesLemmas.{HasDatabase, IsStoredAs, database_of}
 use Rattle.scan.specs.Coming.{Asks, size_of}
 use Rattle.operators.specs.Basis.{AreStored, Basis, IsSourceAt}
-use Rattle.query_plans.specs.Answers.{AreWideFor, HitsOf, PlannedData, work_of}
+use Rattle.query_plans.specs.Answers.{AreWideFor, HitsOf, IsAnswerOf, PlannedData, work_of}
 use Rattle.query_plans.proofs.WideLemmas.{typed_wide}
+use Rattle.running.specs.Given.{IsRowCause}
 use Rattle.runs.specs.Faults.{IsOutsideFault, IsRunCause, IsRunFault}
 use Rattle.runs.specs.Runs.{WritesAnswer, WritesBeginning}
-use Rattle.shell.specs.Answer.{PrintsAnswer, PrintsBeginning}
+use Rattle.shell.specs.Answer.{IsAnswerOver, PrintsAnswer, PrintsBeginning}
 use Rattle.settled_sources.specs.Settled.{with_schema}
 use Rattle.shell.proofs.SettledLemmas.{fits_over, hits_over, permits_over, typed_over}
 use Rattle.shell.specs.Prepared.{IsPreparedFor, settled_over}
 use Rattle.shell.specs.PreparedView.{PreparedData}
 use Rattle.shell.specs.Run.{HasRun, HasStopped, TookFew}
 use Rattle.shell.specs.State.{EngineState, IsOpeningFault, IsReady, sources_over}
+use Rattle.shell.specs.Stepped.{HitsOver, IsBeginningOver, IsStepCause}
 use Rattle.shell.specs.declared.engine.Report.{Report}
 
 pub some_one : {X : Type 0} (x y : X) → Some x ≡ Some y → x ≡ y
@@ -101,6 +103,14 @@ cause_hits on planned e over (inr hits) = hits.1
 pub all_alone : (IsSo : SourceData → Type 0) (tables : List TableData) → All (λ table. IsSo (of_table table)) tables → All IsSo (sources_of tables [])
 all_alone IsSo tables all = subst (All IsSo) (sym (tables_alone tables)) (All-map IsSo of_table tables all)
 
+read_not_overflow : (e : Fault) → IsReadFault e → e ≢ Overflow
+read_not_overflow e (inl is) same = cc
+read_not_overflow e (inr is) same = cc
+
+row_hits : (on : Basis) (planned : PlannedData) (e : Fault) → e ≡ Overflow → IsRowCause on planned e → HitsOf on.w on.db planned
+row_hits on planned e over (inl read) = absurd (read_not_overflow e read over)
+row_hits on planned e over (inr hits) = hits.1
+
 -- ---- what is said of the tables that the image denotes
 
 module _ (pages : Pages) where
@@ -156,52 +166,71 @@ module _ (pager : PagerState) (tables : List TableData) (prepared : PreparedData
       (typed_over tables prepared.query is.typed)
 
   -- what the plan answers, the query permits
+  pub answer_over : (given : List Row) → ((on : Basis) → AreStored (pages_seen pager) (sources_over tables) on → IsAnswerOf on.w on.db prepared.planned given)
+      → IsAnswerOver pager.source.bytes tables prepared.query given
+  unfolding on
+  answer_over given answer = λ w stand.
+      let permits = permits_over tables has.db prepared.query is.typed fits w given
+      (is.plan.permits w (with_schema has.db) given wide (answer (on w) (stored_on w))) in
+      record {
+        database = has.db;
+        denotes = has.denotes;
+        says = record {
+          permits = permits;
+          typed = λ types typed.
+              Permits-typed w has.db (column_types tables) prepared.query types given stand fits typed permits;
+        };
+      }
+
   pub prints_answer : (n : ℕ) (old new : SinkFacts) → WritesAnswer (pages_seen pager) (sources_over tables) prepared.planned old new n
       → PrintsAnswer pager.source.bytes tables prepared.query n old new
-  unfolding on
-  prints_answer n old new wrote = record {
-    rows = wrote.given;
-    answer = λ w stand.
-        let permits = permits_over tables has.db prepared.query is.typed fits w wrote.given
-        (is.plan.permits w (with_schema has.db) wrote.given wide (wrote.answer (on w) (stored_on w))) in
-        record {
-          database = has.db;
-          denotes = has.denotes;
-          says = record {
-            permits = permits;
-            typed = λ types typed.
-                Permits-typed w has.db (column_types tables) prepared.query types wrote.given stand fits typed permits;
-          };
-        };
-    prints = wrote.prints;
-  }
+  prints_answer n old new wrote = record { rows = wrote.given; answer = answer_over wrote.given wrote.answer; prints = wrote.prints }
 
   -- what an answer of the plan begins with, one of the query begins with
+  pub beginning_over : (given : List Row)
+      → ((on : Basis) → AreStored (pages_seen pager) (sources_over tables) on → (rest : List Row) × IsAnswerOf on.w on.db prepared.planned (given ++ rest))
+      → IsBeginningOver pager.source.bytes tables prepared.query given
+  unfolding on
+  beginning_over given begins = λ w stand.
+      let begins = begins (on w) (stored_on w) in
+      record {
+        database = has.db;
+        denotes = has.denotes;
+        says = record {
+          rest = begins.0;
+          permitted = permits_over tables has.db prepared.query is.typed fits w (given ++ begins.0)
+              (is.plan.permits w (with_schema has.db) (given ++ begins.0) wide begins.1);
+        };
+      }
+
+  -- what the plan reaches, the query can reach
+  reached_over : ((on : Basis) → AreStored (pages_seen pager) (sources_over tables) on → HitsOf on.w on.db prepared.planned)
+      → HitsOver pager.source.bytes tables prepared.query
+  unfolding on
+  reached_over reaches = λ w stand. record {
+    database = has.db;
+    denotes = has.denotes;
+    says = hits_over tables has.db prepared.query is.typed fits w (is.plan.hits w (with_schema has.db) wide (reaches (on w) (stored_on w)));
+  }
+
   pub prints_beginning : (e : Fault) (old new : SinkFacts) → WritesBeginning (pages_seen pager) (sources_over tables) prepared.planned old new e
       → PrintsBeginning e pager.source.bytes tables prepared.query old new
-  unfolding on
   prints_beginning e old new wrote = record {
     given = wrote.given;
-    begins = λ w stand.
-        let begins = wrote.begins (on w) (stored_on w) in
-        record {
-          database = has.db;
-          denotes = has.denotes;
-          says = record {
-            rest = begins.0;
-            permitted = permits_over tables has.db prepared.query is.typed fits w (wrote.given ++ begins.0)
-                (is.plan.permits w (with_schema has.db) (wrote.given ++ begins.0) wide begins.1);
-          };
-        };
+    begins = beginning_over wrote.given wrote.begins;
     prints = wrote.prints;
     same_image = cause_unchanged (on null) prepared.planned e (wrote.cause (on null) (stored_on null));
-    hits = λ over w stand. record {
-      database = has.db;
-      denotes = has.denotes;
-      says = hits_over tables has.db prepared.query is.typed fits w
-          (is.plan.hits w (with_schema has.db) wide (cause_hits (on w) prepared.planned e over (wrote.cause (on w) (stored_on w))));
-    };
+    hits = λ over. reached_over (λ on stored. cause_hits on prepared.planned e over (wrote.cause on stored));
   }
+
+  -- why the plan stops, the query does
+  pub step_cause : (e : Fault) → ((on : Basis) → AreStored (pages_seen pager) (sources_over tables) on → IsRowCause on prepared.planned e)
+      → IsStepCause pager.source.bytes tables prepared.query e
+  step_cause e causes = by_cause (causes (on null) (stored_on null))
+    where
+      by_cause : IsRowCause (on null) prepared.planned e → IsStepCause pager.source.bytes tables prepared.query e
+      by_cause (inl read) = inl read
+      by_cause (inr over) = inr (over.0, reached_over (λ on stored. row_hits on prepared.planned e over.0 (causes on stored)))
 
   pub took_few : (new : PagerState) (report : Report)
       → ((on : Basis) → AreStored (pages_seen pager) (sources_over tables) on → Asks on.local pager (work_of on.w on.db on.sizes prepared.planned) new 0)

@@ -4,3 +4,4 @@ pub mod State
 pub mod Run
 pub mod Prepared
 pub mod Served
+pub mod Stepped

@@ -1,14 +1,18 @@
 //! An engine, which answers queries over one image.
-ghost use Rattle.std.specs.Prelude.{IfErr, MatchResult};
+ghost use Rattle.std.specs.Prelude.{◌<◌, IfErr, IfOk, List, MatchResult, OnSome};
 ghost use Rattle.std.specs.NonZero.{non_zero_usize_get};
 ghost use Rattle.pager.specs.Calls.{HandsBack};
 ghost use Rattle.values.specs.Fault.{Counts};
+ghost use Rattle.values.specs.Row.{Row as RowData};
+ghost use Rattle.meaning.specs.Query.{QueryData};
+ghost use Rattle.operators.specs.Basis.{IsOperatorFault};
 ghost use Rattle.shell.specs.Prepared.{IsPreparedFor, Means, Refuses};
 ghost use Rattle.shell.specs.PreparedView.{prepared_data};
 ghost use Rattle.shell.specs.Run.{HasRun, HasStopped};
 ghost use Rattle.shell.specs.State.{IsOpenedOver, IsOpeningFault, ReadsTables};
+ghost use Rattle.shell.specs.Stepped.{HasStarted, HasStepped, IsSteppedOver, IsUnstarted, StandsBehind, rows_ahead};
 
-use crate::Prepared;
+use crate::{Prepared, Started, Statement};
 use integrity::{Checked, check};
 use pager::{Pager, Source};
 use resolver::resolve;
@@ -20,7 +24,7 @@ use std::marker::Model;
 use std::num::NonZeroUsize;
 use table_copies::with_schema_table;
 use tables::Table;
-use values::{Fault, Sink};
+use values::{Fault, Row, Sink};
 
 /// An image that was checked whole, and its tables: queries are run over these and, behind them, the table of the schema's rows.
 #[derive(Drop)]
@@ -133,5 +137,51 @@ impl<S: Source> Engine<S> {
             asked: self.pager.asked() - asked,
             chained: self.pager.chained() - chained,
         })
+    }
+
+    /// Reads a statement that is to be stepped, resolves its names and plans its run; no page is read. (SELECT)
+    ///
+    /// # Errors
+    ///
+    /// Those of `prepare`, but for a statement with EXPLAIN, of which no row is given: `WrongPlace`.
+    pub fn start(&self, text: &str) -> Result<Started, Fault>
+        ensures { MatchResult result (HasStarted self.now text.now) (IsUnstarted self.now.tables text.now) }
+    {
+        let tables = self.checked.tables();
+        let spelt = read_select(self.alloc, text)?;
+        let named = resolve(self.alloc, tables, &spelt)?;
+        if spelt.explain {
+            return Err(Fault::WrongPlace);
+        }
+        let prepared = Prepared::new(self.alloc, named, tables.len())?;
+        let started = prepared.start(self.alloc)?;
+        Ok(started)
+    }
+
+    /// Gives the next row of a statement of this engine, or none where the rows that it gave are an answer; whatever was asked of
+    /// the engine in between. It isn't called again behind the last row or an error. (SELECT)
+    ///
+    /// # Errors
+    ///
+    /// `ReadFailed` where the source failed, `NoMemory`, `Overflow` where the query computes what leaves 64 bits, and `Changed`,
+    /// which comes only where the source no longer has the bytes that were checked.
+    pub fn next_row(&mut self, statement: &mut Statement) -> Result<Option<Row>, Fault>
+        requires { IsSteppedOver self.old.tables statement.old }
+        ensures rows { (query : QueryData) (given : List RowData) → StandsBehind self.old query statement.old given
+            → HasStepped self.old self.new query given statement.new result }
+        ensures over { IsSteppedOver self.new.tables statement.new }
+        ensures left { IfOk result (λ found. OnSome found (rows_ahead self.new.tables statement.new < rows_ahead self.old.tables statement.old)) }
+        ensures only { IfErr result IsOperatorFault }
+        ensures reads { ReadsTables result self.old self.new }
+    {
+        let mut values = Vec::new(self.alloc);
+        let sources = Sources::new(self.tables.as_slice(), &[]);
+        let found = statement
+            .running
+            .next(self.alloc, &mut self.pager, &sources, &mut values)?;
+        if !found {
+            return Ok(None);
+        }
+        Ok(Some(Row::from(values)))
     }
 }

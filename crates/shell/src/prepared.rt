@@ -6,14 +6,17 @@ ghost use Rattle.explain.specs.Text.{row_text};
 ghost use Rattle.statement_names.specs.NamedView.{named_data, query_data};
 ghost use Rattle.query_plans.specs.Answers.{IsPlanFor, IsPlannedAsTyped};
 ghost use Rattle.query_plans.specs.Served.{IsServed};
+ghost use Rattle.running.specs.Given.{IsOpened};
 ghost use Rattle.settled_sources.specs.Settled.{settled};
 ghost use Rattle.shell.specs.PreparedView.{prepared_data};
 
+use crate::{Started, Statement};
 use explain::rows_text;
 use query_plans::{Planned, plan};
+use running::Running;
 use settled_queries::settled_query;
 use statement_names::{NamedStatement, Query};
-use std::alloc::Global;
+use std::alloc::{AllocError, Global};
 use std::marker::Model;
 use std::slice;
 use values::{Fault, Row, Sink, Value};
@@ -101,6 +104,24 @@ impl Prepared {
             query,
             planned,
             header,
+        })
+    }
+
+    /// What is run for the query, before its first row, with the names of the result columns. It reads no page.
+    pub(crate) fn start(self, alloc: Global) -> Result<Started, AllocError>
+        ensures names { IfOk result (λ started. map (λ name. string_bytes name) started.names.items ≡ (prepared_data self).names) }
+        ensures opened { IfOk result (λ started. IsOpened (prepared_data self).planned started.statement.running) }
+    {
+        let Prepared {
+            planned,
+            header,
+            ..
+        } = self;
+        let Header { names, .. } = header;
+        let running = Running::open(alloc, planned)?;
+        Ok(Started {
+            names,
+            statement: Statement { running },
         })
     }
 

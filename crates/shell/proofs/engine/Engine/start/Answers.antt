@@ -1,0 +1,58 @@
+use Rattle.std.proofs.Common.{◌≡◌, ◌∙◌, inl, inr, false, List, length, rules, ap, subst, sym}
+use Rattle.std.proofs.lemmas.Result.{err_from_is_err_and}
+use Rattle.meaning.specs.Typed.{IsTyped}
+use Rattle.tables.specs.ColumnTypes.{column_types}
+use Rattle.tables.specs.TableData.{TableData}
+use Rattle.statement_names.specs.NamedView.{named_data}
+use Rattle.statement_trees.specs.StatementView.{statement_of}
+use Rattle.resolver.specs.Resolved.{IsRefused, Resolves}
+use Rattle.shell.specs.PreparedView.{prepared_data}
+use Rattle.shell.specs.State.{EngineState}
+use Rattle.shell.proofs.PreparedLemmas.{prepared_for}
+use Rattle.shell.proofs.SteppedLemmas.{has_started, only_explained, unstarted}
+use Rattle.shell.proofs.engine.Engine.start.Goals as goal
+
+pub returns-in_err-named : goal.returns-in_err-named
+returns-in_err-named g c =
+    let tables = c.tables-tables.ensures ∙ ap (λ (e : EngineState). e.tables) c.self.view_is in
+    let p = err_from_is_err_and c.from_residual-in_err-named.result c.from_residual-in_err-named.ensures.1 in
+    rw (p.1, p.2)
+    (inr (inl (record {
+      tree = statement_of c.in_ok-spelt.spelt;
+      spelt = c.in_ok-spelt.ensures.spelt;
+      within = c.in_ok-spelt.ensures.within;
+      refused = subst (λ (ts : List TableData). IsRefused ts (statement_of c.in_ok-spelt.spelt) c.in_err-named.field-0.0) tables
+          c.in_err-named.ensures.refused;
+    })))
+
+pub returns-in_err-prepared : goal.returns-in_err-prepared
+returns-in_err-prepared g c =
+    let tables = c.tables-tables.ensures ∙ ap (λ (e : EngineState). e.tables) c.self.view_is in
+    let p = err_from_is_err_and c.from_residual-in_err-prepared.result c.from_residual-in_err-prepared.ensures.1 in
+    rw (p.1, p.2)
+    (unstarted _ _ (statement_of c.in_ok-spelt.spelt) (named_data c.in_ok-named.named) (length c.tables-tables.result.now) _
+    (ap length (c.tables-tables.ensures ∙ ap (λ (e : EngineState). e.tables) c.self.view_is))
+    c.in_ok-spelt.ensures.spelt c.in_ok-spelt.ensures.within
+    (subst (λ (ts : List TableData). Resolves ts (statement_of c.in_ok-spelt.spelt) (named_data c.in_ok-named.named)) tables c.in_ok-named.ensures.means)
+    c.in_err-prepared.ensures.refused)
+
+pub returns : goal.returns
+returns g c =
+    let tables = c.tables-tables.ensures ∙ ap (λ (e : EngineState). e.tables) c.self.view_is in
+    let unexplained : (statement_of c.in_ok-spelt.spelt).explain ≡ false = search rules in
+    has_started _ _ (statement_of c.in_ok-spelt.spelt) (named_data c.in_ok-named.named) (prepared_data c.in_ok-prepared.prepared) c.in_ok-started.started
+    c.in_ok-spelt.ensures.spelt c.in_ok-spelt.ensures.within
+    (subst (λ (ts : List TableData). Resolves ts (statement_of c.in_ok-spelt.spelt) (named_data c.in_ok-named.named)) tables c.in_ok-named.ensures.means)
+    unexplained
+    (prepared_for _ (prepared_data c.in_ok-prepared.prepared) (named_data c.in_ok-named.named) (length c.tables-tables.result.now)
+    (ap length (c.tables-tables.ensures ∙ ap (λ (e : EngineState). e.tables) c.self.view_is))
+    (subst (λ (ts : List TableData). IsTyped (column_types ts) (named_data c.in_ok-named.named).query) tables c.in_ok-named.ensures.typed)
+    c.in_ok-prepared.ensures.query c.in_ok-prepared.ensures.plan c.in_ok-prepared.ensures.over)
+    c.in_ok-prepared.ensures.query c.in_ok-prepared.ensures.names c.in_ok-started.ensures.names c.in_ok-started.ensures.opened
+
+pub returns-then-spelt : goal.returns-then-spelt
+returns-then-spelt g c =
+    let tables = c.tables-tables.ensures ∙ ap (λ (e : EngineState). e.tables) c.self.view_is in
+    only_explained _ _ (statement_of c.in_ok-spelt.spelt) (named_data c.in_ok-named.named) c.in_ok-spelt.ensures.spelt c.in_ok-spelt.ensures.within
+    (subst (λ (ts : List TableData). Resolves ts (statement_of c.in_ok-spelt.spelt) (named_data c.in_ok-named.named)) tables c.in_ok-named.ensures.means)
+    (search rules)

@@ -1,0 +1,97 @@
+-- Statements that are stepped, a row at a time. (SELECT; EXPLAIN QUERY PLAN)
+use Rattle.std.specs.Prelude.{◌≡◌, ◌⊎◌, true, false, IsTrue, ℕ, List, [], ◌∷◌, ◌++◌, Option, Some, None, Result, Ok, Err, map, string_bytes}
+use Rattle.values.specs.Database.{Database}
+use Rattle.values.specs.Datum.{Datum}
+use Rattle.values.specs.Row.{Row}
+use Rattle.values.specs.declared.fault.Fault.{Fault}
+use Rattle.values.specs.declared.fault.Fault.TheVariants.{NotYet, Overflow, WrongPlace}
+use Rattle.pager.specs.Calls.{IsReadFault}
+use Rattle.image.specs.Pages.{pages_seen}
+use Rattle.meaning.specs.Answer.{Begins, IsStandIn}
+use Rattle.meaning.specs.Hits.{Hits}
+use Rattle.meaning.specs.Query.{QueryData}
+use Rattle.naming.specs.Statement.{Named}
+use Rattle.query_plans.specs.Served.{IsServed}
+use Rattle.running.specs.Given.{HasGiven, IsRunOver, steps_left}
+use Rattle.statement_texts.specs.StatementTexts.{IsRefusedStatement}
+use Rattle.syntax.specs.Tree.{Name}
+use Rattle.tables.specs.TableData.{TableData}
+use Rattle.shell.specs.Answer.{IsAnswerOver, OverTables}
+use Rattle.shell.specs.Prepared.{IsPreparedFor, IsUnresolved, Spells, settled_over}
+use Rattle.shell.specs.PreparedView.{PreparedData}
+use Rattle.shell.specs.State.{EngineState, sources_over}
+use Rattle.shell.specs.declared.stepped.Started.{Started}
+use Rattle.shell.specs.declared.stepped.Statement.{Statement}
+
+-- whatever value stands for results out of range, an answer over the tables that the image denotes may begin with these rows
+abbrev pub IsBeginningOver : List ℕ → List TableData → QueryData → List Row → Type 0
+IsBeginningOver image tables query given = (w : Datum) → IsStandIn w → OverTables image tables (λ database. Begins w database query given)
+
+-- the query can reach what leaves 64 bits
+abbrev pub HitsOver : List ℕ → List TableData → QueryData → Type 0
+HitsOver image tables query = (w : Datum) → IsStandIn w → OverTables image tables (λ database. Hits w database query)
+
+-- why a statement stops before its end: reading failed, memory ran out, or the query can reach what leaves 64 bits
+abbrev pub IsStepCause : List ℕ → List TableData → QueryData → Fault → Type 0
+IsStepCause image tables query fault = IsReadFault fault ⊎ ((fault ≡ Overflow) × HitsOver image tables query)
+
+-- the text spells a statement without EXPLAIN that is this query, whose result columns have these names
+pub record IsStatement (tables : List TableData) (text : List ℕ) (query : QueryData) (names : List Name) : Type 0 where
+  pub named : Named
+  pub spells : Spells tables text named
+  pub unexplained : spells.tree.explain ≡ false
+  pub query_is : named.query ≡ query
+  pub names_are : named.names ≡ names
+
+-- it spells a statement with EXPLAIN, of which no row is given
+pub record IsExplained (tables : List TableData) (text : List ℕ) (fault : Fault) : Type 0 where
+  pub named : Named
+  pub spells : Spells tables text named
+  pub explained : spells.tree.explain ≡ true
+  pub fault_is : fault ≡ WrongPlace
+
+-- it spells a statement whose query isn't served yet
+pub record IsYetUnserved (tables : List TableData) (text : List ℕ) (fault : Fault) : Type 0 where
+  pub named : Named
+  pub spells : Spells tables text named
+  pub unserved : ¬ IsServed (settled_over tables named.query)
+  pub fault_is : fault ≡ NotYet
+
+-- why a text isn't begun: it spells no statement, or one that is too large, or what it spells is no query, or it is to be explained, or
+-- it isn't served yet
+abbrev pub IsUnstarted : List TableData → List ℕ → Fault → Type 0
+IsUnstarted tables text fault =
+    IsRefusedStatement text fault ⊎ (IsUnresolved tables text fault ⊎ (IsExplained tables text fault ⊎ IsYetUnserved tables text fault))
+
+-- what a statement reads is some of these tables and, behind them, the schema's own
+abbrev pub IsSteppedOver : List TableData → Statement → Type 0
+IsSteppedOver tables statement = IsRunOver (sources_over tables) statement.running
+
+-- how many steps it may still take, over any source
+abbrev pub rows_ahead : List TableData → Statement → ℕ
+rows_ahead tables statement = steps_left (sources_over tables) statement.running
+
+-- a statement of this query has given these rows: over a steady source what is run for it has given them
+pub record StandsBehind (engine : EngineState) (query : QueryData) (statement : Statement) (given : List Row) : Type 0 where
+  pub prepared : PreparedData
+  pub query_is : prepared.query ≡ query
+  pub is : IsPreparedFor engine.tables prepared
+  pub gave : IsTrue engine.pager.source.steady → HasGiven (pages_seen engine.pager) (sources_over engine.tables) prepared.planned statement.running given
+
+-- a statement before its first row, with the names of its result columns
+pub record HasStarted (engine : EngineState) (text : List ℕ) (started : Started) : Type 0 where
+  pub query : QueryData
+  pub means : IsStatement engine.tables text query (map (λ name. string_bytes name) started.names.items)
+  pub stands : StandsBehind engine query started.statement []
+  pub over : IsSteppedOver engine.tables started.statement
+
+-- one row more was given, and an answer may begin with all that were
+pub record HasGivenRow (old new : EngineState) (query : QueryData) (given : List Row) (statement : Statement) (row : Row) : Type 0 where
+  pub stands : StandsBehind new query statement (given ++ row ∷ [])
+  pub begins : IsTrue old.pager.source.steady → IsBeginningOver old.pager.source.bytes old.tables query (given ++ row ∷ [])
+
+-- what a step does of a statement that has given these rows: a row comes, or those are an answer, or there is a cause that none comes
+abbrev pub HasStepped : EngineState → EngineState → QueryData → List Row → Statement → Result (Option Row) Fault → Type 0
+HasStepped old new query given statement (Ok (Some row)) = HasGivenRow old new query given statement row
+HasStepped old new query given statement (Ok None) = IsTrue old.pager.source.steady → IsAnswerOver old.pager.source.bytes old.tables query given
+HasStepped old new query given statement (Err fault) = IsTrue old.pager.source.steady → IsStepCause old.pager.source.bytes old.tables query fault

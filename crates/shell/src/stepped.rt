@@ -1,0 +1,18 @@
+//! Statements that are stepped, a row at a time.
+
+use running::Running;
+
+/// A statement over an engine's tables that is stepped, and where it stands. It owns what is run for it.
+#[derive(Drop)]
+pub struct Statement {
+    pub(crate) running: Running,
+}
+
+/// A statement before its first row.
+#[derive(Drop)]
+pub struct Started {
+    /// The names of its result columns, as they were declared.
+    pub names: Vec<String>,
+    /// The statement itself.
+    pub statement: Statement,
+}
