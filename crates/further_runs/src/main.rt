@@ -73,6 +73,14 @@ fn write_line(
     Ok(())
 }
 
+/// Runs a statement over an image, no read of which fails.
+fn run_whole(alloc: Global, image: Vec<u8>, sql: &str, answer: &mut MemSink) -> Result<Report> {
+    let mut engine = open(alloc, MemSource::new(image))?;
+    let prepared = engine.prepare(sql)?;
+    let report = engine.run(&prepared, answer)?;
+    Ok(report)
+}
+
 /// Reads an image, and runs a statement over it that doesn't fail: how many pages it asks for, and how many of chains.
 fn begin<R>(rt: &R, name: &str, sql: &'static str) -> Result<(Trial, Report)>
 where
@@ -81,8 +89,7 @@ where
     let alloc = rt.alloc();
     let image = fs::read(rt, name).context(name)?;
     let mut answer = MemSink::new(alloc);
-    let mut engine = open(alloc, MemSource::new(image.clone()?))?;
-    let report = engine.run(&engine.prepare(sql)?, &mut answer)?;
+    let report = run_whole(alloc, image.clone()?, sql, &mut answer)?;
     let opening = reads_of_opening(alloc, &image)?;
     let Report {
         rows,
