@@ -1,0 +1,184 @@
+-- The plan of a query without the queries in it, over their rows.
+use Rattle.std.proofs.Common.{◌≡◌, ◌∙◌, ◌⊎◌, inl, inr, ◌+◌, All, ℕ, List, [], ◌∷◌, ◌++◌, Vec, Global, Result, length, map, refl, sym, ap, subst, IsPermutation}
+use Rattle.std.specs.Result.{MatchResult}
+use Rattle.std.proofs.lemmas.Result.{MatchResult-weaker}
+use Rattle.std.specs.List.{AllZip}
+use Rattle.std.proofs.lemmas.List.{length-map}
+use Rattle.std.proofs.lemmas.List.Elements.{All-nil}
+use Rattle.std.proofs.lemmas.List.Sorted.{IsPermutation-refl, IsPermutation-sym}
+use Rattle.values.specs.Database.{Database}
+use Rattle.values.specs.Datum.{Datum, null, int, text, blob}
+use Rattle.values.specs.Row.{Row}
+use Rattle.values.specs.declared.fault.Fault.{Fault}
+use Rattle.values.specs.declared.fault.Fault.TheVariants.{NoMemory, Overflow}
+use Rattle.values.specs.declared.value.Value.{Value}
+use Rattle.values.specs.declared.value.Ty.{Ty}
+use Rattle.values.specs.declared.value.Ty.TheVariants.{Int}
+use Rattle.expr.specs.Types.{IsOfType}
+use Rattle.image.specs.Pages.{Pages}
+use Rattle.tables.specs.ColumnTypes.{column_types, types_of}
+use Rattle.tables.specs.TableData.{TableData}
+use Rattle.flat_queries.proofs.FlatHitLemmas.{flat_with_hits}
+use Rattle.flat_queries.proofs.FlatLemmas.{flat_with_permits}
+use Rattle.flat_queries.proofs.PartLemmas.{plain_hits, plain_rows}
+use Rattle.flat_queries.proofs.WholeTypeLemmas.{flat_query_typed}
+use Rattle.flat_queries.specs.Flat.{kept_of, with_kept}
+use Rattle.flat_queries.specs.FlatTyped.{IsFlatQueryTyped}
+use Rattle.flat_queries.specs.FlatWith.{flat_with, queries_of}
+use Rattle.flat_queries.specs.Parts.{plain}
+use Rattle.meaning.proofs.ElementLemmas.{AllZip-both, length_all_zip}
+use Rattle.meaning.specs.Answer.{IsStandIn, Permits}
+use Rattle.meaning.specs.Body.{SameTables, answer_of, body_rows, source_rows}
+use Rattle.meaning.specs.Hits.{BodyHits, Hits}
+use Rattle.meaning.specs.Query.{Body, Key, QueryData, Source}
+use Rattle.meaning.specs.Typed.{HasTypes, IsTyped, SourceHasTypes}
+use Rattle.operators.specs.Basis.{AreStored, Basis}
+use Rattle.plans.specs.Plan.{PlanData, once}
+use Rattle.query_plans.proofs.WideLemmas.{typed_wide}
+use Rattle.query_plans.specs.Answers.{AreWideFor, HitsOf, IsAnswerOf, IsPlanFor, PlannedData}
+use Rattle.query_plans.specs.Served.{HaveServedForm}
+use Rattle.running.specs.Given.{IsRowCause}
+use Rattle.select_plans.proofs.ColumnLemmas.{tables_have_columns}
+use Rattle.select_plans.specs.Columns.{HaveColumns}
+use Rattle.settled_sources.proofs.TypeLemmas.{typed_within}
+use Rattle.settled_sources.specs.Within.{IsBodyWithin}
+use Rattle.sources.specs.SourceData.{rows_data, sources_of}
+use Rattle.inner_rows.specs.Computed.{AreRowsOf}
+use Rattle.inner_rows.specs.InnerView.{InnerData, kept_rows}
+use Rattle.inner_rows.specs.Over.{AreSaid, IsBodyCause, IsPlanOver, IsQueryCause, basis_over, over_kept}
+use Rattle.inner_rows.specs.Runnable.{IsComputableBody, IsRunnableBody}
+use Rattle.inner_rows.proofs.KeptLemmas.{Lists, kept_are_stored, kept_have_columns, tables_count}
+use Rattle.inner_rows.proofs.RunnableLemmas.{flat_is_served}
+
+stand_in_is : (w : Datum) → IsStandIn w → IsOfType Int w
+stand_in_is null is = tt
+stand_in_is (int z) is = refl
+stand_in_is (text s) is = absurd is
+stand_in_is (blob b) is = absurd is
+
+turned : (xs ys : List (List Row)) → AllZip IsPermutation xs ys → AllZip IsPermutation ys xs
+turned [] [] all = tt
+turned [] (y ∷ ys) all = absurd all
+turned (x ∷ xs) [] all = absurd all
+turned (x ∷ xs) (y ∷ ys) all = (IsPermutation-sym x y all.0, turned xs ys all.1)
+
+alike : (xs : List (List Row)) → AllZip IsPermutation xs xs
+alike [] = tt
+alike (x ∷ xs) = (IsPermutation-refl x, alike xs)
+
+module _ (pages : Pages) (tables : List TableData) (on : Basis) (said : AreSaid pages tables on) (query : QueryData) (inner : InnerData)
+    (are : AreRowsOf on.w on.db (kept_of query.body) (queries_of query.body) inner) (typed : IsTyped (column_types tables) query) where
+  abbrev flat : QueryData
+  flat = flat_with inner.answers (length tables) query
+
+  abbrev db' : Database
+  db' = over_kept on.db inner.kept
+
+  count : length on.db.tables ≡ length tables
+  count = tables_count pages tables on said
+
+  types_count : length (column_types tables) ≡ length tables
+  types_count = length-map tables types_of
+
+  within : IsBodyWithin (length on.db.tables) query.body
+  within = subst (λ n. IsBodyWithin n query.body) (types_count ∙ sym count) (typed_within (column_types tables) query typed)
+
+  same : SameTables db' (with_kept on.w on.db (kept_of query.body))
+  same = record {
+    schema = IsPermutation-refl on.db.schema;
+    tables = AllZip-both IsPermutation on.db.tables inner.kept on.db.tables (map (source_rows on.w on.db) (kept_of query.body)) (alike on.db.tables)
+        (turned (map (source_rows on.w on.db) (kept_of query.body)) inner.kept are.kept);
+  }
+
+  flat_at : flat_with inner.answers (length on.db.tables) query ≡ flat
+  flat_at = ap (λ n. flat_with inner.answers n query) count
+
+  types_of_flat : IsFlatQueryTyped on.w on.db (column_types tables) query typed.0
+  types_of_flat = flat_query_typed (column_types tables) on.w (stand_in_is on.w said.stand_in) on.db said.fits query typed.0 typed.1
+
+  -- the types of the columns of the tables, and of the lists of rows behind them
+  abbrev catalog : List (List Ty)
+  catalog = column_types tables ++ types_of_flat.kinds
+
+  flat_typed : IsTyped catalog flat
+  flat_typed = (typed.0, subst (λ n. HasTypes catalog (flat_with inner.answers n query) typed.0) types_count (types_of_flat.typed inner.answers are.answers))
+
+  wide : AreWideFor db' flat.body
+  wide = typed_wide catalog db' (types_of_flat.fits db' same) flat flat_typed
+
+  pub plan_is_over : (planned : PlannedData) → IsPlanFor flat planned → IsPlanOver on query inner.kept planned
+  plan_is_over planned is = record {
+    permits = λ answer answers. flat_with_permits on.w on.db query within db' inner.answers answer same are.answers
+        (subst (λ q. Permits on.w db' q answer) (sym flat_at) (is.permits on.w db' answer wide answers));
+    hits = λ hits. flat_with_hits on.w on.db query within db' inner.answers same are.answers
+        (subst (Hits on.w db') (sym flat_at) (is.hits on.w db' wide hits));
+  }
+
+  -- it is one that has a plan, over sources with the columns of such a catalog
+  pub flat_is_planned : (kept : Lists) → inner.kept ≡ kept_rows kept → IsRunnableBody query.body
+      → (catalog : List (List Ty)) × HaveColumns catalog (sources_of tables kept) × IsTyped catalog flat × HaveServedForm flat.body
+  flat_is_planned kept kept_are runs =
+      let long : length types_of_flat.kinds ≡ length kept =
+      sym (length_all_zip (SourceHasTypes (column_types tables)) (kept_of query.body) types_of_flat.kinds types_of_flat.sources)
+      ∙ sym (length-map (kept_of query.body) (source_rows on.w on.db))
+      ∙ length_all_zip IsPermutation (map (source_rows on.w on.db) (kept_of query.body)) inner.kept are.kept
+      ∙ ap length kept_are ∙ length-map kept (λ rows. rows_data rows.items) in (
+        catalog,
+        kept_have_columns (column_types tables) types_of_flat.kinds tables kept (tables_have_columns tables) long,
+        flat_typed,
+        flat_is_served catalog inner.answers (length tables) query.body flat_typed.0 runs flat_typed.1.body,
+      )
+
+-- ---- the rows of a body
+
+module _ (pages : Pages) (tables : List TableData) (on : Basis) (of : Body) where
+  pub plain_typed : IsComputableBody (column_types tables) of → IsTyped (column_types tables) (plain of)
+  plain_typed (runs, (types, has)) = (types, record { body = has; order = All-nil _ })
+
+  pub rows_are : (kept : List (List Row)) (planned : PlannedData) → IsPlanOver on (plain of) kept planned → (rows : List Row)
+      → IsAnswerOf on.w (over_kept on.db kept) planned rows → IsPermutation (body_rows on.w on.db of) rows
+  rows_are kept planned is rows answer = plain_rows on.w on.db of rows (is.permits rows answer)
+
+  pub cause_is : (kept : List (List Row)) (planned : PlannedData) → IsPlanOver on (plain of) kept planned → (plan : PlanData) (e : Fault)
+      → IsRowCause (basis_over tables on kept plan) planned e → IsBodyCause on of e
+  cause_is kept planned is plan e (inl read) = inl read
+  cause_is kept planned is plan e (inr (overflows, hits)) = inr (overflows, plain_hits on.w on.db of (is.hits hits))
+
+module _ (pages : Pages) (tables : List TableData) (on : Basis) (said : AreSaid pages tables on) (of : Body) (runs : IsComputableBody (column_types tables) of)
+    (kept : Lists) (answers : List (List Datum))
+    (are : AreRowsOf on.w on.db (kept_of of) (queries_of of) (record { kept = kept_rows kept; answers = answers })) where
+  abbrev inner : InnerData
+  inner = record { kept = kept_rows kept; answers = answers }
+
+  typed_plain : IsTyped (column_types tables) (plain of)
+  typed_plain = plain_typed pages tables on of runs
+
+  -- what a plan gives are the rows of the body
+  pub rows_given : (planned : PlannedData) → IsPlanFor (flat_with answers (length tables) (plain of)) planned
+      → (result : Result (Vec (Vec Value Global) Global) Fault)
+      → ((on : Basis) → AreStored pages (sources_of tables kept) on
+      → MatchResult result (λ rows. IsAnswerOf on.w on.db planned (rows_data rows.items)) (IsRowCause on planned))
+      → MatchResult result (λ rows. IsPermutation (body_rows on.w on.db of) (rows_data rows.items)) (IsBodyCause on of)
+  rows_given planned is result gives =
+      let over = plan_is_over pages tables on said (plain of) inner are typed_plain planned is in
+      MatchResult-weaker result (gives (basis_over tables on (kept_rows kept) once) (kept_are_stored pages tables kept on once said))
+      (λ rows. rows_are pages tables on of (kept_rows kept) planned over (rows_data rows.items))
+      (cause_is pages tables on of (kept_rows kept) planned over once)
+
+  -- and there is one
+  pub plan_found : (e : Fault) → ((catalog : List (List Ty)) → HaveColumns catalog (sources_of tables kept) → IsTyped catalog (flat_with answers (length tables) (plain of))
+      → HaveServedForm (flat_with answers (length tables) (plain of)).body → e ≡ NoMemory) → IsBodyCause on of e
+  plan_found e only =
+      let found = flat_is_planned pages tables on said (plain of) inner are typed_plain kept refl runs.0 in
+      inl (inr (only found.0 found.1 found.2 found.3))
+
+-- ---- a whole query
+
+module _ (pages : Pages) (tables : List TableData) (on : Basis) (said : AreSaid pages tables on) (query : QueryData) (typed : IsTyped (column_types tables) query)
+    (runs : IsRunnableBody query.body) (kept : Lists) (answers : List (List Datum))
+    (are : AreRowsOf on.w on.db (kept_of query.body) (queries_of query.body) (record { kept = kept_rows kept; answers = answers })) where
+  pub whole_found : (e : Fault) → ((catalog : List (List Ty)) → HaveColumns catalog (sources_of tables kept) → IsTyped catalog (flat_with answers (length tables) query)
+      → HaveServedForm (flat_with answers (length tables) query).body → e ≡ NoMemory) → IsQueryCause on query e
+  whole_found e only =
+      let found = flat_is_planned pages tables on said query (record { kept = kept_rows kept; answers = answers }) are typed kept refl runs in
+      inl (inr (only found.0 found.1 found.2 found.3))

@@ -1,0 +1,24 @@
+-- What stands before this one was put behind what was there.
+use Rattle.std.proofs.Common.{◌≡◌, []}
+use Rattle.pager.specs.Calls.{SameImage}
+use Rattle.body_trees.specs.BodyView.{inner_of, joined_of}
+use Rattle.inner_rows.specs.Computed.{AddsAsMany}
+use Rattle.inner_rows.specs.InnerView.{inner_data}
+use Rattle.inner_rows.proofs.AddingLemmas.{AddsWhere, first_among, first_asked}
+use Rattle.inner_rows.proofs.computing.+computing.Given as goal
+
+abbrev pub invariant-add_sources-loop-joined : goal.invariant-add_sources-loop-joined
+invariant-add_sources-loop-joined g l = record {
+  stays : SameImage l.fn.pager.state l.pager.state;
+  failures : l.pager.state.source.failures ≡ l.fn.pager.state.source.failures;
+  many : AddsAsMany (first_among joined_of l.sources l.joined-index) [] (inner_data l.fn.inner) (inner_data l.inner);
+  rows : AddsWhere l.tables l.fn.pager.state (first_among joined_of l.sources l.joined-index) [] (inner_data l.fn.inner) (inner_data l.inner);
+}
+
+abbrev pub invariant-add_queries-loop-query : goal.invariant-add_queries-loop-query
+invariant-add_queries-loop-query g l = record {
+  stays : SameImage l.fn.pager.state l.pager.state;
+  failures : l.pager.state.source.failures ≡ l.fn.pager.state.source.failures;
+  many : AddsAsMany [] (first_asked inner_of l.queries l.query-index) (inner_data l.fn.inner) (inner_data l.inner);
+  rows : AddsWhere l.tables l.fn.pager.state [] (first_asked inner_of l.queries l.query-index) (inner_data l.fn.inner) (inner_data l.inner);
+}

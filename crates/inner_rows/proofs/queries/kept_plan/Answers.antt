@@ -1,0 +1,56 @@
+use Rattle.std.proofs.Common.{◌≡◌, ◌∙◌, [], ap, length, rules, subst, sym}
+use Rattle.std.proofs.lemmas.Result.{err_from_is_err_and}
+use Rattle.flat_bodies.specs.FlatView.{lists_of}
+use Rattle.flat_queries.specs.FlatWith.{flat_with}
+use Rattle.image.specs.Pages.{pages_seen}
+use Rattle.meaning.specs.Typed.{IsTyped}
+use Rattle.query_plans.specs.Answers.{IsPlanFor, planned_data}
+use Rattle.query_plans.specs.Served.{HaveServedForm}
+use Rattle.select_plans.specs.Columns.{HaveColumns}
+use Rattle.sources.specs.SourceData.{sources_of}
+use Rattle.statement_names.specs.NamedView.{query_data}
+use Rattle.tables.specs.ColumnTypes.{column_types}
+use Rattle.inner_rows.specs.InnerView.{inner_data}
+use Rattle.inner_rows.proofs.ComputedLemmas.{cause_whole}
+use Rattle.inner_rows.proofs.FlatLemmas.{plan_is_over, whole_found}
+use Rattle.inner_rows.proofs.PushLemmas.{rows_held}
+use Rattle.inner_rows.proofs.RunnableLemmas.{computable_parts}
+use Rattle.inner_rows.proofs.queries.kept_plan.Goals as goal
+
+pub returns-in_err-add_body-clause-plan : goal.returns-in_err-add_body-clause-plan
+returns-in_err-add_body-clause-plan g c = λ steady on said typed runs.
+    let query = query_data c.args.query.now in
+    let p = err_from_is_err_and c.from_residual.result c.from_residual.ensures.1 in
+    rw (p.1, p.2)
+    (cause_whole on query c.in_err-add_body.field-0.0
+    (c.in_err-add_body.ensures.rows steady on said (computable_parts (column_types c.args.tables.now) query.body (runs, (typed.0, typed.1.body)))))
+
+pub returns-in_err-planned-clause-plan : goal.returns-in_err-planned-clause-plan
+returns-in_err-planned-clause-plan g c = λ steady on said typed runs.
+    let query = query_data c.args.query.now in
+    let tables = c.args.tables.now in
+    let inner = c.add_body.new.inner in
+    let p = err_from_is_err_and c.from_residual-in_err-planned.result c.from_residual-in_err-planned.ensures.1 in
+    let e = c.in_err-planned.field-0.0 in
+    let are = c.in_ok-add_body.ensures.rows steady on said (computable_parts (column_types tables) query.body (runs, (typed.0, typed.1.body))) [] []
+    (rows_held on.w on.db c.new-inner.result.kept.items c.new-inner.result.answers.items c.new-inner.ensures.kept c.new-inner.ensures.answers) in
+    let answers : c.as_slice.result.now ≡ inner.answers.items = search rules in
+    let flat : query_data c.in_ok-flat.flat ≡ flat_with (lists_of inner.answers.items) (length tables) query = rw answers at c.in_ok-flat.ensures in
+    let kept : c.as_slice-2.result.now ≡ inner.kept.items = search rules in
+    rw (p.1, p.2)
+    (whole_found (pages_seen c.args.pager.now.state) tables on said query typed runs inner.kept.items (lists_of inner.answers.items) are e
+    (λ catalog have typed served. c.in_err-planned.ensures.typed catalog (subst (λ kept. HaveColumns catalog (sources_of tables kept)) (sym kept) have)
+    (subst (λ query. IsTyped catalog query) (sym flat) typed) (subst (λ query. HaveServedForm query.body) (sym flat) served)))
+
+pub returns-clause-plan : goal.returns-clause-plan
+returns-clause-plan g c = λ steady on said typed runs.
+    let query = query_data c.args.query.now in
+    let tables = c.args.tables.now in
+    let inner = c.add_body.new.inner in
+    let are = c.in_ok-add_body.ensures.rows steady on said (computable_parts (column_types tables) query.body (runs, (typed.0, typed.1.body))) [] []
+    (rows_held on.w on.db c.new-inner.result.kept.items c.new-inner.result.answers.items c.new-inner.ensures.kept c.new-inner.ensures.answers) in
+    let answers : c.as_slice.result.now ≡ inner.answers.items = search rules in
+    let flat : query_data c.in_ok-flat.flat ≡ flat_with (lists_of inner.answers.items) (length tables) query =
+    c.in_ok-flat.ensures ∙ ap (λ answers. flat_with (lists_of answers) (length tables) query) answers in
+    plan_is_over (pages_seen c.args.pager.now.state) tables on said query (inner_data inner) are typed (planned_data c.in_ok-planned.planned)
+    (subst (λ query. IsPlanFor query (planned_data c.in_ok-planned.planned)) flat c.in_ok-planned.ensures.plan)

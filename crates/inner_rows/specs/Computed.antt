@@ -1,0 +1,25 @@
+-- What was computed of the queries in a query. (SELECT, "Determination of input data"; SQL Language Expressions, "The IN and NOT IN
+-- Operators", "The EXISTS Operator")
+use Rattle.std.specs.Prelude.{◌≡◌, ◌+◌, ◌++◌, List, length, map, IsPermutation}
+use Rattle.std.specs.List.{AllZip}
+use Rattle.values.specs.Database.{Database}
+use Rattle.values.specs.Datum.{Datum}
+use Rattle.meaning.specs.Body.{answer_of, source_rows}
+use Rattle.meaning.specs.Query.{InnerQuery, Source}
+use Rattle.inner_rows.specs.InnerView.{InnerData}
+
+-- as many rows and values were put behind others as there are of these sources and queries
+pub record AddsAsMany (sources : List Source) (queries : List InnerQuery) (old new : InnerData) : Type 0 where
+  pub kept : length new.kept ≡ length old.kept + length sources
+  pub answers : length new.answers ≡ length old.answers + length queries
+
+module _ (w : Datum) (db : Database) where
+  -- the rows of each of these sources, and the values of each of these queries, of each in whichever order
+  pub record AreRowsOf (sources : List Source) (queries : List InnerQuery) (inner : InnerData) : Type 0 where
+    pub kept : AllZip IsPermutation (map (source_rows w db) sources) inner.kept
+    pub answers : AllZip IsPermutation (map (answer_of w db) queries) inner.answers
+
+  -- those of these were put behind those of any others
+  abbrev pub AddsRows : List Source → List InnerQuery → InnerData → InnerData → Type 0
+  AddsRows sources queries old new = (before : List Source) (asked : List InnerQuery) → AreRowsOf before asked old
+      → AreRowsOf (before ++ sources) (asked ++ queries) new

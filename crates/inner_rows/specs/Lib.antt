@@ -1,0 +1,4 @@
+pub mod Runnable
+pub mod InnerView
+pub mod Computed
+pub mod Over

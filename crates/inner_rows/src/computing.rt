@@ -1,0 +1,226 @@
+//! The rows of each query.
+ghost use Rattle.std.specs.Prelude.{◌≡◌, [], All, IfErr, IsPermutation, MatchResult, OnOk, length, map};
+ghost use Rattle.pager.specs.Calls.{ReadsPages};
+ghost use Rattle.image.specs.Pages.{WhereSteady};
+ghost use Rattle.body_trees.specs.BodyView.{body_of, inner_of, joined_of, source_of, tables_of};
+ghost use Rattle.flat_bodies.specs.FlatView.{kept_among};
+ghost use Rattle.flat_queries.specs.Flat.{kept_in, kept_of, kept_source};
+ghost use Rattle.flat_queries.specs.FlatWith.{body_in, queries_in, queries_of};
+ghost use Rattle.inner_rows.specs.Computed.{AddsAsMany, AddsRows, AreRowsOf};
+ghost use Rattle.inner_rows.specs.InnerView.{inner_data};
+ghost use Rattle.inner_rows.specs.Over.{AreSaid, IsBodyCause, IsInnerCause};
+ghost use Rattle.inner_rows.specs.Runnable.{AreComputable, IsComputableBody};
+ghost use Rattle.meaning.specs.Body.{body_rows};
+ghost use Rattle.operators.specs.Basis.{Basis, IsOperatorFault};
+ghost use Rattle.sources.specs.Coming.{IsRooted};
+ghost use Rattle.sources.specs.SourceData.{rows_data, sources_of};
+ghost use Rattle.tables.specs.ColumnTypes.{column_types};
+
+use crate::flat::flat_plain;
+use crate::inner::InnerRows;
+use crate::planning::plan_over;
+use crate::rows::planned_rows;
+use body_trees::{Body, InnerQuery, Joined, Source, Tables};
+use flat_bodies::answer;
+use pager::Pager;
+use sources::Sources;
+use std::alloc::Global;
+use tables::Table;
+use values::{Fault, Value};
+
+/// The rows of a query, behind those of the queries in it.
+fn flat_rows<S: pager::Source>(
+    alloc: Global,
+    pager: &mut Pager<S>,
+    tables: &[Table],
+    body: &Body,
+    inner: &InnerRows,
+) -> Result<Vec<Vec<Value>>, Fault>
+    requires roots { All (IsRooted pager.old.state.header) (sources_of tables.now []) }
+    requires kept { length inner.now.kept.items ≡ length (kept_of (body_of body.now)) }
+    requires answers { length inner.now.answers.items ≡ length (queries_of (body_of body.now)) }
+    ensures rows { WhereSteady pager.old.state (λ pages. (on : Basis) → AreSaid pages tables.now on
+        → IsComputableBody (column_types tables.now) (body_of body.now)
+        → AreRowsOf on.w on.db (kept_of (body_of body.now)) (queries_of (body_of body.now)) (inner_data inner.now)
+        → MatchResult result (λ rows. IsPermutation (body_rows on.w on.db (body_of body.now)) (rows_data rows.items))
+        (IsBodyCause on (body_of body.now))) }
+    ensures only { IfErr result IsOperatorFault }
+    ensures reads { ReadsPages result pager.old.state pager.new.state }
+{
+    let kept = inner.kept.as_slice();
+    let query = flat_plain(alloc, inner.answers.as_slice(), tables.len(), body)?;
+    let planned = plan_over(alloc, tables, kept, &query)?;
+    let sources = Sources::new(tables, kept);
+    planned_rows(alloc, pager, &sources, planned)
+}
+
+#[cycle(computing)]
+fn body_rows<S: pager::Source>(
+    alloc: Global,
+    pager: &mut Pager<S>,
+    tables: &[Table],
+    body: &Body,
+) -> Result<Vec<Vec<Value>>, Fault>
+    requires roots { All (IsRooted pager.old.state.header) (sources_of tables.now []) }
+    ensures rows { WhereSteady pager.old.state (λ pages. (on : Basis) → AreSaid pages tables.now on
+        → IsComputableBody (column_types tables.now) (body_of body.now)
+        → MatchResult result (λ rows. IsPermutation (body_rows on.w on.db (body_of body.now)) (rows_data rows.items))
+        (IsBodyCause on (body_of body.now))) }
+    ensures only { IfErr result IsOperatorFault }
+    ensures reads { ReadsPages result pager.old.state pager.new.state }
+{
+    let mut inner = InnerRows::new(alloc);
+    add_body(alloc, pager, tables, body, &mut inner)?;
+    flat_rows(alloc, pager, tables, body, &inner)
+}
+
+/// Puts the rows of the queries in a query behind others.
+#[cycle(computing)]
+pub(crate) fn add_body<S: pager::Source>(
+    alloc: Global,
+    pager: &mut Pager<S>,
+    tables: &[Table],
+    body: &Body,
+    inner: &mut InnerRows,
+) -> Result<(), Fault>
+    requires roots { All (IsRooted pager.old.state.header) (sources_of tables.now []) }
+    ensures many { OnOk result (AddsAsMany (kept_of (body_of body.now)) (queries_of (body_of body.now)) (inner_data inner.old) (inner_data inner.new)) }
+    ensures rows { WhereSteady pager.old.state (λ pages. (on : Basis) → AreSaid pages tables.now on
+        → AreComputable (column_types tables.now) (kept_of (body_of body.now)) (queries_of (body_of body.now))
+        → MatchResult result
+        (λ _. AddsRows on.w on.db (kept_of (body_of body.now)) (queries_of (body_of body.now)) (inner_data inner.old) (inner_data inner.new))
+        (IsInnerCause on (kept_of (body_of body.now)) (queries_of (body_of body.now)))) }
+    ensures only { IfErr result IsOperatorFault }
+    ensures reads { ReadsPages result pager.old.state pager.new.state }
+{
+    match body {
+        Body::Select(single) => add_tables(alloc, pager, tables, &single.tables, inner),
+        Body::Compound(left, _, single) => {
+            add_body(alloc, pager, tables, left, inner)?;
+            add_tables(alloc, pager, tables, &single.tables, inner)
+        }
+    }
+}
+
+#[cycle(computing)]
+fn add_tables<S: pager::Source>(
+    alloc: Global,
+    pager: &mut Pager<S>,
+    tables: &[Table],
+    from: &Tables,
+    inner: &mut InnerRows,
+) -> Result<(), Fault>
+    requires roots { All (IsRooted pager.old.state.header) (sources_of tables.now []) }
+    ensures many { OnOk result (AddsAsMany (kept_in (tables_of from.now)) (queries_in (tables_of from.now)) (inner_data inner.old) (inner_data inner.new)) }
+    ensures rows { WhereSteady pager.old.state (λ pages. (on : Basis) → AreSaid pages tables.now on
+        → AreComputable (column_types tables.now) (kept_in (tables_of from.now)) (queries_in (tables_of from.now))
+        → MatchResult result
+        (λ _. AddsRows on.w on.db (kept_in (tables_of from.now)) (queries_in (tables_of from.now)) (inner_data inner.old) (inner_data inner.new))
+        (IsInnerCause on (kept_in (tables_of from.now)) (queries_in (tables_of from.now)))) }
+    ensures only { IfErr result IsOperatorFault }
+    ensures reads { ReadsPages result pager.old.state pager.new.state }
+{
+    add_sources(alloc, pager, tables, from.sources.as_slice(), inner)?;
+    add_queries(alloc, pager, tables, from.inner.as_slice(), inner)
+}
+
+#[cycle(computing)]
+fn add_sources<S: pager::Source>(
+    alloc: Global,
+    pager: &mut Pager<S>,
+    tables: &[Table],
+    sources: &[Joined],
+    inner: &mut InnerRows,
+) -> Result<(), Fault>
+    requires roots { All (IsRooted pager.old.state.header) (sources_of tables.now []) }
+    ensures many { OnOk result (AddsAsMany (kept_among (map joined_of sources.now)) [] (inner_data inner.old) (inner_data inner.new)) }
+    ensures rows { WhereSteady pager.old.state (λ pages. (on : Basis) → AreSaid pages tables.now on
+        → AreComputable (column_types tables.now) (kept_among (map joined_of sources.now)) []
+        → MatchResult result
+        (λ _. AddsRows on.w on.db (kept_among (map joined_of sources.now)) [] (inner_data inner.old) (inner_data inner.new))
+        (IsInnerCause on (kept_among (map joined_of sources.now)) [])) }
+    ensures only { IfErr result IsOperatorFault }
+    ensures reads { ReadsPages result pager.old.state pager.new.state }
+{
+    for joined in sources {
+        add_source(alloc, pager, tables, &joined.source, inner)?;
+    }
+    Ok(())
+}
+
+// The schema's table stands among the others where a query is run.
+#[cycle(computing)]
+fn add_source<S: pager::Source>(
+    alloc: Global,
+    pager: &mut Pager<S>,
+    tables: &[Table],
+    source: &Source,
+    inner: &mut InnerRows,
+) -> Result<(), Fault>
+    requires roots { All (IsRooted pager.old.state.header) (sources_of tables.now []) }
+    ensures many { OnOk result (AddsAsMany (kept_source (source_of source.now)) [] (inner_data inner.old) (inner_data inner.new)) }
+    ensures rows { WhereSteady pager.old.state (λ pages. (on : Basis) → AreSaid pages tables.now on
+        → AreComputable (column_types tables.now) (kept_source (source_of source.now)) []
+        → MatchResult result
+        (λ _. AddsRows on.w on.db (kept_source (source_of source.now)) [] (inner_data inner.old) (inner_data inner.new))
+        (IsInnerCause on (kept_source (source_of source.now)) [])) }
+    ensures only { IfErr result IsOperatorFault }
+    ensures reads { ReadsPages result pager.old.state pager.new.state }
+{
+    match source {
+        Source::Table(_, _) => Ok(()),
+        Source::Schema => Err(Fault::Changed),
+        Source::Derived(body) => {
+            let rows = body_rows(alloc, pager, tables, body)?;
+            inner.kept.push(rows)?;
+            Ok(())
+        }
+    }
+}
+
+#[cycle(computing)]
+fn add_queries<S: pager::Source>(
+    alloc: Global,
+    pager: &mut Pager<S>,
+    tables: &[Table],
+    queries: &[InnerQuery],
+    inner: &mut InnerRows,
+) -> Result<(), Fault>
+    requires roots { All (IsRooted pager.old.state.header) (sources_of tables.now []) }
+    ensures many { OnOk result (AddsAsMany [] (map inner_of queries.now) (inner_data inner.old) (inner_data inner.new)) }
+    ensures rows { WhereSteady pager.old.state (λ pages. (on : Basis) → AreSaid pages tables.now on
+        → AreComputable (column_types tables.now) [] (map inner_of queries.now)
+        → MatchResult result
+        (λ _. AddsRows on.w on.db [] (map inner_of queries.now) (inner_data inner.old) (inner_data inner.new))
+        (IsInnerCause on [] (map inner_of queries.now))) }
+    ensures only { IfErr result IsOperatorFault }
+    ensures reads { ReadsPages result pager.old.state pager.new.state }
+{
+    for query in queries {
+        let rows = query_rows(alloc, pager, tables, query)?;
+        let values = answer(alloc, query, rows)?;
+        inner.answers.push(values)?;
+    }
+    Ok(())
+}
+
+#[cycle(computing)]
+fn query_rows<S: pager::Source>(
+    alloc: Global,
+    pager: &mut Pager<S>,
+    tables: &[Table],
+    query: &InnerQuery,
+) -> Result<Vec<Vec<Value>>, Fault>
+    requires roots { All (IsRooted pager.old.state.header) (sources_of tables.now []) }
+    ensures rows { WhereSteady pager.old.state (λ pages. (on : Basis) → AreSaid pages tables.now on
+        → IsComputableBody (column_types tables.now) (body_in (inner_of query.now))
+        → MatchResult result (λ rows. IsPermutation (body_rows on.w on.db (body_in (inner_of query.now))) (rows_data rows.items))
+        (IsBodyCause on (body_in (inner_of query.now)))) }
+    ensures only { IfErr result IsOperatorFault }
+    ensures reads { ReadsPages result pager.old.state pager.new.state }
+{
+    match query {
+        InnerQuery::Values(body) => body_rows(alloc, pager, tables, body),
+        InnerQuery::Exists(body) => body_rows(alloc, pager, tables, body),
+    }
+}

@@ -1,0 +1,57 @@
+//! The plan of a whole query.
+ghost use Rattle.std.specs.Prelude.{◌⊎◌, [], All, IfErr, IfOk, MatchResult, map};
+ghost use Rattle.pager.specs.Calls.{ReadsPages};
+ghost use Rattle.image.specs.Pages.{WhereSteady};
+ghost use Rattle.inner_rows.specs.InnerView.{kept_rows};
+ghost use Rattle.inner_rows.specs.Over.{AreSaid, IsPlanOver, IsQueryCause};
+ghost use Rattle.inner_rows.specs.Runnable.{IsRunnableBody};
+ghost use Rattle.meaning.specs.Typed.{IsTyped};
+ghost use Rattle.operators.specs.Basis.{Basis, IsOperatorFault};
+ghost use Rattle.query_plans.specs.Answers.{IsPlannedOver, planned_data};
+ghost use Rattle.sources.specs.Coming.{IsRooted};
+ghost use Rattle.sources.specs.SourceData.{sources_of};
+ghost use Rattle.statement_names.specs.NamedView.{query_data};
+ghost use Rattle.tables.specs.ColumnTypes.{column_types};
+
+use crate::computing::add_body;
+use crate::inner::InnerRows;
+use crate::planning::plan_over;
+use flat_copies::flat_query;
+use pager::{Pager, Source};
+use query_plans::Planned;
+use statement_names::Query;
+use std::alloc::Global;
+use tables::Table;
+use values::{Fault, Value};
+
+/// A plan, and the lists of rows that stand behind the tables for it.
+#[derive(Drop)]
+pub struct KeptPlan {
+    pub kept: Vec<Vec<Vec<Value>>>,
+    pub planned: Planned,
+}
+
+/// The plan of a query, once the queries in it are computed. Its faults are `ReadFailed`, `NoMemory`, `Overflow`, and `Changed`, which
+/// comes only where the source no longer has the bytes that were checked, or the query can't be run. (SELECT)
+pub fn kept_plan<S: Source>(
+    alloc: Global,
+    pager: &mut Pager<S>,
+    tables: &[Table],
+    query: &Query,
+) -> Result<KeptPlan, Fault>
+    requires { All (IsRooted pager.old.state.header) (sources_of tables.now []) }
+    ensures plan { WhereSteady pager.old.state (λ pages. (on : Basis) → AreSaid pages tables.now on
+        → IsTyped (column_types tables.now) (query_data query.now) → IsRunnableBody (query_data query.now).body
+        → MatchResult result (λ p. IsPlanOver on (query_data query.now) (kept_rows p.kept.items) (planned_data p.planned))
+        (IsQueryCause on (query_data query.now))) }
+    ensures over { IfOk result (λ p. IsPlannedOver (sources_of tables.now p.kept.items) (planned_data p.planned)) }
+    ensures only { IfErr result IsOperatorFault }
+    ensures reads { ReadsPages result pager.old.state pager.new.state }
+{
+    let mut inner = InnerRows::new(alloc);
+    add_body(alloc, pager, tables, &query.body, &mut inner)?;
+    let (kept, answers) = (inner.kept, inner.answers);
+    let flat = flat_query(alloc, answers.as_slice(), tables.len(), query)?;
+    let planned = plan_over(alloc, tables, kept.as_slice(), &flat)?;
+    Ok(KeptPlan { kept, planned })
+}

@@ -1,0 +1,41 @@
+//! The rows of a plan.
+ghost use Rattle.std.specs.Prelude.{All, IfErr, MatchResult};
+ghost use Rattle.pager.specs.Calls.{ReadsPages};
+ghost use Rattle.image.specs.Pages.{WhereSteady};
+ghost use Rattle.operators.specs.Basis.{AreStored, Basis, IsOperatorFault};
+ghost use Rattle.query_plans.specs.Answers.{IsAnswerOf, IsPlannedOver, planned_data};
+ghost use Rattle.running.specs.Given.{IsRowCause};
+ghost use Rattle.sources.specs.Coming.{IsRooted};
+ghost use Rattle.sources.specs.SourceData.{rows_data};
+
+use pager::{Pager, Source};
+use query_plans::Planned;
+use running::Running;
+use sources::Sources;
+use std::alloc::Global;
+use values::{Fault, Value};
+
+/// All rows that a plan gives.
+pub(crate) fn planned_rows<S: Source>(
+    alloc: Global,
+    pager: &mut Pager<S>,
+    sources: &Sources<'_>,
+    planned: Planned,
+) -> Result<Vec<Vec<Value>>, Fault>
+    requires roots { All (IsRooted pager.old.state.header) sources.now }
+    requires planned { IsPlannedOver sources.now (planned_data planned) }
+    ensures rows { WhereSteady pager.old.state (λ pages. (on : Basis) → AreStored pages sources.now on → MatchResult result
+        (λ rows. IsAnswerOf on.w on.db (planned_data planned) (rows_data rows.items))
+        (IsRowCause on (planned_data planned))) }
+    ensures only { IfErr result IsOperatorFault }
+    ensures reads { ReadsPages result pager.old.state pager.new.state }
+{
+    let mut running = Running::open(alloc, planned)?;
+    let mut row = Vec::new(alloc);
+    let mut rows = Vec::new(alloc);
+    'rows: while running.next(alloc, pager, sources, &mut row)? {
+        rows.push(row)?;
+        row = Vec::new(alloc);
+    }
+    Ok(rows)
+}
