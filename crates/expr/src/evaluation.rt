@@ -1,11 +1,13 @@
 //! The value of an expression on a row.
-ghost use Rattle.std.specs.Prelude.{◌≡◌, ◌⊎◌, Some, None, Err, map, option_map, slice_index_or, IfOk, IfErr};
-ghost use Rattle.std.specs.Option.{option_copied};
+ghost use Rattle.std.specs.Prelude.{◌≡◌, ◌⊎◌, Some, None, Err, map, option_map, slice_index_or, IfOk, IfErr, IfSome};
+ghost use Rattle.std.specs.Option.{option_and_then, option_copied};
 ghost use Rattle.std.specs.Cow.{cow_value};
 ghost use Rattle.values.specs.Datum.{Datum, datum_of, null};
-ghost use Rattle.expr.specs.Operations.{any_equal, comparison, truth};
+ghost use Rattle.expr.specs.Functions.{call_of};
+ghost use Rattle.expr.specs.Like.{like_of};
+ghost use Rattle.expr.specs.Operations.{any_equal, arithmetic_of, comparison, concat_of, condition, null_if_equal, same, truth};
 ghost use Rattle.expr.specs.View.{term};
-ghost use Rattle.expr.specs.Meaning.{eval, Overflows, and_then, or_else, run_all, run_first, run_arms};
+ghost use Rattle.expr.specs.Meaning.{eval, Overflows, and_then, both, compared, or_else, or_otherwise, run_all, run_first, run_arms};
 ghost use Rattle.expr.specs.Contract.{Answers, Gives, trees, arm_trees, value_on};
 
 use crate::like_operator::like;
@@ -13,8 +15,8 @@ use crate::operations::{
     Stop, and3, arithmetic, comparison, concat, from_condition, is_null, is_same, null_if_equal,
     or3, truth,
 };
-use crate::{Arm, Comparison, Expr, functions};
-use std::alloc::{AllocError, Global};
+use crate::{Arithmetic, Arm, Comparison, Expr, Function, functions};
+use std::alloc::Global;
 use std::borrow::Cow;
 use values::{Fault, Value};
 
@@ -40,47 +42,196 @@ struct Evaluator<'a> {
 }
 
 impl<'a> Evaluator<'a> {
+    // Each form has a function of its own: a function pays at its entry for all that it may have to hold.
     #[cycle(eval)]
     fn compute(&self, e: &'a Expr) -> Result<Value, Stop>
         ensures { Gives result (value_on self.now.row.now e.now) }
     {
         match e {
-            Expr::Literal(v) => Ok(v.as_ref().to_value(self.alloc)?),
-            Expr::Column(i) => Ok(self.column(*i)?),
-            Expr::Call(f, a) => functions::call(self.alloc, *f, &*self.operand(a)?),
-            Expr::Arithmetic(op, a, b) => arithmetic(*op, &*self.operand(a)?, &*self.operand(b)?),
-            Expr::Concat(a, b) => Ok(concat(self.compute(a)?, &*self.operand(b)?)?),
-            Expr::Compare(op, a, b) => {
-                Ok(from_condition(comparison(*op, &*self.operand(a)?, &*self.operand(b)?)))
-            }
-            Expr::Is(a, b) => {
-                Ok(from_condition(Some(is_same(&*self.operand(a)?, &*self.operand(b)?))))
-            }
-            Expr::And(a, b) => self.and_then(truth(&*self.operand(a)?), b),
-            Expr::Or(a, b) => self.or_else(truth(&*self.operand(a)?), b),
-            Expr::Between(x, a, b) => {
-                let x = self.operand(x)?;
-                let above = self.compare_with(Comparison::Ge, &*x, a)?;
-                self.and_at_most(above, &*x, b)
-            }
-            Expr::In(x, items) => {
-                let x = self.operand(x)?;
-                Ok(from_condition(self.any_equal(&*x, items)?))
-            }
+            Expr::Literal(v) => self.literal(v),
+            Expr::Column(i) => self.column(*i),
+            Expr::Call(f, a) => self.function_of(*f, a),
+            Expr::Arithmetic(op, a, b) => self.operation(*op, a, b),
+            Expr::Concat(a, b) => self.joined(a, b),
+            Expr::Compare(op, a, b) => self.comparison_of(*op, a, b),
+            Expr::Is(a, b) => self.is_one(a, b),
+            Expr::And(a, b) => self.conjunction(a, b),
+            Expr::Or(a, b) => self.disjunction(a, b),
+            Expr::Between(x, a, b) => self.between(x, a, b),
+            Expr::In(x, items) => self.among(x, items),
             Expr::Coalesce(items) => self.first_value(items),
-            Expr::Case(None, arms, otherwise) => match self.choose(None, arms)? {
-                Some(v) => Ok(v),
-                None => self.compute(otherwise),
-            },
-            Expr::Case(Some(x), arms, otherwise) => {
-                let x = self.operand(x)?;
-                match self.choose(Some(&*x), arms)? {
-                    Some(v) => Ok(v),
-                    None => self.compute(otherwise),
-                }
-            }
-            Expr::NullIf(a, b) => Ok(null_if_equal(self.compute(a)?, &*self.operand(b)?)),
-            Expr::Like(a, b) => Ok(like(self.alloc, &*self.operand(a)?, &*self.operand(b)?)?),
+            Expr::Case(None, arms, otherwise) => self.choice(arms, otherwise),
+            Expr::Case(Some(x), arms, otherwise) => self.choice_of(x, arms, otherwise),
+            Expr::NullIf(a, b) => self.null_if(a, b),
+            Expr::Like(a, b) => self.likeness(a, b),
+        }
+    }
+
+    // A literal.
+    fn literal(&self, v: &Value) -> Result<Value, Stop>
+        ensures { Gives result (Some (datum_of v.now)) }
+    {
+        Ok(v.as_ref().to_value(self.alloc)?)
+    }
+
+    // The value of a column; NULL where the row is shorter.
+    fn column(&self, i: usize) -> Result<Value, Stop>
+        ensures { Gives result (Some (slice_index_or (map datum_of self.now.row.now) i null)) }
+    {
+        match self.row.get(i) {
+            Some(v) => Ok(v.as_ref().to_value(self.alloc)?),
+            None => Ok(Value::Null),
+        }
+    }
+
+    // A function of a value.
+    #[cycle(eval)]
+    fn function_of(&self, f: Function, a: &'a Expr) -> Result<Value, Stop>
+        ensures { Gives result (option_and_then (call_of None f) (value_on self.now.row.now a.now)) }
+    {
+        functions::call(self.alloc, f, &*self.operand(a)?)
+    }
+
+    // An operation on two values, most of which stand in the tree or in the row.
+    #[cycle(eval)]
+    fn operation(&self, op: Arithmetic, a: &'a Expr, b: &'a Expr) -> Result<Value, Stop>
+        ensures { Gives result (both (arithmetic_of None op) (value_on self.now.row.now a.now) (value_on self.now.row.now b.now)) }
+    {
+        match (self.held(a), self.held(b)) {
+            (Some(x), Some(y)) => arithmetic(op, x, y),
+            _ => self.operation_of_any(op, a, b),
+        }
+    }
+
+    // An operation on two values.
+    #[cycle(eval)]
+    fn operation_of_any(&self, op: Arithmetic, a: &'a Expr, b: &'a Expr) -> Result<Value, Stop>
+        ensures { Gives result (both (arithmetic_of None op) (value_on self.now.row.now a.now) (value_on self.now.row.now b.now)) }
+    {
+        arithmetic(op, &*self.operand(a)?, &*self.operand(b)?)
+    }
+
+    // One text behind another.
+    #[cycle(eval)]
+    fn joined(&self, a: &'a Expr, b: &'a Expr) -> Result<Value, Stop>
+        ensures { Gives result (both (λ x y. Some (concat_of x y)) (value_on self.now.row.now a.now) (value_on self.now.row.now b.now)) }
+    {
+        Ok(concat(self.compute(a)?, &*self.operand(b)?)?)
+    }
+
+    // A comparison, also of two values that stand in the tree or in the row.
+    #[cycle(eval)]
+    fn comparison_of(&self, op: Comparison, a: &'a Expr, b: &'a Expr) -> Result<Value, Stop>
+        ensures { Gives result (option_map condition (compared op (value_on self.now.row.now a.now) (value_on self.now.row.now b.now))) }
+    {
+        match (self.held(a), self.held(b)) {
+            (Some(x), Some(y)) => Ok(from_condition(comparison(op, x, y))),
+            _ => self.comparison_of_any(op, a, b),
+        }
+    }
+
+    // A comparison.
+    #[cycle(eval)]
+    fn comparison_of_any(&self, op: Comparison, a: &'a Expr, b: &'a Expr) -> Result<Value, Stop>
+        ensures { Gives result (option_map condition (compared op (value_on self.now.row.now a.now) (value_on self.now.row.now b.now))) }
+    {
+        Ok(from_condition(comparison(op, &*self.operand(a)?, &*self.operand(b)?)))
+    }
+
+    // IS.
+    #[cycle(eval)]
+    fn is_one(&self, a: &'a Expr, b: &'a Expr) -> Result<Value, Stop>
+        ensures { Gives result (both (λ x y. Some (condition (Some (same x y)))) (value_on self.now.row.now a.now) (value_on self.now.row.now b.now)) }
+    {
+        Ok(from_condition(Some(is_same(&*self.operand(a)?, &*self.operand(b)?))))
+    }
+
+    // AND.
+    #[cycle(eval)]
+    fn conjunction(&self, a: &'a Expr, b: &'a Expr) -> Result<Value, Stop>
+        ensures { Gives result (and_then (option_map truth (value_on self.now.row.now a.now)) (option_map truth (value_on self.now.row.now b.now))) }
+    {
+        self.and_then(truth(&*self.operand(a)?), b)
+    }
+
+    // OR.
+    #[cycle(eval)]
+    fn disjunction(&self, a: &'a Expr, b: &'a Expr) -> Result<Value, Stop>
+        ensures { Gives result (or_else (option_map truth (value_on self.now.row.now a.now)) (option_map truth (value_on self.now.row.now b.now))) }
+    {
+        self.or_else(truth(&*self.operand(a)?), b)
+    }
+
+    // BETWEEN.
+    #[cycle(eval)]
+    fn between(&self, x: &'a Expr, a: &'a Expr, b: &'a Expr) -> Result<Value, Stop>
+        ensures { Gives result (and_then (compared Comparison.Ge (value_on self.now.row.now x.now) (value_on self.now.row.now a.now))
+            (compared Comparison.Le (value_on self.now.row.now x.now) (value_on self.now.row.now b.now))) }
+    {
+        let x = self.operand(x)?;
+        let above = self.compare_with(Comparison::Ge, &*x, a)?;
+        self.and_at_most(above, &*x, b)
+    }
+
+    // IN.
+    #[cycle(eval)]
+    fn among(&self, x: &'a Expr, items: &'a [Expr]) -> Result<Value, Stop>
+        ensures { Gives result (both (λ v vs. Some (condition (any_equal v vs))) (value_on self.now.row.now x.now)
+            (run_all None (map datum_of self.now.row.now) (trees items.now))) }
+    {
+        let x = self.operand(x)?;
+        Ok(from_condition(self.any_equal(&*x, items)?))
+    }
+
+    // A CASE without an operand.
+    #[cycle(eval)]
+    fn choice(&self, arms: &'a [Arm], otherwise: &'a Expr) -> Result<Value, Stop>
+        ensures { Gives result (or_otherwise (run_arms None (map datum_of self.now.row.now) None (arm_trees arms.now)) (value_on self.now.row.now otherwise.now)) }
+    {
+        match self.choose(None, arms)? {
+            Some(v) => Ok(v),
+            None => self.compute(otherwise),
+        }
+    }
+
+    // A CASE with one.
+    #[cycle(eval)]
+    fn choice_of(&self, x: &'a Expr, arms: &'a [Arm], otherwise: &'a Expr) -> Result<Value, Stop>
+        ensures { Gives result (option_and_then (λ v. or_otherwise (run_arms None (map datum_of self.now.row.now) (Some v) (arm_trees arms.now))
+            (value_on self.now.row.now otherwise.now)) (value_on self.now.row.now x.now)) }
+    {
+        let x = self.operand(x)?;
+        match self.choose(Some(&*x), arms)? {
+            Some(v) => Ok(v),
+            None => self.compute(otherwise),
+        }
+    }
+
+    // NULLIF.
+    #[cycle(eval)]
+    fn null_if(&self, a: &'a Expr, b: &'a Expr) -> Result<Value, Stop>
+        ensures { Gives result (both (λ x y. Some (null_if_equal x y)) (value_on self.now.row.now a.now) (value_on self.now.row.now b.now)) }
+    {
+        Ok(null_if_equal(self.compute(a)?, &*self.operand(b)?))
+    }
+
+    // LIKE.
+    #[cycle(eval)]
+    fn likeness(&self, a: &'a Expr, b: &'a Expr) -> Result<Value, Stop>
+        ensures { Gives result (both (λ x y. Some (like_of x y)) (value_on self.now.row.now a.now) (value_on self.now.row.now b.now)) }
+    {
+        Ok(like(self.alloc, &*self.operand(a)?, &*self.operand(b)?)?)
+    }
+
+    // The value of an expression that stands in the tree or in the row; `None` where it has to be computed.
+    #[inline]
+    fn held(&self, e: &'a Expr) -> Option<&'a Value>
+        ensures { IfSome result (λ v. value_on self.now.row.now e.now ≡ Some (datum_of v.now)) }
+    {
+        match e {
+            Expr::Literal(v) => Some(v),
+            Expr::Column(i) => self.row.get(*i),
+            _ => None,
         }
     }
 
@@ -96,16 +247,6 @@ impl<'a> Evaluator<'a> {
                 None => Cow::Owned(Value::Null),
             }),
             _ => Ok(Cow::Owned(self.compute(e)?)),
-        }
-    }
-
-    // The value of a column; NULL where the row is shorter.
-    fn column(&self, i: usize) -> Result<Value, AllocError>
-        ensures { IfOk result (λ v. datum_of v ≡ slice_index_or (map datum_of self.now.row.now) i null) }
-    {
-        match self.row.get(i) {
-            Some(v) => v.as_ref().to_value(self.alloc),
-            None => Ok(Value::Null),
         }
     }
 
