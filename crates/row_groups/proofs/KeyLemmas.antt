@@ -148,6 +148,12 @@ place_within k (x ∷ xs) = ⊎_elim
     (λ (apart : same_row k x ≡ false). rw (place-head k x xs false apart, insert-under k x xs apart) (let ih = place_within k xs in omega arith))
     (cases_Bool (same_row k x))
 
+-- one key alone, which has no value
+pub one_key : (keys : List Row) (only : Row) → length keys ≡ 1 → Some only ≡ slice_get keys 0 → only ≡ [] → keys ≡ [] ∷ []
+one_key [] only long there none = absurd (omega (arith, long))
+one_key (x ∷ []) only long there none = let e : x ≡ [] = cc in ap (λ (key : Row). key ∷ []) e
+one_key (x ∷ y ∷ more) only long there none = absurd (omega (arith, long))
+
 -- ---- what is made of a key at a place
 
 pub read_there : {X : Type 0} (f : Row → X) (keys : List Row) (at : ℕ) (key : Row) (d : X) → slice_get keys at ≡ Some key → get_or (map f keys) at d ≡ f key

@@ -55,6 +55,20 @@ impl Groups {
         Ok(groups)
     }
 
+    /// Whether there is one group alone, that of all rows, whose key has no value, as this key has none.
+    fn is_of_all(&self, key: &Row) -> bool
+        ensures only { IsTrue result → (key.now ≡ []) × (self.now.keys.keys ≡ [] ∷ []) }
+        ensures unique { IsDistinct same_row self.now.keys.keys }
+    {
+        if self.keys.len() != 1 || !key.is_empty() {
+            return false;
+        }
+        match self.keys.get_index(0) {
+            Some(only) => only.is_empty(),
+            None => false,
+        }
+    }
+
     /// The place of the group with this key, which is made where there is none.
     fn place_of(
         &mut self,
@@ -69,6 +83,9 @@ impl Groups {
         ensures unique { OnOk result (IsDistinct same_row self.new.keys.keys) }
         ensures only { IfErr result (λ e. e ≡ Fault.NoMemory) }
     {
+        if self.is_of_all(&key) {
+            return Ok(0);
+        }
         let (at, is_new) = self.keys.insert_full(key)?;
         if is_new {
             self.states.push(first_states(alloc, aggregates)?)?;
