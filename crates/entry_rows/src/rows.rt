@@ -1,5 +1,5 @@
 //! The rows that the entries of an index are.
-ghost use Rattle.std.specs.Prelude.{◌≡◌, ◌+◌, ◌≤◌, ℕ, Bool, IfErr, IfOk, List, MatchResult, OnOk};
+ghost use Rattle.std.specs.Prelude.{◌≡◌, ◌+◌, ◌≤◌, ℕ, Bool, IfErr, IfOk, IfSome, List, MatchResult, OnOk};
 ghost use Rattle.values.specs.Datum.{Datum};
 ghost use Rattle.pager.specs.Calls.{IsReadFault, ReadsChainPages, ReadsPages};
 ghost use Rattle.records.specs.Record.{IsRecord};
@@ -16,7 +16,7 @@ use cursor::Cursor;
 use image::TreeKind;
 use index_entries::record_fault;
 use pager::{Pager, Source};
-use records::RecordView;
+use records::{FieldReader, RecordView};
 use std::alloc::{AllocError, Global};
 use values::{Fault, Row};
 
@@ -32,6 +32,27 @@ fn row_of(alloc: Global, stored: &RecordView<'_>) -> Result<Row, AllocError>
     Ok(row)
 }
 
+/// The row of the values of a record, each of which is copied as it is met. `None` says nothing of the bytes.
+fn copied_row(alloc: Global, bytes: &[u8]) -> Result<Option<Row>, AllocError>
+    ensures { IfOk result (λ found. IfSome found (IsRecord bytes.now)) }
+{
+    let Some(mut fields) = FieldReader::new(bytes) else {
+        return Ok(None);
+    };
+    let mut row = Row::new(alloc);
+    for _passed in 0..bytes.len() {
+        if fields.is_done() {
+            return Ok(Some(row));
+        }
+        let Some(value) = fields.read() else {
+            return Ok(None);
+        };
+        let copied = value.to_value(alloc)?;
+        row.push(copied)?;
+    }
+    Ok(None)
+}
+
 /// The row of the values of a record of page `n`. Its faults are `NoMemory`, and `BadRecord`, `FloatValue` and `BadText` where
 /// the bytes are no record.
 fn record_row(alloc: Global, bytes: &[u8], n: u32) -> Result<Row, Fault>
@@ -41,6 +62,10 @@ fn record_row(alloc: Global, bytes: &[u8], n: u32) -> Result<Row, Fault>
     ensures broken { IfErr result (BreaksRecord bytes.now n) }
     ensures only { IfErr result (IsCompareFault n) }
 {
+    if let Some(row) = copied_row(alloc, bytes)? {
+        return Ok(row);
+    }
+    // What is no record is found by a second reading.
     match RecordView::read(alloc, bytes) {
         Ok(stored) => Ok(row_of(alloc, &stored)?),
         Err(fault) => Err(record_fault(fault, n)),

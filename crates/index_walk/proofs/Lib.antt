@@ -1,3 +1,4 @@
+pub mod FieldLemmas
 pub mod SeenLemmas
 pub mod EntryLemmas
 pub mod BranchLemmas
