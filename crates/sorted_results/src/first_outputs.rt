@@ -9,7 +9,7 @@ ghost use Rattle.sorted_results.specs.Firsts.{BeginsAll, HasRoom, IsBehind, come
 ghost use Rattle.sorted_results.specs.FirstView.{FewAreKept, KeepsFirst};
 ghost use Rattle.sorted_results.specs.KeyView.{key_data, output_data};
 
-use crate::keys::{Key, Output};
+use crate::keys::{Key, Output, no_output};
 use crate::order::{compare_keys, sort};
 use std::alloc::{AllocError, Global};
 
@@ -91,21 +91,27 @@ impl FirstOutputs {
         Ok(())
     }
 
-    /// One more came.
-    pub(crate) fn push(&mut self, order: &[Key], output: Output) -> Result<(), AllocError>
+    /// One more came. Where it isn't kept, its memory comes back.
+    pub(crate) fn push(
+        &mut self,
+        alloc: Global,
+        order: &[Key],
+        output: Output,
+    ) -> Result<Output, AllocError>
         ensures most { self.new.most ≡ self.old.most }
         ensures few { FewAreKept self.old → OnOk result (FewAreKept self.new) }
         ensures kept { OnOk result ((all : List OutputData) → KeepsFirst (key_directions (map key_data order.now)) self.old all
             → KeepsFirst (key_directions (map key_data order.now)) self.new (all ++ output_data output ∷ [])) }
     {
         if self.is_behind(order, &output) {
-            return Ok(());
+            return Ok(output);
         }
         self.more.push(output)?;
         if !self.is_full() {
-            return Ok(());
+            return Ok(no_output(alloc));
         }
-        self.put_in_order(order)
+        self.put_in_order(order)?;
+        Ok(no_output(alloc))
     }
 
     /// The outputs that are kept, in order.

@@ -23,7 +23,7 @@ ghost use Rattle.sorted_results.specs.KeyView.{key_data, output_data};
 ghost use Rattle.sorted_results.specs.Sorted.{IsSortedAnswer, outputs_over, sorted_data};
 
 use crate::first_outputs::FirstOutputs;
-use crate::keys::{Key, Output, values_of};
+use crate::keys::{Key, Output, no_output, values_of};
 use expr::Expr;
 use operators::Op;
 use pager::{Pager, Source};
@@ -44,16 +44,27 @@ pub struct SortedSelection {
     pub offset: i64,
 }
 
-/// The result row of a row of the plan, and the values that it is put in order by.
-fn output_of(alloc: Global, columns: &[Expr], order: &[Key], row: &[Value]) -> Result<Output, Fault>
+/// The result row of a row of the plan, and the values that it is put in order by, in the memory of another one.
+fn output_of(
+    alloc: Global,
+    columns: &[Expr],
+    order: &[Key],
+    row: &[Value],
+    memory: Output,
+) -> Result<Output, Fault>
     ensures value { IfOk result (λ o. (w : Datum) → output_data o
         ≡ output (eval w) (map key_data order.now) (term_values (eval w) (map term columns.now) (map datum_of row.now)) (map datum_of row.now)) }
     ensures overflow { result ≡ Err Fault.Overflow → Reaches (map term columns.now ++ order_terms (map key_data order.now)) (map datum_of row.now) }
     ensures only { IfErr result (λ e. (e ≡ Fault.Overflow) ⊎ (e ≡ Fault.NoMemory)) }
 {
-    let mut shown = Vec::with_capacity(alloc, columns.len())?;
+    let Output {
+        row: mut shown,
+        keys: values,
+    } = memory;
+    shown.clear();
+    shown.reserve_exact(columns.len())?;
     push_results(alloc, columns, row, &mut shown)?;
-    let keys = values_of(alloc, order, shown.as_slice(), row)?;
+    let keys = values_of(alloc, order, shown.as_slice(), row, values)?;
     Ok(Output { row: shown, keys })
 }
 
@@ -92,9 +103,10 @@ fn gather<S: Source>(
     let mut op = op;
     let mut row = Vec::new(alloc);
     let mut first = FirstOutputs::new(alloc, most);
+    let mut memory = no_output(alloc);
     'rows: while op.next(alloc, pager, sources, &mut row)? {
-        let output = output_of(alloc, columns, order, row.as_slice())?;
-        first.push(order, output)?;
+        let output = output_of(alloc, columns, order, row.as_slice(), memory)?;
+        memory = first.push(alloc, order, output)?;
     }
     let outputs = first.in_order(order)?;
     Ok(outputs)

@@ -51,7 +51,7 @@ rows-preserved g c = record {
       gathered_more _ c.rows.pager.state c.rows.invariant.image c.args.sources.now c.args.op c.rows.op (map datum_of c.rows.row.items) (map term c.args.columns.now)
       (map key_data c.args.order.now) c.rows.first c.rows.invariant.rows steady on rows ahead has left among
       c.next.new.self (map datum_of c.next.new.row.items) c.next.new.pager.state (rw c.if-branch.true at c.in_ok-next.ensures.rows)
-      (output_data c.in_ok-output.output) c.push.new.self (rw c.as_slice.ensures.value at (c.in_ok-output.ensures.value on.w)) c.in_ok-push.ensures.kept;
+      (output_data c.in_ok-output.output) c.push.new.self (rw c.as_slice.ensures.value at (c.in_ok-output.ensures.value on.w)) c.in_ok-memory.ensures.kept;
 }
 
 pub returns-clause-rows : goal.returns-clause-rows

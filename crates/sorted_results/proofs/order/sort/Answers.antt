@@ -1,6 +1,6 @@
 use Rattle.std.proofs.Common.{rules, is_lt, map}
 use Rattle.std.proofs.lemmas.Result.{on_ok_weaker}
-use Rattle.std.proofs.lemmas.List.Sorted.{ranks_by}
+use Rattle.std.proofs.lemmas.List.Sorted.{IsPermutation-trans, ranks_by}
 use Rattle.std.proofs.lemmas.Fn.{always_returns_same}
 use Rattle.values.specs.Datum.{datum_of}
 use Rattle.meaning.specs.Answer.{key_directions}
@@ -9,6 +9,9 @@ use Rattle.meaning.proofs.KeyLemmas.{keys_cmp_total}
 use Rattle.sorted_results.specs.KeyView.{key_data}
 use Rattle.sorted_results.specs.declared.keys.Output.{Output}
 use Rattle.sorted_results.proofs.order.sort.Goals as goal
+
+pub returns-clause-same : goal.returns-clause-same
+returns-clause-same c = IsPermutation-trans _ _ _ c.sort_by_cached_key.ensures.permutation c.sort_by.ensures.permutation
 
 pub returns-clause-sorted : goal.returns-clause-sorted
 returns-clause-sorted c =

@@ -1,6 +1,5 @@
 use Rattle.std.proofs.Common.{map}
 use Rattle.std.proofs.lemmas.List.{map_push}
-use Rattle.std.proofs.lemmas.Result.{on_ok_weaker}
 use Rattle.meaning.specs.Answer.{key_directions}
 use Rattle.sorted_results.specs.KeyView.{key_data, output_data}
 use Rattle.sorted_results.proofs.FirstLemmas.{KeepsOf-pass, KeepsOf-push}
@@ -18,10 +17,8 @@ returns-then-not-is_full-clause-kept c = λ all keeps.
     (output_data c.args.output))
 
 pub returns-clause-kept : goal.returns-clause-kept
-returns-clause-kept c =
-    on_ok_weaker c.put_in_order.result
-    (λ kept all keeps. kept _
+returns-clause-kept c = λ all keeps.
+    c.in_ok-put_in_order.ensures.kept _
     (rw (c.in_ok-push.ensures.items, map_push output_data c.args.self.now.more.items c.args.output)
     (KeepsOf-push (key_directions (map key_data c.args.order.now)) c.args.self.now.most (map output_data c.args.self.now.first.items) (map output_data c.args.self.now.more.items) all keeps
-    (output_data c.args.output))))
-    c.put_in_order.ensures.kept
+    (output_data c.args.output)))
