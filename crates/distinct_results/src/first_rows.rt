@@ -48,7 +48,8 @@ impl FirstRows {
         self.slice.is_done()
     }
 
-    /// Meets a row, and tells whether it is given: it is new, and LIMIT and OFFSET leave it. Then `out` holds its values.
+    /// Meets a row, and tells whether it is given: it is new, and LIMIT and OFFSET leave it. Then `out` holds its values. Of a row
+    /// that was met `out` keeps the memory.
     pub(crate) fn meet(
         &mut self,
         alloc: Global,
@@ -60,6 +61,7 @@ impl FirstRows {
         ensures passed { IfOk result (λ given. IsFalse given → (rows : List (List Datum)) → to_come self.old (row ∷ rows) ≡ to_come self.new rows) }
     {
         if self.met.contains(&row) {
+            *out = row.into_values();
             return Ok(false);
         }
         if !self.slice.gives() {

@@ -22,6 +22,7 @@ use plans::Plan;
 use results::{Results, Selection, Slice};
 use sources::Sources;
 use std::alloc::{AllocError, Global};
+use std::mem;
 use values::{Fault, Row, Value};
 
 /// The rows of a SELECT DISTINCT that is run: each result row once, where the plan first has it.
@@ -88,7 +89,7 @@ impl DistinctResults {
         ensures reads { ReadsPages result pager.old.state pager.new.state }
     {
         'rows: while !self.first.is_done() {
-            let mut row = Vec::new(alloc);
+            let mut row = mem::replace(out, Vec::new(alloc));
             if !self.results.next(alloc, pager, sources, &mut row)? {
                 return Ok(false);
             }
