@@ -7,9 +7,10 @@ ghost use Rattle.naming.specs.Statement.{Named};
 ghost use Rattle.tables.specs.ColumnTypes.{column_types};
 ghost use Rattle.tables.specs.TableData.{TableData};
 ghost use Rattle.syntax.specs.StatementTree.{StatementTree};
+ghost use Rattle.resolver.specs.Refusals.{CompoundWidths, InnerWidth, ItemWidths, RepeatedSource, UsingAmbiguous, UsingUnknown};
 ghost use Rattle.resolver.specs.Resolved.{IsRefused, Resolves};
 
-use naming::laws::typed_as_meaning;
+use naming::laws::{names_are_columns, typed_as_meaning};
 
 /// A statement is one query at most, whose result columns have one name each.
 pub fn one_query()
@@ -30,3 +31,17 @@ pub fn refused_is_unresolved()
     ensures { (tables : List TableData) (tree : StatementTree) (fault : Fault) (named : Named)
         → IsRefused tables tree fault → fault ≢ NoMemory → ¬ Resolves tables tree named }
 {}
+
+/// Numbers of columns are told to differ exactly where they do: those of an item of WITH and the names behind its own, those of
+/// SELECTs that are joined, and the one of the query of an IN. A source that is called as one before it is refused so. A name of
+/// USING is unknown exactly where a side has no column of it, and ambiguous exactly where it has two.
+pub fn refusals_are_told()
+    ensures items { ItemWidths }
+    ensures compounds { CompoundWidths }
+    ensures inner { InnerWidth }
+    ensures sources { RepeatedSource }
+    ensures unknown { UsingUnknown }
+    ensures two { UsingAmbiguous }
+{
+    names_are_columns();
+}
