@@ -1,11 +1,11 @@
--- The sources of a typed SELECT, and what it names over groups.
-use Rattle.select_plans.specs.Laws.{MadeIsOver, TypedIsOfGroups}
+-- The sources of a typed SELECT, and what it names behind groups and windows.
+use Rattle.select_plans.specs.Laws.{MadeIsOver, TypedIsOfRows}
 use Rattle.select_plans.proofs.OverLemmas.{plan_over}
-use Rattle.select_plans.proofs.TypedLemmas.{groups_named}
+use Rattle.select_plans.proofs.TypedLemmas.{rows_named}
 
 pub made_is_over : MadeIsOver
-made_is_over catalog sources have input s order limit offset plan es form typed made =
-    plan_over catalog sources have input s form order limit offset plan es typed made
+made_is_over catalog sources have input s order limit offset plan es inner typed made =
+    plan_over catalog sources have input s inner order limit offset plan es typed made
 
-pub typed_is_of_groups : TypedIsOfGroups
-typed_is_of_groups catalog from s order limit offset types form typed = groups_named catalog from form.source s form.windowless order limit offset types typed
+pub typed_is_of_rows : TypedIsOfRows
+typed_is_of_rows catalog from s order limit offset types inner typed = rows_named catalog from inner s order limit offset types typed

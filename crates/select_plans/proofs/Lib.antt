@@ -1,9 +1,10 @@
 pub mod ReadLemmas
+pub mod PlaceLemmas
 pub mod TypedLemmas
 pub mod BaseLemmas
 pub mod MadeLemmas
 pub mod ColumnLemmas
 pub mod OverLemmas
 pub mod StandLemmas
-pub mod FormLemmas
+pub mod WindowLemmas
 pub mod LawLemmas

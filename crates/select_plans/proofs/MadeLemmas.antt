@@ -10,13 +10,13 @@ use Rattle.meaning.specs.Body.{answers_in}
 use Rattle.meaning.specs.Hits.{FromHits, SelectHits}
 use Rattle.meaning.specs.Query.{From, Key, Select}
 use Rattle.plan_terms.specs.Over.{StandsOver}
-use Rattle.plans.specs.JoinPlan.{AreWideBefore}
 use Rattle.plans.specs.Plan.{PlanData}
 use Rattle.results.specs.Permitted.{SaysOf, SeesRows, computed_rows}
 use Rattle.select_plans.specs.Laws.{MadeHasRows, MadeIsHit, PlanReaches}
 use Rattle.select_plans.specs.Made.{IsMadeOver}
-use Rattle.select_plans.specs.Served.{HasServedForm}
-use Rattle.select_plans.proofs.BaseLemmas.{IsBase, base_of}
+use Rattle.select_plans.specs.Read.{IsWideOf, reads_all, terms_in}
+use Rattle.select_plans.specs.Served.{IsServedFrom}
+use Rattle.select_plans.proofs.BaseLemmas.{IsBase, base_of, wide_by}
 use Rattle.table_plans.specs.Input.{input_from}
 use Rattle.table_plans.specs.declared.inputs.Input.{Input}
 
@@ -51,15 +51,16 @@ module _ (w : Datum) (db : Database) (from : From) (s : Select) (shown : List �
       inr (base.column_hits terms (es ++ us) (zip_append (StandsOver shown 0) es us s.columns terms columns_are stand) hits)
 
 pub made_base : (w : Datum) (db : Database) (input : Input) (s : Select) (order : List Key) (plan : PlanData) (es : List Term)
-    → HasServedForm (input_from input) s → AreWideBefore db (input_from input) → (made : IsMadeOver input s order plan es)
+    → IsServedFrom (input_from input) → IsWideOf db (input_from input) s → (made : IsMadeOver input s order plan es)
     → IsBase w db (input_from input) s made.columns plan
-made_base w db input s order plan es form wide made =
-    base_of w db s input form.source wide form.windowless made.read made.below made.below_is made.columns plan made.rows_are
+made_base w db input s order plan es inner wide made =
+    base_of w db s input inner (wide_by (reads_all s.windows s.grouping) db (input_from input) wide) made.read made.below made.below_is
+    (terms_in (input_from input) s order) made.taken made.columns made.inputs plan made.are_read wide made.inputs_are made.rows_are
 
 pub made_has_rows : MadeHasRows
-made_has_rows w db input s order plan es form wide made =
-    has_rows w db (input_from input) s made.columns plan (made_base w db input s order plan es form wide made) es made.columns_are
+made_has_rows w db input s order plan es inner wide made =
+    has_rows w db (input_from input) s made.columns plan (made_base w db input s order plan es inner wide made) es made.columns_are
 
 pub made_is_hit : MadeIsHit
-made_is_hit w db input s order terms plan es us form wide made stand hits =
-    reached w db (input_from input) s made.columns plan (made_base w db input s order plan es form wide made) terms es us made.columns_are stand hits
+made_is_hit w db input s order terms plan es us inner wide made stand hits =
+    reached w db (input_from input) s made.columns plan (made_base w db input s order plan es inner wide made) terms es us made.columns_are stand hits

@@ -1,11 +1,11 @@
 -- The sources and columns of the plan of a typed SELECT are some of those that have the catalog's columns.
-use Rattle.std.proofs.Common.{◌≡◌, ◌+◌, ◌<◌, arith, All, Bool, false, ℕ, ℤ, List, [], ◌∷◌, ◌++◌, length, map, Option, Some, None, true, sym, subst}
+use Rattle.std.proofs.Common.{◌≡◌, ◌+◌, ◌<◌, arith, All, Bool, false, ℕ, ℤ, List, [], ◌∷◌, ◌++◌, length, map, Option, Some, None, true, refl, sym, subst}
 use Rattle.std.proofs.lemmas.List.Elements.{All-cons, All-head, All-nil, All-tail}
 use Rattle.values.specs.declared.value.Ty.{Ty}
 use Rattle.expr.specs.Conjuncts.{conjuncts}
 use Rattle.expr.specs.Filled.{filled}
 use Rattle.expr.specs.Term.{Term}
-use Rattle.meaning.specs.Query.{From, Grouping, JoinKind, Key, Select, Source, from_width, full, inner, joined, nothing, right, source_width, table, with_inner}
+use Rattle.meaning.specs.Query.{From, Grouping, JoinKind, Key, Select, Source, WindowCall, from_width, full, inner, joined, nothing, right, source_width, table, with_inner}
 use Rattle.meaning.specs.Typed.{FromHasTypes, IsTyped, SourceHasTypes}
 use Rattle.operators.specs.Left.{IsPlanOf}
 use Rattle.sources.specs.SourceData.{SourceData}
@@ -16,10 +16,11 @@ use Rattle.plans.specs.Stands.{tested}
 use Rattle.plans.proofs.JoinLemmas.{before_within}
 use Rattle.select_plans.specs.Columns.{HaveColumns}
 use Rattle.select_plans.specs.Laws.{of_select}
-use Rattle.select_plans.specs.Made.{IsMadeOver, IsOverRows}
-use Rattle.select_plans.specs.Served.{HasServedForm}
-use Rattle.select_plans.specs.Read.{terms_in}
+use Rattle.select_plans.specs.Made.{IsMadeOver, IsOverRows, IsOverWindows}
+use Rattle.select_plans.specs.Read.{IsReadBy, IsReadOf, reads_all, terms_in}
+use Rattle.select_plans.specs.Served.{IsServedFrom}
 use Rattle.select_plans.proofs.ColumnLemmas.{IsColumnsAt, columns_at}
+use Rattle.select_plans.proofs.PlaceLemmas.{places_within}
 use Rattle.select_plans.proofs.ReadLemmas.{all_read}
 use Rattle.select_plans.proofs.TypedLemmas.{query_within, source_is}
 use Rattle.table_plans.specs.Input.{input_from}
@@ -100,20 +101,35 @@ module _ (catalog : List (List Ty)) (sources : List SourceData) (have : HaveColu
           subst (IsPlanOf sources) (sym of.plan_is)
           (tested_of sources of.tests of.below (written_over from answers types typed read within of.below of.below_is))
 
-  module _ (input : Input) (s : Select) (form : HasServedForm (input_from input) s) where
-    -- what is read behind FROM and WHERE, and groups of it
+  module _ (input : Input) (s : Select) (inner : IsServedFrom (input_from input)) where
+    -- what is read behind FROM and WHERE, groups of it, and windows over either
     rows_over : (read : List ℕ) (grouping : Option Grouping) (below : PlanData) (known : List ℕ) (plan : PlanData) → IsOverRows read grouping below known plan
         → IsPlanOf sources below → IsPlanOf sources plan
     rows_over read None below known plan over of = subst (IsPlanOf sources) (sym over.1) of
     rows_over read (Some g) below known plan over of = subst (IsPlanOf sources) (sym over.1.plan_is) of
 
+    windows_over : (calls : List WindowCall) (taken : List ℕ) (inputs : PlanData) (known : List ℕ) (plan : PlanData) → IsOverWindows calls taken inputs known plan
+        → IsPlanOf sources inputs → IsPlanOf sources plan
+    windows_over [] taken inputs known plan over of = subst (IsPlanOf sources) (sym over.1) of
+    windows_over (call ∷ calls) taken inputs known plan over of = subst (IsPlanOf sources) (sym over.1.plan_is) of
+
+    -- only columns of the tables are read
+    read_within : (order : List Key) (limit : Option ℤ) (offset : ℤ) → IsTyped catalog (of_select (input_from input) s order limit offset)
+        → (read : List ℕ) → IsReadOf (input_from input) s order read → All (λ c. c < from_width (input_from input)) read
+    read_within order limit offset typed read are = by_all (reads_all s.windows s.grouping) refl are
+      where
+        by_all : (b : Bool) → reads_all s.windows s.grouping ≡ b → IsReadBy b (input_from input) (terms_in (input_from input) s order) read
+            → All (λ c. c < from_width (input_from input)) read
+        by_all true all are = subst (All (λ c. c < from_width (input_from input))) (sym are) (places_within (from_width (input_from input)))
+        by_all false named are =
+            all_read (λ c. c < from_width (input_from input)) read (terms_in (input_from input) s order) are
+            (query_within catalog (input_from input) inner s order limit offset typed.0 typed.1 named)
+
     pub plan_over : (order : List Key) (limit : Option ℤ) (offset : ℤ) (plan : PlanData) (es : List Term)
         → IsTyped catalog (of_select (input_from input) s order limit offset) → IsMadeOver input s order plan es → IsPlanOf sources plan
     plan_over order limit offset plan es typed made =
-        let from = input_from input in
-        let within = query_within catalog from form.source s form.windowless order limit offset typed.0 typed.1 in
         let body = typed.1.body in
-        rows_over made.read s.grouping made.below made.columns plan made.rows_are
-        (from_over from body.0 body.1 body.3 made.read
-        (all_read (λ c. c < from_width from) made.read (terms_in from s order) made.are_read within)
-        (conjuncts (filled [] s.condition)) made.below made.below_is)
+        windows_over s.windows made.taken made.inputs made.columns plan made.rows_are
+        (rows_over made.read s.grouping made.below made.taken made.inputs made.inputs_are
+        (from_over (input_from input) body.0 body.1 body.3 made.read (read_within order limit offset typed made.read made.are_read)
+        (conjuncts (filled [] s.condition)) made.below made.below_is))

@@ -1,5 +1,5 @@
--- A typed query names columns of its tables alone.
-use Rattle.std.proofs.Common.{◌≡◌, ◌∙◌, ◌+◌, ◌<◌, ◌≤◌, All, Contains, ℕ, ℤ, List, [], ◌∷◌, ◌++◌, append-nil, length, map, slice_get, zero-add, Option, Some, None, refl, sym, ap, subst, arith}
+-- A typed query names columns of its tables alone, and behind groups and windows values of the rows that it is computed on.
+use Rattle.std.proofs.Common.{◌≡◌, ◌∙◌, ◌+◌, ◌<◌, ◌≤◌, All, Contains, ℕ, ℤ, List, [], ◌∷◌, ◌++◌, false, length, map, slice_get, zero-add, Option, Some, None, refl, sym, ap, subst, arith}
 use Rattle.std.specs.List.{AllZip, range_with_len}
 use Rattle.std.proofs.lemmas.List.{length-append}
 use Rattle.std.proofs.lemmas.List.Elements.{All-append, All-cons, All-contains_itself, All-nil, All-weaker, Contains-get_or}
@@ -11,17 +11,18 @@ use Rattle.expr.specs.Columns.{columns_of, columns_of_all, columns_of_arms}
 use Rattle.expr.specs.Term.{Term, Terms, Arms, literal, column, call, arithmetic, concat, compare, is, and, or, between, among, coalesce, choice, choice_of, null_if, like, none, answer, more, no_arms, arm}
 use Rattle.expr.specs.Types.{ArmsHaveTypes, HasType, HaveType}
 use Rattle.group_plans.specs.Grouped.{group_columns}
-use Rattle.meaning.specs.Hits.{grouping_terms, key_terms, order_terms}
-use Rattle.meaning.specs.Query.{Aggregate, AggregateFunction, From, Grouping, Key, KeyTerm, QueryData, Select, Source, from_width, joined, nothing, select, source_width, table, with_inner}
+use Rattle.meaning.specs.Hits.{function_terms, grouping_terms, key_terms, order_terms}
+use Rattle.meaning.specs.Query.{Aggregate, AggregateFunction, From, Grouping, Key, KeyTerm, QueryData, Select, SortTerm, Source, WindowCall, WindowFunction, from_width, joined, nothing, select, source_width, table, with_inner}
 use Rattle.meaning.proofs.ElementLemmas.{All-flat_map, length_all_zip}
-use Rattle.meaning.specs.Typed.{AggregateGives, AggregateHasType, CallHasType, ComputedHasTypes, FromHasTypes, GroupedHasTypes, GroupingHasTypes, HasTypes, IsKeyTerm, IsTermOf, SourceHasTypes}
+use Rattle.meaning.specs.Typed.{AggregateGives, AggregateHasType, CallHasType, ComputedHasTypes, FromHasTypes, FunctionHasType, GroupedHasTypes, GroupingHasTypes, HasTypes, IsKeyTerm, IsTerm, IsTermOf, SourceHasTypes}
 use Rattle.plan_terms.specs.Names.{answers_of}
 use Rattle.plan_terms.specs.Over.{IsOver}
-use Rattle.select_plans.specs.Read.{row_terms, select_terms, terms_in}
-use Rattle.select_plans.specs.Served.{AreOfGroups}
+use Rattle.select_plans.specs.Read.{reads_all, row_terms, select_terms, terms_in}
+use Rattle.select_plans.specs.Served.{AreOf, AreOfGroups, AreOfRows, AreOfWindows, taken_width}
 use Rattle.table_plans.specs.TableJoins.{AreTableJoins}
 use Rattle.table_plans.specs.Planned.{on_terms}
 use Rattle.table_plans.proofs.OnLemmas.{on_within}
+use Rattle.window_plans.specs.Windowed.{IsOverCall, windowed_columns}
 
 -- ---- one term
 
@@ -73,7 +74,7 @@ module _ (row answers : List Ty) where
       All-cons (λ t. Within (columns_of t)) t terms (term_within t ty all.0) (columns_within terms types all.1)
 
 -- a term that names some of the first columns alone stands over these
-over_range : (n : ℕ) (t : Term) → All (λ c. c < n) (columns_of t) → IsOver (range_with_len 0 n) 0 t
+pub over_range : (n : ℕ) (t : Term) → All (λ c. c < n) (columns_of t) → IsOver (range_with_len 0 n) 0 t
 over_range n t within = record {
   columns = All-weaker (λ c. c < n) (Contains (range_with_len 0 n)) (λ c low. held c low) (columns_of t) within;
   answers = All-weaker (Contains (answers_of t)) (λ at. 0 ≤ at) (λ at held. omega arith) (answers_of t) (All-contains_itself (answers_of t));
@@ -84,11 +85,12 @@ over_range n t within = record {
         subst (Contains (range_with_len 0 n)) (get_or-range_with_len 0 n c 0 low ∙ zero-add c)
         (Contains-get_or (range_with_len 0 n) c 0 (subst (λ m. c < m) (sym (length-range_with_len 0 n)) low))
 
--- ---- a query of joined tables
+-- terms over a row of so many values stand over its places
+terms_over : (row answers : List Ty) (terms : List Term) → All (λ t. All (λ c. c < length row) (columns_of t)) terms → All (IsOver (range_with_len 0 (length row)) 0) terms
+terms_over row answers terms within =
+    All-weaker (λ t. All (λ c. c < length row) (columns_of t)) (IsOver (range_with_len 0 (length row)) 0) (over_range (length row)) terms within
 
-no_calls : (inputs values answers : List Ty) → AllZip (CallHasType answers inputs) [] values → values ≡ []
-no_calls inputs [] answers all = refl
-no_calls inputs (ty ∷ values) answers all = absurd all
+-- ---- a query of joined tables
 
 module _ (catalog : List (List Ty)) where
   -- a table of the catalog has as many columns as FROM says
@@ -105,32 +107,30 @@ module _ (catalog : List (List Ty)) where
       ∙ (λ i. from_long from inner.0 answers typed.0 typed.2 i + (source_is source inner.1.at inner.1.width typed.1 inner.1.source_is typed.3).1 i)
   from_long (with_inner from query) inner answers types typed = absurd inner
 
--- how many values the rows have that result columns are computed on, over rows of so many
-abbrev computed_width : Option Grouping → ℕ → ℕ
-computed_width None width = width
-computed_width (Some g) width = length g.by + length g.aggregates
-
 module _ (answers row : List Ty) where
-  -- the arguments of aggregates
+  abbrev IsInRow : Term → Type 0
+  IsInRow t = Within row answers (columns_of t)
+
+  -- the argument of an aggregate
+  argument_within : (f : AggregateFunction) (t : Term) (ty : Ty) → AggregateGives answers row f t ty → IsInRow t
+  argument_within AggregateFunction.count t ty gives = term_within row answers t gives.0.0 gives.0.1
+  argument_within AggregateFunction.sum t ty gives = term_within row answers t Int gives.0
+  argument_within AggregateFunction.min t ty gives = term_within row answers t ty gives
+  argument_within AggregateFunction.max t ty gives = term_within row answers t ty gives
+
   arguments_within : (aggregates : List Aggregate) (values : List Ty) → AllZip (AggregateHasType answers row) aggregates values
-      → All (λ t. Within row answers (columns_of t)) (map (λ (a : Aggregate). a.argument) aggregates)
-  arguments_within [] [] all = All-nil (λ t. Within row answers (columns_of t))
+      → All IsInRow (map (λ (a : Aggregate). a.argument) aggregates)
+  arguments_within [] [] all = All-nil IsInRow
   arguments_within [] (ty ∷ values) all = absurd all
   arguments_within (a ∷ aggregates) [] all = absurd all
   arguments_within (a ∷ aggregates) (ty ∷ values) all =
-      All-cons (λ t. Within row answers (columns_of t)) a.argument (map (λ (a : Aggregate). a.argument) aggregates) (one a.function a.argument ty all.0)
+      All-cons IsInRow a.argument (map (λ (a : Aggregate). a.argument) aggregates) (argument_within a.function a.argument ty all.0)
       (arguments_within aggregates values all.1)
-    where
-      one : (f : AggregateFunction) (t : Term) (ty : Ty) → AggregateGives answers row f t ty → Within row answers (columns_of t)
-      one AggregateFunction.count t ty gives = term_within row answers t gives.0.0 gives.0.1
-      one AggregateFunction.sum t ty gives = term_within row answers t Int gives.0
-      one AggregateFunction.min t ty gives = term_within row answers t ty gives
-      one AggregateFunction.max t ty gives = term_within row answers t ty gives
 
   -- GROUP BY and the arguments of aggregates
-  groups_within : (g : Grouping) (types : List Ty) → GroupingHasTypes answers row g types → All (λ t. Within row answers (columns_of t)) (grouping_terms g)
+  groups_within : (g : Grouping) (types : List Ty) → GroupingHasTypes answers row g types → All IsInRow (grouping_terms g)
   groups_within g types typed =
-      All-append (λ t. Within row answers (columns_of t)) g.by (map (λ (a : Aggregate). a.argument) g.aggregates)
+      All-append IsInRow g.by (map (λ (a : Aggregate). a.argument) g.aggregates)
       (columns_within row answers g.by typed.keys typed.by) (arguments_within g.aggregates typed.values typed.aggregates)
 
   -- the row of a group has a value for each term of GROUP BY and for each aggregate
@@ -139,27 +139,67 @@ module _ (answers row : List Ty) where
       ap length typed.types_are ∙ length-append typed.keys typed.values
       ∙ (λ i. sym (length_all_zip (IsTermOf answers row) g.by typed.keys typed.by) i + sym (length_all_zip (AggregateHasType answers row) g.aggregates typed.values typed.aggregates) i)
 
-  inputs_long : (grouping : Option Grouping) (inputs : List Ty) → GroupedHasTypes answers row grouping inputs → length inputs ≡ computed_width grouping (length row)
-  inputs_long None inputs typed = ap length typed
-  inputs_long (Some g) inputs typed = groups_long g inputs typed
+  -- ---- windows
 
-module _ (catalog : List (List Ty)) (from : From) (inner : AreTableJoins from) (s : Select) (windowless : s.windows ≡ []) where
-  -- result columns are computed on the rows of FROM, or of groups
-  computed_long : (answers of computed : List Ty) → FromHasTypes catalog answers from of → ComputedHasTypes answers of s computed
-      → length computed ≡ computed_width s.grouping (from_width from)
-  computed_long answers of computed typed computes =
-      let values : computes.values ≡ [] =
-      no_calls computes.inputs computes.values answers (subst (λ calls. AllZip (CallHasType answers computes.inputs) calls computes.values) windowless computes.windows) in
-      ap length (computes.types_are ∙ (λ i. computes.inputs ++ values i) ∙ append-nil computes.inputs)
-      ∙ inputs_long answers of s.grouping computes.inputs computes.grouped
-      ∙ ap (computed_width s.grouping) (from_long catalog from inner answers of typed)
+  some_within : (terms : List Term) → All (IsTerm answers row) terms → All IsInRow terms
+  some_within terms typed = All-weaker (IsTerm answers row) IsInRow (λ t has. term_within row answers t has.0 has.1) terms typed
+
+  function_within : (f : WindowFunction) (ty : Ty) → FunctionHasType answers row f ty → All IsInRow (function_terms f)
+  function_within (WindowFunction.aggregate a) ty typed = All-cons IsInRow a.argument [] (argument_within a.function a.argument ty typed) (All-nil IsInRow)
+  function_within WindowFunction.row_number ty typed = All-nil IsInRow
+  function_within WindowFunction.rank ty typed = All-nil IsInRow
+  function_within WindowFunction.dense_rank ty typed = All-nil IsInRow
+  function_within (WindowFunction.ntile n) ty typed = All-nil IsInRow
+  function_within (WindowFunction.lag x n otherwise) ty typed =
+      All-cons IsInRow x (otherwise ∷ []) (term_within row answers x ty typed.0)
+      (All-cons IsInRow otherwise [] (term_within row answers otherwise ty typed.1) (All-nil IsInRow))
+  function_within (WindowFunction.lead x n otherwise) ty typed =
+      All-cons IsInRow x (otherwise ∷ []) (term_within row answers x ty typed.0)
+      (All-cons IsInRow otherwise [] (term_within row answers otherwise ty typed.1) (All-nil IsInRow))
+  function_within (WindowFunction.first_value x) ty typed = All-cons IsInRow x [] (term_within row answers x ty typed) (All-nil IsInRow)
+  function_within (WindowFunction.last_value x) ty typed = All-cons IsInRow x [] (term_within row answers x ty typed) (All-nil IsInRow)
+  function_within (WindowFunction.nth_value x n) ty typed = All-cons IsInRow x [] (term_within row answers x ty typed.0) (All-nil IsInRow)
+
+  call_over : (one : WindowCall) (ty : Ty) → CallHasType answers row one ty → IsOverCall (range_with_len 0 (length row)) 0 one
+  call_over one ty typed = record {
+    window = record {
+      partition = terms_over row answers one.window.partition (some_within one.window.partition typed.0.partition);
+      order =
+          All-weaker (λ (s : SortTerm). IsTerm answers row s.term) (λ (s : SortTerm). IsOver (range_with_len 0 (length row)) 0 s.term)
+          (λ s has. over_range (length row) s.term (term_within row answers s.term has.0 has.1)) one.window.order typed.0.order;
+    };
+    function = terms_over row answers (function_terms one.function) (function_within one.function ty typed.1);
+  }
+
+  calls_typed : (calls : List WindowCall) (values : List Ty) → AllZip (CallHasType answers row) calls values → All (IsOverCall (range_with_len 0 (length row)) 0) calls
+  calls_typed [] values all = All-nil (IsOverCall (range_with_len 0 (length row)) 0)
+  calls_typed (one ∷ calls) [] all = absurd all
+  calls_typed (one ∷ calls) (ty ∷ values) all =
+      All-cons (IsOverCall (range_with_len 0 (length row)) 0) one calls (call_over one ty all.0) (calls_typed calls values all.1)
+
+module _ (catalog : List (List Ty)) (from : From) (inner : AreTableJoins from) (s : Select) where
+  -- windows take the rows of FROM, or of groups
+  inputs_long : (answers row : List Ty) → FromHasTypes catalog answers from row → (grouping : Option Grouping) (inputs : List Ty)
+      → GroupedHasTypes answers row grouping inputs → length inputs ≡ taken_width from grouping
+  inputs_long answers row typed None inputs of = ap length of ∙ from_long catalog from inner answers row typed
+  inputs_long answers row typed (Some g) inputs of = groups_long answers row g inputs of
+
+  abbrev computed_width : ℕ
+  computed_width = taken_width from s.grouping + length s.windows
+
+  -- result columns are computed on these, with the values of the calls behind them
+  computed_long : (answers row computed : List Ty) → FromHasTypes catalog answers from row → ComputedHasTypes answers row s computed → length computed ≡ computed_width
+  computed_long answers row computed typed computes =
+      ap length computes.types_are ∙ length-append computes.inputs computes.values
+      ∙ (λ i. inputs_long answers row typed s.grouping computes.inputs computes.grouped i
+      + sym (length_all_zip (CallHasType answers computes.inputs) s.windows computes.values computes.windows) i)
 
   abbrev IsWithin : Term → Type 0
   IsWithin t = All (λ c. c < from_width from) (columns_of t)
 
   -- it names values of the rows that result columns are computed on
   abbrev IsOnComputed : Term → Type 0
-  IsOnComputed t = All (λ c. c < computed_width s.grouping (from_width from)) (columns_of t)
+  IsOnComputed t = All (λ c. c < computed_width) (columns_of t)
 
   key_within : (types : List Ty) (by : KeyTerm) → IsKeyTerm catalog (select from s) types by → All IsOnComputed (key_terms by)
   key_within types (KeyTerm.result n) typed = All-nil IsOnComputed
@@ -172,51 +212,82 @@ module _ (catalog : List (List Ty)) (from : From) (inner : AreTableJoins from) (
   abbrev typed_query : List Key → Option ℤ → ℤ → QueryData
   typed_query order limit offset = record { body = select from s; order = order; limit = limit; offset = offset }
 
-  -- the result columns and ORDER BY
-  computed_within : (order : List Key) (limit : Option ℤ) (offset : ℤ) (types : List Ty) → HasTypes catalog (typed_query order limit offset) types
-      → All IsOnComputed (s.columns ++ order_terms order)
-  computed_within order limit offset types typed =
-      let body = typed.body in
-      All-append IsOnComputed s.columns (order_terms order)
-      (subst (λ n. All (λ t. All (λ c. c < n) (columns_of t)) s.columns) (computed_long body.0 body.1 body.4.0 body.3 body.4.1)
-      (columns_within body.4.0 body.0 s.columns types body.4.2))
-      (All-flat_map IsOnComputed (λ key. key_terms key.by) order
-      (All-weaker (λ key. IsKeyTerm catalog (select from s) types key.by) (λ key. All IsOnComputed (key_terms key.by))
-      (λ key. key_within types key.by) order typed.order))
+  module _ (order : List Key) (limit : Option ℤ) (offset : ℤ) (types : List Ty) (typed : HasTypes catalog (typed_query order limit offset) types) where
+    -- the types of what inner queries answer, of the rows of FROM, and of what is computed on these
+    abbrev answers : List Ty
+    answers = typed.body.0
 
-  -- what is computed on the rows of FROM names columns of the tables alone
-  pub query_within : (order : List Key) (limit : Option ℤ) (offset : ℤ) (types : List Ty) → HasTypes catalog (typed_query order limit offset) types
-      → All IsWithin (terms_in from s order)
-  query_within order limit offset types typed =
-      let body = typed.body in
-      let long = from_long catalog from inner body.0 body.1 body.3 in
-      All-append IsWithin (select_terms s order) (on_terms from)
-      (All-cons IsWithin s.condition (row_terms s.grouping (s.columns ++ order_terms order))
-      (subst (λ n. All (λ c. c < n) (columns_of s.condition)) long (term_within body.1 body.0 s.condition Int body.4.1.condition))
-      (by_groups s.grouping body.4.1.inputs (computed_within order limit offset types typed) body.4.1.grouped))
-      (on_within from inner)
-    where
-      by_groups : (grouping : Option Grouping) (inputs : List Ty)
-          → All (λ t. All (λ c. c < computed_width grouping (from_width from)) (columns_of t)) (s.columns ++ order_terms order)
-          → GroupedHasTypes typed.body.0 typed.body.1 grouping inputs → All IsWithin (row_terms grouping (s.columns ++ order_terms order))
-      by_groups None inputs all of = all
-      by_groups (Some g) inputs all of =
-          subst (λ n. All (λ t. All (λ c. c < n) (columns_of t)) (grouping_terms g)) (from_long catalog from inner typed.body.0 typed.body.1 typed.body.3)
-          (groups_within typed.body.0 typed.body.1 g inputs of)
+    abbrev row : List Ty
+    row = typed.body.1
 
-  -- over groups HAVING, the result columns and ORDER BY name values of a group's row alone
-  pub groups_named : (order : List Key) (limit : Option ℤ) (offset : ℤ) (types : List Ty) → HasTypes catalog (typed_query order limit offset) types
-      → AreOfGroups s.grouping (s.columns ++ order_terms order)
-  groups_named order limit offset types typed =
-      by_groups s.grouping typed.body.4.1.inputs (computed_within order limit offset types typed) typed.body.4.1.grouped
-    where
-      by_groups : (grouping : Option Grouping) (inputs : List Ty)
-          → All (λ t. All (λ c. c < computed_width grouping (from_width from)) (columns_of t)) (s.columns ++ order_terms order)
-          → GroupedHasTypes typed.body.0 typed.body.1 grouping inputs → AreOfGroups grouping (s.columns ++ order_terms order)
-      by_groups None inputs all of = tt
-      by_groups (Some g) inputs all of =
-          All-cons (IsOver (group_columns g) 0) g.having (s.columns ++ order_terms order)
-          (over_range (length g.by + length g.aggregates) g.having
-          (subst (λ n. All (λ c. c < n) (columns_of g.having)) (groups_long typed.body.0 typed.body.1 g inputs of) (term_within inputs typed.body.0 g.having Int of.having)))
-          (All-weaker (λ t. All (λ c. c < length g.by + length g.aggregates) (columns_of t)) (IsOver (group_columns g) 0)
-          (over_range (length g.by + length g.aggregates)) (s.columns ++ order_terms order) all)
+    abbrev computes : ComputedHasTypes typed.body.0 typed.body.1 s typed.body.4.0
+    computes = typed.body.4.1
+
+    -- the result columns and ORDER BY
+    computed_within : All IsOnComputed (s.columns ++ order_terms order)
+    computed_within =
+        All-append IsOnComputed s.columns (order_terms order)
+        (subst (λ n. All (λ t. All (λ c. c < n) (columns_of t)) s.columns) (computed_long answers row typed.body.4.0 typed.body.3 computes)
+        (columns_within typed.body.4.0 answers s.columns types typed.body.4.2))
+        (All-flat_map IsOnComputed (λ key. key_terms key.by) order
+        (All-weaker (λ key. IsKeyTerm catalog (select from s) types key.by) (λ key. All IsOnComputed (key_terms key.by))
+        (λ key. key_within types key.by) order typed.order))
+
+    row_long : length row ≡ from_width from
+    row_long = from_long catalog from inner answers row typed.body.3
+
+    condition_within : IsWithin s.condition
+    condition_within = subst (λ n. All (λ c. c < n) (columns_of s.condition)) row_long (term_within row answers s.condition Int computes.condition)
+
+    -- what is computed on the rows of FROM names columns of the tables alone
+    pub query_within : reads_all s.windows s.grouping ≡ false → All IsWithin (terms_in from s order)
+    query_within named =
+        All-append IsWithin (select_terms s order) (on_terms from)
+        (All-cons IsWithin s.condition (row_terms s.grouping (s.columns ++ order_terms order)) condition_within
+        (by_parts s.windows s.grouping named computes.inputs computed_within computes.grouped))
+        (on_within from inner)
+      where
+        by_parts : (calls : List WindowCall) (grouping : Option Grouping) → reads_all calls grouping ≡ false → (inputs : List Ty)
+            → All (λ t. All (λ c. c < taken_width from grouping + length calls) (columns_of t)) (s.columns ++ order_terms order)
+            → GroupedHasTypes answers row grouping inputs → All IsWithin (row_terms grouping (s.columns ++ order_terms order))
+        by_parts [] None named inputs all of =
+            let same : from_width from + 0 ≡ from_width from = omega arith in
+            subst (λ n. All (λ t. All (λ c. c < n) (columns_of t)) (s.columns ++ order_terms order)) same all
+        by_parts (one ∷ calls) None named inputs all of = absurd cc
+        by_parts calls (Some g) named inputs all of =
+            subst (λ n. All (λ t. All (λ c. c < n) (columns_of t)) (grouping_terms g)) row_long (groups_within answers row g inputs of)
+
+    -- over groups HAVING names values of a group's row alone, and these terms where they do so
+    of_groups : (grouping : Option Grouping) (inputs : List Ty) (terms : List Term) → GroupedHasTypes answers row grouping inputs
+        → All (λ t. All (λ c. c < taken_width from grouping) (columns_of t)) terms → AreOfGroups grouping terms
+    of_groups None inputs terms of all = tt
+    of_groups (Some g) inputs terms of all =
+        All-cons (IsOver (group_columns g) 0) g.having terms
+        (over_range (length g.by + length g.aggregates) g.having
+        (subst (λ n. All (λ c. c < n) (columns_of g.having)) (groups_long answers row g inputs of) (term_within inputs answers g.having Int of.having)))
+        (All-weaker (λ t. All (λ c. c < length g.by + length g.aggregates) (columns_of t)) (IsOver (group_columns g) 0)
+        (over_range (length g.by + length g.aggregates)) terms all)
+
+    of_windows : AreOfWindows from s (s.columns ++ order_terms order)
+    of_windows = record {
+      condition = over_range (from_width from) s.condition condition_within;
+      having = of_groups s.grouping computes.inputs [] computes.grouped (All-nil (λ t. All (λ c. c < taken_width from s.grouping) (columns_of t)));
+      calls =
+          subst (λ n. All (IsOverCall (range_with_len 0 n) 0) s.windows) (inputs_long answers row typed.body.3 s.grouping computes.inputs computes.grouped)
+          (calls_typed answers computes.inputs s.windows computes.values computes.windows);
+      terms_are =
+          All-weaker IsOnComputed (IsOver (windowed_columns (taken_width from s.grouping) s.windows) 0) (over_range computed_width)
+          (s.columns ++ order_terms order) computed_within;
+    }
+
+    -- behind groups and windows HAVING, calls, the result columns and ORDER BY name values of the rows alone that they are computed on
+    pub rows_named : AreOfRows from s (order_terms order)
+    rows_named = by_windows s.windows refl
+      where
+        by_windows : (calls : List WindowCall) → s.windows ≡ calls → AreOf calls from s (s.columns ++ order_terms order)
+        by_windows (one ∷ calls) same = of_windows
+        by_windows [] same =
+            let few : taken_width from s.grouping + length s.windows ≡ taken_width from s.grouping =
+            let length_is : length s.windows ≡ 0 = ap length same in omega (arith, length_is) in
+            of_groups s.grouping computes.inputs (s.columns ++ order_terms order) computes.grouped
+            (subst (λ n. All (λ t. All (λ c. c < n) (columns_of t)) (s.columns ++ order_terms order)) few computed_within)

@@ -11,13 +11,13 @@ use Rattle.meaning.specs.Query.{From, Key, QueryData, Select, select}
 use Rattle.meaning.specs.Typed.{HasTypes, IsTyped}
 use Rattle.operators.specs.Left.{IsPlanOf}
 use Rattle.plan_terms.specs.Over.{StandsOver}
-use Rattle.plans.specs.JoinPlan.{AreWideBefore}
 use Rattle.plans.specs.Plan.{Hits, PlanData, Reaches, rows_of}
 use Rattle.results.specs.Permitted.{SeesRows}
 use Rattle.sources.specs.SourceData.{SourceData}
 use Rattle.select_plans.specs.Columns.{HaveColumns}
 use Rattle.select_plans.specs.Made.{IsMadeOver}
-use Rattle.select_plans.specs.Served.{AreOfGroups, HasServedForm}
+use Rattle.select_plans.specs.Read.{IsWideOf}
+use Rattle.select_plans.specs.Served.{AreOfRows, IsServedFrom}
 use Rattle.table_plans.specs.declared.inputs.Input.{Input}
 use Rattle.table_plans.specs.Input.{input_from}
 
@@ -32,12 +32,12 @@ of_select from s order limit offset = record { body = select from s; order = ord
 -- where the tables hold what FROM says of them, the rows on which the SELECT computes its result columns, in some order
 abbrev pub MadeHasRows : Type 0
 MadeHasRows = (w : Datum) (db : Database) (input : Input) (s : Select) (order : List Key) (plan : PlanData) (es : List Term)
-    → HasServedForm (input_from input) s → AreWideBefore db (input_from input) → IsMadeOver input s order plan es → SeesRows w db (input_from input) s plan es
+    → IsServedFrom (input_from input) → IsWideOf db (input_from input) s → IsMadeOver input s order plan es → SeesRows w db (input_from input) s plan es
 
 -- what the plan reaches, or its result columns and what stands for other terms reach on its rows, the SELECT hits
 abbrev pub MadeIsHit : Type 0
 MadeIsHit = (w : Datum) (db : Database) (input : Input) (s : Select) (order : List Key) (terms : List Term) (plan : PlanData) (es us : List Term)
-    → HasServedForm (input_from input) s → AreWideBefore db (input_from input) → (made : IsMadeOver input s order plan es)
+    → IsServedFrom (input_from input) → IsWideOf db (input_from input) s → (made : IsMadeOver input s order plan es)
     → AllZip (StandsOver made.columns 0) us terms → PlanReaches w db plan (es ++ us)
     → FromHits w db (answers_in w db (input_from input)) (input_from input) false ⊎ SelectHits w db (input_from input) s terms
 
@@ -45,10 +45,10 @@ MadeIsHit = (w : Datum) (db : Database) (input : Input) (s : Select) (order : Li
 abbrev pub MadeIsOver : Type 0
 MadeIsOver = (catalog : List (List Ty)) (sources : List SourceData) → HaveColumns catalog sources
     → (input : Input) (s : Select) (order : List Key) (limit : Option ℤ) (offset : ℤ) (plan : PlanData) (es : List Term)
-    → HasServedForm (input_from input) s → IsTyped catalog (of_select (input_from input) s order limit offset)
+    → IsServedFrom (input_from input) → IsTyped catalog (of_select (input_from input) s order limit offset)
     → IsMadeOver input s order plan es → IsPlanOf sources plan
 
--- over groups a typed SELECT names values of a group's row alone
-abbrev pub TypedIsOfGroups : Type 0
-TypedIsOfGroups = (catalog : List (List Ty)) (from : From) (s : Select) (order : List Key) (limit : Option ℤ) (offset : ℤ) (types : List Ty)
-    → HasServedForm from s → HasTypes catalog (of_select from s order limit offset) types → AreOfGroups s.grouping (s.columns ++ order_terms order)
+-- behind groups and windows a typed SELECT names values of the rows alone that it is computed on
+abbrev pub TypedIsOfRows : Type 0
+TypedIsOfRows = (catalog : List (List Ty)) (from : From) (s : Select) (order : List Key) (limit : Option ℤ) (offset : ℤ) (types : List Ty)
+    → IsServedFrom from → HasTypes catalog (of_select from s order limit offset) types → AreOfRows from s (order_terms order)

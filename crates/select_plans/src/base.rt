@@ -1,33 +1,37 @@
-//! What a SELECT computes on the rows of FROM, or on those of groups, whatever becomes of its result rows.
-ghost use Rattle.std.specs.Prelude.{◌≡◌, ◌++◌, IfOk, MatchOption, map, option_map, ⊤};
+//! What a SELECT computes on the rows of FROM, on those of groups, or on either with the values of windows, whatever becomes of its
+//! result rows.
+ghost use Rattle.std.specs.Prelude.{◌≡◌, ◌≢◌, [], All, IfOk, MatchOption, map, option_map, ⊤};
 ghost use Rattle.expr.specs.View as expressions;
 ghost use Rattle.meaning.specs.Hits.{order_terms};
 ghost use Rattle.order_keys.specs.KeyView.{key_of};
+ghost use Rattle.plan_terms.specs.Over.{AreWhole};
 ghost use Rattle.plans.specs.PlanView.{plan_data};
-ghost use Rattle.select_plans.specs.Made.{IsMadeOver, IsOverRows, StandsOverRows};
-ghost use Rattle.select_plans.specs.Served.{AreOfGroups};
-ghost use Rattle.query_trees.specs.SelectView.{grouping_of, select_of};
+ghost use Rattle.select_plans.specs.Made.{IsMadeOver, IsOverRows, IsOverWindows, StandsOverRows};
+ghost use Rattle.select_plans.specs.Served.{AreOfRows};
+ghost use Rattle.query_trees.specs.SelectView.{call_of, grouping_of, select_of};
 ghost use Rattle.table_plans.specs.TableJoins.{AreTableJoins};
 ghost use Rattle.table_plans.specs.Input.{input_from};
+ghost use Rattle.window_plans.specs.Windowed.{IsOverCall};
 
-use crate::columns::columns_read;
+use crate::columns::{columns_read, push_places};
 use expr::Expr;
 use group_plans::{columns_of_groups, grouped_over};
 use order_keys::Key;
 use plan_terms::exprs_over;
 use plans::Plan;
-use query_trees::{Grouping, Select};
+use query_trees::{Grouping, Select, WindowCall};
 use std::alloc::{AllocError, Global};
 use table_plans::{Input, plan_of};
+use window_plans::windowed_over;
 
-/// The rows that result columns are computed on: which columns are known of them, and their plan.
+/// Rows on the way to the result columns: which columns are known of them, and their plan.
 #[derive(Drop)]
 struct Rows {
     read: Vec<usize>,
     plan: Plan,
 }
 
-/// These rows, and the result columns over them.
+/// The rows that result columns are computed on, and the result columns over them.
 #[derive(Drop)]
 pub struct Base {
     pub read: Vec<usize>,
@@ -35,8 +39,9 @@ pub struct Base {
     pub columns: Vec<Expr>,
 }
 
-/// The rows that result columns are computed on, over a plan of FROM and WHERE of which these columns are read: its rows, or those
-/// of groups that HAVING keeps. There are none where groups name other columns. (SELECT, "Generation of the set of result rows")
+/// The rows that windows take, or result columns where there are none, over a plan of FROM and WHERE of which these columns are read:
+/// its rows, or those of groups that HAVING keeps. There are none where groups name other columns. (SELECT, "Generation of the set of
+/// result rows")
 fn rows_over(
     alloc: Global,
     read: Vec<usize>,
@@ -60,8 +65,36 @@ fn rows_over(
     Ok(Some(Rows { read, plan }))
 }
 
-/// The base of a SELECT without windows. There is none where over groups HAVING, a result column or ORDER BY names something else
-/// than the values of a group's row. (SELECT)
+/// The rows that result columns are computed on, over those that windows take, of which each column is known where there are windows:
+/// the same, or these with the values of the calls behind them. There are none where a call names another column. (Window Functions)
+fn windows_over(
+    alloc: Global,
+    taken: Rows,
+    calls: &[WindowCall],
+) -> Result<Option<Rows>, AllocError>
+    requires { calls.now ≢ [] → AreWhole taken.read.items }
+    ensures over { IfOk result (λ rows. MatchOption rows (¬ All (IsOverCall taken.read.items 0) (map call_of calls.now)) (λ _. ⊤)) }
+    ensures rows { IfOk result (λ rows. MatchOption rows ⊤
+        (λ rows. IsOverWindows (map call_of calls.now) taken.read.items (plan_data taken.plan) rows.read.items (plan_data rows.plan))) }
+{
+    if calls.is_empty() {
+        return Ok(Some(taken));
+    }
+    let Rows {
+        mut read,
+        plan: below,
+    } = taken;
+    let windowed = windowed_over(alloc, read.as_slice(), 0, calls, below)?;
+    let plan = match windowed {
+        None => return Ok(None),
+        Some(plan) => plan,
+    };
+    push_places(calls.len(), &mut read)?;
+    Ok(Some(Rows { read, plan }))
+}
+
+/// The base of a SELECT. There is none where over groups or windows HAVING, a call, a result column or ORDER BY names something else
+/// than the values of the rows that it is computed on, or beside windows WHERE something else than columns of the tables. (SELECT)
 pub fn base_of(
     alloc: Global,
     input: &Input,
@@ -70,15 +103,23 @@ pub fn base_of(
 ) -> Result<Option<Base>, AllocError>
     requires { AreTableJoins (input_from input.now) }
     ensures { IfOk result (λ base. MatchOption base
-        (¬ AreOfGroups (select_of select.now).grouping ((select_of select.now).columns ++ order_terms (map key_of order.now)))
+        (¬ AreOfRows (input_from input.now) (select_of select.now) (order_terms (map key_of order.now)))
         (λ base. (made : IsMadeOver input.now (select_of select.now) (map key_of order.now) (plan_data base.plan) (map expressions.term base.columns.items))
         × (made.columns ≡ base.read.items))) }
 {
     let read = columns_read(alloc, input, select, order)?;
     let found = plan_of(alloc, input, read.as_slice(), &select.condition)?;
-    let below = found.unwrap();
+    let below = match found {
+        None => return Ok(None),
+        Some(below) => below,
+    };
     let over = rows_over(alloc, read, &select.grouping, below)?;
-    let rows = match over {
+    let taken = match over {
+        None => return Ok(None),
+        Some(rows) => rows,
+    };
+    let computed = windows_over(alloc, taken, select.windows.as_slice())?;
+    let rows = match computed {
         None => return Ok(None),
         Some(rows) => rows,
     };

@@ -1,10 +1,13 @@
-//! The columns that a query names.
-ghost use Rattle.std.specs.Prelude.{◌≡◌, ◌++◌, IfOk, OnOk, flat_map, map};
+//! The columns that a query reads of the rows of FROM.
+ghost use Rattle.std.specs.Prelude.{◌≡◌, ◌++◌, ◌+◌, IfOk, OnOk, flat_map, length, map};
 ghost use Rattle.expr.specs.Columns.{columns_of};
 ghost use Rattle.meaning.specs.Hits.{key_terms, order_terms};
+ghost use Rattle.meaning.specs.Query.{from_width};
 ghost use Rattle.order_keys.specs.KeyView.{key_of, key_term_of};
-ghost use Rattle.select_plans.specs.Read.{AreRead, row_terms, terms_in};
+ghost use Rattle.plan_terms.specs.Over.{AreWhole};
+ghost use Rattle.select_plans.specs.Read.{AreRead, IsReadOf, reads_all, row_terms, terms_in};
 ghost use Rattle.query_trees.specs.SelectView.{select_of};
+ghost use Rattle.std.specs.List.{range_with_len};
 ghost use Rattle.std.specs.List.Sorted.{IsStrictlyIncreasing};
 ghost use Rattle.table_plans.specs.Input.{from_of, input_from};
 ghost use Rattle.table_plans.specs.Planned.{on_terms};
@@ -62,7 +65,7 @@ fn push_on(tables: &[JoinedTable], out: &mut Vec<usize>) -> Result<(), AllocErro
 }
 
 /// The columns that a SELECT, its ORDER BY and the ON of each of its tables name on the rows of FROM, each once and in their order.
-pub(crate) fn columns_read(
+fn columns_named(
     alloc: Global,
     input: &Input,
     select: &Select,
@@ -76,4 +79,51 @@ pub(crate) fn columns_read(
     push_row_columns(select, order, &mut named)?;
     push_on(input.tables.as_slice(), &mut named)?;
     Ok(read_columns(named))
+}
+
+/// Puts so many columns more behind those of a row, each of which stands in its place.
+pub(crate) fn push_places(count: usize, out: &mut Vec<usize>) -> Result<(), AllocError>
+    requires { AreWhole out.old.items }
+    ensures { OnOk result (out.new.items ≡ range_with_len 0 (length out.old.items + count)) }
+{
+    for _ in 0..count {
+        let at = out.len();
+        out.push(at)?;
+    }
+    Ok(())
+}
+
+/// Each column of tables side by side.
+fn all_columns(alloc: Global, tables: &[JoinedTable]) -> Result<Vec<usize>, AllocError>
+    ensures { IfOk result (λ columns. columns.items ≡ range_with_len 0 (from_width (from_of tables.now))) }
+{
+    let mut columns = Vec::new(alloc);
+    for table in tables {
+        push_places(table.width, &mut columns)?;
+    }
+    Ok(columns)
+}
+
+/// Whether each column is read: where windows take the rows of FROM themselves.
+fn is_all_read(select: &Select) -> bool
+    ensures { result ≡ reads_all (select_of select.now).windows (select_of select.now).grouping }
+{
+    !select.windows.is_empty() && select.grouping.is_none()
+}
+
+/// The columns that are read of the rows of FROM: each where windows take these, since a window puts rows that its ORDER BY doesn't
+/// tell apart in the order of all their values; elsewhere those that are named.
+pub(crate) fn columns_read(
+    alloc: Global,
+    input: &Input,
+    select: &Select,
+    order: &[Key],
+) -> Result<Vec<usize>, AllocError>
+    ensures read { IfOk result (λ read. IsReadOf (input_from input.now) (select_of select.now) (map key_of order.now) read.items) }
+    ensures once { IfOk result (λ read. IsStrictlyIncreasing read.items) }
+{
+    if is_all_read(select) {
+        return all_columns(alloc, input.tables.as_slice());
+    }
+    columns_named(alloc, input, select, order)
 }

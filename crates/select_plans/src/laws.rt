@@ -1,6 +1,6 @@
 //! What holds of the definitions alone.
 ghost use Rattle.select_plans.specs.Columns.{TablesHaveColumns};
-ghost use Rattle.select_plans.specs.Laws.{MadeHasRows, MadeIsHit, MadeIsOver, TypedIsOfGroups};
+ghost use Rattle.select_plans.specs.Laws.{MadeHasRows, MadeIsHit, MadeIsOver, TypedIsOfRows};
 
 /// A plan that is made of a SELECT has the rows on which it computes its result columns, and what the plan reaches, and what the
 /// result columns and other terms reach on its rows, the SELECT can reach.
@@ -19,7 +19,7 @@ pub fn made_is_over()
     ensures { MadeIsOver }
 {}
 
-/// Over groups a typed SELECT and its ORDER BY name values of a group's row alone.
-pub fn typed_is_of_groups()
-    ensures { TypedIsOfGroups }
+/// Behind groups and windows a typed SELECT and its ORDER BY name values of the rows alone that they are computed on.
+pub fn typed_is_of_rows()
+    ensures { TypedIsOfRows }
 {}
