@@ -8,27 +8,31 @@ use Rattle.compound_plans.specs.Arms.{IsArmFor}
 use Rattle.compound_results.specs.Arms.{ArmData}
 use Rattle.select_plans.specs.Laws.{PlanReaches}
 use Rattle.select_plans.specs.Made.{IsMadeOver}
-use Rattle.select_plans.specs.Served.{HasServedForm}
+use Rattle.select_plans.specs.Served.{AreOfRows, IsServedFrom, IsServedSelect}
 use Rattle.select_plans.proofs.MadeLemmas.{made_has_rows, made_is_hit}
 use Rattle.select_plans.proofs.OverLemmas.{plan_over}
 use Rattle.table_plans.specs.Input.{input_from}
 use Rattle.table_plans.specs.declared.inputs.Input.{Input}
 
 -- a plan over what the SELECT stands on
-arm_over : (input : Input) (s : Select) (arm : ArmData) → HasServedForm (input_from input) s → IsMadeOver input s [] arm.plan arm.columns → arm.distinct ≡ s.distinct
+arm_over : (input : Input) (s : Select) (arm : ArmData) → IsServedFrom (input_from input) → IsMadeOver input s [] arm.plan arm.columns → arm.distinct ≡ s.distinct
     → IsArmFor (input_from input) s arm
-arm_over input s arm form made distinct = record {
-  is_arm = λ w db wide. record { sees = made_has_rows w db input s [] arm.plan arm.columns form wide made; distinct = distinct };
+arm_over input s arm inner made distinct = record {
+  is_arm = λ w db wide. record { sees = made_has_rows w db input s [] arm.plan arm.columns inner wide made; distinct = distinct };
   hits = λ w db wide hits.
-      made_is_hit w db input s [] [] arm.plan arm.columns [] form wide made tt
+      made_is_hit w db input s [] [] arm.plan arm.columns [] inner wide made tt
       (subst (λ (es : List Term). PlanReaches w db arm.plan es) (sym (append-nil arm.columns)) hits);
   over = λ catalog sources have types typed.
-      plan_over catalog sources have input s form [] None (pos 0) arm.plan arm.columns (
+      plan_over catalog sources have input s inner [] None (pos 0) arm.plan arm.columns (
         types,
         record { body = typed; order = All-nil (λ (key : Key). IsKeyTerm catalog (select (input_from input) s) types key.by) },
       ) made;
 }
 
-pub arm_for : (from : From) (input : Input) (s : Select) (arm : ArmData) → from ≡ input_from input → HasServedForm (input_from input) s
+pub arm_for : (from : From) (input : Input) (s : Select) (arm : ArmData) → from ≡ input_from input → IsServedFrom (input_from input)
     → IsMadeOver input s [] arm.plan arm.columns → arm.distinct ≡ s.distinct → IsArmFor from s arm
-arm_for from input s arm same form made distinct = subst (λ (f : From). IsArmFor f s arm) (sym same) (arm_over input s arm form made distinct)
+arm_for from input s arm same inner made distinct = subst (λ (f : From). IsArmFor f s arm) (sym same) (arm_over input s arm inner made distinct)
+
+-- there is none where something else than values of the rows is named that it is computed on
+pub not_named : (from : From) (input : Input) (s : Select) → from ≡ input_from input → ¬ AreOfRows (input_from input) s [] → ¬ IsServedSelect from s []
+not_named from input s same none served = none (subst (λ (f : From). AreOfRows f s []) same served.named)

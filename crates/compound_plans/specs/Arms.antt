@@ -6,10 +6,10 @@ use Rattle.values.specs.declared.value.Ty.{Ty}
 use Rattle.meaning.specs.Query.{Body, From, Select, compound, select}
 use Rattle.meaning.specs.Typed.{BodyHasTypes}
 use Rattle.operators.specs.Left.{IsPlanOf}
-use Rattle.plans.specs.JoinPlan.{AreWideBefore}
 use Rattle.compound_results.specs.Arms.{ArmData}
 use Rattle.compound_results.specs.Permitted.{HitsWithin, IsArmOf}
 use Rattle.select_plans.specs.Columns.{HaveColumns}
+use Rattle.select_plans.specs.Read.{IsWideOf}
 use Rattle.select_plans.specs.Served.{IsServedSelect}
 use Rattle.sources.specs.SourceData.{SourceData}
 
@@ -26,7 +26,7 @@ AreServed (compound body operator from s) = AreServed body × IsServedArm from s
 -- and reaches nothing that the SELECT can't reach. Its sources and columns are some of those that have the columns of a catalog over
 -- which the SELECT is typed.
 pub record IsArmFor (from : From) (s : Select) (arm : ArmData) : Type 0 where
-  pub is_arm : (w : Datum) (db : Database) → AreWideBefore db from → IsArmOf w db from s arm
-  pub hits : (w : Datum) (db : Database) → AreWideBefore db from → HitsWithin w db from s arm
+  pub is_arm : (w : Datum) (db : Database) → IsWideOf db from s → IsArmOf w db from s arm
+  pub hits : (w : Datum) (db : Database) → IsWideOf db from s → HitsWithin w db from s arm
   pub over : (catalog : List (List Ty)) (sources : List SourceData) → HaveColumns catalog sources → (types : List Ty) → BodyHasTypes catalog (select from s) types
       → IsPlanOf sources arm.plan

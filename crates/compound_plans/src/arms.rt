@@ -9,16 +9,17 @@ ghost use Rattle.query_trees.specs.SelectView.{select_of};
 use body_trees::{Body, Tables};
 use compound_results::{Arm, Arms};
 use query_trees::Select;
-use select_plans::{base_of, served_input};
+use select_plans::base_of;
 use std::alloc::{AllocError, Global};
+use table_plans::input_of;
 
-/// What is run for one of the SELECTs. There is nothing where it has windows, stands on something else than joined tables, or over
-/// groups names something else than the values of a group's row. (SELECT)
+/// What is run for one of the SELECTs. There is nothing where it stands on something else than joined tables, or behind groups or
+/// windows names something else than the values of the rows that it is computed on. (SELECT)
 fn arm_of(alloc: Global, tables: &Tables, select: &Select) -> Result<Option<Arm>, AllocError>
     ensures { IfOk result (λ arm. MatchOption arm (¬ IsServedArm (tables_of tables.now) (select_of select.now))
         (λ arm. IsArmFor (tables_of tables.now) (select_of select.now) (arm_data arm))) }
 {
-    let served = served_input(alloc, tables, select)?;
+    let served = input_of(alloc, tables)?;
     let input = match served {
         None => return Ok(None),
         Some(input) => input,

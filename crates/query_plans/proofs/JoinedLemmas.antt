@@ -9,14 +9,14 @@ use Rattle.compound_results.specs.Permitted.{AreArmsOf, HitsWithin, IsArmOf}
 use Rattle.compound_results.proofs.PermittedLemmas.{compound_hits_are_hits, compound_is_permitted}
 use Rattle.meaning.specs.Query.{Body, From, QueryData, Select, compound, select}
 use Rattle.meaning.specs.Typed.{BodyHasTypes}
-use Rattle.plans.specs.JoinPlan.{AreWideBefore}
 use Rattle.query_plans.specs.Answers.{AreWideFor, IsPlanFor, IsPlannedAsTyped, PlannedData}
 use Rattle.query_plans.specs.Made.{IsJoined}
 use Rattle.select_plans.specs.Columns.{HaveColumns}
+use Rattle.select_plans.specs.Read.{IsWideOf}
 use Rattle.sources.specs.SourceData.{SourceData}
 
 -- what holds of each arm where its tables hold what FROM says of them
-each_told : (db : Database) (Is : From → Select → ArmData → Type 0) → ((from : From) (s : Select) (arm : ArmData) → AreWideBefore db from → IsArmFor from s arm → Is from s arm)
+each_told : (db : Database) (Is : From → Select → ArmData → Type 0) → ((from : From) (s : Select) (arm : ArmData) → IsWideOf db from s → IsArmFor from s arm → Is from s arm)
     → (body : Body) (arms : ArmsData) → AreWideFor db body → AreArmsOf IsArmFor body arms → AreArmsOf Is body arms
 each_told db Is told (select from s) (one arm) wide of = told from s arm wide of
 each_told db Is told (select from s) (joined left other arm) wide of = absurd of

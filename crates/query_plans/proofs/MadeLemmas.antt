@@ -13,7 +13,6 @@ use Rattle.meaning.specs.Hits.{FromHits, SelectHits, order_terms}
 use Rattle.meaning.specs.Query.{From, Key, KeyTerm, QueryData, Select, columns_of_table, only, select, table}
 use Rattle.meaning.proofs.OneTableLemmas.{scan_is_permitted}
 use Rattle.plan_terms.specs.Over.{StandsOver}
-use Rattle.plans.specs.JoinPlan.{AreWideBefore}
 use Rattle.plans.specs.Plan.{PlanData}
 use Rattle.distinct_results.specs.Permitted.{AreResults, IsResult}
 use Rattle.distinct_results.proofs.PermittedLemmas as once
@@ -23,7 +22,8 @@ use Rattle.results.specs.Permitted.{SeesRows, computed_rows}
 use Rattle.results.proofs.PermittedLemmas as results
 use Rattle.select_plans.specs.Laws.{PlanReaches, of_select}
 use Rattle.select_plans.specs.Made.{IsMadeOver}
-use Rattle.select_plans.specs.Served.{HasServedForm}
+use Rattle.select_plans.specs.Read.{IsWideOf}
+use Rattle.select_plans.specs.Served.{IsServedFrom}
 use Rattle.select_plans.proofs.BaseLemmas.{IsBase}
 use Rattle.select_plans.proofs.MadeLemmas.{has_rows, made_base, made_is_hit, zip_append}
 use Rattle.sorted_results.specs.Permitted.{IsKeyOver, KeySaysOf}
@@ -75,7 +75,7 @@ module _ (w : Datum) (db : Database) (from : From) (s : Select) (shown : List �
   keys_say (k ∷ keys) [] all = absurd all
   keys_say (k ∷ keys) (q ∷ order) all = (record { by = key_says k.by q.by all.0.by; direction = all.0.direction }, keys_say keys order all.1)
 
-module _ (input : Input) (s : Select) (form : HasServedForm (input_from input) s) (order : List Key) (limit : Option ℤ) (offset : ℤ) where
+module _ (input : Input) (s : Select) (inner : IsServedFrom (input_from input)) (order : List Key) (limit : Option ℤ) (offset : ℤ) where
   abbrev query : QueryData
   query = of_select (input_from input) s order limit offset
 
@@ -83,10 +83,10 @@ module _ (input : Input) (s : Select) (form : HasServedForm (input_from input) s
   abbrev IsHit : Datum → Database → List Term → Type 0
   IsHit w db terms = FromHits w db (answers_in w db (input_from input)) (input_from input) false ⊎ SelectHits w db (input_from input) s terms
 
-  abbrev sees : (w : Datum) (db : Database) (plan : PlanData) (es : List Term) → AreWideBefore db (input_from input) → IsMadeOver input s order plan es
+  abbrev sees : (w : Datum) (db : Database) (plan : PlanData) (es : List Term) → IsWideOf db (input_from input) s → IsMadeOver input s order plan es
       → SeesRows w db (input_from input) s plan es
   sees w db plan es wide made =
-      has_rows w db (input_from input) s made.columns plan (made_base w db input s order plan es form wide made) es made.columns_are
+      has_rows w db (input_from input) s made.columns plan (made_base w db input s order plan es inner wide made) es made.columns_are
 
   scan_permits : (w : Datum) (db : Database) (at width : ℕ) (places : List ℕ) (answer : List Row) → input_from input ≡ only (table at width) → IsBare s order limit offset
       → s.columns ≡ map column places → IsAnswerOf w db (columns at places) answer → Permits w db query answer
@@ -95,7 +95,7 @@ module _ (input : Input) (s : Select) (form : HasServedForm (input_from input) s
         body = select (sym from_is i) (record {
           condition = sym bare.condition i;
           grouping = sym bare.ungrouped i;
-          windows = sym form.windowless i;
+          windows = sym bare.windowless i;
           columns = sym columns_are i;
           distinct = sym bare.all i;
         });
@@ -107,11 +107,11 @@ module _ (input : Input) (s : Select) (form : HasServedForm (input_from input) s
       (subst (Permits w db (columns_of_table at width places)) (sym is) (scan_is_permitted w db at width places))
 
   -- where nothing of ORDER BY is computed on a row of the plan
-  result_reaches : (w : Datum) (db : Database) (es : List Term) (plan : PlanData) → AreWideBefore db (input_from input) → IsMadeOver input s order plan es
+  result_reaches : (w : Datum) (db : Database) (es : List Term) (plan : PlanData) → IsWideOf db (input_from input) s → IsMadeOver input s order plan es
       → order_terms order ≡ [] → PlanReaches w db plan es → IsHit w db (order_terms order)
   result_reaches w db es plan wide made none hits =
       subst (IsHit w db) (sym none)
-      (made_is_hit w db input s order [] plan es [] form wide made tt (subst (PlanReaches w db plan) (sym (append-nil es)) hits))
+      (made_is_hit w db input s order [] plan es [] inner wide made tt (subst (PlanReaches w db plan) (sym (append-nil es)) hits))
 
   pub made_is_plan : (p : PlannedData) → IsMade input s order limit offset p → IsPlanFor query p
   made_is_plan (columns at places) made = record {
@@ -136,13 +136,13 @@ module _ (input : Input) (s : Select) (form : HasServedForm (input_from input) s
           sees = sees w db selection.plan selection.columns wide made.made;
           order =
               keys_say w db (input_from input) s made.made.columns selection.plan
-              (made_base w db input s order selection.plan selection.columns form wide made.made) selection.order order made.order_is;
+              (made_base w db input s order selection.plan selection.columns inner wide made.made) selection.order order made.order_is;
           limit = made.limit_is;
           offset = made.offset_is;
         })
         is;
     hits = λ w db wide hits.
-        made_is_hit w db input s order (order_terms order) selection.plan selection.columns (order_terms selection.order) form wide made.made
+        made_is_hit w db input s order (order_terms order) selection.plan selection.columns (order_terms selection.order) inner wide made.made
         (order_stands made.made.columns selection.order order made.order_is) hits;
   }
   made_is_plan (distinct selection) made = record {

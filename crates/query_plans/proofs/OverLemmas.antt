@@ -15,8 +15,8 @@ use Rattle.query_plans.specs.Made.{IsMade}
 use Rattle.select_plans.specs.Columns.{HaveColumns}
 use Rattle.select_plans.specs.Laws.{of_select}
 use Rattle.select_plans.specs.Made.{IsMadeOver}
-use Rattle.select_plans.specs.Read.{row_terms, select_terms}
-use Rattle.select_plans.specs.Served.{HasServedForm}
+use Rattle.select_plans.specs.Read.{reads_all, row_terms, select_terms}
+use Rattle.select_plans.specs.Served.{IsServedFrom}
 use Rattle.select_plans.proofs.ColumnLemmas.{columns_at}
 use Rattle.select_plans.proofs.OverLemmas.{plan_over}
 use Rattle.select_plans.proofs.TypedLemmas.{query_within}
@@ -34,10 +34,10 @@ places_within n (c ∷ places) all =
     (places_within n places (All-tail (λ t. All (λ c. c < n) (columns_of t)) (column c) (map column places) all))
 
 module _ (catalog : List (List Ty)) (sources : List SourceData) (have : HaveColumns catalog sources) (input : Input) (s : Select)
-    (form : HasServedForm (input_from input) s) (order : List Key) (limit : Option ℤ) (offset : ℤ) where
+    (inner : IsServedFrom (input_from input)) (order : List Key) (limit : Option ℤ) (offset : ℤ) where
   abbrev over : (plan : PlanData) (es : List Term) → IsTyped catalog (of_select (input_from input) s order limit offset)
       → IsMadeOver input s order plan es → IsPlanOf sources plan
-  over plan es typed made = plan_over catalog sources have input s form order limit offset plan es typed made
+  over plan es typed made = plan_over catalog sources have input s inner order limit offset plan es typed made
 
   -- columns alone
   pub made_over : (p : PlannedData) → IsMade input s order limit offset p → IsTyped catalog (of_select (input_from input) s order limit offset)
@@ -49,7 +49,7 @@ module _ (catalog : List (List Ty)) (sources : List SourceData) (have : HaveColu
   made_over (compound joined) made typed = absurd made
   made_over (columns at places) made typed =
       let from = input_from input in
-      let within = query_within catalog from form.source s form.windowless order limit offset typed.0 typed.1 in
+      let within = query_within catalog from inner s order limit offset typed.0 typed.1 (ap (λ calls. reads_all calls s.grouping) made.bare.windowless) in
       let one = subst (λ from. IsTyped catalog (of_select from s order limit offset)) made.from_is typed in
       let source = one.1.body.3 in
       let named : All (λ t. All (λ c. c < from_width from) (columns_of t)) (map column places) =

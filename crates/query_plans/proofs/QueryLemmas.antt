@@ -10,14 +10,14 @@ use Rattle.query_plans.specs.declared.planned.Planned.{Planned}
 use Rattle.query_plans.proofs.MadeLemmas.{made_is_plan}
 use Rattle.query_plans.proofs.OverLemmas.{made_over}
 use Rattle.select_plans.specs.Laws.{of_select}
-use Rattle.select_plans.specs.Served.{HasServedForm}
+use Rattle.select_plans.specs.Served.{IsServedFrom}
 use Rattle.table_plans.specs.Input.{input_from}
 use Rattle.table_plans.specs.declared.inputs.Input.{Input}
 
 -- the plan of a query's SELECT is one of the query
 module _ (query : QueryData) (from : From) (s : Select) (input : Input) (order : List Key) (limit : Option ℤ) (offset : ℤ) (p : PlannedData)
     (body : query.body ≡ select from s) (from_is : from ≡ input_from input) (order_is : order ≡ query.order) (limit_is : limit ≡ query.limit)
-    (offset_is : offset ≡ query.offset) (form : HasServedForm (input_from input) s) (made : IsMade input s order limit offset p) where
+    (offset_is : offset ≡ query.offset) (inner : IsServedFrom (input_from input)) (made : IsMade input s order limit offset p) where
   same : of_select (input_from input) s order limit offset ≡ query
   same = λ i. record {
     body = (ap (λ f. select f s) (sym from_is) ∙ sym body) i;
@@ -27,10 +27,10 @@ module _ (query : QueryData) (from : From) (s : Select) (input : Input) (order :
   }
 
   pub is_plan : IsPlanFor query p
-  is_plan = subst (λ (q : QueryData). IsPlanFor q p) same (made_is_plan input s form order limit offset p made)
+  is_plan = subst (λ (q : QueryData). IsPlanFor q p) same (made_is_plan input s inner order limit offset p made)
 
   pub is_over : IsPlannedAsTyped query p
-  is_over catalog sources have typed = made_over catalog sources have input s form order limit offset p made (subst (IsTyped catalog) (sym same) typed)
+  is_over catalog sources have typed = made_over catalog sources have input s inner order limit offset p made (subst (IsTyped catalog) (sym same) typed)
 
 -- the plan of a SELECT, or none
 pub told_plan : (q : QueryData) (Made : PlannedData → Type 0) (P : Type 0) (planned : Option Planned) → (¬ P → ¬ IsServed q)

@@ -1,5 +1,5 @@
 -- Which queries aren't served.
-use Rattle.std.proofs.Common.{◌≡◌, ◌==◌, true, false, is_some, List, [], ◌∷◌, ◌++◌, length, map, option_map, Option, Some, None, refl, sym, subst}
+use Rattle.std.proofs.Common.{◌≡◌, ◌==◌, true, false, is_some, List, [], ◌∷◌, length, map, option_map, Option, Some, None, refl, sym, subst}
 use Rattle.std.proofs.Math.Dec.{eqb-suc-zero}
 use Rattle.compound_plans.specs.Arms.{AreServed}
 use Rattle.distinct_results.specs.Permitted.{AreResults}
@@ -10,7 +10,7 @@ use Rattle.order_keys.specs.declared.terms.Key.{Key}
 use Rattle.query_plans.specs.Served.{IsServed, IsServedBody}
 use Rattle.query_trees.specs.SelectView.{grouping_of}
 use Rattle.query_trees.specs.declared.selects.Grouping as selects_grouping
-use Rattle.select_plans.specs.Served.{AreOfGroups, HasServedForm}
+use Rattle.select_plans.specs.Served.{AreOfRows, IsServedFrom}
 
 -- one of several SELECTs isn't served, or ORDER BY has another term than result columns behind them
 pub not_together : (query : QueryData) (left : Body) (operator : Operator) (from : From) (s : Select) → query.body ≡ compound left operator from s
@@ -19,13 +19,14 @@ not_together query left operator from s is none served =
     let together = subst (IsServedBody query.order) is served in none (subst AreServed (sym is) together.each, together.ordered)
 
 module _ (query : QueryData) (from : From) (s : Select) (is : query.body ≡ select from s) where
-  -- another FROM, or windows
-  pub not_form : ¬ HasServedForm from s → ¬ IsServed query
-  not_form none served = none (subst (IsServedBody query.order) is served).served.form
+  -- another FROM
+  pub not_form : ¬ IsServedFrom from → ¬ IsServed query
+  not_form none served = none (subst (IsServedBody query.order) is served).served.source
 
-  -- ORDER BY has another term than result columns behind DISTINCT, or something else than the values of a group's row is named
-  pub not_alone : ¬ ((s.distinct ≡ true → AreResults query.order) × AreOfGroups s.grouping (s.columns ++ order_terms query.order)) → ¬ IsServed query
-  not_alone none served = let alone = subst (IsServedBody query.order) is served in none (alone.ordered, alone.served.grouped)
+  -- ORDER BY has another term than result columns behind DISTINCT, or something else than values of the rows is named that it is
+  -- computed on
+  pub not_alone : ¬ ((s.distinct ≡ true → AreResults query.order) × AreOfRows from s (order_terms query.order)) → ¬ IsServed query
+  not_alone none served = let alone = subst (IsServedBody query.order) is served in none (alone.ordered, alone.served.named)
 
 -- ---- the tests of the code
 

@@ -8,8 +8,8 @@ use Rattle.meaning.specs.Query.{Body, From, Key, KeyTerm, Operator, Select, comp
 use Rattle.meaning.specs.Typed.{BodyHasTypes, IsKeyTerm}
 use Rattle.query_plans.specs.Laws.{TypedIsServed}
 use Rattle.query_plans.specs.Served.{HaveServedForm, IsServedBody}
-use Rattle.select_plans.specs.Served.{HasServedForm}
-use Rattle.select_plans.proofs.LawLemmas.{typed_is_of_groups}
+use Rattle.select_plans.specs.Served.{IsServedFrom}
+use Rattle.select_plans.proofs.LawLemmas.{typed_is_of_rows}
 
 module _ (catalog : List (List Ty)) where
   -- behind DISTINCT a typed ORDER BY names result columns alone
@@ -23,11 +23,11 @@ module _ (catalog : List (List Ty)) where
   results_behind left operator from s types (KeyTerm.result at) typed = tt
   results_behind left operator from s types (KeyTerm.term t) typed = absurd typed
 
-  arm_served : (from : From) (s : Select) (types : List Ty) → BodyHasTypes catalog (select from s) types → HasServedForm from s → IsServedArm from s
+  arm_served : (from : From) (s : Select) (types : List Ty) → BodyHasTypes catalog (select from s) types → IsServedFrom from → IsServedArm from s
   arm_served from s types typed form = record {
-    form = form;
-    grouped =
-        typed_is_of_groups catalog from s [] None (pos 0) types form
+    source = form;
+    named =
+        typed_is_of_rows catalog from s [] None (pos 0) types form
         (record { body = typed; order = All-nil (λ (key : Key). IsKeyTerm catalog (select from s) types key.by) });
   }
 
@@ -39,7 +39,7 @@ module _ (catalog : List (List Ty)) where
   body_served : (order : List Key) (body : Body) (types : List Ty) → BodyHasTypes catalog body types → All (λ (key : Key). IsKeyTerm catalog body types key.by) order
       → HaveServedForm body → IsServedBody order body
   body_served order (select from s) types typed keys form = record {
-    served = record { form = form; grouped = typed_is_of_groups catalog from s order None (pos 0) types form (record { body = typed; order = keys }) };
+    served = record { source = form; named = typed_is_of_rows catalog from s order None (pos 0) types form (record { body = typed; order = keys }) };
     ordered = λ distinct.
         All-weaker (λ (key : Key). IsKeyTerm catalog (select from s) types key.by) (λ (key : Key). IsResult key.by)
         (λ key. results_named from s distinct types key.by) order keys;

@@ -1,5 +1,5 @@
 -- Over rows that fit the catalog a typed query's tables have as many values in each row as they have columns.
-use Rattle.std.proofs.Common.{◌≡◌, ◌∙◌, ℕ, zero, suc, List, [], ◌∷◌, length, slice_get, slice_index_or, Some, sym, subst}
+use Rattle.std.proofs.Common.{◌≡◌, ◌∙◌, Bool, true, false, ℕ, zero, suc, List, [], ◌∷◌, length, slice_get, slice_index_or, Some, sym, subst}
 use Rattle.std.specs.List.{AllZip}
 use Rattle.std.proofs.lemmas.List.Elements.{All-weaker}
 use Rattle.values.specs.Database.{Database}
@@ -12,6 +12,7 @@ use Rattle.meaning.proofs.ElementLemmas.{length_all_zip}
 use Rattle.plans.specs.JoinPlan.{AreWide, IsWideSource}
 use Rattle.plans.proofs.JoinLemmas.{wide_before}
 use Rattle.query_plans.specs.Answers.{AreWideFor}
+use Rattle.select_plans.specs.Read.{IsWideBy, reads_all}
 
 some_types : (a b : List Ty) → Some a ≡ Some b → a ≡ b
 some_types a b e = cc
@@ -37,10 +38,14 @@ module _ (catalog : List (List Ty)) (db : Database) (fits : Fits catalog db) whe
   from_wide (joined from kind source on) answers types typed = (from_wide from answers typed.0 typed.2, source_wide source typed.1 typed.3)
   from_wide (with_inner from query) answers types typed = from_wide from answers types typed
 
+  by_all : (b : Bool) (from : From) → AreWide db from → IsWideBy b db from
+  by_all true from wide = wide
+  by_all false from wide = wide_before db from wide
+
   body_wide : (body : Body) (types : List Ty) → BodyHasTypes catalog body types → AreWideFor db body
-  body_wide (select from s) types typed = wide_before db from (from_wide from typed.0 typed.1 typed.3)
+  body_wide (select from s) types typed = by_all (reads_all s.windows s.grouping) from (from_wide from typed.0 typed.1 typed.3)
   body_wide (compound body operator from s) types typed =
-      let last = typed.1 in (body_wide body types typed.0, wide_before db from (from_wide from last.0 last.1 last.3))
+      let last = typed.1 in (body_wide body types typed.0, by_all (reads_all s.windows s.grouping) from (from_wide from last.0 last.1 last.3))
 
   pub typed_wide : (query : QueryData) → IsTyped catalog query → AreWideFor db query.body
   typed_wide query typed = body_wide query.body typed.0 typed.1.body

@@ -10,7 +10,6 @@ use Rattle.meaning.specs.Hits.{order_terms}
 use Rattle.meaning.specs.OneTable.{shown}
 use Rattle.meaning.specs.Query.{Body, QueryData}
 use Rattle.meaning.specs.Typed.{IsTyped}
-use Rattle.plans.specs.JoinPlan.{AreWideBefore}
 use Rattle.plans.specs.Plan.{table_rows, table_size, work}
 use Rattle.sources.specs.SourceData.{SourceData}
 use Rattle.operators.specs.Left.{IsNestOf, IsPlanOf}
@@ -22,6 +21,7 @@ use Rattle.compound_results.specs.Arms.{ArePlannedOver, ArmsHit, work_of_arms}
 use Rattle.compound_results.specs.Compounds.{CompoundData, IsCompoundAnswer, compound_data}
 use Rattle.select_plans.specs.Columns.{HaveColumns}
 use Rattle.select_plans.specs.Laws.{PlanReaches}
+use Rattle.select_plans.specs.Read.{IsWideOf}
 use Rattle.query_plans.specs.declared.planned.Planned.{Planned}
 use Rattle.query_plans.specs.declared.planned.Planned.TheVariants as p
 
@@ -69,11 +69,11 @@ HitsOf w db (distinct selection) = PlanReaches w db selection.plan selection.col
 HitsOf w db (sorted_distinct selection) = PlanReaches w db selection.plan selection.columns
 HitsOf w db (compound joined) = ArmsHit w db joined.arms
 
--- The rows of each table that another source of its SELECT stands behind have as many values as it has columns. Of a SELECT of one
--- table alone this says nothing.
+-- The rows of each table that another source of its SELECT stands behind have as many values as it has columns, and where windows take
+-- the rows of FROM, those of its last. Of a SELECT of one table alone without windows this says nothing.
 abbrev pub AreWideFor : Database → Body → Type 0
-AreWideFor db (Body.select from s) = AreWideBefore db from
-AreWideFor db (Body.compound body operator from s) = AreWideFor db body × AreWideBefore db from
+AreWideFor db (Body.select from s) = IsWideOf db from s
+AreWideFor db (Body.compound body operator from s) = AreWideFor db body × IsWideOf db from s
 
 -- what it answers the query permits, and what it reaches the query can reach
 pub record IsPlanFor (query : QueryData) (planned : PlannedData) : Type 0 where

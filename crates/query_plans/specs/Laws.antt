@@ -5,6 +5,6 @@ use Rattle.meaning.specs.Query.{QueryData}
 use Rattle.meaning.specs.Typed.{IsTyped}
 use Rattle.query_plans.specs.Served.{HaveServedForm, IsServed}
 
--- those of which each SELECT stands on tables that are joined, or on none, and has no windows
+-- those of which each SELECT stands on tables that are joined, or on none
 abbrev pub TypedIsServed : Type 0
 TypedIsServed = (catalog : List (List Ty)) (query : QueryData) → IsTyped catalog query → HaveServedForm query.body → IsServed query

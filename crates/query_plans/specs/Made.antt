@@ -16,10 +16,11 @@ use Rattle.sorted_results.specs.Sorted.{SortedData}
 use Rattle.table_plans.specs.declared.inputs.Input.{Input}
 use Rattle.table_plans.specs.Input.{input_from}
 
--- a SELECT that keeps each row, in no order, without groups, DISTINCT, LIMIT and OFFSET
+-- a SELECT that keeps each row, in no order, without groups, windows, DISTINCT, LIMIT and OFFSET
 pub record IsBare (s : Select) (order : List Key) (limit : Option ℤ) (offset : ℤ) : Type 0 where
   pub all : s.distinct ≡ false
   pub ungrouped : s.grouping ≡ None
+  pub windowless : s.windows ≡ []
   pub condition : s.condition ≡ always
   pub unordered : order ≡ []
   pub unlimited : limit ≡ None

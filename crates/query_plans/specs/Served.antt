@@ -4,10 +4,10 @@ use Rattle.compound_plans.specs.Arms.{AreServed}
 use Rattle.distinct_results.specs.Permitted.{AreResults}
 use Rattle.meaning.specs.Hits.{order_terms}
 use Rattle.meaning.specs.Query.{Body, From, Key, QueryData, Select, compound, select}
-use Rattle.select_plans.specs.Served.{HasServedForm, IsServedSelect}
+use Rattle.select_plans.specs.Served.{IsServedFrom, IsServedSelect}
 
--- One SELECT of tables that are joined or of none, without windows. Over groups, HAVING, the result columns
--- and ORDER BY name values of a group's row alone; behind DISTINCT, ORDER BY names result columns alone.
+-- One SELECT of tables that are joined or of none. Behind groups and windows HAVING, calls, the result columns and ORDER BY name values
+-- of the rows alone that they are computed on; behind DISTINCT, ORDER BY names result columns alone.
 pub record IsServedAlone (order : List Key) (from : From) (s : Select) : Type 0 where
   pub served : IsServedSelect from s (order_terms order)
   pub ordered : s.distinct ≡ true → AreResults order
@@ -25,7 +25,7 @@ IsServedBody order (compound body operator from s) = AreServedTogether order (co
 abbrev pub IsServed : QueryData → Type 0
 IsServed query = IsServedBody query.order query.body
 
--- each SELECT of a body stands on tables that are joined, or on none, and has no windows
+-- each SELECT of a body stands on tables that are joined, or on none
 abbrev pub HaveServedForm : Body → Type 0
-HaveServedForm (select from s) = HasServedForm from s
-HaveServedForm (compound body operator from s) = HaveServedForm body × HasServedForm from s
+HaveServedForm (select from s) = IsServedFrom from
+HaveServedForm (compound body operator from s) = HaveServedForm body × IsServedFrom from

@@ -1,5 +1,5 @@
 //! SELECT DISTINCT.
-ghost use Rattle.std.specs.Prelude.{◌≡◌, ◌++◌, IfOk, MatchOption, map, true};
+ghost use Rattle.std.specs.Prelude.{◌≡◌, IfOk, MatchOption, map, true};
 ghost use Rattle.distinct_results.specs.Permitted.{AreResults, IsResult};
 ghost use Rattle.distinct_results.specs.Sorted.{result_key};
 ghost use Rattle.meaning.specs.Hits.{order_terms};
@@ -8,7 +8,7 @@ ghost use Rattle.order_keys.specs.KeyView.{key_of, key_term_of};
 ghost use Rattle.query_plans.specs.Answers.{planned_data};
 ghost use Rattle.query_plans.specs.Made.{IsMade};
 ghost use Rattle.query_trees.specs.SelectView.{select_of};
-ghost use Rattle.select_plans.specs.Served.{AreOfGroups};
+ghost use Rattle.select_plans.specs.Served.{AreOfRows};
 ghost use Rattle.table_plans.specs.TableJoins.{AreTableJoins};
 ghost use Rattle.table_plans.specs.Input.{input_from};
 
@@ -52,8 +52,9 @@ pub(crate) fn result_keys(
     Ok(Some(keys))
 }
 
-/// The plan of a SELECT DISTINCT without windows, `None` where ORDER BY has a term that is no result column, or where over groups
-/// something else than the values of a group's row is named. (SELECT, "Removal of duplicate rows (DISTINCT processing)")
+/// The plan of a SELECT DISTINCT, `None` where ORDER BY has a term that is no result column, or where behind groups or windows
+/// something else than the values of the rows is named that it is computed on. (SELECT, "Removal of duplicate rows (DISTINCT
+/// processing)")
 pub(crate) fn distinct_of(
     alloc: Global,
     input: &Input,
@@ -65,7 +66,7 @@ pub(crate) fn distinct_of(
     requires once_each { select.now.distinct ≡ true }
     requires inner { AreTableJoins (input_from input.now) }
     ensures { IfOk result (λ planned. MatchOption planned (¬ (AreResults (map key_of order.now)
-        × AreOfGroups (select_of select.now).grouping ((select_of select.now).columns ++ order_terms (map key_of order.now))))
+        × AreOfRows (input_from input.now) (select_of select.now) (order_terms (map key_of order.now))))
         (λ p. IsMade input.now (select_of select.now) (map key_of order.now) limit offset (planned_data p))) }
 {
     let keys = result_keys(alloc, order)?;

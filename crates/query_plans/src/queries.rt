@@ -1,5 +1,5 @@
 //! The plan of a query.
-ghost use Rattle.std.specs.Prelude.{◌≡◌, ◌++◌, IfOk, MatchOption, false, map, true, ⊤};
+ghost use Rattle.std.specs.Prelude.{◌≡◌, IfOk, MatchOption, false, map, true, ⊤};
 ghost use Rattle.distinct_results.specs.Permitted.{AreResults};
 ghost use Rattle.meaning.specs.Hits.{order_terms};
 ghost use Rattle.order_keys.specs.KeyView.{key_of};
@@ -7,7 +7,7 @@ ghost use Rattle.query_plans.specs.Answers.{IsPlanFor, IsPlannedAsTyped, planned
 ghost use Rattle.query_plans.specs.Made.{IsMade};
 ghost use Rattle.query_plans.specs.Served.{IsServed};
 ghost use Rattle.query_trees.specs.SelectView.{select_of};
-ghost use Rattle.select_plans.specs.Served.{AreOfGroups};
+ghost use Rattle.select_plans.specs.Served.{AreOfRows};
 ghost use Rattle.statement_names.specs.NamedView.{query_data};
 ghost use Rattle.table_plans.specs.TableJoins.{AreTableJoins};
 ghost use Rattle.table_plans.specs.Input.{input_from};
@@ -21,13 +21,14 @@ use body_trees::Body;
 use order_keys::Key;
 use query_trees::Select;
 use results::Selection;
-use select_plans::{base_of, served_input};
+use select_plans::base_of;
 use sorted_results::SortedSelection;
 use statement_names::Query;
 use std::alloc::{AllocError, Global};
-use table_plans::Input;
+use table_plans::{Input, input_of};
 
-/// The plan of a SELECT without windows and DISTINCT, `None` where over groups something else than the values of a group's row is named.
+/// The plan of a SELECT without DISTINCT, `None` where behind groups or windows something else than the values of the rows is named
+/// that it is computed on.
 fn selection_of(
     alloc: Global,
     input: &Input,
@@ -39,7 +40,7 @@ fn selection_of(
     requires all { select.now.distinct ≡ false }
     requires inner { AreTableJoins (input_from input.now) }
     ensures { IfOk result (λ planned. MatchOption planned
-        (¬ AreOfGroups (select_of select.now).grouping ((select_of select.now).columns ++ order_terms (map key_of order.now)))
+        (¬ AreOfRows (input_from input.now) (select_of select.now) (order_terms (map key_of order.now)))
         (λ p. IsMade input.now (select_of select.now) (map key_of order.now) limit offset (planned_data p))) }
 {
     let found = base_of(alloc, input, select, order)?;
@@ -69,8 +70,8 @@ fn selection_of(
     })))
 }
 
-/// The plan of a SELECT without windows and DISTINCT, the shortest that there is, `None` where over groups something else than the
-/// values of a group's row is named.
+/// The plan of a SELECT without DISTINCT, the shortest that there is, `None` where behind groups or windows something else than the
+/// values of the rows is named that it is computed on.
 fn planned_of(
     alloc: Global,
     input: &Input,
@@ -82,7 +83,7 @@ fn planned_of(
     requires all { select.now.distinct ≡ false }
     requires inner { AreTableJoins (input_from input.now) }
     ensures { IfOk result (λ planned. MatchOption planned
-        (¬ AreOfGroups (select_of select.now).grouping ((select_of select.now).columns ++ order_terms (map key_of order.now)))
+        (¬ AreOfRows (input_from input.now) (select_of select.now) (order_terms (map key_of order.now)))
         (λ p. IsMade input.now (select_of select.now) (map key_of order.now) limit offset (planned_data p))) }
 {
     let scan = scan_of(alloc, input, select, order, limit, offset)?;
@@ -92,8 +93,8 @@ fn planned_of(
     }
 }
 
-/// The plan of a SELECT without windows, `None` where behind DISTINCT ORDER BY has a term that is no result column, or where over
-/// groups something else than the values of a group's row is named. (SELECT)
+/// The plan of a SELECT, `None` where behind DISTINCT ORDER BY has a term that is no result column, or where behind groups or windows
+/// something else than the values of the rows is named that it is computed on. (SELECT)
 fn alone_of(
     alloc: Global,
     input: &Input,
@@ -104,7 +105,7 @@ fn alone_of(
 ) -> Result<Option<Planned>, AllocError>
     requires { AreTableJoins (input_from input.now) }
     ensures { IfOk result (λ planned. MatchOption planned (¬ (((select_of select.now).distinct ≡ true → AreResults (map key_of order.now))
-        × AreOfGroups (select_of select.now).grouping ((select_of select.now).columns ++ order_terms (map key_of order.now))))
+        × AreOfRows (input_from input.now) (select_of select.now) (order_terms (map key_of order.now))))
         (λ p. IsMade input.now (select_of select.now) (map key_of order.now) limit offset (planned_data p))) }
 {
     if select.distinct {
@@ -128,7 +129,7 @@ pub fn plan(alloc: Global, query: &Query) -> Result<Option<Planned>, AllocError>
             };
         }
     };
-    let input = match served_input(alloc, &single.tables, &single.select)? {
+    let input = match input_of(alloc, &single.tables)? {
         None => return Ok(None),
         Some(input) => input,
     };

@@ -28,12 +28,13 @@ fn places_of(alloc: Global, terms: &[Term]) -> Result<Option<Vec<usize>>, AllocE
     Ok(Some(places))
 }
 
-/// Whether neither DISTINCT nor WHERE, groups, ORDER BY, LIMIT and OFFSET are written.
+/// Whether neither DISTINCT nor WHERE, groups, windows, ORDER BY, LIMIT and OFFSET are written.
 fn is_bare(select: &Select, order: &[Key], limit: Option<i64>, offset: i64) -> bool
     ensures { IsTrue result → IsBare (select_of select.now) (map key_of order.now) limit offset }
 {
     !select.distinct
         && select.grouping.is_none()
+        && select.windows.is_empty()
         && order.is_empty()
         && limit.is_none()
         && offset == 0

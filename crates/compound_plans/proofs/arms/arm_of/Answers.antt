@@ -1,8 +1,16 @@
 use Rattle.std.proofs.Common.{refl}
 use Rattle.body_trees.specs.BodyView.{tables_of}
-use Rattle.compound_plans.proofs.ArmLemmas.{arm_for}
+use Rattle.compound_plans.proofs.ArmLemmas.{arm_for, not_named}
 use Rattle.query_trees.specs.SelectView.{select_of}
 use Rattle.compound_plans.proofs.arms.arm_of.Goals as goal
+
+pub returns-in-None : goal.returns-in-None
+returns-in-None c = λ served. (rw c.in-None.is at c.in_ok-served.ensures) served.source
+
+pub returns-in-None-found : goal.returns-in-None-found
+returns-in-None-found c =
+    let served = rw c.in-Some.is at c.in_ok-served.ensures in
+    not_named (tables_of c.args.tables.now) c.in-Some.input (select_of c.args.select.now) served.0 (rw c.in-None-found.is at c.in_ok-found.ensures)
 
 pub returns : goal.returns
 returns c =

@@ -1,4 +1,4 @@
-use Rattle.std.proofs.Common.{◌≡◌, ◌++◌, List, ap, map, of_z, refl, rules, subst, to_z, true, w64}
+use Rattle.std.proofs.Common.{◌≡◌, List, ap, map, of_z, refl, rules, subst, sym, to_z, true, w64}
 use Rattle.std.proofs.lemmas.Int.{to_z-of_z}
 use Rattle.body_trees.specs.BodyView.{body_of, single_of, tables_of}
 use Rattle.body_trees.specs.declared.bodies.Body.TheFolds.{fold-roll-Body, fold-roll-Single, fold_out-Body, fold_out-Single}
@@ -7,7 +7,7 @@ use Rattle.body_trees.specs.declared.bodies.Single.{out-Single}
 use Rattle.compound_results.specs.Compounds.{compound_data}
 use Rattle.distinct_results.specs.Permitted.{AreResults}
 use Rattle.meaning.specs.Hits.{order_terms}
-use Rattle.meaning.specs.Query.{Key as QueryKey, compound, select}
+use Rattle.meaning.specs.Query.{From, Key as QueryKey, compound, select}
 use Rattle.naming.specs.Statement.{operator_of}
 use Rattle.order_keys.specs.KeyView.{key_of}
 use Rattle.order_keys.specs.declared.terms.Key.{Key}
@@ -17,8 +17,9 @@ use Rattle.query_plans.proofs.JoinedLemmas.{joined_is_plan, joined_over}
 use Rattle.query_plans.proofs.QueryLemmas.{is_over, is_plan, told_over, told_plan}
 use Rattle.query_plans.proofs.ServedLemmas.{not_alone, not_together}
 use Rattle.query_trees.specs.SelectView.{select_of}
-use Rattle.select_plans.specs.Served.{AreOfGroups}
+use Rattle.select_plans.specs.Served.{AreOfRows}
 use Rattle.statement_names.specs.NamedView.{query_data}
+use Rattle.table_plans.specs.Input.{input_from}
 use Rattle.query_plans.proofs.queries.plan.Goals as goal
 
 pub returns-in-None-clause-plan : goal.returns-in-None-clause-plan
@@ -46,14 +47,15 @@ returns-clause-plan c =
     let q = query_data c.args.query.now in
     let body : body_of c.args.query.now.body ≡ select (tables_of single.tables) s =
     search (rules, the_lemmas, fold-roll-Body, fold_out-Body, fold-roll-Single, fold_out-Single) in
-    let served = rw c.in-Some-2.is at c.in_ok-served_input.ensures in
+    let served = rw c.in-Some-2.is at c.in_ok-input_of.ensures in
     let order = map key_of c.as_slice.result.now in
     let same : order ≡ q.order = ap (λ (keys : List Key). map key_of keys) c.as_slice.ensures.value in
     let offset = to_z w64 (of_z w64 c.args.query.now.offset) in
     told_plan q (λ p. IsMade c.in-Some-2.input s order c.args.query.now.limit offset p)
-    ((s.distinct ≡ true → AreResults order) × AreOfGroups s.grouping (s.columns ++ order_terms order)) _
+    ((s.distinct ≡ true → AreResults order) × AreOfRows (input_from c.in-Some-2.input) s (order_terms order)) _
     (λ none. not_alone q (tables_of single.tables) s body
-    (subst (λ (keys : List QueryKey). ¬ ((s.distinct ≡ true → AreResults keys) × AreOfGroups s.grouping (s.columns ++ order_terms keys))) same none))
+    (subst (λ (f : From). ¬ ((s.distinct ≡ true → AreResults q.order) × AreOfRows f s (order_terms q.order))) (sym served.0)
+    (subst (λ (keys : List QueryKey). ¬ ((s.distinct ≡ true → AreResults keys) × AreOfRows (input_from c.in-Some-2.input) s (order_terms keys))) same none)))
     (λ p made. is_plan q (tables_of single.tables) s c.in-Some-2.input order c.args.query.now.limit offset p
     body served.0 same refl (to_z-of_z w64 c.args.query.now.offset (search rules)) served.1 made)
     c.in_ok-planned.ensures
@@ -65,13 +67,13 @@ returns-clause-over c =
     let q = query_data c.args.query.now in
     let body : body_of c.args.query.now.body ≡ select (tables_of single.tables) s =
     search (rules, the_lemmas, fold-roll-Body, fold_out-Body, fold-roll-Single, fold_out-Single) in
-    let served = rw c.in-Some-2.is at c.in_ok-served_input.ensures in
+    let served = rw c.in-Some-2.is at c.in_ok-input_of.ensures in
     let order = map key_of c.as_slice.result.now in
     let same : order ≡ q.order = ap (λ (keys : List Key). map key_of keys) c.as_slice.ensures.value in
     let offset = to_z w64 (of_z w64 c.args.query.now.offset) in
     told_over (λ p. IsMade c.in-Some-2.input s order c.args.query.now.limit offset p)
     (IsPlannedAsTyped q)
-    ((s.distinct ≡ true → AreResults order) × AreOfGroups s.grouping (s.columns ++ order_terms order)) _
+    ((s.distinct ≡ true → AreResults order) × AreOfRows (input_from c.in-Some-2.input) s (order_terms order)) _
     (λ p made. is_over q (tables_of single.tables) s c.in-Some-2.input order c.args.query.now.limit offset p
     body served.0 same refl (to_z-of_z w64 c.args.query.now.offset (search rules)) served.1 made)
     c.in_ok-planned.ensures

@@ -26,7 +26,8 @@ returns-in-None-keys c =
     let base = rw c.in-Some.is at c.in_ok-found.ensures in λ of.
     (rw c.in-None-keys.is at c.in_ok-keys.ensures.over)
     (order_over (input_from c.args.input.now) (select_of c.args.select.now) (map key_of c.args.order.now) base.0.read base.0.are_read base.0.read refl
-    base.0.columns c.as_slice.result.now base.0.below (plan_data c.in-Some.base.plan) base.0.rows_are (c.as_slice.ensures.value ∙ sym base.1) of)
+    base.0.below base.0.taken base.0.inputs base.0.inputs_are base.0.columns c.as_slice.result.now (plan_data c.in-Some.base.plan) base.0.rows_are
+    (c.as_slice.ensures.value ∙ sym base.1) of)
 
 pub returns : goal.returns
 returns c =
