@@ -1,6 +1,6 @@
 -- The queries in one that can be run can be run, and the query without them is one that is served.
-use Rattle.std.proofs.Common.{◌≡◌, ◌∙◌, ◌<◌, ◌+◌, ◌↔◌, All, ℕ, zero, suc, arith, get_or, List, [], ◌∷◌, ◌++◌, append-nil, append_assoc, drop, length, map, take, refl, sym, ap, subst}
-use Rattle.std.proofs.lemmas.List.{length-append, map-append, take_all, take_more}
+use Rattle.std.proofs.Common.{◌≡◌, ◌∙◌, ◌<◌, ◌+◌, All, ℕ, List, [], ◌∷◌, ◌++◌, append-nil, append_assoc, drop, length, take, refl, sym, ap, subst}
+use Rattle.std.proofs.lemmas.List.{length-append}
 use Rattle.std.proofs.lemmas.List.Elements.{All-append, All-cons, All-head, All-nil, All-tail}
 use Rattle.values.specs.Datum.{Datum}
 use Rattle.values.specs.declared.value.Ty.{Ty}
@@ -17,7 +17,6 @@ use Rattle.meaning.specs.Query.{Body, From, InnerQuery, Select, Source, compound
 use Rattle.meaning.specs.Typed.{BodyHasTypes, FromHasTypes, SourceHasTypes}
 use Rattle.naming.specs.Statement.{with_answers}
 use Rattle.query_plans.specs.Served.{HaveServedForm}
-use Rattle.settled_sources.specs.Mapped.{mapped_call, mapped_select}
 use Rattle.table_plans.specs.TableJoins.{AreTableJoins, IsTableSource}
 use Rattle.inner_rows.specs.Runnable.{AreComputable, IsComputable, IsComputableBody, IsRunnableBody, IsRunnableFrom, IsRunnableInner, IsRunnableSource}
 use Rattle.inner_rows.proofs.WithinLemmas.{term_within}
@@ -40,9 +39,9 @@ sources_in (joined from kind source on) is =
 sources_in (with_inner from query) is = sources_in from is.0
 
 sources_of_body : (of : Body) → IsRunnableBody of → All IsRunnableSource (kept_of of)
-sources_of_body (select from s) is = sources_in from is.0
+sources_of_body (select from s) is = sources_in from is
 sources_of_body (compound before operator from s) is =
-    All-append IsRunnableSource (kept_of before) (kept_in from) (sources_of_body before is.0) (sources_in from is.1.0)
+    All-append IsRunnableSource (kept_of before) (kept_in from) (sources_of_body before is.0) (sources_in from is.1)
 
 abbrev QueryRuns : InnerQuery → Type 0
 QueryRuns query = IsRunnableBody (body_in query)
@@ -54,9 +53,9 @@ queries_found_in (with_inner from query) is =
     All-append QueryRuns (queries_in from) (query ∷ []) (queries_found_in from is.0) (All-cons QueryRuns query [] (inner_is query is.1) (All-nil _))
 
 queries_of_body : (of : Body) → IsRunnableBody of → All QueryRuns (queries_of of)
-queries_of_body (select from s) is = queries_found_in from is.0
+queries_of_body (select from s) is = queries_found_in from is
 queries_of_body (compound before operator from s) is =
-    All-append QueryRuns (queries_of before) (queries_in from) (queries_of_body before is.0) (queries_found_in from is.1.0)
+    All-append QueryRuns (queries_of before) (queries_in from) (queries_of_body before is.0) (queries_found_in from is.1)
 
 all_both : {A : Type 0} (P Q : A → Type 0) (xs : List A) → All P xs → All Q xs → All (λ x. P x × Q x) xs
 all_both P Q [] p q = All-nil _
@@ -92,38 +91,6 @@ queries_behind from (query ∷ qs) = queries_behind (with_inner from query) qs �
 pub queries_are : (js : List JoinedData) (qs : List InnerQuery) → queries_in (with_answers (joined_all nothing js) qs) ≡ qs
 queries_are js qs = queries_behind (joined_all nothing js) qs ∙ ap (λ before. before ++ qs) (queries_all nothing js)
 
--- ---- which FROM can be run
-
-abbrev JoinedRuns : JoinedData → Type 0
-JoinedRuns j = IsRunnableSource j.source
-
-runs_all : (from : From) (js : List JoinedData) → IsRunnableFrom from → All JoinedRuns js → IsRunnableFrom (joined_all from js)
-runs_all from [] is all = is
-runs_all from (j ∷ js) is all = runs_all (joined from j.kind j.source j.condition) js (is, All-head JoinedRuns j js all) (All-tail JoinedRuns j js all)
-
-all_run : (from : From) (js : List JoinedData) → IsRunnableFrom (joined_all from js) → IsRunnableFrom from × All JoinedRuns js
-all_run from [] is = (is, All-nil _)
-all_run from (j ∷ js) is =
-    let rest = all_run (joined from j.kind j.source j.condition) js is in
-    (rest.0.0, All-cons JoinedRuns j js rest.0.1 rest.1)
-
-runs_behind : (from : From) (qs : List InnerQuery) → IsRunnableFrom from → All IsRunnableInner qs → IsRunnableFrom (with_answers from qs)
-runs_behind from [] is all = is
-runs_behind from (query ∷ qs) is all = runs_behind (with_inner from query) qs (is, All-head IsRunnableInner query qs all) (All-tail IsRunnableInner query qs all)
-
-behind_run : (from : From) (qs : List InnerQuery) → IsRunnableFrom (with_answers from qs) → IsRunnableFrom from × All IsRunnableInner qs
-behind_run from [] is = (is, All-nil _)
-behind_run from (query ∷ qs) is =
-    let rest = behind_run (with_inner from query) qs is in
-    (rest.0.0, All-cons IsRunnableInner query qs rest.0.1 rest.1)
-
-pub from_runs : (js : List JoinedData) (qs : List InnerQuery)
-    → IsRunnableFrom (with_answers (joined_all nothing js) qs) ↔ (All JoinedRuns js × All IsRunnableInner qs)
-from_runs js qs = (
-  (λ is. let behind = behind_run (joined_all nothing js) qs is in ((all_run nothing js behind.0).1, behind.1)),
-  (λ both. runs_behind (joined_all nothing js) qs (runs_all nothing js tt both.0) both.1),
-)
-
 -- ---- the query without them
 
 source_is_table : (place : ℕ) (source : Source) → IsTableSource (flat_source place source)
@@ -156,38 +123,11 @@ module _ (catalog : List (List Ty)) where
   )
   from_joins f place answers (with_inner from query) types has = from_joins f place answers from types has
 
-  no_calls : (f : Term → Term) (s : Select) → s.windows ≡ [] → (mapped_select f s).windows ≡ []
-  no_calls f s none = ap (map (mapped_call f)) none
-
   pub flat_is_served : (answers : List (List Datum)) (place : ℕ) (of : Body) (types : List Ty) → IsRunnableBody of
       → BodyHasTypes catalog (flat_body_with answers place of) types → HaveServedForm (flat_body_with answers place of)
-  flat_is_served answers place (select from s) types runs has = record {
-    source = from_joins (filled answers) place has.0 from has.1 has.3;
-    windowless = no_calls (filled answers) s runs.1;
-  }
+  flat_is_served answers place (select from s) types runs has = from_joins (filled answers) place has.0 from has.1 has.3
   flat_is_served answers place (compound before operator from s) types runs has =
       let own = drop (length (queries_of before)) answers in (
         flat_is_served (take (length (queries_of before)) answers) place before types runs.0 has.0,
-        record {
-          source = from_joins (filled own) (place + length (kept_of before)) has.1.0 from has.1.1 has.1.3;
-          windowless = no_calls (filled own) s runs.1.1;
-        },
+        from_joins (filled own) (place + length (kept_of before)) has.1.0 from has.1.1 has.1.3,
       )
-
--- ---- one after the other
-
-module _ {A B : Type 0} (view : A → B) (P : B → Type 0) where
-  -- what holds of all holds of the one at a place
-  pub one_of : (xs : List A) (i : ℕ) (x : A) → i < length xs → x ≡ get_or xs i x → All P (map view xs) → P (view x)
-  one_of [] i x within is all = absurd (omega (arith, within))
-  one_of (y ∷ xs) zero x within is all = subst (λ z. P (view z)) (sym is) (All-head P (view y) (map view xs) all)
-  one_of (y ∷ xs) (suc i) x within is all = one_of xs i x (omega (arith, within)) is (All-tail P (view y) (map view xs) all)
-
-  -- and one more
-  pub one_more : (xs : List A) (i : ℕ) (x : A) → i < length xs → x ≡ get_or xs i x → All P (map view (take i xs)) → P (view x) → All P (map view (take (i + 1) xs))
-  one_more xs i x within is all holds =
-      subst (λ ys. All P (map view ys)) (sym (take_more xs i x within ∙ ap (λ y. take i xs ++ y ∷ []) (sym is)))
-      (subst (All P) (sym (map-append view (take i xs) (x ∷ []))) (All-append P (map view (take i xs)) (view x ∷ []) all (All-cons P (view x) [] holds (All-nil P))))
-
-  pub all_of : (xs : List A) (i : ℕ) → i ≡ length xs → All P (map view (take i xs)) → All P (map view xs)
-  all_of xs i end all = subst (λ ys. All P (map view ys)) (take_all i xs (omega (arith, end))) all

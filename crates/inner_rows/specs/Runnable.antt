@@ -1,11 +1,11 @@
 -- Queries that can be run, with those in them. (SELECT)
-use Rattle.std.specs.Prelude.{◌≡◌, ⊤, All, List, []}
+use Rattle.std.specs.Prelude.{⊤, All, List}
 use Rattle.values.specs.declared.value.Ty.{Ty}
 use Rattle.meaning.specs.Query.{Body, From, InnerQuery, Source, compound, derived, exists, joined, nothing, schema, select, table, values_of, with_inner}
 use Rattle.meaning.specs.Typed.{BodyHasTypes, SourceHasTypes}
 use Rattle.flat_queries.specs.FlatWith.{body_in}
 
--- The schema's table stands among the others, and no SELECT has windows, at any depth.
+-- The schema's table stands among the others, at any depth.
 abbrev mutual
   pub IsRunnableSource : Source → Type 0
   IsRunnableSource (table at width) = ⊤
@@ -22,8 +22,8 @@ abbrev mutual
   IsRunnableInner (exists body) = IsRunnableBody body
 
   pub IsRunnableBody : Body → Type 0
-  IsRunnableBody (select from s) = IsRunnableFrom from × (s.windows ≡ [])
-  IsRunnableBody (compound body operator from s) = IsRunnableBody body × (IsRunnableFrom from × (s.windows ≡ []))
+  IsRunnableBody (select from s) = IsRunnableFrom from
+  IsRunnableBody (compound body operator from s) = IsRunnableBody body × IsRunnableFrom from
 
 -- and they are typed over a catalog
 module _ (catalog : List (List Ty)) where

@@ -4,7 +4,7 @@
 //! whatever stands for results out of range; that a fault has its cause, an overflow where the query can reach one; and that over any
 //! source of bytes it returns, reads some of its tables and tells of a failed read.
 //!
-//! The modules, in the order in which data passes them: `runnable` (which queries can be run), `inner` (what is computed of the
+//! The modules, in the order in which data passes them: `inner` (what is computed of the
 //! queries in a query), `flat` (a query in which no other queries stand), `planning` (its plan), `rows` (the rows of a plan),
 //! `computing` (the rows of each query), `queries` (the plan of a whole query) and `laws` of the definitions.
 #![tactic(auto)]
@@ -16,8 +16,7 @@ pub mod laws;
 mod planning;
 mod queries;
 mod rows;
-mod runnable;
 
 pub use inner::InnerRows;
 pub use queries::{KeptPlan, kept_plan};
-pub use runnable::is_runnable;
+pub use rows::planned_rows;

@@ -15,8 +15,8 @@ use sources::Sources;
 use std::alloc::Global;
 use values::{Fault, Value};
 
-/// All rows that a plan gives.
-pub(crate) fn planned_rows<S: Source>(
+/// All rows that a plan gives. Its faults are those of an operator.
+pub fn planned_rows<S: Source>(
     alloc: Global,
     pager: &mut Pager<S>,
     sources: &Sources<'_>,
