@@ -1,0 +1,52 @@
+use Rattle.std.proofs.Common.{◌≡◌, ◌∙◌, All, ap, subst, sym}
+use Rattle.std.proofs.lemmas.Result.{err_from_is_err_and}
+use Rattle.std.specs.Result.{MatchResult}
+use Rattle.image.specs.Pages.{Pages, pages_seen}
+use Rattle.inner_rows.proofs.KeptLemmas.{kept_rooted}
+use Rattle.operators.specs.Basis.{AreStored, Basis}
+use Rattle.pager.specs.declared.header.Header.{Header}
+use Rattle.query_plans.specs.Answers.{IsAnswerOf, IsPlannedOver, planned_data}
+use Rattle.running.specs.Given.{IsRowCause}
+use Rattle.scan.proofs.ComingLemmas.{seen_same}
+use Rattle.sources.specs.Coming.{IsRooted}
+use Rattle.sources.specs.SourceData.{rows_data, sources_of}
+use Rattle.statement_names.specs.NamedView.{query_data}
+use Rattle.nested_runs.proofs.StepLemmas.{rows_of_plan}
+use Rattle.nested_runs.proofs.gathered.answer_rows.Goals as goal
+
+pub returns-in_err-kept-clause-rows : goal.returns-in_err-kept-clause-rows
+returns-in_err-kept-clause-rows g c = λ steady on said typed runs.
+    let p = err_from_is_err_and c.from_residual.result c.from_residual.ensures.1 in
+    rw (p.1, p.2) (c.in_err-kept.ensures.plan steady on said typed runs)
+
+pub planned_rows-requires-clause-roots : goal.planned_rows-requires-clause-roots
+planned_rows-requires-clause-roots g c =
+    let tables = c.args.tables.now in
+    let kept = c.in_ok-kept.field-0.kept.items in
+    let all : c.new-sources.result ≡ sources_of tables kept = c.new-sources.ensures ∙ ap (λ rows. sources_of tables rows) c.as_slice.ensures.value in
+    subst (λ sources. All (IsRooted c.kept_plan.new.pager.state.header) sources) (sym all)
+    (subst (λ (header : Header). All (IsRooted header) (sources_of tables kept)) (sym c.kept_plan.ensures.reads.image.header)
+    (kept_rooted c.args.pager.now.state.header tables kept c.requires))
+
+pub planned_rows-requires-clause-planned : goal.planned_rows-requires-clause-planned
+planned_rows-requires-clause-planned g c =
+    let tables = c.args.tables.now in
+    let kept = c.in_ok-kept.field-0.kept.items in
+    let all : c.new-sources.result ≡ sources_of tables kept = c.new-sources.ensures ∙ ap (λ rows. sources_of tables rows) c.as_slice.ensures.value in
+    subst (λ sources. IsPlannedOver sources (planned_data c.in_ok-kept.field-0.planned)) (sym all) c.in_ok-kept.ensures.over
+
+pub returns-clause-rows : goal.returns-clause-rows
+returns-clause-rows g c = λ steady on said typed runs.
+    let tables = c.args.tables.now in
+    let kept = c.in_ok-kept.field-0.kept.items in
+    let planned = planned_data c.in_ok-kept.field-0.planned in
+    let image = c.kept_plan.ensures.reads.image in
+    let pages = pages_seen c.args.pager.now.state in
+    let all : c.new-sources.result ≡ sources_of tables kept = c.new-sources.ensures ∙ ap (λ rows. sources_of tables rows) c.as_slice.ensures.value in
+    let rows : (on : Basis) → AreStored pages (sources_of tables kept) on
+    → MatchResult c.planned_rows.result (λ rows. IsAnswerOf on.w on.db planned (rows_data rows.items)) (IsRowCause on planned) =
+    subst (λ (p : Pages). (on : Basis) → AreStored p (sources_of tables kept) on
+    → MatchResult c.planned_rows.result (λ rows. IsAnswerOf on.w on.db planned (rows_data rows.items)) (IsRowCause on planned))
+    (seen_same c.args.pager.now.state c.kept_plan.new.pager.state image)
+    (rw all at (c.planned_rows.ensures.rows (rw image.steady steady))) in
+    rows_of_plan pages tables (query_data c.args.query.now) kept planned on said (c.in_ok-kept.ensures.plan steady on said typed runs) c.planned_rows.result rows
