@@ -1,5 +1,6 @@
 pub mod SettledLemmas
 pub mod RunLemmas
+pub mod RunnableLemmas
 pub mod NameLemmas
 pub mod PreparedLemmas
 pub mod ServedLemmas

@@ -1,5 +1,6 @@
 -- From what the run of a plan writes to the answer of a query over the image.
-use Rattle.std.proofs.Common.{◌≡◌, ◌≢◌, ◌∙◌, inl, inr, ◌-◌, arith, false, ℕ, zero, suc, IsTrue, All, List, [], ◌∷◌, ◌++◌, map, Some, sym, refl, ap, subst}
+use Rattle.std.proofs.Common.{◌≡◌, ◌≢◌, ◌∙◌, inl, inr, ◌-◌, arith, false, ℕ, zero, suc, IsTrue, All, List, [], ◌∷◌, ◌++◌, length, map, Option, Some, None, Result, Ok, Err, sym, refl, ap, subst}
+use Rattle.std.specs.Result.{MatchResult}
 use Rattle.std.specs.List.{AllZip}
 use Rattle.std.proofs.lemmas.List.Elements.{All-append, All-cons, All-map, All-nil, All-weaker}
 use Rattle.values.specs.Database.{Database}
@@ -15,10 +16,18 @@ use Rattle.pager.specs.PagerState.{PagerState, opened}
 use Rattle.pager.specs.Source.{SourceFacts}
 use Rattle.image.specs.Pages.{pages_seen, Pages, WhereSteady, pages_in, pages_of}
 use Rattle.expr.specs.Types.{IsOfType}
-use Rattle.meaning.specs.Typed.{FitTypes}
+use Rattle.meaning.specs.Answer.{Begins, IsStandIn, Permits}
+use Rattle.meaning.specs.Hits.{Hits}
+use Rattle.meaning.specs.Query.{QueryData}
+use Rattle.meaning.specs.Typed.{FitTypes, IsTyped}
 use Rattle.meaning.specs.Typed as meant
 use Rattle.meaning.proofs.BodyLemmas.{AllZip-append}
 use Rattle.meaning.proofs.TypedLemmas.{Permits-typed}
+use Rattle.inner_rows.specs.Over.{AreSaid, IsQueryCause}
+use Rattle.inner_rows.specs.Runnable.{IsRunnableBody}
+use Rattle.nested_runs.specs.Steps.{IsPermitted}
+use Rattle.nested_runs.specs.Writes.{IsNestedCause, WritesPermitted}
+use Rattle.nested_runs.specs.Writes as nested
 use Rattle.plans.specs.Plan.{once}
 use Rattle.table_copies.specs.Whole.{all_tables}
 use Rattle.tables.specs.ColumnTypes.{column_types, types_of}
@@ -40,12 +49,14 @@ use Rattle.runs.specs.Faults.{IsOutsideFault, IsRunCause, IsRunFault}
 use Rattle.runs.specs.Runs.{WritesAnswer, WritesBeginning}
 use Rattle.shell.specs.Answer.{IsAnswerOver, PrintsAnswer, PrintsBeginning}
 use Rattle.settled_sources.specs.Settled.{with_schema}
+use Rattle.shell.proofs.RunnableLemmas.{settled_runs}
 use Rattle.shell.proofs.SettledLemmas.{fits_over, hits_over, permits_over, typed_over}
-use Rattle.shell.specs.Prepared.{IsPreparedFor, settled_over}
+use Rattle.shell.specs.Prepared.{IsPlannedFor, IsPreparedFor, RunsFor, settled_over}
 use Rattle.shell.specs.PreparedView.{PreparedData}
 use Rattle.shell.specs.Run.{HasRun, HasStopped, TookFew}
 use Rattle.shell.specs.State.{EngineState, IsOpeningFault, IsReady, sources_over}
 use Rattle.shell.specs.Stepped.{HitsOver, IsBeginningOver, IsStepCause}
+use Rattle.shell.specs.Written.{HasBegun, HasWritten, IsRunOverSome}
 use Rattle.shell.specs.declared.engine.Report.{Report}
 
 pub some_one : {X : Type 0} (x y : X) → Some x ≡ Some y → x ≡ y
@@ -103,6 +114,14 @@ cause_hits on planned e over (inr hits) = hits.1
 pub all_alone : (IsSo : SourceData → Type 0) (tables : List TableData) → All (λ table. IsSo (of_table table)) tables → All IsSo (sources_of tables [])
 all_alone IsSo tables all = subst (All IsSo) (sym (tables_alone tables)) (All-map IsSo of_table tables all)
 
+nested_unchanged : (on : Basis) (query : QueryData) (e : Fault) → IsNestedCause on query e → ¬ (e ≡ Changed)
+nested_unchanged on query e (inl outside) changed = not_changed e outside changed
+nested_unchanged on query e (inr over) changed = absurd (let is = over.0 in cc)
+
+nested_hits : (on : Basis) (query : QueryData) (e : Fault) → e ≡ Overflow → IsNestedCause on query e → Hits on.w on.db query
+nested_hits on query e over (inl outside) = absurd (not_overflow e outside over)
+nested_hits on query e over (inr hits) = hits.1
+
 read_not_overflow : (e : Fault) → IsReadFault e → e ≢ Overflow
 read_not_overflow e (inl is) same = cc
 read_not_overflow e (inr is) same = cc
@@ -110,6 +129,10 @@ read_not_overflow e (inr is) same = cc
 row_hits : (on : Basis) (planned : PlannedData) (e : Fault) → e ≡ Overflow → IsRowCause on planned e → HitsOf on.w on.db planned
 row_hits on planned e over (inl read) = absurd (read_not_overflow e read over)
 row_hits on planned e over (inr hits) = hits.1
+
+query_hits : (on : Basis) (query : QueryData) (e : Fault) → e ≡ Overflow → IsQueryCause on query e → Hits on.w on.db query
+query_hits on query e over (inl read) = absurd (read_not_overflow e read over)
+query_hits on query e over (inr hits) = hits.1
 
 -- ---- what is said of the tables that the image denotes
 
@@ -135,7 +158,7 @@ module _ (pages : Pages) where
       (record { stored = all.0.stored; rows_are = all.0.rows_are; size_is = refl; unchained = λ local. absurd cc })
   stored_at w schema (here ∷ tables) (first ∷ rows) all (suc at) source found = stored_at w schema tables rows all.1 at source found
 
-module _ (pager : PagerState) (tables : List TableData) (prepared : PreparedData) (ready : IsReady pager tables) (is : IsPreparedFor tables prepared)
+module _ (pager : PagerState) (tables : List TableData) (query : QueryData) (typed : IsTyped (column_types tables) query) (ready : IsReady pager tables)
     (steady : IsTrue pager.source.steady) where
   has : HasDatabase pager.source.bytes tables
   has = database_of pager.source.bytes tables (ready.stored steady)
@@ -161,94 +184,190 @@ module _ (pager : PagerState) (tables : List TableData) (prepared : PreparedData
   fits = denoted_fits pager.source.bytes tables has.db has.denotes
 
   -- each row has as many values as its table has columns
-  wide : AreWideFor (with_schema has.db) (settled_over tables prepared.query).body
-  wide = typed_wide (column_types (all_tables tables)) (with_schema has.db) (fits_over tables has.db fits) (settled_over tables prepared.query)
-      (typed_over tables prepared.query is.typed)
+  wide : AreWideFor (with_schema has.db) (settled_over tables query).body
+  wide = typed_wide (column_types (all_tables tables)) (with_schema has.db) (fits_over tables has.db fits) (settled_over tables query)
+      (typed_over tables query typed)
 
-  -- what the plan answers, the query permits
-  pub answer_over : (given : List Row) → ((on : Basis) → AreStored (pages_seen pager) (sources_over tables) on → IsAnswerOf on.w on.db prepared.planned given)
-      → IsAnswerOver pager.source.bytes tables prepared.query given
-  unfolding on
-  answer_over given answer = λ w stand.
-      let permits = permits_over tables has.db prepared.query is.typed fits w given
-      (is.plan.permits w (with_schema has.db) given wide (answer (on w) (stored_on w))) in
+  -- ---- what is permitted, what begins so and what is hit with the schema's table as one more table
+
+  answer_of : (given : List Row) → ((w : Datum) → IsStandIn w → Permits w (with_schema has.db) (settled_over tables query) given)
+      → IsAnswerOver pager.source.bytes tables query given
+  answer_of given permitted = λ w stand.
+      let permits = permits_over tables has.db query typed fits w given (permitted w stand) in
       record {
         database = has.db;
         denotes = has.denotes;
         says = record {
           permits = permits;
           typed = λ types typed.
-              Permits-typed w has.db (column_types tables) prepared.query types given stand fits typed permits;
+              Permits-typed w has.db (column_types tables) query types given stand fits typed permits;
         };
       }
 
-  pub prints_answer : (n : ℕ) (old new : SinkFacts) → WritesAnswer (pages_seen pager) (sources_over tables) prepared.planned old new n
-      → PrintsAnswer pager.source.bytes tables prepared.query n old new
-  prints_answer n old new wrote = record { rows = wrote.given; answer = answer_over wrote.given wrote.answer; prints = wrote.prints }
-
-  -- what an answer of the plan begins with, one of the query begins with
-  pub beginning_over : (given : List Row)
-      → ((on : Basis) → AreStored (pages_seen pager) (sources_over tables) on → (rest : List Row) × IsAnswerOf on.w on.db prepared.planned (given ++ rest))
-      → IsBeginningOver pager.source.bytes tables prepared.query given
-  unfolding on
-  beginning_over given begins = λ w stand.
-      let begins = begins (on w) (stored_on w) in
+  beginning_of : (given : List Row) → ((w : Datum) → IsStandIn w → Begins w (with_schema has.db) (settled_over tables query) given)
+      → IsBeginningOver pager.source.bytes tables query given
+  beginning_of given begun = λ w stand.
+      let begins = begun w stand in
       record {
         database = has.db;
         denotes = has.denotes;
         says = record {
-          rest = begins.0;
-          permitted = permits_over tables has.db prepared.query is.typed fits w (given ++ begins.0)
-              (is.plan.permits w (with_schema has.db) (given ++ begins.0) wide begins.1);
+          rest = begins.rest;
+          permitted = permits_over tables has.db query typed fits w (given ++ begins.rest) begins.permitted;
         };
       }
 
-  -- what the plan reaches, the query can reach
-  reached_over : ((on : Basis) → AreStored (pages_seen pager) (sources_over tables) on → HitsOf on.w on.db prepared.planned)
-      → HitsOver pager.source.bytes tables prepared.query
-  unfolding on
-  reached_over reaches = λ w stand. record {
+  hits_of : ((w : Datum) → IsStandIn w → Hits w (with_schema has.db) (settled_over tables query)) → HitsOver pager.source.bytes tables query
+  hits_of hit = λ w stand. record {
     database = has.db;
     denotes = has.denotes;
-    says = hits_over tables has.db prepared.query is.typed fits w (is.plan.hits w (with_schema has.db) wide (reaches (on w) (stored_on w)));
+    says = hits_over tables has.db query typed fits w (hit w stand);
   }
 
-  pub prints_beginning : (e : Fault) (old new : SinkFacts) → WritesBeginning (pages_seen pager) (sources_over tables) prepared.planned old new e
-      → PrintsBeginning e pager.source.bytes tables prepared.query old new
-  prints_beginning e old new wrote = record {
-    given = wrote.given;
-    begins = beginning_over wrote.given wrote.begins;
-    prints = wrote.prints;
-    same_image = cause_unchanged (on null) prepared.planned e (wrote.cause (on null) (stored_on null));
-    hits = λ over. reached_over (λ on stored. cause_hits on prepared.planned e over (wrote.cause on stored));
-  }
+  -- ---- a query that has a plan
 
-  -- why the plan stops, the query does
-  pub step_cause : (e : Fault) → ((on : Basis) → AreStored (pages_seen pager) (sources_over tables) on → IsRowCause on prepared.planned e)
-      → IsStepCause pager.source.bytes tables prepared.query e
-  step_cause e causes = by_cause (causes (on null) (stored_on null))
+  module _ (planned : PlannedData) (is : IsPlannedFor tables query planned) where
+    -- what the plan answers, the query permits
+    pub answer_over : (given : List Row) → ((on : Basis) → AreStored (pages_seen pager) (sources_over tables) on → IsAnswerOf on.w on.db planned given)
+        → IsAnswerOver pager.source.bytes tables query given
+    unfolding on
+    answer_over given answer = answer_of given (λ w stand. is.plan.permits w (with_schema has.db) given wide (answer (on w) (stored_on w)))
+
+    pub prints_answer : (n : ℕ) (old new : SinkFacts) → WritesAnswer (pages_seen pager) (sources_over tables) planned old new n
+        → PrintsAnswer pager.source.bytes tables query n old new
+    prints_answer n old new wrote = record { rows = wrote.given; answer = answer_over wrote.given wrote.answer; prints = wrote.prints }
+
+    -- what an answer of the plan begins with, one of the query begins with
+    pub beginning_over : (given : List Row)
+        → ((on : Basis) → AreStored (pages_seen pager) (sources_over tables) on → (rest : List Row) × IsAnswerOf on.w on.db planned (given ++ rest))
+        → IsBeginningOver pager.source.bytes tables query given
+    unfolding on
+    beginning_over given begins = beginning_of given (λ w stand.
+        let begun = begins (on w) (stored_on w) in
+        record { rest = begun.0; permitted = is.plan.permits w (with_schema has.db) (given ++ begun.0) wide begun.1 })
+
+    -- what the plan reaches, the query can reach
+    reached_over : ((on : Basis) → AreStored (pages_seen pager) (sources_over tables) on → HitsOf on.w on.db planned)
+        → HitsOver pager.source.bytes tables query
+    unfolding on
+    reached_over reaches = hits_of (λ w stand. is.plan.hits w (with_schema has.db) wide (reaches (on w) (stored_on w)))
+
+    pub prints_beginning : (e : Fault) (old new : SinkFacts) → WritesBeginning (pages_seen pager) (sources_over tables) planned old new e
+        → PrintsBeginning e pager.source.bytes tables query old new
+    prints_beginning e old new wrote = record {
+      given = wrote.given;
+      begins = beginning_over wrote.given wrote.begins;
+      prints = wrote.prints;
+      same_image = cause_unchanged (on null) planned e (wrote.cause (on null) (stored_on null));
+      hits = λ over. reached_over (λ on stored. cause_hits on planned e over (wrote.cause on stored));
+    }
+
+    -- why the plan stops, the query does
+    pub step_cause : (e : Fault) → ((on : Basis) → AreStored (pages_seen pager) (sources_over tables) on → IsRowCause on planned e)
+        → IsStepCause pager.source.bytes tables query e
+    step_cause e causes = by_cause (causes (on null) (stored_on null))
+      where
+        by_cause : IsRowCause (on null) planned e → IsStepCause pager.source.bytes tables query e
+        by_cause (inl read) = inl read
+        by_cause (inr over) = inr (over.0, reached_over (λ on stored. row_hits on planned e over.0 (causes on stored)))
+
+    pub took_few : (new : PagerState) (report : Report)
+        → ((on : Basis) → AreStored (pages_seen pager) (sources_over tables) on → Asks on.local pager (work_of on.w on.db on.sizes planned) new 0)
+        → report.asked ≡ new.asked - pager.asked → report.chained ≡ new.chained - pager.chained
+        → (on : Basis) → AreStored (pages_of pager.source.bytes) (sources_over tables) on → TookFew on planned report
+    took_few new report few asked chained on are_stored =
+        let asks = few on (subst (λ (p : Pages). AreStored p (sources_over tables) on) same_pages are_stored) in
+        record {
+          asked = let most = asks.pages in omega (arith, most, asked);
+          unchained = λ local. let kept = asks.chains local in omega (arith, kept, chained);
+        }
+
+  -- ---- a query that has none before the queries in it are computed
+
+  said : (w : Datum) → IsStandIn w → AreSaid (pages_seen pager) (all_tables tables) (on w)
+  unfolding on
+  said w stand = record { stored = stored_on w; fits = fits_over tables has.db fits; stand_in = stand }
+
+  pub nested_permitted : (given : List Row) → IsPermitted (pages_seen pager) (all_tables tables) (settled_over tables query) given
+      → IsAnswerOver pager.source.bytes tables query given
+  unfolding on
+  nested_permitted given permitted = answer_of given (λ w stand. permitted (on w) (said w stand))
+
+  pub nested_begun : (given : List Row)
+      → ((on : Basis) → AreSaid (pages_seen pager) (all_tables tables) on → Begins on.w on.db (settled_over tables query) given)
+      → IsBeginningOver pager.source.bytes tables query given
+  unfolding on
+  nested_begun given begun = beginning_of given (λ w stand. begun (on w) (said w stand))
+
+  -- why it stops
+  pub nested_cause : (e : Fault)
+      → ((on : Basis) → AreSaid (pages_seen pager) (all_tables tables) on → IsQueryCause on (settled_over tables query) e)
+      → IsStepCause pager.source.bytes tables query e
+  unfolding on
+  nested_cause e causes = by_cause (causes (on null) (said null tt))
     where
-      by_cause : IsRowCause (on null) prepared.planned e → IsStepCause pager.source.bytes tables prepared.query e
+      by_cause : IsQueryCause (on null) (settled_over tables query) e → IsStepCause pager.source.bytes tables query e
       by_cause (inl read) = inl read
-      by_cause (inr over) = inr (over.0, reached_over (λ on stored. row_hits on prepared.planned e over.0 (causes on stored)))
+      by_cause (inr over) = inr (over.0, hits_of (λ w stand. query_hits (on w) (settled_over tables query) e over.0 (causes (on w) (said w stand))))
 
-  pub took_few : (new : PagerState) (report : Report)
-      → ((on : Basis) → AreStored (pages_seen pager) (sources_over tables) on → Asks on.local pager (work_of on.w on.db on.sizes prepared.planned) new 0)
-      → report.asked ≡ new.asked - pager.asked → report.chained ≡ new.chained - pager.chained
-      → (on : Basis) → AreStored (pages_of pager.source.bytes) (sources_over tables) on → TookFew on prepared.planned report
-  took_few new report few asked chained on are_stored =
-      let asks = few on (subst (λ (p : Pages). AreStored p (sources_over tables) on) same_pages are_stored) in
-      record {
-        asked = let most = asks.pages in omega (arith, most, asked);
-        unchained = λ local. let kept = asks.chains local in omega (arith, kept, chained);
-      }
+  pub nested_answer : (n : ℕ) (old new : SinkFacts) → WritesPermitted (pages_seen pager) (all_tables tables) (settled_over tables query) old new n
+      → PrintsAnswer pager.source.bytes tables query n old new
+  unfolding on
+  nested_answer n old new wrote = record {
+    rows = wrote.given;
+    answer = answer_of wrote.given (λ w stand. wrote.permits (on w) (said w stand));
+    prints = wrote.prints;
+  }
 
--- From what the run of a plan promises to what a run does.
+  pub nested_beginning : (e : Fault) (old new : SinkFacts)
+      → nested.WritesBeginning (pages_seen pager) (all_tables tables) (settled_over tables query) old new e
+      → PrintsBeginning e pager.source.bytes tables query old new
+  unfolding on
+  nested_beginning e old new wrote = record {
+    given = wrote.given;
+    begins = beginning_of wrote.given (λ w stand. wrote.begins (on w) (said w stand));
+    prints = wrote.prints;
+    same_image = nested_unchanged (on null) (settled_over tables query) e (wrote.cause (on null) (said null tt));
+    hits = λ over. hits_of (λ w stand. nested_hits (on w) (settled_over tables query) e over (wrote.cause (on w) (said w stand)));
+  }
+
+-- ---- what was written of a query that was prepared, with a plan and without
+
+pub same_plan : (plan : Option PlannedData) (one other : PlannedData) → plan ≡ Some one → plan ≡ Some other → one ≡ other
+same_plan plan one other is found = some_one one other (sym is ∙ found)
+
+-- either of both
+abbrev WritesEither : Pages → List TableData → QueryData → Option PlannedData → SinkFacts → SinkFacts → Result ℕ Fault → Type 0
+WritesEither pages tables query plan old new result = MatchResult result (HasWritten pages tables query plan old new) (HasBegun pages tables query plan old new)
+
+module _ (pager : PagerState) (tables : List TableData) (query : QueryData) (plan : Option PlannedData) where
+  pub written_planned : (planned : PlannedData) → plan ≡ Some planned → (old new : SinkFacts) (result : Result ℕ Fault)
+      → WhereSteady pager (λ pages. All (IsStored pages) (sources_of tables []) → MatchResult result
+      (WritesAnswer pages (sources_of tables []) planned old new) (WritesBeginning pages (sources_of tables []) planned old new))
+      → WhereSteady pager (λ pages. All (IsStored pages) (sources_of tables []) → WritesEither pages tables query plan old new result)
+  written_planned planned is old new result wrote = λ steady stored.
+      subst (λ (p : Option PlannedData). WritesEither (pages_seen pager) tables query p old new result) (sym is) (wrote steady stored)
+
+  pub written_nested : plan ≡ None → (old new : SinkFacts) (result : Result ℕ Fault)
+      → WhereSteady pager (λ pages. IsTyped (column_types tables) query → IsRunnableBody query.body → All (IsStored pages) (sources_of tables [])
+      → MatchResult result (WritesPermitted pages tables query old new) (nested.WritesBeginning pages tables query old new))
+      → WhereSteady pager (λ pages. All (IsStored pages) (sources_of tables []) → WritesEither pages tables query plan old new result)
+  written_nested is old new result wrote = λ steady stored.
+      subst (λ (p : Option PlannedData). WritesEither (pages_seen pager) tables query p old new result) (sym is)
+      (in_each result (λ typed runs. wrote steady typed runs stored))
+    where
+      in_each : (result : Result ℕ Fault) → (IsTyped (column_types tables) query → IsRunnableBody query.body → MatchResult result
+          (WritesPermitted (pages_seen pager) tables query old new) (nested.WritesBeginning (pages_seen pager) tables query old new))
+          → WritesEither (pages_seen pager) tables query None old new result
+      in_each (Ok counted) wrote = wrote
+      in_each (Err e) wrote = wrote
+
+-- From what a run promises to what the engine's run does.
 module _ (pager : PagerState) (tables : List TableData) (prepared : PreparedData) (ready : IsReady pager tables) (is : IsPreparedFor tables prepared) where
   abbrev engine : EngineState
   engine = record { pager = pager; tables = tables }
 
-  stored : IsTrue pager.source.steady → All (IsStored (pages_seen pager)) (sources_over tables)
+  pub stored : IsTrue pager.source.steady → All (IsStored (pages_seen pager)) (sources_over tables)
   stored steady =
       let has = ready.stored steady in
       all_alone (IsStored (pages_seen pager)) (all_tables tables)
@@ -256,26 +375,65 @@ module _ (pager : PagerState) (tables : List TableData) (prepared : PreparedData
       (All-append (IsAnyStored (pages_of pager.source.bytes)) tables (schema_table ∷ []) has.stored
       (All-cons (IsAnyStored (pages_of pager.source.bytes)) schema_table [] has.own (All-nil (IsAnyStored (pages_of pager.source.bytes))))))
 
+  typed_all : IsTyped (column_types (all_tables tables)) (settled_over tables prepared.query)
+  typed_all = typed_over tables prepared.query is.typed
+
+  planned_for : (planned : PlannedData) → prepared.planned ≡ Some planned → IsPlannedFor tables prepared.query planned
+  planned_for planned found = subst (λ (p : Option PlannedData). RunsFor tables prepared.query p) found is.runs
+
+  runnable : IsRunnableBody (settled_over tables prepared.query).body
+  runnable = settled_runs (length tables) prepared.query.body
+
+  -- its plan reads some of the tables
+  pub over_some : IsRunOverSome (sources_over tables) prepared.planned
+  over_some = over prepared.planned is.runs
+    where
+      over : (planned : Option PlannedData) → RunsFor tables prepared.query planned → IsRunOverSome (sources_over tables) planned
+      over (Some planned) runs = runs.over
+      over None runs = tt
+
   pub has_run : (new : EngineState) (report : Report) (before after : SinkFacts)
-      → WhereSteady pager (λ pages. All (IsStored pages) (sources_over tables) → WritesAnswer pages (sources_over tables) prepared.planned before after report.rows)
-      → WhereSteady pager (λ pages. (on : Basis) → AreStored pages (sources_over tables) on
-      → Asks on.local pager (work_of on.w on.db on.sizes prepared.planned) new.pager 0)
+      → WhereSteady pager (λ pages. All (IsStored pages) (sources_over tables)
+      → HasWritten pages (all_tables tables) prepared.settled prepared.planned before after report.rows)
+      → ((planned : PlannedData) → prepared.planned ≡ Some planned → WhereSteady pager (λ pages. (on : Basis) → AreStored pages (sources_over tables) on
+      → Asks on.local pager (work_of on.w on.db on.sizes planned) new.pager 0))
       → report.asked ≡ new.pager.asked - pager.asked → report.chained ≡ new.pager.chained - pager.chained
       → HasRun engine new prepared before after report
   has_run new report before after wrote few asked chained = record {
-    answer = λ steady. prints_answer pager tables prepared ready is steady report.rows before after (wrote steady (stored steady));
-    few = λ steady. took_few pager tables prepared ready is steady new.pager report (few steady) asked chained;
+    answer = λ steady. answered steady prepared.planned refl (wrote steady (stored steady));
+    few = λ steady planned found on are_stored.
+        took_few pager tables prepared.query is.typed ready steady planned (planned_for planned found) new.pager report (few planned found steady) asked chained
+        on are_stored;
     asked = asked;
     chained = chained;
   }
+    where
+      answered : IsTrue pager.source.steady → (planned : Option PlannedData) → prepared.planned ≡ planned
+          → HasWritten (pages_seen pager) (all_tables tables) prepared.settled planned before after report.rows
+          → PrintsAnswer pager.source.bytes tables prepared.query report.rows before after
+      answered steady (Some planned) found wrote =
+          prints_answer pager tables prepared.query is.typed ready steady planned (planned_for planned found) report.rows before after wrote
+      answered steady None found wrote =
+          nested_answer pager tables prepared.query is.typed ready steady report.rows before after
+          (subst (λ (q : QueryData). HasWritten (pages_seen pager) (all_tables tables) q None before after report.rows) is.settled wrote typed_all runnable)
 
   pub has_stopped : (e : Fault) (before after : SinkFacts)
-      → WhereSteady pager (λ pages. All (IsStored pages) (sources_over tables) → WritesBeginning pages (sources_over tables) prepared.planned before after e)
+      → WhereSteady pager (λ pages. All (IsStored pages) (sources_over tables)
+      → HasBegun pages (all_tables tables) prepared.settled prepared.planned before after e)
       → IsRunFault e → HasStopped engine prepared before after e
   has_stopped e before after wrote only = record {
     only = only;
-    begins = λ steady. prints_beginning pager tables prepared ready is steady e before after (wrote steady (stored steady));
+    begins = λ steady. begun steady prepared.planned refl (wrote steady (stored steady));
   }
+    where
+      begun : IsTrue pager.source.steady → (planned : Option PlannedData) → prepared.planned ≡ planned
+          → HasBegun (pages_seen pager) (all_tables tables) prepared.settled planned before after e
+          → PrintsBeginning e pager.source.bytes tables prepared.query before after
+      begun steady (Some planned) found wrote =
+          prints_beginning pager tables prepared.query is.typed ready steady planned (planned_for planned found) e before after wrote
+      begun steady None found wrote =
+          nested_beginning pager tables prepared.query is.typed ready steady e before after
+          (subst (λ (q : QueryData). HasBegun (pages_seen pager) (all_tables tables) q None before after e) is.settled wrote typed_all runnable)
 
 -- the pages of a pager that was opened are those of its source's image
 pub pages_opened : (state : PagerState) (source : SourceFacts) (header : Header) (capacity : ℕ) → state ≡ opened source header capacity

@@ -1,6 +1,5 @@
 -- From a query over the tables of a catalog with the schema's own behind them to the query over the catalog's.
-use Rattle.std.proofs.Common.{◌≡◌, ℕ, All, List, [], ◌∷◌, ◌++◌, length, map, refl, sym, ap, subst, ◌∙◌}
-use Rattle.std.specs.List.{AllZip}
+use Rattle.std.proofs.Common.{◌≡◌, ℕ, List, [], ◌∷◌, length, sym, subst, ◌∙◌}
 use Rattle.std.proofs.lemmas.List.{length-map, map-append}
 use Rattle.values.specs.Database.{Database}
 use Rattle.values.specs.Datum.{Datum}

@@ -1,12 +1,11 @@
 -- What preparing a text answers, over the tables of an engine. (SELECT; EXPLAIN QUERY PLAN)
-use Rattle.std.specs.Prelude.{◌≡◌, ◌⊎◌, true, false, ℕ, List, length}
+use Rattle.std.specs.Prelude.{◌≡◌, ◌⊎◌, ⊤, true, false, ℕ, List, length, Option, Some, None}
 use Rattle.values.specs.declared.fault.Fault.{Fault}
 use Rattle.values.specs.declared.fault.Fault.TheVariants.{NotYet}
 use Rattle.meaning.specs.Query.{QueryData}
 use Rattle.meaning.specs.Typed.{IsTyped}
 use Rattle.naming.specs.Statement.{Named}
-use Rattle.query_plans.specs.Answers.{IsPlanFor, IsPlannedOver}
-use Rattle.query_plans.specs.Served.{IsServed}
+use Rattle.query_plans.specs.Answers.{IsPlanFor, IsPlannedAsTyped, IsPlannedOver, PlannedData}
 use Rattle.resolver.specs.Resolved.{IsRefused, Resolves}
 use Rattle.settled_sources.specs.Settled.{settled}
 use Rattle.tables.specs.ColumnTypes.{column_types}
@@ -20,12 +19,22 @@ use Rattle.shell.specs.State.{sources_over}
 abbrev pub settled_over : List TableData → QueryData → QueryData
 settled_over tables query = settled (length tables) query
 
--- The query is typed over the columns of these tables. With the schema's table as one more table, each answer of what is run for it
--- is one that it permits, and what that reaches the query can reach; and it reads some of these tables.
+-- Each answer of this plan is one that the query permits, with the schema's table as one more table, and what the plan reaches the query
+-- can reach; and it reads some of these tables.
+pub record IsPlannedFor (tables : List TableData) (query : QueryData) (planned : PlannedData) : Type 0 where
+  pub plan : IsPlanFor (settled_over tables query) planned
+  pub over : IsPlannedOver (sources_over tables) planned
+
+-- so is its plan, where it has one; a query without is run once the queries in it are computed
+abbrev pub RunsFor : List TableData → QueryData → Option PlannedData → Type 0
+RunsFor tables query (Some planned) = IsPlannedFor tables query planned
+RunsFor tables query None = ⊤
+
+-- The query is typed over the columns of these tables, and what is run is for it.
 pub record IsPreparedFor (tables : List TableData) (prepared : PreparedData) : Type 0 where
   pub typed : IsTyped (column_types tables) prepared.query
-  pub plan : IsPlanFor (settled_over tables prepared.query) prepared.planned
-  pub over : IsPlannedOver (sources_over tables) prepared.planned
+  pub settled : prepared.settled ≡ settled_over tables prepared.query
+  pub runs : RunsFor tables prepared.query prepared.planned
 
 -- the text spells a statement within the limits, which is this over these tables
 pub record Spells (tables : List TableData) (text : List ℕ) (named : Named) : Type 0 where
@@ -49,14 +58,18 @@ pub record IsUnresolved (tables : List TableData) (text : List ℕ) (fault : Fau
   pub within : IsAllowed text tree
   pub refused : IsRefused tables tree fault
 
--- it spells a statement with EXPLAIN, or one whose query isn't served yet
+-- a query has this plan, which is made as it is typed
+abbrev pub IsPlannedAs : QueryData → Option PlannedData → Type 0
+IsPlannedAs query (Some planned) = IsPlanFor query planned × IsPlannedAsTyped query planned
+IsPlannedAs query None = ⊤
+
+-- it spells a statement with EXPLAIN, which isn't served yet
 pub record IsUnserved (tables : List TableData) (text : List ℕ) (fault : Fault) : Type 0 where
   pub named : Named
   pub spells : Spells tables text named
-  pub unserved : (spells.tree.explain ≡ true) ⊎ (¬ IsServed (settled_over tables named.query))
+  pub explained : spells.tree.explain ≡ true
   pub fault_is : fault ≡ NotYet
 
--- why a text was refused: it spells no statement, or one that is too large, or what it spells is no query, or one that isn't
--- served yet
+-- why a text was refused: it spells no statement, or one that is too large, or what it spells is no query, or it is to be explained
 abbrev pub Refuses : List TableData → List ℕ → Fault → Type 0
 Refuses tables text fault = IsRefusedStatement text fault ⊎ (IsUnresolved tables text fault ⊎ IsUnserved tables text fault)

@@ -1,27 +1,36 @@
 -- Statements that are stepped, a row at a time. (SELECT; EXPLAIN QUERY PLAN)
-use Rattle.std.specs.Prelude.{◌≡◌, ◌⊎◌, true, false, IsTrue, ℕ, List, [], ◌∷◌, ◌++◌, Option, Some, None, Result, Ok, Err, map, string_bytes}
-use Rattle.values.specs.Database.{Database}
+use Rattle.std.specs.Prelude.{◌≡◌, ◌⊎◌, ⊤, true, false, IsTrue, ℕ, List, [], ◌∷◌, ◌++◌, Option, Some, None, Result, Ok, Err, map, string_bytes}
 use Rattle.values.specs.Datum.{Datum}
 use Rattle.values.specs.Row.{Row}
 use Rattle.values.specs.declared.fault.Fault.{Fault}
-use Rattle.values.specs.declared.fault.Fault.TheVariants.{NotYet, Overflow, WrongPlace}
+use Rattle.values.specs.declared.fault.Fault.TheVariants.{Overflow, WrongPlace}
 use Rattle.pager.specs.Calls.{IsReadFault}
-use Rattle.image.specs.Pages.{pages_seen}
+use Rattle.image.specs.Pages.{Pages, pages_seen}
 use Rattle.meaning.specs.Answer.{Begins, IsStandIn}
 use Rattle.meaning.specs.Hits.{Hits}
 use Rattle.meaning.specs.Query.{QueryData}
+use Rattle.meaning.specs.Typed.{IsTyped}
 use Rattle.naming.specs.Statement.{Named}
-use Rattle.query_plans.specs.Served.{IsServed}
-use Rattle.running.specs.Given.{HasGiven, IsRunOver, steps_left}
+use Rattle.nested_runs.specs.Steps.{HasGivenOf}
+use Rattle.nested_runs.specs.Steps as nested
+use Rattle.nested_runs.specs.declared.steps.NestedRun.{NestedRun}
+use Rattle.query_plans.specs.Answers.{PlannedData}
+use Rattle.running.specs.Given.{HasGiven, IsOpened, IsRunOver, steps_left}
+use Rattle.running.specs.declared.rows.Running.{Running}
+use Rattle.sources.specs.SourceData.{SourceData}
 use Rattle.statement_texts.specs.StatementTexts.{IsRefusedStatement}
 use Rattle.syntax.specs.Tree.{Name}
+use Rattle.table_copies.specs.Whole.{all_tables}
+use Rattle.tables.specs.ColumnTypes.{column_types}
 use Rattle.tables.specs.TableData.{TableData}
 use Rattle.shell.specs.Answer.{IsAnswerOver, OverTables}
-use Rattle.shell.specs.Prepared.{IsPreparedFor, IsUnresolved, Spells, settled_over}
+use Rattle.shell.specs.Prepared.{IsPlannedFor, IsUnresolved, Spells, settled_over}
 use Rattle.shell.specs.PreparedView.{PreparedData}
 use Rattle.shell.specs.State.{EngineState, sources_over}
 use Rattle.shell.specs.declared.stepped.Started.{Started}
 use Rattle.shell.specs.declared.stepped.Statement.{Statement}
+use Rattle.shell.specs.declared.stepped.Stepping.{Stepping}
+use Rattle.shell.specs.declared.stepped.Stepping.TheVariants.{Planned, Nested}
 
 -- whatever value stands for results out of range, an answer over the tables that the image denotes may begin with these rows
 abbrev pub IsBeginningOver : List ℕ → List TableData → QueryData → List Row → Type 0
@@ -50,33 +59,67 @@ pub record IsExplained (tables : List TableData) (text : List ℕ) (fault : Faul
   pub explained : spells.tree.explain ≡ true
   pub fault_is : fault ≡ WrongPlace
 
--- it spells a statement whose query isn't served yet
-pub record IsYetUnserved (tables : List TableData) (text : List ℕ) (fault : Fault) : Type 0 where
-  pub named : Named
-  pub spells : Spells tables text named
-  pub unserved : ¬ IsServed (settled_over tables named.query)
-  pub fault_is : fault ≡ NotYet
-
--- why a text isn't begun: it spells no statement, or one that is too large, or what it spells is no query, or it is to be explained, or
--- it isn't served yet
+-- why a text isn't begun: it spells no statement, or one that is too large, or what it spells is no query, or it is to be explained
 abbrev pub IsUnstarted : List TableData → List ℕ → Fault → Type 0
-IsUnstarted tables text fault =
-    IsRefusedStatement text fault ⊎ (IsUnresolved tables text fault ⊎ (IsExplained tables text fault ⊎ IsYetUnserved tables text fault))
+IsUnstarted tables text fault = IsRefusedStatement text fault ⊎ (IsUnresolved tables text fault ⊎ IsExplained tables text fault)
+
+-- what is stepped reads some of these sources
+abbrev pub IsSteppingOver : List SourceData → Stepping → Type 0
+IsSteppingOver sources (Planned running) = IsRunOver sources running
+IsSteppingOver sources (Nested run) = ⊤
+
+-- how many steps it may still take, over any source of bytes
+abbrev pub steps_ahead : List SourceData → Stepping → ℕ
+steps_ahead sources (Planned running) = steps_left sources running
+steps_ahead sources (Nested run) = nested.rows_ahead run
 
 -- what a statement reads is some of these tables and, behind them, the schema's own
 abbrev pub IsSteppedOver : List TableData → Statement → Type 0
-IsSteppedOver tables statement = IsRunOver (sources_over tables) statement.running
+IsSteppedOver tables statement = IsSteppingOver (sources_over tables) statement.stepping
 
 -- how many steps it may still take, over any source
 abbrev pub rows_ahead : List TableData → Statement → ℕ
-rows_ahead tables statement = steps_left (sources_over tables) statement.running
+rows_ahead tables statement = steps_ahead (sources_over tables) statement.stepping
+
+-- the plan of a query has given these rows over a steady source
+pub record HasPlanGiven (engine : EngineState) (query : QueryData) (running : Running) (given : List Row) : Type 0 where
+  pub planned : PlannedData
+  pub is : IsPlannedFor engine.tables query planned
+  pub gave : IsTrue engine.pager.source.steady → HasGiven (pages_seen engine.pager) (sources_over engine.tables) planned running given
+
+-- a query with queries in it has
+abbrev pub HasQueryGiven : EngineState → QueryData → NestedRun → List Row → Type 0
+HasQueryGiven engine query run given =
+    IsTrue engine.pager.source.steady → HasGivenOf (pages_seen engine.pager) (all_tables engine.tables) (settled_over engine.tables query) run given
+
+abbrev pub HasGivenBy : EngineState → QueryData → List Row → Stepping → Type 0
+HasGivenBy engine query given (Planned running) = HasPlanGiven engine query running given
+HasGivenBy engine query given (Nested run) = HasQueryGiven engine query run given
 
 -- a statement of this query has given these rows: over a steady source what is run for it has given them
 pub record StandsBehind (engine : EngineState) (query : QueryData) (statement : Statement) (given : List Row) : Type 0 where
-  pub prepared : PreparedData
-  pub query_is : prepared.query ≡ query
-  pub is : IsPreparedFor engine.tables prepared
-  pub gave : IsTrue engine.pager.source.steady → HasGiven (pages_seen engine.pager) (sources_over engine.tables) prepared.planned statement.running given
+  pub typed : IsTyped (column_types engine.tables) query
+  pub gave : HasGivenBy engine query given statement.stepping
+
+-- the plan of a query that was prepared was opened
+pub record IsPlanOpened (planned : Option PlannedData) (running : Running) : Type 0 where
+  pub plan : PlannedData
+  pub plan_is : planned ≡ Some plan
+  pub opened : IsOpened plan running
+
+-- it has none, and has given no row
+pub record IsQueryOpened (settled : QueryData) (planned : Option PlannedData) (run : NestedRun) : Type 0 where
+  pub unplanned : planned ≡ None
+  pub waits : (pages : Pages) (tables : List TableData) → HasGivenOf pages tables settled run []
+
+abbrev pub IsSteppingOf : QueryData → Option PlannedData → Stepping → Type 0
+IsSteppingOf settled planned (Planned running) = IsPlanOpened planned running
+IsSteppingOf settled planned (Nested run) = IsQueryOpened settled planned run
+
+-- what is run of a query that was prepared was opened, with the names of its result columns
+pub record IsStartedFor (prepared : PreparedData) (started : Started) : Type 0 where
+  pub names : map (λ name. string_bytes name) started.names.items ≡ prepared.names
+  pub opened : IsSteppingOf prepared.settled prepared.planned started.statement.stepping
 
 -- a statement before its first row, with the names of its result columns
 pub record HasStarted (engine : EngineState) (text : List ℕ) (started : Started) : Type 0 where

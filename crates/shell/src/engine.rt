@@ -16,8 +16,6 @@ use crate::{Prepared, Started, Statement};
 use integrity::{Checked, check};
 use pager::{Pager, Source};
 use resolver::resolve;
-use runs::write_answer;
-use sources::Sources;
 use statement_texts::read_select;
 use std::alloc::Global;
 use std::marker::Model;
@@ -89,7 +87,7 @@ impl<S: Source> Engine<S> {
     /// # Errors
     ///
     /// `Syntax` where the text spells no statement, with the place of a byte where it stopped being one; `Limit`; the faults of
-    /// its names and its types, as `UnknownTable`, `Ambiguous` and `TypeMismatch`; `NotYet` for a statement that isn't served;
+    /// its names and its types, as `UnknownTable`, `Ambiguous` and `TypeMismatch`; `NotYet` for one with EXPLAIN, whose plan isn't told yet;
     /// and `NoMemory`.
     pub fn prepare(&self, text: &str) -> Result<Prepared, Fault>
         ensures { MatchResult result
@@ -124,14 +122,7 @@ impl<S: Source> Engine<S> {
         ensures writes { Counts Fault.WriteFailed result (W.facts out.old).failures (W.facts out.new).failures }
     {
         let (asked, chained) = (self.pager.asked(), self.pager.chained());
-        let sources = Sources::new(self.tables.as_slice(), &[]);
-        let rows = write_answer(
-            self.alloc,
-            &mut self.pager,
-            &sources,
-            &prepared.planned,
-            out,
-        )?;
+        let rows = prepared.write_rows(self.alloc, &mut self.pager, self.tables.as_slice(), out)?;
         Ok(Report {
             rows,
             asked: self.pager.asked() - asked,
@@ -174,14 +165,8 @@ impl<S: Source> Engine<S> {
         ensures only { IfErr result IsOperatorFault }
         ensures reads { ReadsTables result self.old self.new }
     {
-        let mut values = Vec::new(self.alloc);
-        let sources = Sources::new(self.tables.as_slice(), &[]);
-        let found = statement
-            .running
-            .next(self.alloc, &mut self.pager, &sources, &mut values)?;
-        if !found {
-            return Ok(None);
-        }
-        Ok(Some(Row::from(values)))
+        statement
+            .stepping
+            .next(self.alloc, &mut self.pager, self.tables.as_slice())
     }
 }

@@ -1,24 +1,39 @@
 //! Queries whose names are resolved, and what is run for them.
-ghost use Rattle.std.specs.Prelude.{◌≡◌, ◌⊎◌, IfErr, IfOk, map, string_bytes};
+ghost use Rattle.std.specs.Prelude.{◌≡◌, [], All, IfErr, IfOk, MatchResult, OnOk, Some, map, option_map, string_bytes};
 ghost use Rattle.values.specs.Datum.{text};
+ghost use Rattle.values.specs.Fault.{Counts};
 ghost use Rattle.values.specs.Sink.{Writes};
+ghost use Rattle.pager.specs.Calls.{ReadsPages};
+ghost use Rattle.image.specs.Pages.{WhereSteady};
 ghost use Rattle.explain.specs.Text.{row_text};
 ghost use Rattle.statement_names.specs.NamedView.{named_data, query_data};
-ghost use Rattle.query_plans.specs.Answers.{IsPlanFor, IsPlannedAsTyped};
-ghost use Rattle.query_plans.specs.Served.{IsServed};
-ghost use Rattle.running.specs.Given.{IsOpened};
+ghost use Rattle.scan.specs.Coming.{Asks};
+ghost use Rattle.sources.specs.Coming.{IsRooted, IsStored};
+ghost use Rattle.sources.specs.SourceData.{sources_of};
+ghost use Rattle.operators.specs.Basis.{AreStored, Basis};
+ghost use Rattle.query_plans.specs.Answers.{PlannedData, planned_data, work_of};
+ghost use Rattle.runs.specs.Faults.{IsRunFault};
 ghost use Rattle.settled_sources.specs.Settled.{settled};
+ghost use Rattle.shell.specs.Prepared.{IsPlannedAs};
 ghost use Rattle.shell.specs.PreparedView.{prepared_data};
+ghost use Rattle.shell.specs.Stepped.{IsStartedFor, IsSteppingOf};
+ghost use Rattle.shell.specs.Written.{HasBegun, HasWritten, IsRunOverSome};
 
+use crate::stepped::Stepping;
 use crate::{Started, Statement};
 use explain::rows_text;
+use nested_runs::{NestedRun, write_nested};
+use pager::{Pager, Source};
 use query_plans::{Planned, plan};
 use running::Running;
+use runs::write_answer;
 use settled_queries::settled_query;
+use sources::Sources;
 use statement_names::{NamedStatement, Query};
 use std::alloc::{AllocError, Global};
 use std::marker::Model;
 use std::slice;
+use tables::Table;
 use values::{Fault, Row, Sink, Value};
 
 /// The names of result columns, with the row that they are written as.
@@ -72,17 +87,37 @@ impl Header {
     }
 }
 
+/// What is run for a query that is stepped, before its first row.
+fn stepping_of(
+    alloc: Global,
+    settled: Query,
+    planned: Option<Planned>,
+) -> Result<Stepping, AllocError>
+    ensures { IfOk result (IsSteppingOf (query_data settled) (option_map planned_data planned)) }
+{
+    match planned {
+        Some(planned) => {
+            let running = Running::open(alloc, planned)?;
+            Ok(Stepping::Planned(running))
+        }
+        None => Ok(Stepping::Nested(NestedRun::Waiting(settled))),
+    }
+}
+
 /// A query over an engine's tables, whose names are resolved, and what is run for it.
 #[derive(Drop)]
 pub struct Prepared {
     query: Query,
-    pub(crate) planned: Planned,
+    /// The query as it is run, over the schema's table as one table more.
+    settled: Query,
+    /// Its plan, which a query with queries in it has once these are computed.
+    planned: Option<Planned>,
     header: Header,
 }
 
 impl Prepared {
     /// A statement whose names are resolved, with what is run for it over tables of which the one at this place is that of the
-    /// schema's rows. Its faults are `NotYet`, where its query isn't served, and `NoMemory`.
+    /// schema's rows. Its one fault is `NoMemory`.
     pub(crate) fn new(
         alloc: Global,
         statement: NamedStatement,
@@ -90,18 +125,17 @@ impl Prepared {
     ) -> Result<Prepared, Fault>
         ensures query { IfOk result (λ p. (prepared_data p).query ≡ query_data statement.query) }
         ensures names { IfOk result (λ p. (prepared_data p).names ≡ (named_data statement).names) }
-        ensures plan { IfOk result (λ p. IsPlanFor (settled place (query_data statement.query)) (prepared_data p).planned) }
-        ensures over { IfOk result (λ p. IsPlannedAsTyped (settled place (query_data statement.query)) (prepared_data p).planned) }
-        ensures refused { IfErr result (λ e. (e ≡ Fault.NoMemory) ⊎ ((e ≡ Fault.NotYet) × (¬ IsServed (settled place (query_data statement.query))))) }
+        ensures settled { IfOk result (λ p. (prepared_data p).settled ≡ settled place (query_data statement.query)) }
+        ensures plan { IfOk result (λ p. IsPlannedAs (settled place (query_data statement.query)) (prepared_data p).planned) }
+        ensures only { IfErr result (λ e. e ≡ Fault.NoMemory) }
     {
         let NamedStatement { query, names, .. } = statement;
         let settled = settled_query(alloc, place, &query)?;
-        let Some(planned) = plan(alloc, &settled)? else {
-            return Err(Fault::NotYet);
-        };
+        let planned = plan(alloc, &settled)?;
         let header = Header::new(alloc, names)?;
         Ok(Prepared {
             query,
+            settled,
             planned,
             header,
         })
@@ -109,20 +143,50 @@ impl Prepared {
 
     /// What is run for the query, before its first row, with the names of the result columns. It reads no page.
     pub(crate) fn start(self, alloc: Global) -> Result<Started, AllocError>
-        ensures names { IfOk result (λ started. map (λ name. string_bytes name) started.names.items ≡ (prepared_data self).names) }
-        ensures opened { IfOk result (λ started. IsOpened (prepared_data self).planned started.statement.running) }
+        ensures { IfOk result (IsStartedFor (prepared_data self)) }
     {
         let Prepared {
+            settled,
             planned,
             header,
             ..
         } = self;
         let Header { names, .. } = header;
-        let running = Running::open(alloc, planned)?;
+        let stepping = stepping_of(alloc, settled, planned)?;
         Ok(Started {
             names,
-            statement: Statement { running },
+            statement: Statement { stepping },
         })
+    }
+
+    /// Writes the answer of the query over these tables, the schema's own behind the others, a line for each row, and counts the rows.
+    /// At a fault what was written is a beginning of such an answer. Its faults are those of a run.
+    pub(crate) fn write_rows<S: Source, W: Sink>(
+        &self,
+        alloc: Global,
+        pager: &mut Pager<S>,
+        tables: &[Table],
+        out: &mut W,
+    ) -> Result<u64, Fault>
+        requires roots { All (IsRooted pager.old.state.header) (sources_of tables.now []) }
+        requires planned { IsRunOverSome (sources_of tables.now []) (prepared_data self.now).planned }
+        ensures rows { WhereSteady pager.old.state (λ pages. All (IsStored pages) (sources_of tables.now []) → MatchResult result
+            (HasWritten pages tables.now (prepared_data self.now).settled (prepared_data self.now).planned (W.facts out.old) (W.facts out.new))
+            (HasBegun pages tables.now (prepared_data self.now).settled (prepared_data self.now).planned (W.facts out.old) (W.facts out.new))) }
+        ensures pages { (planned : PlannedData) → (prepared_data self.now).planned ≡ Some planned → WhereSteady pager.old.state (λ pages.
+            (on : Basis) → AreStored pages (sources_of tables.now []) on
+            → OnOk result (Asks on.local pager.old.state (work_of on.w on.db on.sizes planned) pager.new.state 0)) }
+        ensures only { IfErr result IsRunFault }
+        ensures reads { ReadsPages result pager.old.state pager.new.state }
+        ensures writes { Counts Fault.WriteFailed result (W.facts out.old).failures (W.facts out.new).failures }
+    {
+        match &self.planned {
+            Some(planned) => {
+                let sources = Sources::new(tables, &[]);
+                write_answer(alloc, pager, &sources, planned, out)
+            }
+            None => write_nested(alloc, pager, tables, &self.settled, out),
+        }
     }
 
     /// Writes the names of the result columns, as they were declared, as a line of texts. Its one fault is `WriteFailed`,

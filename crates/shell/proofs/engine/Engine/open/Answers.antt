@@ -1,4 +1,4 @@
-use Rattle.std.proofs.Common.{◌≡◌, rules, All, IsTrue, List, [], ◌∷◌, ap, refl, sym, ◌∙◌, subst, inl, inr, ⊎_elim}
+use Rattle.std.proofs.Common.{◌≡◌, rules, All, IsTrue, [], ◌∷◌, ap, refl, sym, ◌∙◌, subst, inl, inr, ⊎_elim}
 use Rattle.std.proofs.lemmas.List.Elements.{All-append, All-cons, All-nil}
 use Rattle.std.proofs.lemmas.Result.{err_from_is_err_and}
 use Rattle.pager.specs.Header.{header_of}

@@ -26,14 +26,8 @@ returns-in_err-named g c =
 
 pub returns-in_err-prepared : goal.returns-in_err-prepared
 returns-in_err-prepared g c =
-    let tables = c.tables.ensures ∙ ap (λ (e : EngineState). e.tables) c.self.view_is in
     let p = err_from_is_err_and c.from_residual-in_err-prepared.result c.from_residual-in_err-prepared.ensures.1 in
-    rw (p.1, p.2)
-    (unprepared _ _ (statement_of c.in_ok-statement.statement) (named_data c.in_ok-named.named) (length c.tables-place.result.now) _
-    (ap length (c.tables-place.ensures ∙ ap (λ (e : EngineState). e.tables) c.self.view_is))
-    c.in_ok-statement.ensures.spelt c.in_ok-statement.ensures.within
-    (subst (λ (ts : List TableData). Resolves ts (statement_of c.in_ok-statement.statement) (named_data c.in_ok-named.named)) tables c.in_ok-named.ensures.means)
-    c.in_err-prepared.ensures.refused)
+    rw (p.1, p.2) (unprepared _ _ _ c.in_err-prepared.ensures.only)
 
 pub returns : goal.returns
 returns g c =
@@ -41,7 +35,7 @@ returns g c =
       prepared_for _ (prepared_data c.in_ok-prepared.prepared) (named_data c.in_ok-named.named) (length c.tables-place.result.now)
           (ap length (c.tables-place.ensures ∙ ap (λ (e : EngineState). e.tables) c.self.view_is))
           (subst (λ (ts : List TableData). IsTyped (column_types ts) (named_data c.in_ok-named.named).query) tables c.in_ok-named.ensures.typed)
-          c.in_ok-prepared.ensures.query c.in_ok-prepared.ensures.plan c.in_ok-prepared.ensures.over,
+          c.in_ok-prepared.ensures.query c.in_ok-prepared.ensures.settled c.in_ok-prepared.ensures.plan,
       record {
         named = named_data c.in_ok-named.named;
         spells = record {

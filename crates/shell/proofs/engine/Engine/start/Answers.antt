@@ -1,4 +1,4 @@
-use Rattle.std.proofs.Common.{◌≡◌, ◌∙◌, inl, inr, false, List, length, rules, ap, subst, sym}
+use Rattle.std.proofs.Common.{◌≡◌, ◌∙◌, inl, inr, false, List, length, rules, ap, subst}
 use Rattle.std.proofs.lemmas.Result.{err_from_is_err_and}
 use Rattle.meaning.specs.Typed.{IsTyped}
 use Rattle.tables.specs.ColumnTypes.{column_types}
@@ -27,14 +27,8 @@ returns-in_err-named g c =
 
 pub returns-in_err-prepared : goal.returns-in_err-prepared
 returns-in_err-prepared g c =
-    let tables = c.tables-tables.ensures ∙ ap (λ (e : EngineState). e.tables) c.self.view_is in
     let p = err_from_is_err_and c.from_residual-in_err-prepared.result c.from_residual-in_err-prepared.ensures.1 in
-    rw (p.1, p.2)
-    (unstarted _ _ (statement_of c.in_ok-spelt.spelt) (named_data c.in_ok-named.named) (length c.tables-tables.result.now) _
-    (ap length (c.tables-tables.ensures ∙ ap (λ (e : EngineState). e.tables) c.self.view_is))
-    c.in_ok-spelt.ensures.spelt c.in_ok-spelt.ensures.within
-    (subst (λ (ts : List TableData). Resolves ts (statement_of c.in_ok-spelt.spelt) (named_data c.in_ok-named.named)) tables c.in_ok-named.ensures.means)
-    c.in_err-prepared.ensures.refused)
+    rw (p.1, p.2) (unstarted _ _ _ c.in_err-prepared.ensures.only)
 
 pub returns : goal.returns
 returns g c =
@@ -47,8 +41,8 @@ returns g c =
     (prepared_for _ (prepared_data c.in_ok-prepared.prepared) (named_data c.in_ok-named.named) (length c.tables-tables.result.now)
     (ap length (c.tables-tables.ensures ∙ ap (λ (e : EngineState). e.tables) c.self.view_is))
     (subst (λ (ts : List TableData). IsTyped (column_types ts) (named_data c.in_ok-named.named).query) tables c.in_ok-named.ensures.typed)
-    c.in_ok-prepared.ensures.query c.in_ok-prepared.ensures.plan c.in_ok-prepared.ensures.over)
-    c.in_ok-prepared.ensures.query c.in_ok-prepared.ensures.names c.in_ok-started.ensures.names c.in_ok-started.ensures.opened
+    c.in_ok-prepared.ensures.query c.in_ok-prepared.ensures.settled c.in_ok-prepared.ensures.plan)
+    c.in_ok-prepared.ensures.query c.in_ok-prepared.ensures.names c.in_ok-started.ensures
 
 pub returns-then-spelt : goal.returns-then-spelt
 returns-then-spelt g c =

@@ -1,0 +1,20 @@
+use Rattle.std.proofs.Common.{[], subst, sym}
+use Rattle.shell.specs.Stepped.{IsSteppingOver}
+use Rattle.shell.specs.Steps.{TakesStep}
+use Rattle.shell.specs.declared.stepped.Stepping.{Stepping}
+use Rattle.sources.specs.SourceData.{sources_of}
+use Rattle.shell.proofs.stepped.Stepping.next.Goals as goal
+
+pub next_planned-requires-clause-planned : goal.next_planned-requires-clause-planned
+next_planned-requires-clause-planned g c =
+    subst (λ (stepping : Stepping). IsSteppingOver (sources_of c.args.tables.now []) stepping) c.in-Planned.is c.requires.over
+
+pub returns-in-Planned-clause-rows : goal.returns-in-Planned-clause-rows
+returns-in-Planned-clause-rows g c =
+    subst (λ (old : Stepping). TakesStep c.args.pager.now.state c.args.tables.now old (Stepping.Planned c.next_planned.new.running) c.next_planned.result)
+    (sym c.in-Planned.is) c.next_planned.ensures.rows
+
+pub returns-in-Nested-clause-rows : goal.returns-in-Nested-clause-rows
+returns-in-Nested-clause-rows g c =
+    subst (λ (old : Stepping). TakesStep c.args.pager.now.state c.args.tables.now old (Stepping.Nested c.next.new.self) c.next.result)
+    (sym c.in-Nested.is) c.next.ensures.rows

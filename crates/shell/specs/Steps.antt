@@ -1,0 +1,38 @@
+-- A step of a plan, and of a query with queries in it. (SELECT)
+use Rattle.std.specs.Prelude.{List, [], ◌∷◌, ◌++◌, MatchResult, Option, Some, None, Result, Ok, Err}
+use Rattle.values.specs.Row.{Row}
+use Rattle.values.specs.declared.fault.Fault.{Fault}
+use Rattle.pager.specs.PagerState.{PagerState}
+use Rattle.image.specs.Pages.{Pages, WhereSteady}
+use Rattle.inner_rows.specs.Over.{AreSaid, IsQueryCause}
+use Rattle.inner_rows.specs.Runnable.{IsRunnableBody}
+use Rattle.meaning.specs.Query.{QueryData}
+use Rattle.meaning.specs.Typed.{IsTyped}
+use Rattle.nested_runs.specs.Steps.{HasGivenOf, HasStepped}
+use Rattle.operators.specs.Basis.{AreStored, Basis}
+use Rattle.query_plans.specs.Answers.{IsAnswerOf, PlannedData}
+use Rattle.running.specs.Given.{HasGiven, IsRowCause}
+use Rattle.running.specs.declared.rows.Running.{Running}
+use Rattle.sources.specs.SourceData.{SourceData, sources_of}
+use Rattle.tables.specs.ColumnTypes.{column_types}
+use Rattle.tables.specs.TableData.{TableData}
+use Rattle.shell.specs.declared.stepped.Stepping.{Stepping}
+use Rattle.shell.specs.declared.stepped.Stepping.TheVariants.{Planned, Nested}
+
+-- of a plan that has given these rows a row more is given, or those are an answer, or there is a cause that none comes
+abbrev pub PlanSteps : Pages → List SourceData → PlannedData → List Row → Running → Result (Option Row) Fault → Type 0
+PlanSteps pages sources planned given running (Ok (Some row)) = HasGiven pages sources planned running (given ++ row ∷ [])
+PlanSteps pages sources planned given running (Ok None) = (on : Basis) → AreStored pages sources on → IsAnswerOf on.w on.db planned given
+PlanSteps pages sources planned given running (Err fault) = (on : Basis) → AreStored pages sources on → IsRowCause on planned fault
+
+-- a step of what is run over these tables, which stays of its kind
+abbrev pub TakesStep : PagerState → List TableData → Stepping → Stepping → Result (Option Row) Fault → Type 0
+TakesStep pager tables (Planned old) (Planned new) result =
+    WhereSteady pager (λ pages. (planned : PlannedData) (given : List Row) → HasGiven pages (sources_of tables []) planned old given
+    → PlanSteps pages (sources_of tables []) planned given new result)
+TakesStep pager tables (Nested old) (Nested new) result =
+    WhereSteady pager (λ pages. (query : QueryData) (given : List Row) → IsTyped (column_types tables) query → IsRunnableBody query.body
+    → HasGivenOf pages tables query old given → MatchResult result (λ found. HasStepped pages tables query new given found)
+    (λ fault. (on : Basis) → AreSaid pages tables on → IsQueryCause on query fault))
+TakesStep pager tables (Planned old) (Nested new) result = ⊥
+TakesStep pager tables (Nested old) (Planned new) result = ⊥
