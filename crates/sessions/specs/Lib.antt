@@ -1,0 +1,4 @@
+pub mod Replies
+pub mod Run
+pub mod Stands
+pub mod SessionState
