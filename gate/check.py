@@ -36,10 +36,13 @@ PROGRAMS = {
     "catalog_lines": [],
     "further_runs": ["data/rows.db", "data/chains.db"],
     "seleq": ["data/shop.db", "SELECT name FROM item"],
+    "stepped_statements": ["data/shop.db"],
     "table_counts": ["data/shop.db"],
     "table_rows": ["data/item.db", "2"],
     "text_trees": [],
 }
+# The scripts of compare/ that ask the built program.
+OURS = ("worked", "interrupted", "sessions", "catalogs", "searches", "statements", "nested", "windows", "names")
 # The kit's command.
 RT = ["python3", "-B", str(TOP / "gate" / "command.py")]
 # How many minutes after its beginning the whole begins no further check of an edit of a turn, so that it ends on a slow machine too.
@@ -100,7 +103,7 @@ def scripts(folder: Path, more: dict[str, str], rounds: list[str]) -> list[Part]
     """The comparisons, over programs that are built."""
     more = {**more, "BUILT": "1"}
     shells = [Part(name, ["sh", f"compare/{name}.sh"], folder, more) for name in ("counts", "tables", "answers")]
-    ours = [Part(name, ["python3", f"compare/{name}.py"], folder, more) for name in ("worked", "interrupted", "catalogs", "searches", "statements", "names")]
+    ours = [Part(name, ["python3", f"compare/{name}.py"], folder, more) for name in OURS]
     return [Part("outside", ["python3", "compare/outside.py", "--built", *rounds], folder, more), *ours, *shells]
 
 
