@@ -3,6 +3,7 @@ its operator wants."""
 
 from __future__ import annotations
 
+from collections.abc import Sequence
 from dataclasses import dataclass, field
 from random import Random
 
@@ -10,6 +11,10 @@ KINDS = ("INT", "TEXT", "BLOB")
 WORDS = ("bolt", "nut", "CAP", "", "it''s", "a%b", "B_t", "zz", "\u00e4\u00df", "10", "\U0001f600x")
 PATTERNS = ("%", "_", "%t", "b%", "%\u00e4%", "__", "", "B_T", "%a%b%", "n_t%", "''%")
 BLOBS = ("x''", "X'00'", "x'0AfF'", "x'6162'", "x'ff'")
+
+
+# Queries of one column, each with its type.
+Queries = Sequence[tuple[str, str]]
 
 
 @dataclass
@@ -24,11 +29,13 @@ class Columns:
 
 @dataclass
 class Maker:
-    """Makes expressions. Those that may leave 64 bits are kept as well, each by itself."""
+    """Makes expressions. Those that may leave 64 bits are kept as well, each by itself. `queries` are those that IN
+    and EXISTS may ask."""
 
     rng: Random
     columns: Columns
     risky: list[str] = field(default_factory=list)
+    queries: Queries = ()
 
     def pick(self, *choices: str) -> str:
         return self.rng.choice(choices)
@@ -121,6 +128,8 @@ class Maker:
     def comparison(self, depth: int) -> str:
         """A comparison of values of one type."""
         kind = self.rng.choice(KINDS)
+        if self.queries and self.rng.random() < 0.5:
+            return self.question(depth)
         x, y, z = (self.make(kind, depth) for _ in range(3))
         operator = self.pick("=", "==", "<>", "!=", "<", "<=", ">", ">=", "IS", "IS NOT")
         return self.pick(
@@ -130,3 +139,9 @@ class Maker:
             f"{x} {self.pick('', 'NOT ')}IN ({self.some(kind, depth)})",
             f"{x} {self.pick('ISNULL', 'NOTNULL', 'IS NULL', 'IS NOT NULL')}",
         )
+
+    def question(self, depth: int) -> str:
+        """Whether a query gives a value, or a row."""
+        query, kind = self.rng.choice(self.queries)
+        word = self.pick("", "NOT ")
+        return self.pick(f"{self.make(kind, depth)} {word}IN ({query})", f"{self.make(kind, depth)} {word}IN ({query})", f"{word}EXISTS ({query})")

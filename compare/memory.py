@@ -83,6 +83,8 @@ def try_memory(tally: Tally, folder: Path) -> None:
         some = header_line(["c7", "c0"]) + b"".join(reader.lines("sale", ["c7", "c0"]).elements())
     try_words(tally, library, folder, [path, "SELECT * FROM item"], Run(0, items, b""))
     try_words(tally, library, folder, ["--header", "--cache", "1", path, "SELECT c7, c0 FROM sale"], Run(0, some, b""))
+    nested = "WITH w AS (SELECT id, a FROM item WHERE id IN (SELECT c0 FROM sale WHERE c0 < 3)) SELECT id FROM w WHERE EXISTS (SELECT b FROM item)"
+    try_words(tally, library, folder, [path, nested], Run(0, b"0\n1\n2\n", b""))
     try_words(tally, library, folder, [path, "SELECT a FROM nowhere"], Run(1, b"", fault_line(31)))
     for words in (["--help"], ["--cache", "0", path, "SELECT * FROM item"]):
         try_words(tally, library, folder, words, run(*words))

@@ -86,11 +86,8 @@ NONSENSE = (
 
 # Statements that aren't served yet, one of each kind.
 STATEMENTS = (
-    *("EXPLAIN QUERY PLAN SELECT * FROM item", "WITH w AS (SELECT 1) SELECT * FROM w"),
-    *("SELECT * FROM (SELECT * FROM item)", "SELECT rank() OVER (ORDER BY id) FROM item"),
-    "SELECT sum(id) FILTER (WHERE id) OVER w FROM item WINDOW w AS (ROWS 1 PRECEDING)",
-    *("SELECT id FROM item UNION ALL SELECT rank() OVER () FROM item", "SELECT id IN (SELECT id FROM item) FROM item"),
-    *("SELECT EXISTS (SELECT name FROM item)", "SELECT * FROM (SELECT 1 IN (SELECT 1))"),
+    *("EXPLAIN QUERY PLAN SELECT * FROM item", "EXPLAIN QUERY PLAN SELECT rank() OVER (ORDER BY id) FROM item"),
+    *("EXPLAIN QUERY PLAN SELECT * FROM (SELECT * FROM item)", "EXPLAIN QUERY PLAN WITH w AS (SELECT 1) SELECT * FROM w"),
 )
 
 # Texts that take much to read, and are too deep or none.

@@ -13,11 +13,12 @@ from __future__ import annotations
 import sqlite3
 import sys
 from collections import Counter
+from collections.abc import Callable
 from dataclasses import dataclass
 from pathlib import Path
 from random import Random
 
-from expressions import KINDS, Columns, Maker
+from expressions import KINDS, Columns, Maker, Queries
 from program import Run, Tally, fault_line, rows_of, run
 from recipes import fill, random_value
 from tried import random_file, read_words, try_statements
@@ -54,17 +55,23 @@ def line(values: tuple) -> bytes:
 @dataclass(frozen=True)
 class Statement:
     """A SELECT without LIMIT; what may leave 64 bits in it, each as it stands over its sources side by side or over its groups; and
-    its LIMIT. `is_ordered` tells that ORDER BY leaves no choice."""
+    its LIMIT. `is_ordered` tells that ORDER BY leaves no choice; `names` is a WITH before it."""
 
     text: str
     risky: tuple[str, ...]
     is_ordered: bool
     limit: int | None
     offset: int
+    names: str = ""
+
+    def rows(self) -> str:
+        """The statement without its LIMIT."""
+        return self.names + self.text
 
     def whole(self) -> str:
+        """The statement."""
         limit = "" if self.limit is None else f" LIMIT {self.limit}"
-        return self.text + limit + (f" OFFSET {self.offset}" if limit and self.offset else "")
+        return self.rows() + limit + (f" OFFSET {self.offset}" if limit and self.offset else "")
 
     def kept(self, count: int) -> slice:
         """Which rows of so many LIMIT and OFFSET leave."""
@@ -72,7 +79,7 @@ class Statement:
         return slice(first, count if self.limit is None or self.limit < 0 else first + self.limit)
 
 
-def random_table(connection: sqlite3.Connection, name: str, rng: Random) -> dict[str, str]:
+def random_table(connection: sqlite3.Connection, name: str, rng: Random, most: int = 40) -> dict[str, str]:
     """Makes a table of some rows, with rowids or without: its columns and their types."""
     kinds = {f"c{place}": rng.choice(KINDS) for place in range(rng.randint(1, 5))}
     columns = [f"{column} {kind}" for column, kind in kinds.items()]
@@ -89,7 +96,7 @@ def random_table(connection: sqlite3.Connection, name: str, rng: Random) -> dict
         kinds["id"] = "INT"
         columns.append("id INTEGER PRIMARY KEY")
     connection.execute(f"CREATE TABLE {name}({', '.join(columns)}) {options}")
-    rows = (tuple(small_value(rng, kind) for kind in kinds.values()) for _ in range(rng.choice((0, 1, 5, 12, 40))))
+    rows = (tuple(small_value(rng, kind) for kind in kinds.values()) for _ in range(min(most, rng.choice((0, 1, 5, 12, 40)))))
     fill(connection, name, rows)
     return kinds
 
@@ -118,26 +125,27 @@ class Source:
     widths: dict[str, int]
 
 
-def no_source(rng: Random) -> Source:
+def no_source(rng: Random, queries: Queries) -> Source:
     """No FROM."""
-    return Source("", "", Maker(rng, Columns({})), 0, {})
+    return Source("", "", Maker(rng, Columns({}), queries=queries), 0, {})
 
 
-def one_source(rng: Random, table: str, kinds: dict[str, str]) -> Source:
-    """One table behind FROM. That of the schema's rows has another name: by its own SQLite finds no column of it."""
-    called = rng.choice(("a", "Other") if table in SCHEMA_NAMES else (table, "a", "Other"))
+def one_source(rng: Random, table: str, kinds: dict[str, str], queries: Queries) -> Source:
+    """One table behind FROM. That of the schema's rows has another name, since by its own SQLite finds no column of it; and so has a
+    query."""
+    called = rng.choice((table, "a", "Other") if table.isalnum() else ("a", "Other"))
     written = table if called == table else f"{table} {rng.choice(('AS ', ''))}{called}"
     ways = [lambda c: c, lambda c: c.upper(), lambda c: f"{called}.{c}", lambda c: f'"{c}"', lambda c: f"[{called}] . `{c}`"]
     columns = Columns({rng.choice(ways)(column): kind for column, kind in kinds.items()})
-    return Source(f" FROM {written}", f" FROM {written}", Maker(rng, columns), len(kinds), {called: len(kinds)})
+    return Source(f" FROM {written}", f" FROM {written}", Maker(rng, columns, queries=queries), len(kinds), {called: len(kinds)})
 
 
-def joined_source(rng: Random, tables: dict[str, dict[str, str]]) -> Source:
+def joined_source(rng: Random, tables: dict[str, dict[str, str]], queries: Queries) -> Source:
     """Two or three tables behind FROM, some of them the same, whose columns are written with their names before them. USING stands
     where no RIGHT or FULL join does, since beside one SQLite takes `t.c` for what `c` alone is; `worked.py` has rows of these."""
     chosen = [rng.choice(list(tables)) for _ in range(rng.choice((2, 2, 2, 3)))]
-    names = [f"{table}{place}" for place, table in enumerate(chosen)]
-    maker, text, width, pairs = Maker(rng, Columns({})), "", 0, []
+    names = [f"{table if table.isalnum() else 'd'}{place}" for place, table in enumerate(chosen)]
+    maker, text, width, pairs = Maker(rng, Columns({}), queries=queries), "", 0, []
     words = [rng.choice(JOINS) for _ in chosen]
     for place, (table, called) in enumerate(zip(chosen, names)):
         kinds = tables[table]
@@ -259,7 +267,7 @@ def group_columns(rng: Random, source: Source, kinds: list[str] | None = None) -
     keys = dict(filter(None, (random_group_key(rng, source.maker) for _ in range(rng.choice((0, 1, 1, 2))))))
     first = [random_aggregate(rng, source.maker, kinds[0])] if kinds else []
     aggregates = dict(first + [random_aggregate(rng, source.maker) for _ in range(rng.randint(1, 3))])
-    maker = Maker(rng, Columns({**keys, **aggregates}))
+    maker = Maker(rng, Columns({**keys, **aggregates}), queries=source.maker.queries)
     maker.risky += [aggregate for aggregate in aggregates if aggregate.startswith("sum")]
     items = [first[0][0] if first else rng.choice(list(keys or aggregates))]
     others = kinds[1:] if kinds else [rng.choice(KINDS) for _ in range(rng.randint(0, 3))]
@@ -286,14 +294,14 @@ class Core:
         return risky + ([f"{operation} AS x{self.rows}" for operation in self.shown.maker.risky] if self.is_grouped else [])
 
 
-def random_core(rng: Random, tables: dict[str, dict[str, str]], kinds: list[str] | None = None) -> Core:
+def random_core(rng: Random, tables: dict[str, dict[str, str]], kinds: list[str] | None = None, queries: Queries = ()) -> Core:
     """A SELECT over one of these tables, over several that are joined, or over none, with result columns of these types, if any are
-    given."""
+    given, whose expressions may ask these queries."""
     form, table = rng.random(), rng.choice(list(tables))
     if form < 0.1:
-        source = no_source(rng)
+        source = no_source(rng, queries)
     else:
-        source = joined_source(rng, tables) if form < 0.4 else one_source(rng, table, tables[table])
+        source = joined_source(rng, tables, queries) if form < 0.4 else one_source(rng, table, tables[table], queries)
     is_grouped = rng.random() < (0.25 if kinds else 0.4)
     if is_grouped:
         shown = group_columns(rng, source, kinds)
@@ -314,9 +322,9 @@ def random_limit(rng: Random) -> tuple[int | None, int]:
     return limit, rng.randint(-2, 6) if rng.random() < 0.5 else 0
 
 
-def random_alone(rng: Random, tables: dict[str, dict[str, str]]) -> Statement:
+def random_alone(rng: Random, tables: dict[str, dict[str, str]], queries: Queries) -> Statement:
     """One SELECT."""
-    core = random_core(rng, tables)
+    core = random_core(rng, tables, queries=queries)
     is_ordered, text = rng.random() < 0.5, core.text
     if is_ordered:
         text += random_keys(rng, core.shown.maker, core.shown.width, is_final=True, is_distinct=core.is_distinct)
@@ -324,11 +332,11 @@ def random_alone(rng: Random, tables: dict[str, dict[str, str]]) -> Statement:
     return Statement(text, tuple(core.risky()), is_ordered, limit, offset)
 
 
-def random_compound(rng: Random, tables: dict[str, dict[str, str]]) -> Statement:
+def random_compound(rng: Random, tables: dict[str, dict[str, str]], queries: Queries) -> Statement:
     """SELECTs that operators join from the left. ORDER BY names result columns, by their places or by the names of the first SELECT's,
     and where it stands names all of them, so that it leaves no choice."""
     kinds = [rng.choice(KINDS) for _ in range(rng.choice((1, 1, 2, 3)))]
-    cores = [random_core(rng, tables, kinds) for _ in range(rng.choice((2, 2, 2, 3, 4)))]
+    cores = [random_core(rng, tables, kinds, queries) for _ in range(rng.choice((2, 2, 2, 3, 4)))]
     text = cores[0].text + "".join(f" {rng.choice(OPERATORS)} {core.text}" for core in cores[1:])
     is_ordered = rng.random() < 0.5
     if is_ordered:
@@ -339,16 +347,16 @@ def random_compound(rng: Random, tables: dict[str, dict[str, str]]) -> Statement
     return Statement(text, tuple(risky for core in cores for risky in core.risky()), is_ordered, limit, offset)
 
 
-def random_statement(rng: Random, tables: dict[str, dict[str, str]]) -> Statement:
-    """A statement of one SELECT, or of several that are joined."""
-    return random_compound(rng, tables) if rng.random() < 0.25 else random_alone(rng, tables)
+def random_statement(rng: Random, tables: dict[str, dict[str, str]], queries: Queries = ()) -> Statement:
+    """A statement of one SELECT, or of several that are joined, whose expressions may ask these queries."""
+    return random_compound(rng, tables, queries) if rng.random() < 0.25 else random_alone(rng, tables, queries)
 
 
 def leaves_64_bits(connection: sqlite3.Connection, statement: Statement) -> bool:
     """Whether an operation of the statement is a floating-point number on some row, or stops SQLite."""
     for risky in statement.risky:
         try:
-            if connection.execute(f"SELECT count(*) FROM (SELECT {risky}) WHERE typeof(x) = 'real'").fetchone()[0]:
+            if connection.execute(f"{statement.names}SELECT count(*) FROM (SELECT {risky}) WHERE typeof(x) = 'real'").fetchone()[0]:
                 return True
         except sqlite3.OperationalError as error:
             if "overflow" not in str(error):
@@ -376,22 +384,41 @@ def answer_problem(connection: sqlite3.Connection, statement: Statement, answer:
     found = rows_of(answer.out)
     if answer.status or answer.err or found is None:
         return str(answer)
-    return rows_problem(statement, found, [line(row) for row in connection.execute(statement.text)])
+    return rows_problem(statement, found, [line(row) for row in connection.execute(statement.rows())])
+
+
+def ask_each(
+    tally: Tally, path: Path, seed: int, numbers: range, is_shown: bool, make: Callable[[int, dict], tuple[Statement, Statement]], make_table: Callable
+) -> None:
+    """Makes a file of such tables, and asks it these statements of this seed: for each number what the program is asked, and what SQLite
+    is in its place."""
+    connection, tables = random_file(path, seed, numbers, make_table)
+    for number in numbers:
+        asked, told = make(number, tables)
+        if is_shown:
+            print(asked.whole(), told.whole(), sep="\n")
+        cache = ("--cache", "1") if number % 3 == 0 else ()
+        answer = run(*cache, path, asked.whole())
+        problem = "" if is_too_large(asked.whole(), answer) else answer_problem(connection, told, answer)
+        tally.add(f"--seed {seed} --only {number}: {asked.whole()}", problem)
+    connection.close()
+
+
+def is_too_large(text: str, answer: Run) -> bool:
+    """Whether a statement was refused for its size. It has at most 64 sources; each stands behind FROM, JOIN or a comma."""
+    return answer.err == fault_line(38) and text.count("FROM") + text.count("JOIN") + text.count(",") > 64
 
 
 def try_file(tally: Tally, path: Path, seed: int, numbers: range, is_shown: bool) -> None:
     """Makes a file, and asks it these statements of this seed."""
-    connection, tables = random_file(path, seed, numbers, random_table)
-    for number in numbers:
+
+    def make(number: int, tables: dict[str, dict[str, str]]) -> tuple[Statement, Statement]:
         rng = Random(f"{seed} {number}")
         known = {**tables, rng.choice(SCHEMA_NAMES): SCHEMA_KINDS} if rng.random() < 0.4 else tables
         statement = random_statement(rng, known)
-        if is_shown:
-            print(statement.whole())
-        cache = ("--cache", "1") if number % 3 == 0 else ()
-        answer = run(*cache, path, statement.whole())
-        tally.add(f"--seed {seed} --only {number}: {statement.whole()}", answer_problem(connection, statement, answer))
-    connection.close()
+        return statement, statement
+
+    ask_each(tally, path, seed, numbers, is_shown, make, random_table)
 
 
 if __name__ == "__main__":
