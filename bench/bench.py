@@ -25,7 +25,7 @@ FOLDER = Path(__file__).resolve().parent
 TOP = FOLDER.parent
 sys.path.insert(0, str(TOP / "compare"))
 
-from measured import INDEXED_TARGET, INDEXES, STATEMENTS, Statement  # noqa: E402
+from measured import INDEXED_TARGET, INDEXES, JOINS, STATEMENTS, Statement  # noqa: E402
 from program import PROGRAM, build, give_up  # noqa: E402
 from reading import reading_lines  # noqa: E402
 
@@ -135,10 +135,10 @@ def commands_for(path: Path) -> list[Command]:
     ]
 
 
-def statement_commands(path: Path) -> list[Command]:
+def statement_commands(path: Path, statements: list[Statement]) -> list[Command]:
     """The statements, as both programs are asked."""
-    own = [Command(it.what, seleq(path, it.sql)) for it in STATEMENTS]
-    return [*own, *(Command(f"sqlite {it.what}", sqlite(path, it.sql)) for it in STATEMENTS)]
+    own = [Command(it.what, seleq(path, it.sql)) for it in statements]
+    return [*own, *(Command(f"sqlite {it.what}", sqlite(path, it.sql)) for it in statements)]
 
 
 def indexed_commands(path: Path) -> list[Command]:
@@ -180,7 +180,7 @@ def parts_of(costs: dict[str, Cost], it: Statement) -> tuple[float, float]:
 def statement_rows(costs: dict[str, Cost]) -> list[str]:
     """The lines of the table of statements."""
     lines = ["| What | Opening | seleq, s | sqlite3, s | Ratio | Target |", "|" + "---|" * 6]
-    for it in STATEMENTS:
+    for it in [*STATEMENTS, *JOINS]:
         own, other = parts_of(costs, it)
         opening = "taken off both" if it.apart else "included"
         wanted = f"at most {it.target}: {met(own / other <= it.target)}"
@@ -271,8 +271,10 @@ def main() -> int:
         for rows in sizes:
             path = Path(folder) / f"{rows}.db"
             make_table(path, rows)
-            more = statement_commands(path) if rows == sizes[-1] else []
+            more = statement_commands(path, STATEMENTS) if rows == sizes[-1] else []
             all_costs.append(measure_all([*commands_for(path), *more], words.runs))
+        # A join takes long, and is run once.
+        all_costs[-1] |= measure_all(statement_commands(path, JOINS), 1)
         memory = memory_lines(path)
         subprocess.run(["sqlite3", "-bail", str(path), INDEXES], check=True)
         indexed = indexed_lines(measure_all(indexed_commands(path), words.runs))

@@ -25,6 +25,21 @@ STATEMENTS = [
     Statement("count and sum of all rows", "SELECT count(*), sum(a) FROM item", 0.6, apart=True),
     Statement("GROUP BY with a thousand keys", "SELECT a % 1000, count(*), sum(b) FROM item GROUP BY a % 1000", 0.5, apart=True),
     Statement("GROUP BY with a million keys", "SELECT a, count(*), max(b) FROM item GROUP BY a", 0.5, apart=True),
+    Statement("UNION of two halves", "SELECT a FROM item WHERE id % 2 = 0 UNION SELECT a FROM item WHERE id % 2 = 1", 0.5),
+    Statement("a running sum", "SELECT sum(a) OVER (ORDER BY id) FROM item", 0.5, apart=True),
+    Statement("a sliding sum of a hundred rows", "SELECT sum(a) OVER (ORDER BY id ROWS 99 PRECEDING) FROM item", 0.5, apart=True),
+    Statement("rank in a thousand partitions", "SELECT rank() OVER (PARTITION BY a % 1000 ORDER BY b) FROM item", 0.5, apart=True),
+    Statement("min over a sliding frame", "SELECT min(b) OVER (ORDER BY id ROWS 99 PRECEDING) FROM item", 0.5, apart=True),
+]
+
+# The items of WITH and the SELECT that joins each row to a thousand rows that are kept, by a way of joining.
+KEPT = "WITH k AS (SELECT id AS i, name AS n FROM item WHERE id <= 1000) SELECT item.id, k.n FROM item {} JOIN k ON item.a = k.i"
+
+# Statements that are measured once, since they take long.
+JOINS = [
+    Statement("a join with a thousand kept rows", KEPT.format("INNER"), 1.0),
+    Statement("a RIGHT JOIN of a thousand kept rows", KEPT.format("RIGHT"), 1.0),
+    Statement("a FULL JOIN of a thousand kept rows", KEPT.format("FULL"), 1.0),
 ]
 
 # Two indexes of the table, and the most of the time of `PRAGMA integrity_check` that opening may take.
