@@ -1,42 +1,78 @@
--- A statement that is no query is refused by a fault of names and types.
-use Rattle.std.proofs.Common.{◌≡◌, inl, inr, ℕ, suc, List, [], ◌∷◌, codes, All, Result, Err, subst}
-use Rattle.std.proofs.lemmas.List.Elements.{All-append, All-cons, All-nil}
+-- A statement that is no query is refused by a fault of names and types, and has what the fault says.
+use Rattle.std.proofs.Common.{◌≡◌, false, true≢false, ◌∙◌, inl, inr, List, subst, sym, arith}
 use Rattle.values.specs.declared.fault.Fault.{Fault}
-use Rattle.values.specs.declared.value.Ty.{Ty}
 use Rattle.syntax.specs.StatementTree.{StatementTree}
-use Rattle.naming.specs.Outcome.{each}
-use Rattle.naming.specs.Statement.{Named, named}
-use Rattle.naming.specs.Typed.{Table, column_types, known_from, known_schema, known_tables, typed_query, with_types}
-use Rattle.naming.specs.Types.{body_types, query_types}
+use Rattle.syntax.specs.Tree.{Name}
+use Rattle.naming.specs.Laws.{AmbiguousIsTwo, AreDistinct, DistinctIsSaid, UnknownIsNone}
+use Rattle.naming.specs.Statement.{are_distinct}
+use Rattle.naming.specs.Typed.{Table, typed_query}
+use Rattle.refusals.specs.Reasons.{IsReason, RefusalsHaveReasons}
 use Rattle.refusals.specs.Refusals.{IsNameFault, RefusalsAreNumbered}
-use Rattle.refusals.proofs.OutcomeLemmas.{Only, also_only, each_only, followed_only, ok}
-use Rattle.refusals.proofs.QueryLemmas.{named_only}
-use Rattle.refusals.proofs.SourceLemmas.{IsKnown}
-use Rattle.refusals.proofs.TypeLemmas.{body_only, query_only}
+use Rattle.refusals.proofs.ReasonLemmas.{HasReasons, only_for_reasons}
+use Rattle.refusals.proofs.ScopeLemmas.{Says}
+use Rattle.refusals.proofs.StatementLemmas.{fault_is}
 
-from_known : (at : ℕ) (tables : List Table) → All IsKnown (known_from at tables)
-from_known at [] = All-nil IsKnown
-from_known at (t ∷ ts) = All-cons IsKnown _ (known_from (suc at) ts) (ok _) (from_known (suc at) ts)
+numbered : (tables : List Table) (tree : StatementTree) → HasReasons IsNameFault tables tree
+numbered tables tree = record {
+  takes = record {
+    bare_column = (omega arith, omega arith);
+    wrong_place = (omega arith, omega arith);
+    bad_frame = (omega arith, omega arith);
+    limit = (omega arith, omega arith);
+  };
+  types = record {
+    mismatch = (omega arith, omega arith);
+    bad_frame = (omega arith, omega arith);
+    wrong_place = (omega arith, omega arith);
+  };
+  unknown_table = λ _. (omega arith, omega arith);
+  unknown_column = λ _. (omega arith, omega arith);
+  ambiguous = λ _. (omega arith, omega arith);
+  duplicate = λ _. (omega arith, omega arith);
+  column_count = λ _. (omega arith, omega arith);
+}
 
-all_known : (tables : List Table) → All IsKnown (known_tables tables)
-all_known tables =
-    All-append IsKnown (known_from 0 tables) (known_schema (codes "sqlite_schema") ∷ known_schema (codes "sqlite_master") ∷ []) (from_known 0 tables)
-    (All-cons IsKnown (known_schema (codes "sqlite_schema")) (known_schema (codes "sqlite_master") ∷ []) (ok _)
-    (All-cons IsKnown (known_schema (codes "sqlite_master")) [] (ok _) (All-nil IsKnown)))
-
-types_only : (tables : List (List Ty)) (n : Named) → Only (with_types tables n)
-types_only tables n =
-    followed_only (each (body_types tables) n.beside) _ (each_only (body_types tables) n.beside (body_only tables))
-    (λ _. also_only (λ _. n) (query_types tables n.query) (query_only tables n.query))
-
-typed_only : (tables : List Table) (tree : StatementTree) → Only (typed_query tables tree)
-typed_only tables tree =
-    followed_only (named (known_tables tables) tree) (with_types (column_types tables)) (named_only (known_tables tables) tree (all_known tables))
-    (types_only (column_types tables))
-
-refused_so : (r : Result Named Fault) (fault : Fault) → Only r → r ≡ Err fault → IsNameFault fault
-refused_so r fault o is = let refused = subst (λ (r : Result Named Fault). Only r) is o in refused.is
+no_names : Says IsNameFault
+no_names = record {
+  unknown = λ scope table name e so. (omega arith, omega arith);
+  twice = λ scope table name e so. (omega arith, omega arith);
+  repeated = λ names e so. (omega arith, omega arith);
+}
 
 pub refusals_are_numbered : RefusalsAreNumbered
 refusals_are_numbered tables tree fault (inl none) = inl none
-refusals_are_numbered tables tree fault (inr is) = inr (refused_so (typed_query tables tree) fault (typed_only tables tree) is)
+refusals_are_numbered tables tree fault (inr is) =
+    inr (fault_is (typed_query tables tree) fault (only_for_reasons IsNameFault tables tree no_names (numbered tables tree)) is)
+
+-- ---- what the fault says
+
+-- what the definitions of names are known to say
+abbrev pub NameLaws : Type 0
+NameLaws = UnknownIsNone × AmbiguousIsTwo × DistinctIsSaid
+
+apart_or : (said : DistinctIsSaid) (names : List Name) → are_distinct names ≡ false → ¬ AreDistinct names
+apart_or said names e apart = absurd (true≢false (sym ((said names).1 apart) ∙ e))
+
+by_laws : (F : Fault → Type 0) → NameLaws → Says F
+by_laws F laws = record {
+  unknown = λ scope table name e so. so ((laws.0 scope table name).0 e);
+  twice = λ scope table name e so. so ((laws.1 scope table name).0 e);
+  repeated = λ names e so. so (apart_or laws.2 names e);
+}
+
+reasons : (tables : List Table) (tree : StatementTree) → HasReasons (IsReason tables tree) tables tree
+reasons tables tree = record {
+  takes = record { bare_column = tt; wrong_place = tt; bad_frame = tt; limit = tt };
+  types = record { mismatch = tt; bad_frame = tt; wrong_place = tt };
+  unknown_table = λ is. is;
+  unknown_column = λ is. is;
+  ambiguous = λ is. is;
+  duplicate = λ is. is;
+  column_count = λ is. is;
+}
+
+pub refusals_have_reasons : NameLaws → RefusalsHaveReasons
+refusals_have_reasons laws tables tree fault (inl none) = subst (IsReason tables tree) (sym none) tt
+refusals_have_reasons laws tables tree fault (inr is) =
+    fault_is (typed_query tables tree) fault
+    (only_for_reasons (IsReason tables tree) tables tree (by_laws (IsReason tables tree) laws) (reasons tables tree)) is

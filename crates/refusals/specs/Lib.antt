@@ -1,1 +1,9 @@
 pub mod Refusals
+pub mod Written
+pub mod Columns
+pub mod UnknownSources
+pub mod UnknownColumns
+pub mod RepeatedNames
+pub mod UnevenColumns
+pub mod Reasons
+pub mod Examples

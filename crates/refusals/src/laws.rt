@@ -1,7 +1,46 @@
 //! What holds of the definitions alone.
+ghost use Rattle.refusals.specs.Examples.{NothingIsWritten, ReasonsAreWritten};
+ghost use Rattle.refusals.specs.Reasons.{RefusalsHaveReasons};
 ghost use Rattle.refusals.specs.Refusals.{RefusalsAreNumbered};
+ghost use Rattle.refusals.specs.RepeatedNames.{RepeatedIsRefused};
+ghost use Rattle.refusals.specs.UnevenColumns.{UnevenIsRefused};
+ghost use Rattle.refusals.specs.UnknownColumns.{AmbiguousColumnIsRefused, UnknownColumnIsRefused};
+ghost use Rattle.refusals.specs.UnknownSources.{UnknownSourceIsRefused};
+
+use naming::laws::{names_are_columns, names_are_distinct, refused_statements};
 
 /// A statement that is no query is refused by a fault of names and types, or for want of memory.
 pub fn refusals_are_numbered()
     ensures { RefusalsAreNumbered }
 {}
+
+/// Where a statement is refused as one with an unknown source, an unknown or an ambiguous column, numbers of columns that differ, or
+/// a name that stands twice, this is written somewhere in it.
+pub fn refusals_have_reasons()
+    ensures { RefusalsHaveReasons }
+{
+    names_are_columns();
+    names_are_distinct();
+}
+
+/// A statement in which one of these is written is no query.
+pub fn reasons_refuse()
+    ensures sources { UnknownSourceIsRefused }
+    ensures columns { UnknownColumnIsRefused }
+    ensures ambiguous { AmbiguousColumnIsRefused }
+    ensures uneven { UnevenIsRefused }
+    ensures repeated { RepeatedIsRefused }
+{
+    names_are_columns();
+    names_are_distinct();
+}
+
+/// Statements over two tables in which it is written, and such in which nothing of it is.
+pub fn reasons_are_written()
+    ensures reasons { ReasonsAreWritten }
+    ensures nothing { NothingIsWritten }
+{
+    names_are_columns();
+    names_are_distinct();
+    refused_statements();
+}

@@ -1,0 +1,23 @@
+-- Why a statement is refused by its names, in the words of what is written in it. (SELECT; WITH clause)
+use Rattle.std.specs.Prelude.{List}
+use Rattle.values.specs.declared.fault.Fault.{Fault}
+use Rattle.values.specs.declared.fault.Fault.TheVariants as f
+use Rattle.syntax.specs.StatementTree.{StatementTree}
+use Rattle.naming.specs.Typed.{IsRefused, Table}
+use Rattle.refusals.specs.RepeatedNames.{HasRepeatedName}
+use Rattle.refusals.specs.UnevenColumns.{HasUnevenColumns}
+use Rattle.refusals.specs.UnknownColumns.{HasAmbiguousColumn, HasUnknownColumn}
+use Rattle.refusals.specs.UnknownSources.{HasUnknownSource}
+
+-- what such a fault says is written somewhere in the statement; of the others nothing is said here
+abbrev pub IsReason : List Table → StatementTree → Fault → Type 0
+IsReason tables tree f.UnknownTable = HasUnknownSource tables tree
+IsReason tables tree f.UnknownColumn = HasUnknownColumn tables tree
+IsReason tables tree f.Ambiguous = HasAmbiguousColumn tables tree
+IsReason tables tree f.ColumnCount = HasUnevenColumns tables tree
+IsReason tables tree f.DuplicateName = HasRepeatedName tree
+IsReason tables tree _ = Unit {0}
+
+-- a statement that is refused by a fault has what the fault says
+abbrev pub RefusalsHaveReasons : Type 0
+RefusalsHaveReasons = (tables : List Table) (tree : StatementTree) (fault : Fault) → IsRefused tables tree fault → IsReason tables tree fault
