@@ -13,11 +13,8 @@ use Rattle.operators.specs.Basis.{AreStored, Basis}
 use Rattle.operators.proofs.RowLemmas.{at_start}
 use Rattle.compound_results.specs.Arms.{ArmData, ArmsData, arm_rows, joined, rows_of_arms, work_of_arms}
 use Rattle.compound_results.specs.Compounds.{IsArmCause, IsArmsCause}
+use Rattle.compound_results.specs.InTurn.{over_plan}
 use Rattle.compound_results.specs.Joined.{joined_rows}
-
--- the same with another plan, which no word of the sources names
-abbrev pub over_plan : Basis → PlanData → Basis
-over_plan on plan = record on { plan = plan }
 
 pub stored_over : (pages : Pages) (sources : List SourceData) (on : Basis) (plan : PlanData) → AreStored pages sources on → AreStored pages sources (over_plan on plan)
 stored_over pages sources on plan has = has

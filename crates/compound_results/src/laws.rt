@@ -1,4 +1,5 @@
 //! What holds of the definitions alone, and examples of them.
+ghost use Rattle.compound_results.specs.Chains.{ChainIsAnswer};
 ghost use Rattle.compound_results.specs.Examples.{JoinedExamples};
 ghost use Rattle.compound_results.specs.Joined.{JoinedIsCombined};
 ghost use Rattle.compound_results.specs.Permitted.{CompoundHitsAreHits, CompoundIsPermitted};
@@ -21,4 +22,10 @@ pub fn compound_is_permitted()
 /// What the SELECTs reach the query can reach.
 pub fn compound_hits_are_hits()
     ensures { CompoundHitsAreHits }
+{}
+
+/// Where UNION ALL joins SELECTs without DISTINCT and nothing is put in order, the rows of the SELECTs, one SELECT after the other,
+/// are an answer.
+pub fn chain_is_answer()
+    ensures { ChainIsAnswer }
 {}

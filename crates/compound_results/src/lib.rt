@@ -1,18 +1,22 @@
 //! The rows of SELECTs that UNION, UNION ALL, INTERSECT and EXCEPT join from left to right: those of each SELECT are gathered,
-//! joined to those before them, put in order by result columns, and cut by LIMIT and OFFSET. It promises that the rows are a
-//! list that the query permits, whatever stands for results out of range, with NULLs equal where rows are compared; that
-//! `Overflow` comes only where the plan or a result column of a SELECT reaches one; and that no more pages are asked for than
-//! the plans' work.
+//! joined to those before them, put in order by result columns, and cut by LIMIT and OFFSET. Where UNION ALL alone joins SELECTs
+//! without DISTINCT and nothing is put in order, they are given one by one instead, as they are computed, and none is kept. It
+//! promises that the rows are a list that the query permits, whatever stands for results out of range, with NULLs equal where rows
+//! are compared; that `Overflow` comes only where the plan or a result column of a SELECT reaches one; and that no more pages are
+//! asked for than the plans' work, and of rows that are given one by one none behind the last that LIMIT leaves.
 //!
 //! The modules, in the order in which data passes them: `gathered` (the rows of a stream), `sets` (rows, each once, and those
-//! that others have), `arms` (the rows of each SELECT, joined), `compound` (the rows in order) and `laws` of the definitions.
+//! that others have), `arms` (the rows of each SELECT, joined), `compound` (the rows in order), `chained` (rows that are given one
+//! by one) and `laws` of the definitions.
 #![tactic(auto)]
 
 mod arms;
+mod chained;
 mod compound;
 mod gathered;
 pub mod laws;
 mod sets;
 
 pub use arms::{Arm, Arms};
+pub use chained::{ChainedResults, is_chain};
 pub use compound::{Compound, compound_rows};

@@ -6,7 +6,8 @@ use Rattle.plans.specs.Plan.{rows_of, work}
 use Rattle.plans.specs.PlanView.{plan_data}
 use Rattle.results.specs.Coming.{IsResultCause, result_rows}
 use Rattle.compound_results.specs.Arms.{each_once_if}
-use Rattle.compound_results.proofs.ArmLemmas.{over_plan, stored_over}
+use Rattle.compound_results.specs.InTurn.{over_plan}
+use Rattle.compound_results.proofs.ArmLemmas.{stored_over}
 use Rattle.compound_results.proofs.arms.arm_rows.Goals as goal
 
 pub returns-in_err-rows-clause-rows : goal.returns-in_err-rows-clause-rows

@@ -1,0 +1,27 @@
+-- SELECTs whose rows are given one by one: UNION ALL joins them, none is DISTINCT, and they have no ORDER BY. (SELECT, "Compound
+-- Select Statements")
+use Rattle.std.specs.Prelude.{◌≡◌, false, List, []}
+use Rattle.values.specs.Database.{Database}
+use Rattle.values.specs.Datum.{Datum}
+use Rattle.values.specs.Row.{Row}
+use Rattle.meaning.specs.Answer.{limited, skipped}
+use Rattle.meaning.specs.Query.{union_all}
+use Rattle.compound_results.specs.Arms.{ArmsData, joined, one, rows_of_arms}
+use Rattle.compound_results.specs.Compounds.{CompoundData, IsCompoundAnswer}
+
+-- all rows of each arm, one arm after the other
+abbrev pub AreAll : ArmsData → Type 0
+AreAll (one arm) = arm.distinct ≡ false
+AreAll (joined left operator arm) = (arm.distinct ≡ false) × (operator ≡ union_all) × AreAll left
+
+pub record IsChain (compound : CompoundData) : Type 0 where
+  pub arms : AreAll compound.arms
+  pub unordered : compound.order ≡ []
+
+-- of the rows of the arms, in the arms' order, those that LIMIT and OFFSET leave
+abbrev pub chain_answer : Datum → Database → CompoundData → List Row
+chain_answer w db compound = limited compound.limit (skipped compound.offset (rows_of_arms w db compound.arms))
+
+-- they are an answer
+abbrev pub ChainIsAnswer : Type 0
+ChainIsAnswer = (w : Datum) (db : Database) (compound : CompoundData) → IsChain compound → IsCompoundAnswer w db compound (chain_answer w db compound)
