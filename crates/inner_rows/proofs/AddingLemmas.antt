@@ -1,5 +1,5 @@
 -- Calls that put rows and values behind others, one after the other.
-use Rattle.std.proofs.Common.{◌≡◌, ◌∙◌, ◌+◌, ◌<◌, IsTrue, All, ℕ, List, [], ◌∷◌, ◌++◌, append-nil, append_assoc, drop, get_or, length, map, take, Result, Ok, Err, refl, sym, ap, subst}
+use Rattle.std.proofs.Common.{◌≡◌, ◌∙◌, ◌+◌, ◌<◌, All, ℕ, List, [], ◌∷◌, ◌++◌, append-nil, append_assoc, drop, get_or, length, map, take, Result, Ok, Err, refl, sym, ap, subst}
 use Rattle.std.specs.Result.{MatchResult, OnOk}
 use Rattle.std.proofs.lemmas.List.{map-append, take-append-drop, take_more}
 use Rattle.std.proofs.lemmas.Result.{on_ok_weaker}
@@ -7,7 +7,7 @@ use Rattle.std.proofs.lemmas.List.Elements.{All-cons, All-head, All-nil, All-tai
 use Rattle.values.specs.declared.fault.Fault.{Fault}
 use Rattle.pager.specs.Calls.{SameImage}
 use Rattle.pager.specs.PagerState.{PagerState}
-use Rattle.image.specs.Pages.{Pages, WhereSteady, pages_seen}
+use Rattle.image.specs.Pages.{Pages, WhereSteady}
 use Rattle.tables.specs.ColumnTypes.{column_types}
 use Rattle.tables.specs.TableData.{TableData}
 use Rattle.body_trees.specs.BodyView.{JoinedData}

@@ -1,31 +1,24 @@
 -- Rows and values that are put behind others, and why this stops.
-use Rattle.std.proofs.Common.{◌≡◌, ◌∙◌, ◌⊎◌, inl, inr, ◌+◌, All, Contains, ℕ, List, [], ◌∷◌, ◌++◌, Vec, Global, append-nil, append_assoc, length, map, refl, sym, ap, subst, arith, IsPermutation}
+use Rattle.std.proofs.Common.{◌≡◌, inl, inr, List, [], ◌∷◌, ◌++◌, append-nil, append_assoc, map, sym, subst, arith, IsPermutation}
 use Rattle.std.specs.List.{AllZip}
-use Rattle.std.proofs.lemmas.List.{length-append, length-map, map-append}
+use Rattle.std.proofs.lemmas.List.{length-append, map-append}
 use Rattle.std.proofs.lemmas.List.Elements.{All-contains, Contains-append_left, Contains-append_right, Contains-push}
 use Rattle.values.specs.Database.{Database}
 use Rattle.values.specs.Datum.{Datum}
 use Rattle.values.specs.Row.{Row}
 use Rattle.values.specs.declared.fault.Fault.{Fault}
-use Rattle.values.specs.declared.fault.Fault.TheVariants.{Overflow}
-use Rattle.values.specs.declared.value.Value.{Value}
-use Rattle.pager.specs.Calls.{IsReadFault}
-use Rattle.flat_bodies.specs.FlatView.{lists_of}
 use Rattle.flat_queries.proofs.AnswerLemmas.{answer_alike}
 use Rattle.flat_queries.proofs.PartLemmas.{plain_hits, queries_hit, sources_hit}
 use Rattle.flat_queries.specs.Flat.{kept_of}
 use Rattle.flat_queries.specs.FlatWith.{answer_from, body_in, queries_of}
-use Rattle.flat_queries.specs.Parts.{plain}
 use Rattle.meaning.proofs.ElementLemmas.{AllZip-both}
 use Rattle.meaning.specs.Body.{answer_of, body_rows, source_rows}
 use Rattle.meaning.specs.Hits.{BodyHits, HitsOrdered, SourceHits}
 use Rattle.meaning.specs.Query.{Body, InnerQuery, Key, QueryData, Source, derived}
 use Rattle.operators.specs.Basis.{Basis}
-use Rattle.sources.specs.SourceData.{rows_data}
 use Rattle.inner_rows.specs.Computed.{AddsAsMany, AddsRows, AreRowsOf}
-use Rattle.inner_rows.specs.InnerView.{InnerData, kept_rows}
+use Rattle.inner_rows.specs.InnerView.{InnerData}
 use Rattle.inner_rows.specs.Over.{IsBodyCause, IsInnerCause, IsQueryCause, SomeHits}
-use Rattle.inner_rows.proofs.KeptLemmas.{Lists}
 
 -- ---- how many
 

@@ -1,5 +1,5 @@
 -- The plan of a query without the queries in it, over their rows.
-use Rattle.std.proofs.Common.{◌≡◌, ◌∙◌, ◌⊎◌, inl, inr, ◌+◌, All, ℕ, List, [], ◌∷◌, ◌++◌, Vec, Global, Result, length, map, refl, sym, ap, subst, IsPermutation}
+use Rattle.std.proofs.Common.{◌≡◌, ◌∙◌, inl, inr, List, [], ◌∷◌, ◌++◌, Vec, Global, Result, length, map, refl, sym, ap, subst, IsPermutation}
 use Rattle.std.specs.Result.{MatchResult}
 use Rattle.std.proofs.lemmas.Result.{MatchResult-weaker}
 use Rattle.std.specs.List.{AllZip}
@@ -10,7 +10,7 @@ use Rattle.values.specs.Database.{Database}
 use Rattle.values.specs.Datum.{Datum, null, int, text, blob}
 use Rattle.values.specs.Row.{Row}
 use Rattle.values.specs.declared.fault.Fault.{Fault}
-use Rattle.values.specs.declared.fault.Fault.TheVariants.{NoMemory, Overflow}
+use Rattle.values.specs.declared.fault.Fault.TheVariants.{NoMemory}
 use Rattle.values.specs.declared.value.Value.{Value}
 use Rattle.values.specs.declared.value.Ty.{Ty}
 use Rattle.values.specs.declared.value.Ty.TheVariants.{Int}
@@ -28,14 +28,14 @@ use Rattle.flat_queries.specs.FlatWith.{flat_with, queries_of}
 use Rattle.flat_queries.specs.Parts.{plain}
 use Rattle.meaning.proofs.ElementLemmas.{AllZip-both, length_all_zip}
 use Rattle.meaning.specs.Answer.{IsStandIn, Permits}
-use Rattle.meaning.specs.Body.{SameTables, answer_of, body_rows, source_rows}
-use Rattle.meaning.specs.Hits.{BodyHits, Hits}
-use Rattle.meaning.specs.Query.{Body, Key, QueryData, Source}
+use Rattle.meaning.specs.Body.{SameTables, body_rows, source_rows}
+use Rattle.meaning.specs.Hits.{Hits}
+use Rattle.meaning.specs.Query.{Body, QueryData}
 use Rattle.meaning.specs.Typed.{HasTypes, IsTyped, SourceHasTypes}
 use Rattle.operators.specs.Basis.{AreStored, Basis}
 use Rattle.plans.specs.Plan.{PlanData, once}
 use Rattle.query_plans.proofs.WideLemmas.{typed_wide}
-use Rattle.query_plans.specs.Answers.{AreWideFor, HitsOf, IsAnswerOf, IsPlanFor, PlannedData}
+use Rattle.query_plans.specs.Answers.{AreWideFor, IsAnswerOf, IsPlanFor, PlannedData}
 use Rattle.query_plans.specs.Served.{HaveServedForm}
 use Rattle.running.specs.Given.{IsRowCause}
 use Rattle.select_plans.proofs.ColumnLemmas.{tables_have_columns}

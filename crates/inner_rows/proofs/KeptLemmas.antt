@@ -1,5 +1,5 @@
 -- Lists of rows behind the tables.
-use Rattle.std.proofs.Common.{◌≡◌, ◌∙◌, ◌+◌, All, Bool, ℕ, zero, suc, List, [], ◌∷◌, ◌++◌, Vec, Global, append-nil, length, map, slice_get, slice_index_or, take, Some, refl, sym, ap, subst, arith}
+use Rattle.std.proofs.Common.{◌≡◌, ◌∙◌, All, Bool, ℕ, zero, suc, List, [], ◌∷◌, ◌++◌, Vec, Global, append-nil, length, map, slice_get, slice_index_or, take, Some, refl, sym, subst, arith}
 use Rattle.std.specs.List.{AllZip}
 use Rattle.std.proofs.lemmas.List.{length-map}
 use Rattle.std.proofs.lemmas.List.Elements.{All-append, All-cons, All-nil}
@@ -12,13 +12,12 @@ use Rattle.tables.specs.ColumnTypes.{column_types, types_of}
 use Rattle.tables.specs.TableData.{TableData}
 use Rattle.meaning.proofs.ElementLemmas.{AllZip-both, length_all_zip}
 use Rattle.meaning.specs.Typed.{FitTypes}
-use Rattle.operators.specs.Basis.{AreStored, Basis}
-use Rattle.plans.specs.Plan.{PlanData}
+use Rattle.operators.specs.Basis.{Basis}
 use Rattle.select_plans.specs.Columns.{HasColumnsOf, HaveColumns}
-use Rattle.sources.specs.Coming.{HasColumns, HasRows, IsRooted}
+use Rattle.sources.specs.Coming.{HasRows, IsRooted}
 use Rattle.sources.specs.SourceData.{SourceData, of_rows, of_table, rows_data, sources_of}
 use Rattle.inner_rows.specs.InnerView.{kept_rows}
-use Rattle.inner_rows.specs.Over.{AreSaid, KeptAreStored, basis_over}
+use Rattle.inner_rows.specs.Over.{AreSaid, KeptAreStored}
 
 -- lists of rows as they are kept
 abbrev pub Lists : Type 0

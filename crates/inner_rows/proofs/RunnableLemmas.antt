@@ -13,12 +13,12 @@ use Rattle.flat_bodies.specs.FlatView.{kept_among}
 use Rattle.flat_queries.specs.Flat.{flat_from, flat_source, kept_in, kept_of, kept_source}
 use Rattle.flat_queries.specs.FlatWith.{body_in, flat_body_with, queries_in, queries_of}
 use Rattle.flat_queries.proofs.PartLemmas.{queries_typed, sources_typed}
-use Rattle.meaning.specs.Query.{Body, From, InnerQuery, Select, Source, compound, derived, exists, from_width, joined, nothing, schema, select, source_width, table, values_of, with_inner}
+use Rattle.meaning.specs.Query.{Body, From, InnerQuery, Source, compound, derived, exists, from_width, joined, nothing, schema, select, source_width, table, values_of, with_inner}
 use Rattle.meaning.specs.Typed.{BodyHasTypes, FromHasTypes, SourceHasTypes}
 use Rattle.naming.specs.Statement.{with_answers}
 use Rattle.query_plans.specs.Served.{HaveServedForm}
 use Rattle.table_plans.specs.TableJoins.{AreTableJoins, IsTableSource}
-use Rattle.inner_rows.specs.Runnable.{AreComputable, IsComputable, IsComputableBody, IsRunnableBody, IsRunnableFrom, IsRunnableInner, IsRunnableSource}
+use Rattle.inner_rows.specs.Runnable.{AreComputable, IsComputableBody, IsRunnableBody, IsRunnableFrom, IsRunnableInner, IsRunnableSource}
 use Rattle.inner_rows.proofs.WithinLemmas.{term_within}
 
 -- ---- the queries in it

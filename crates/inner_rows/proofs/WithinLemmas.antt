@@ -1,5 +1,5 @@
 -- A typed expression names columns that there are.
-use Rattle.std.proofs.Common.{◌≡◌, ◌<◌, All, ℕ, List, [], ◌∷◌, ◌++◌, length}
+use Rattle.std.proofs.Common.{◌<◌, All, ℕ, List, [], ◌++◌, length}
 use Rattle.std.proofs.lemmas.List.Elements.{All-append, All-cons, All-nil}
 use Rattle.std.proofs.lemmas.Option.{slice_get_within}
 use Rattle.values.specs.declared.value.Ty.{Ty}

@@ -1,10 +1,10 @@
 //! The rows of a plan.
-ghost use Rattle.std.specs.Prelude.{All, IfErr, MatchResult};
+ghost use Rattle.std.specs.Prelude.{[], All, IfErr, MatchResult};
 ghost use Rattle.pager.specs.Calls.{ReadsPages};
 ghost use Rattle.image.specs.Pages.{WhereSteady};
 ghost use Rattle.operators.specs.Basis.{AreStored, Basis, IsOperatorFault};
-ghost use Rattle.query_plans.specs.Answers.{IsAnswerOf, IsPlannedOver, planned_data};
-ghost use Rattle.running.specs.Given.{IsRowCause};
+ghost use Rattle.query_plans.specs.Answers.{IsAnswerOf, IsPlannedOver, PlannedData, planned_data};
+ghost use Rattle.running.specs.Given.{HasGiven, IsRowCause, IsRunOver};
 ghost use Rattle.sources.specs.Coming.{IsRooted};
 ghost use Rattle.sources.specs.SourceData.{rows_data};
 
@@ -14,6 +14,31 @@ use running::Running;
 use sources::Sources;
 use std::alloc::Global;
 use values::{Fault, Value};
+
+/// All rows that a plan still gives whose first row was not asked for. Its faults are those of an operator.
+fn rows_of_run<S: Source>(
+    alloc: Global,
+    pager: &mut Pager<S>,
+    sources: &Sources<'_>,
+    running: &mut Running,
+) -> Result<Vec<Vec<Value>>, Fault>
+    requires roots { All (IsRooted pager.old.state.header) sources.now }
+    requires planned { IsRunOver sources.now running.old }
+    ensures rows { WhereSteady pager.old.state (λ pages. (planned : PlannedData) → HasGiven pages sources.now planned running.old []
+        → (on : Basis) → AreStored pages sources.now on → MatchResult result
+        (λ rows. IsAnswerOf on.w on.db planned (rows_data rows.items))
+        (IsRowCause on planned)) }
+    ensures only { IfErr result IsOperatorFault }
+    ensures reads { ReadsPages result pager.old.state pager.new.state }
+{
+    let mut row = Vec::new(alloc);
+    let mut rows = Vec::new(alloc);
+    'rows: while running.next(alloc, pager, sources, &mut row)? {
+        rows.push(row)?;
+        row = Vec::new(alloc);
+    }
+    Ok(rows)
+}
 
 /// All rows that a plan gives. Its faults are those of an operator.
 pub fn planned_rows<S: Source>(
@@ -31,11 +56,5 @@ pub fn planned_rows<S: Source>(
     ensures reads { ReadsPages result pager.old.state pager.new.state }
 {
     let mut running = Running::open(alloc, planned)?;
-    let mut row = Vec::new(alloc);
-    let mut rows = Vec::new(alloc);
-    'rows: while running.next(alloc, pager, sources, &mut row)? {
-        rows.push(row)?;
-        row = Vec::new(alloc);
-    }
-    Ok(rows)
+    rows_of_run(alloc, pager, sources, &mut running)
 }

@@ -1,5 +1,5 @@
 -- Columns of a table's rows, as rows of a SELECT over one row of no values.
-use Rattle.std.proofs.Common.{◌≡◌, ◌∙◌, ◌+◌, ◌<◌, inl, inr, false, true, ℕ, List, [], ◌∷◌, ◌++◌, length, map, append-nil, refl, sym, ap, subst, arith, None}
+use Rattle.std.proofs.Common.{◌≡◌, ◌∙◌, ◌+◌, inl, inr, true, ℕ, List, [], ◌∷◌, ◌++◌, length, map, append-nil, refl, sym, ap, subst, arith, None}
 use Rattle.std.specs.List.{filter, range_with_len}
 use Rattle.std.proofs.lemmas.List.{ext_get_or, length-map}
 use Rattle.std.proofs.lemmas.List.FromFn.{get_or-map-range_with_len, length-map-range_with_len, map-range_with_len_more}

@@ -1,5 +1,5 @@
 -- Rows that are given one by one.
-use Rattle.std.proofs.Common.{◌≡◌, ◌∙◌, ◌⊎◌, ◌+◌, inl, inr, Bool, true, false, ℕ, IsTrue, List, [], ◌∷◌, ◌++◌, length, map, Result, Ok, Err, MatchResult, refl, sym, ap, append-nil, append_assoc, length-append, subst, arith}
+use Rattle.std.proofs.Common.{◌≡◌, ◌∙◌, inl, inr, Bool, true, false, ℕ, List, [], ◌∷◌, ◌++◌, length, map, Result, Ok, Err, MatchResult, refl, sym, ap, append-nil, append_assoc, length-append, subst, arith}
 use Rattle.std.specs.Global.{Global, Vec}
 use Rattle.std.specs.Vec.Iter.{into_iter_items}
 use Rattle.std.specs.declared.vec.IntoIter.{IntoIter}
@@ -26,14 +26,18 @@ use Rattle.distinct_results.specs.Sorted.{IsSortedDistinctAnswer}
 use Rattle.distinct_results.specs.declared.stream.DistinctResults.{DistinctResults}
 use Rattle.query_plans.specs.Answers.{HitsOf, IsAnswerOf, PlannedData}
 use Rattle.select_plans.specs.Laws.{PlanReaches}
-use Rattle.compound_results.specs.Arms.{work_of_arms}
+use Rattle.compound_results.specs.Arms.{ArePlannedOver, ArmsHit, work_of_arms}
+use Rattle.compound_results.specs.Chains.{IsChain, chain_answer}
 use Rattle.compound_results.specs.Compounds.{CompoundData, IsArmsCause, IsCompoundAnswer}
+use Rattle.compound_results.specs.InTurn.{IsChainComing, arms_of}
+use Rattle.compound_results.specs.declared.chained.ChainedResults.{ChainedResults}
+use Rattle.compound_results.proofs.ChainAnswerLemmas.{chain_is_answer}
 use Rattle.running.specs.Columns.{columns_selection}
 use Rattle.running.specs.GatheredView.{gathered_data, rows_data}
 use Rattle.running.specs.Given.{Comes, GivesFirst, HasAnswered, HasGiven, IsOpened, IsRowCause, rows_left}
 use Rattle.running.specs.declared.gathered.Gathered.{Gathered}
 use Rattle.running.specs.declared.rows.Running.{Running}
-use Rattle.running.specs.declared.rows.Running.TheVariants.{Rows, Distinct, Waiting, Giving}
+use Rattle.running.specs.declared.rows.Running.TheVariants.{Rows, Distinct, Chained, Waiting, Giving}
 use Rattle.running.proofs.ColumnLemmas.{columns_answer, columns_reach_none}
 
 -- what is said of sources, whatever plan is run
@@ -132,6 +136,38 @@ module _ (start now : PagerState) (sources : List SourceData) (row : Row) where
     distinct_step (Err e) says steady planned given comes =
         comes_cause (pages_seen start) sources planned (plan_of old.results.op) (map term old.results.columns.items)
         (λ on. IsDistinctComing (pages_seen start) sources on old) given comes start now row e (says steady)
+
+  module _ (old new : ChainedResults) (hits : (w : Datum) (db : Database) → ArmsHit w db (arms_of new.arms) → ArmsHit w db (arms_of old.arms)) where
+    pub chained_step : (result : Result Bool Fault)
+        → WhereSteady start (λ pages. (on : Basis) (rest : List Row) (ahead : ℕ) → AreStored pages sources on → IsChainComing pages sources on old rest ahead
+        → MatchResult result (λ found. Gives found on.local start ahead now rest row (IsChainComing pages sources on new)) (IsArmsCause on (arms_of old.arms)))
+        → Steps (Chained old) (Chained new) result
+    chained_step (Ok true) says steady planned given comes = record {
+      rows = λ on has.
+          let here = comes.rows on has in
+          let gives : GivesNext on.local start here.ahead now here.rest row (IsChainComing (pages_seen start) sources on new) =
+          says steady on here.rest here.ahead has here.to_come in
+          record {
+            rest = gives.later;
+            ahead = gives.left;
+            answer =
+                subst (IsAnswerOf on.w on.db planned)
+                (ap (λ (rest : List Row). given ++ rest) gives.rest_is ∙ sym (append_assoc given (row ∷ []) gives.later)) here.answer;
+            to_come = gives.is_left;
+          };
+      hits = λ w db reached. comes.hits w db (hits w db reached);
+    }
+    chained_step (Ok false) says steady planned given comes = λ on has.
+        let here = comes.rows on has in
+        let none : GivesNone on.local start here.ahead now here.rest = says steady on here.rest here.ahead has here.to_come in
+        subst (IsAnswerOf on.w on.db planned) (ap (λ (rest : List Row). given ++ rest) none.rest_is ∙ append-nil given) here.answer
+    chained_step (Err e) says steady planned given comes = λ on has.
+        let here = comes.rows on has in
+        cause on (says steady on here.rest here.ahead has here.to_come)
+      where
+        cause : (on : Basis) → IsArmsCause on (arms_of old.arms) e → IsRowCause on planned e
+        cause on (inl read) = inl read
+        cause on (inr reached) = inr (reached.0, comes.hits on.w on.db reached.1)
 
   -- of the rows that were gathered the next is given, or there is none
   pub giving_answers : (pages : Pages) (planned : PlannedData) (given : List Row) (old new : IntoIter (Vec Value) Global) (found : Bool)
@@ -270,6 +306,24 @@ distinct_opened selection distinct plans terms coming = record {
   over = λ sources over. subst (λ (p : PlanData). IsPlanOf sources p) (sym plans) over;
 }
 
+-- SELECTs whose rows come one by one, one SELECT after the other
+pub chained_opened : (joined : CompoundData) (chained : ChainedResults) → IsChain joined → arms_of chained.arms ≡ joined.arms
+    → ((pages : Pages) (sources : List SourceData) (on : Basis)
+    → IsChainComing pages sources on chained (chain_answer on.w on.db joined) (work_of_arms on.w on.db on.sizes joined.arms))
+    → IsOpened (PlannedData.compound joined) (Chained chained)
+chained_opened joined chained chain arms coming = record {
+  given = λ pages sources. record {
+    rows = λ on has. record {
+      rest = chain_answer on.w on.db joined;
+      ahead = work_of_arms on.w on.db on.sizes joined.arms;
+      answer = chain_is_answer on.w on.db joined chain;
+      to_come = coming pages sources on;
+    };
+    hits = λ w db reached. subst (ArmsHit w db) arms reached;
+  };
+  over = λ sources over. subst (ArePlannedOver sources) (sym arms) over;
+}
+
 -- columns of each row of a table
 pub columns_opened : (at : ℕ) (places : List ℕ) (selection : SelectionData) → selection ≡ columns_selection at places
     → (results : Results) → plan_of results.op ≡ selection.plan → map term results.columns.items ≡ selection.columns
@@ -294,6 +348,7 @@ given_begins pages sources planned (Rows results) given row comes on has =
     let here = comes.rows (with_plan on (plan_of results.op)) (stored_with pages sources on (plan_of results.op) has) refl in (here.rest, here.answer)
 given_begins pages sources planned (Distinct distinct) given row comes on has =
     let here = comes.rows (with_plan on (plan_of distinct.results.op)) (stored_with pages sources on (plan_of distinct.results.op) has) refl in (here.rest, here.answer)
+given_begins pages sources planned (Chained chained) given row comes on has = let here = comes.rows on has in (here.rest, here.answer)
 given_begins pages sources planned (Waiting gathered) given row waits on has =
     absurd (let long = length-append given (row ∷ []) in let none = ap length waits.0 in omega (arith, long, none))
 given_begins pages sources planned (Giving rows) given row all on has = (rows_left rows, all on has)

@@ -19,11 +19,14 @@ use Rattle.operators.specs.Basis.{AreStored, Basis}
 use Rattle.operators.specs.Left.{IsPlanOf, plan_of, steps}
 use Rattle.results.specs.Coming.{IsComing}
 use Rattle.distinct_results.specs.Coming.{IsDistinctComing}
+use Rattle.compound_results.specs.Arms.{ArePlannedOver, ArmsHit}
+use Rattle.compound_results.specs.InTurn.{IsChainComing, arms_of, turn_steps}
+use Rattle.compound_results.specs.declared.chained.ChainedResults.{ChainedResults}
 use Rattle.query_plans.specs.Answers.{HitsOf, IsAnswerOf, IsPlannedOver, PlannedData}
 use Rattle.select_plans.specs.Laws.{PlanReaches}
 use Rattle.running.specs.GatheredView.{gathered_data, rows_data}
 use Rattle.running.specs.declared.rows.Running.{Running}
-use Rattle.running.specs.declared.rows.Running.TheVariants.{Rows, Distinct, Waiting, Giving}
+use Rattle.running.specs.declared.rows.Running.TheVariants.{Rows, Distinct, Chained, Waiting, Giving}
 
 -- why a plan stops over a steady source: reading failed, or it reaches an operation out of range
 abbrev pub IsRowCause : Basis → PlannedData → Fault → Type 0
@@ -52,6 +55,11 @@ pub record Comes (pages : Pages) (sources : List SourceData) (planned : PlannedD
   pub rows : (on : Basis) → AreStored pages sources on → on.plan ≡ plan → Completes on planned (IsToCome on) given
   pub hits : (w : Datum) (db : Database) → PlanReaches w db plan columns → HitsOf w db planned
 
+-- The same of rows that come one by one over the plans of SELECTs that are run one after the other.
+pub record ChainComes (pages : Pages) (sources : List SourceData) (planned : PlannedData) (chained : ChainedResults) (given : List Row) : Type 0 where
+  pub rows : (on : Basis) → AreStored pages sources on → Completes on planned (IsChainComing pages sources on chained) given
+  pub hits : (w : Datum) (db : Database) → ArmsHit w db (arms_of chained.arms) → HitsOf w db planned
+
 -- These rows were given, and what is to come makes an answer of them: as they come one by one, all of them where they are yet
 -- to be gathered, and else those that were gathered.
 abbrev pub HasGiven : Pages → List SourceData → PlannedData → Running → List Row → Type 0
@@ -59,6 +67,7 @@ HasGiven pages sources planned (Rows results) given =
     Comes pages sources planned (plan_of results.op) (map term results.columns.items) (λ on. IsComing pages sources on results) given
 HasGiven pages sources planned (Distinct distinct) given =
     Comes pages sources planned (plan_of distinct.results.op) (map term distinct.results.columns.items) (λ on. IsDistinctComing pages sources on distinct) given
+HasGiven pages sources planned (Chained chained) given = ChainComes pages sources planned chained given
 HasGiven pages sources planned (Waiting gathered) given = (given ≡ []) × (planned ≡ gathered_data gathered)
 HasGiven pages sources planned (Giving rows) given =
     (on : Basis) → AreStored pages sources on → IsAnswerOf on.w on.db planned (given ++ rows_left rows)
@@ -72,6 +81,7 @@ HasAnswered false pages sources planned running given row = (on : Basis) → Are
 abbrev pub IsRunOver : List SourceData → Running → Type 0
 IsRunOver sources (Rows results) = IsPlanOf sources (plan_of results.op)
 IsRunOver sources (Distinct distinct) = IsPlanOf sources (plan_of distinct.results.op)
+IsRunOver sources (Chained chained) = ArePlannedOver sources (arms_of chained.arms)
 IsRunOver sources (Waiting gathered) = IsPlannedOver sources (gathered_data gathered)
 IsRunOver sources (Giving rows) = ⊤
 
@@ -84,5 +94,6 @@ pub record IsOpened (planned : PlannedData) (running : Running) : Type 0 where
 abbrev pub steps_left : List SourceData → Running → ℕ
 steps_left sources (Rows results) = steps sources results.op
 steps_left sources (Distinct distinct) = steps sources distinct.results.op
+steps_left sources (Chained chained) = turn_steps sources chained.arms
 steps_left sources (Waiting gathered) = 2 ^ 64
 steps_left sources (Giving rows) = into_iter_len rows

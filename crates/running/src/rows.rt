@@ -5,6 +5,8 @@ ghost use Rattle.values.specs.Row.{Row};
 ghost use Rattle.pager.specs.Calls.{ReadsPages};
 ghost use Rattle.sources.specs.Coming.{IsRooted};
 ghost use Rattle.image.specs.Pages.{WhereSteady};
+ghost use Rattle.compound_results.specs.Chains.{IsChain};
+ghost use Rattle.compound_results.specs.Compounds.{compound_data};
 ghost use Rattle.operators.specs.Basis.{AreStored, Basis, IsOperatorFault};
 ghost use Rattle.query_plans.specs.Answers.{PlannedData, planned_data};
 ghost use Rattle.results.specs.Coming.{selection_data};
@@ -13,6 +15,7 @@ ghost use Rattle.running.specs.Given.{HasAnswered, HasGiven, IsOpened, IsRowCaus
 
 use crate::columns::selection_of;
 use crate::gathered::{Gathered, gathered_rows, give};
+use compound_results::{ChainedResults, Compound, is_chain};
 use distinct_results::DistinctResults;
 use pager::{Pager, Source};
 use query_plans::Planned;
@@ -29,6 +32,8 @@ pub enum Running {
     Rows(Results),
     /// The same, each once.
     Distinct(DistinctResults),
+    /// Rows of SELECTs, of each all before those of the next, as they are computed.
+    Chained(ChainedResults),
     /// Rows that are to be gathered.
     Waiting(Gathered),
     /// Of the rows that were gathered those that are still to be given.
@@ -67,6 +72,26 @@ fn waiting(gathered: Gathered) -> Running
     Running::Waiting(gathered)
 }
 
+/// Rows of SELECTs that are run one after the other, before the first.
+fn chained_opened(alloc: Global, joined: &Compound) -> Result<Running, AllocError>
+    requires { IsChain (compound_data joined.now) }
+    ensures { IfOk result (IsOpened (PlannedData.compound (compound_data joined.now))) }
+{
+    let chained = ChainedResults::open(alloc, joined)?;
+    Ok(Running::Chained(chained))
+}
+
+/// Rows of SELECTs that operators join, before the first. They are gathered where a row depends on others.
+fn compound_opened(alloc: Global, joined: Compound) -> Result<Running, AllocError>
+    ensures { IfOk result (IsOpened (PlannedData.compound (compound_data joined))) }
+{
+    if is_chain(&joined) {
+        chained_opened(alloc, &joined)
+    } else {
+        Ok(waiting(Gathered::Compound(joined)))
+    }
+}
+
 impl Running {
     /// A plan before its first row. It reads no page.
     pub fn open(alloc: Global, planned: Planned) -> Result<Running, AllocError>
@@ -78,7 +103,7 @@ impl Running {
             Planned::Distinct(selection) => distinct_opened(alloc, selection),
             Planned::Sorted(selection) => Ok(waiting(Gathered::Sorted(selection))),
             Planned::SortedDistinct(selection) => Ok(waiting(Gathered::SortedDistinct(selection))),
-            Planned::Compound(joined) => Ok(waiting(Gathered::Compound(joined))),
+            Planned::Compound(joined) => compound_opened(alloc, joined),
         }
     }
 
@@ -105,6 +130,7 @@ impl Running {
         match self {
             Running::Rows(results) => results.next(alloc, pager, sources, row),
             Running::Distinct(distinct) => distinct.next(alloc, pager, sources, row),
+            Running::Chained(chained) => chained.next(alloc, pager, sources, row),
             Running::Waiting(gathered) => {
                 let rows = gathered_rows(alloc, pager, sources, gathered)?;
                 let mut left = rows.into_iter();

@@ -24,7 +24,7 @@ use Rattle.runs.proofs.AnswerLemmas.{some_order}
 use Rattle.runs.proofs.GivenLemmas.{not_operators, nothing_printed}
 
 -- there is some answer
-some_joined : (w : Datum) (db : Database) (whole : CompoundData) → (rows : List Row) × IsCompoundAnswer w db whole rows
+pub some_joined : (w : Datum) (db : Database) (whole : CompoundData) → (rows : List Row) × IsCompoundAnswer w db whole rows
 some_joined w db whole =
     let some = some_order whole.order (plain_outputs (eval w) whole.order (rows_of_arms w db whole.arms)) in (
       map (λ o. o.row) (limited whole.limit (skipped whole.offset some.ordered)),

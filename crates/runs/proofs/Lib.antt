@@ -6,3 +6,4 @@ pub mod KindLemmas
 pub mod GivenLemmas
 pub mod AnswerLemmas
 pub mod CompoundLemmas
+pub mod ChainLemmas

@@ -1,4 +1,4 @@
-use Rattle.std.proofs.Common.{◌≡◌, ◌∙◌, [], ◌++◌, All, OnOk, append-nil, arith, length, map, refl, rules, subst, sym, ap}
+use Rattle.std.proofs.Common.{◌≡◌, ◌∙◌, [], ◌++◌, All, OnOk, append-nil, arith, length, map, rules, subst, sym, ap}
 use Rattle.std.proofs.lemmas.List.{take_all}
 use Rattle.std.proofs.lemmas.List.Elements.{All-head}
 use Rattle.std.proofs.lemmas.Result.{err_from_is_err_and}
@@ -13,7 +13,7 @@ use Rattle.naming.specs.Statement.{operator_of, with_answers}
 use Rattle.flat_bodies.specs.FlatView.{kept_among}
 use Rattle.flat_queries.specs.Flat.{kept_in, kept_of, kept_source}
 use Rattle.flat_queries.specs.FlatWith.{queries_in, queries_of}
-use Rattle.pager.proofs.CallLemmas.{SameImage-none, SameImage-trans}
+use Rattle.pager.proofs.CallLemmas.{SameImage-trans}
 use Rattle.inner_rows.specs.Computed.{AddsAsMany}
 use Rattle.tables.specs.ColumnTypes.{column_types}
 use Rattle.inner_rows.specs.InnerView.{inner_data}

@@ -1,10 +1,10 @@
-use Rattle.std.proofs.Common.{◌∙◌, map, subst}
+use Rattle.std.proofs.Common.{map, subst}
 use Rattle.std.proofs.lemmas.Result.{err_from_is_err_and}
 use Rattle.values.specs.Datum.{datum_of}
 use Rattle.image.specs.Pages.{pages_seen}
 use Rattle.running.specs.Given.{HasGiven}
 use Rattle.running.specs.declared.rows.Running.{Running}
-use Rattle.running.proofs.GivenLemmas.{distinct_step, giving_step, rows_step, waiting_step, waiting_stops}
+use Rattle.running.proofs.GivenLemmas.{chained_step, distinct_step, giving_step, rows_step, waiting_step, waiting_stops}
 use Rattle.running.proofs.rows.Running.next.Goals as goal
 
 pub returns-in-Rows-clause-rows : goal.returns-in-Rows-clause-rows
@@ -18,6 +18,12 @@ returns-in-Distinct-clause-rows g c = λ steady planned given has.
     distinct_step c.args.pager.now.state c.next-in-Distinct.new.pager.state c.args.sources.now (map datum_of c.next-in-Distinct.new.out.items) c.in-Distinct.distinct
     c.next-in-Distinct.new.self c.next-in-Distinct.ensures.plan c.next-in-Distinct.ensures.columns c.next-in-Distinct.result c.next-in-Distinct.ensures.rows steady planned given
     (subst (λ (r : Running). HasGiven (pages_seen c.args.pager.now.state) c.args.sources.now planned r given) c.in-Distinct.is has)
+
+pub returns-in-Chained-clause-rows : goal.returns-in-Chained-clause-rows
+returns-in-Chained-clause-rows g c = λ steady planned given has.
+    chained_step c.args.pager.now.state c.next-in-Chained.new.pager.state c.args.sources.now (map datum_of c.next-in-Chained.new.out.items) c.in-Chained.chained
+    c.next-in-Chained.new.self c.next-in-Chained.ensures.hits c.next-in-Chained.result c.next-in-Chained.ensures.rows steady planned given
+    (subst (λ (r : Running). HasGiven (pages_seen c.args.pager.now.state) c.args.sources.now planned r given) c.in-Chained.is has)
 
 pub returns-in-Giving-clause-rows : goal.returns-in-Giving-clause-rows
 returns-in-Giving-clause-rows g c = λ steady planned given has.

@@ -5,7 +5,7 @@ use Rattle.compound_results.specs.Compounds.{compound_data}
 use Rattle.runs.proofs.AnswerLemmas.{rows_counted, rows_text-map}
 use Rattle.runs.proofs.CompoundLemmas.{joined_answer, joined_cut, joined_few, joined_stopped}
 use Rattle.runs.proofs.GivenLemmas.{operator_fault}
-use Rattle.runs.proofs.compounds.write_compound.Goals as goal
+use Rattle.runs.proofs.compounds.write_joined.Goals as goal
 
 pub returns-in_err-rows-clause-rows : goal.returns-in_err-rows-clause-rows
 returns-in_err-rows-clause-rows g c = λ steady.

@@ -1,17 +1,18 @@
-use Rattle.std.proofs.Common.{◌≡◌}
+use Rattle.std.proofs.Common.{◌≡◌, []}
 use Rattle.pager.specs.Calls.{SameImage}
 use Rattle.image.specs.Pages.{WhereSteady}
-use Rattle.query_plans.specs.Answers.{planned_data}
+use Rattle.query_plans.specs.Answers.{PlannedData}
 use Rattle.running.specs.Given.{HasGiven, IsRunOver, steps_left}
 use Rattle.sources.specs.SourceData.{rows_data}
-use Rattle.inner_rows.proofs.rows.planned_rows.Given as goal
+use Rattle.inner_rows.proofs.rows.rows_of_run.Given as goal
 
 abbrev pub invariant-rows : goal.invariant-rows
 invariant-rows g l = record {
   image : SameImage l.fn.pager.state l.pager.state;
   failures : l.pager.state.source.failures ≡ l.fn.pager.state.source.failures;
   over : IsRunOver l.sources l.running;
-  given : WhereSteady l.fn.pager.state (λ pages. HasGiven pages l.sources (planned_data l.fn.planned) l.running (rows_data l.rows.items));
+  given : WhereSteady l.fn.pager.state (λ pages. (planned : PlannedData) → HasGiven pages l.sources planned l.fn.running []
+      → HasGiven pages l.sources planned l.running (rows_data l.rows.items));
 }
 
 abbrev pub decreases-rows : goal.decreases-rows
