@@ -243,6 +243,8 @@ ANSWERS = {
     "SELECT qty FROM item UNION SELECT n FROM sale ORDER BY qty NULLS LAST LIMIT 2 OFFSET 4": "9\n40\n",
     "SELECT id, 'a' FROM item UNION ALL SELECT n, 'b' FROM sale ORDER BY 2 DESC, id LIMIT 3 OFFSET 2": "5,'b'\n9,'b'\n1,'a'\n",
     "SELECT id FROM item UNION ALL SELECT n FROM sale LIMIT 3 OFFSET 3": "4\n5\n2\n",
+    # Behind the last row that LIMIT leaves no SELECT is run.
+    "SELECT n FROM sale WHERE n = 9 UNION ALL SELECT n + 9223372036854775800 FROM sale LIMIT 3": "9\n9223372036854775805\n9223372036854775802\n",
     "SELECT id FROM item EXCEPT SELECT 2 LIMIT 0": "",
     # The table of the schema's rows, by both of its names.
     "SELECT type, name, tbl_name, rootpage FROM sqlite_schema": "'table','item','item',2\n'table','sale','sale',3\n'table','gift','gift',4\n",
@@ -442,7 +444,8 @@ STOPPED = {
     "SELECT id FROM item ORDER BY abs(-9223372036854775807 - id)": "",
     "SELECT id FROM item JOIN sale ON id + 9223372036854775807 > n": "",
     "SELECT id FROM item LEFT JOIN sale ON id + 9223372036854775807 > n": "",
-    "SELECT id FROM item UNION ALL SELECT n + 9223372036854775800 FROM sale": "",
+    "SELECT id FROM item UNION ALL SELECT n + 9223372036854775800 FROM sale": "1\n2\n3\n4\n9223372036854775805\n9223372036854775802\n",
+    "SELECT id FROM item UNION ALL SELECT n + 9223372036854775800 FROM sale ORDER BY 1": "",
     "SELECT 1 EXCEPT SELECT 9223372036854775807 + 1": "",
     "SELECT id FROM item RIGHT JOIN sale ON id + 9223372036854775807 > n": "",
     "SELECT n FROM item FULL JOIN sale ON id = item AND n * 9223372036854775807 > 0": "",
