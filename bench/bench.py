@@ -10,21 +10,20 @@ read with each piece of its output. Run it on a machine that is else idle.
 from __future__ import annotations
 
 import argparse
-import os
 import re
 import shutil
 import subprocess
 import sys
 import tempfile
 import textwrap
-import time
-from dataclasses import dataclass
 from pathlib import Path
 
 FOLDER = Path(__file__).resolve().parent
 TOP = FOLDER.parent
 sys.path.insert(0, str(TOP / "compare"))
 
+from costs import Command, Cost, measure_all  # noqa: E402
+from lookups import build_table_rows, lookup_lines  # noqa: E402
 from measured import INDEXED_TARGET, INDEXES, JOINS, STATEMENTS, Statement  # noqa: E402
 from program import PROGRAM, build, give_up  # noqa: E402
 from reading import reading_lines  # noqa: E402
@@ -46,27 +45,6 @@ MEMORY_TARGET = (16 << 20) + CACHE * PAGE + 2 * PAYLOAD
 GROWTH_TARGET = 1.25
 
 
-@dataclass(frozen=True)
-class Cost:
-    """The least of what some runs took: seconds on the clock and of the processor."""
-
-    clock: float = float("inf")
-    processor: float = float("inf")
-
-    def least(self, other: Cost) -> Cost:
-        """The less of each."""
-        return Cost(min(self.clock, other.clock), min(self.processor, other.processor))
-
-
-@dataclass(frozen=True)
-class Command:
-    """A command that is measured, and the status that it has to end with."""
-
-    name: str
-    words: list[str]
-    status: int = 0
-
-
 def make_table(path: Path, rows: int) -> None:
     """Has sqlite3 make a table of a key, two numbers and a text of 40 bytes."""
     script = f"""PRAGMA page_size = {PAGE};
@@ -77,19 +55,6 @@ def make_table(path: Path, rows: int) -> None:
     subprocess.run(["sqlite3", "-bail", str(path)], input=script.encode(), check=True)
 
 
-def measure(command: Command) -> Cost:
-    """Runs a command once."""
-    with open(os.devnull, "r+b") as nothing:
-        began = time.perf_counter()
-        child = subprocess.Popen(command.words, stdin=nothing, stdout=nothing, stderr=nothing)
-        _, status, usage = os.wait4(child.pid, 0)
-        clock = time.perf_counter() - began
-        child.returncode = os.waitstatus_to_exitcode(status)
-    if child.returncode != command.status:
-        give_up(f"{command.words} ended with status {child.returncode}")
-    return Cost(clock, usage.ru_utime + usage.ru_stime)
-
-
 def peak_of(command: Command) -> int:
     """The most bytes of memory that a command had when it wrote its output, of which a pipe holds back a page."""
     peak = 0
@@ -98,15 +63,6 @@ def peak_of(command: Command) -> int:
             told = re.search(r"VmHWM:\s+([0-9]+) kB", Path(f"/proc/{child.pid}/status").read_text())
             peak = max(peak, int(told[1]) * 1024 if told else 0)
     return peak
-
-
-def measure_all(commands: list[Command], runs: int) -> dict[str, Cost]:
-    """Runs all commands in turn, so often, and answers the least cost of each."""
-    costs = {command.name: Cost() for command in commands}
-    for _ in range(runs):
-        for command in commands:
-            costs[command.name] = costs[command.name].least(measure(command))
-    return costs
 
 
 def sqlite(path: Path, *texts: str) -> list[str]:
@@ -226,7 +182,9 @@ def growth_lines(sizes: list[int], all_costs: list[dict[str, Cost]]) -> list[str
     ]
 
 
-def report(sizes: list[int], all_costs: list[dict[str, Cost]], indexed: list[str], memory: list[str], runs: int) -> str:
+def report(
+    sizes: list[int], all_costs: list[dict[str, Cost]], indexed: list[str], lookups: list[str], memory: list[str], runs: int
+) -> str:
     """The text of RESULTS.md."""
     version = subprocess.run(["sqlite3", "--version"], capture_output=True, check=True).stdout.decode().split()[0]
     how = f"""Written by `bench/bench.py`. The table has an integer key, two integers and a text of {TEXT} bytes, in pages of
@@ -242,6 +200,8 @@ def report(sizes: list[int], all_costs: list[dict[str, Cost]], indexed: list[str
         "\n".join(indexed),
         "## Statements",
         "\n".join(statement_rows(all_costs[-1])),
+        "## Searches",
+        "\n".join(lookups),
         "## The peak of memory",
         "\n".join(memory),
         "## Growth",
@@ -259,12 +219,13 @@ def main() -> int:
     parser.add_argument("--rows", type=int, default=ROWS, help=f"rows of the longest table ({ROWS})")
     parser.add_argument("--runs", type=int, default=RUNS, help=f"runs of each command ({RUNS})")
     parser.add_argument("--out", type=Path, default=FOLDER / "RESULTS.md", help="the file of the results")
-    parser.add_argument("--built", action="store_true", help="take the program as it was built last")
+    parser.add_argument("--built", action="store_true", help="take the programs as they were built last")
     words = parser.parse_args()
     if shutil.which("sqlite3") is None:
         give_up("the program sqlite3 is not on the PATH")
     if not words.built:
         build()
+        build_table_rows()
     sizes = [max(1, words.rows // 100), max(2, words.rows // 10), words.rows]
     with tempfile.TemporaryDirectory() as folder:
         all_costs = []
@@ -278,7 +239,8 @@ def main() -> int:
         memory = memory_lines(path)
         subprocess.run(["sqlite3", "-bail", str(path), INDEXES], check=True)
         indexed = indexed_lines(measure_all(indexed_commands(path), words.runs))
-    words.out.write_text(report(sizes, all_costs, indexed, memory, words.runs))
+        lookups = lookup_lines(path, Path(folder), CACHE, words.runs)
+    words.out.write_text(report(sizes, all_costs, indexed, lookups, memory, words.runs))
     return 0
 
 

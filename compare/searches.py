@@ -1,6 +1,7 @@
 """Has sqlite3 make tables with indexes at several page sizes, and compares the entries that our cursor lists of each index, and
-where its searches stand, with the order that sqlite3 gives. Each search asks for no more pages than the tree has levels. Run from
-the top of the repository; the last line is 'N passed, M failed'."""
+where its searches of indexes and of tables stand, with the order that sqlite3 gives. Each search of an index asks for no more
+pages than the tree has levels; one of a table for a row that is there neither, and else for one less than twice as many. Run
+from the top of the repository; the last line is 'N passed, M failed'."""
 
 from __future__ import annotations
 
@@ -34,6 +35,13 @@ def random_value(random: Random, column: str) -> Value:
     length = random.choice([0, 1, 3, 8, 30, 90] if random.random() < 0.95 else [200, 700])
     text = "".join(random.choice("ab é") for _ in range(length))
     return text if column == "b" else text.replace(" ", "\t").encode()
+
+
+def random_rowid(random: Random) -> int:
+    """A rowid of each length, the least and the greatest too."""
+    if random.random() < 0.02:
+        return random.choice([-(2**63), 2**63 - 1])
+    return random.choice([1, -1]) * random.getrandbits(random.choice([4, 10, 12, 20, 40, 63]))
 
 
 def rank(value: Value) -> tuple:
@@ -84,6 +92,9 @@ def make(path: Path, size: int, random: Random) -> sqlite3.Connection:
     rows = [tuple(random_value(random, column) for column in "abc") for _ in range(ROWS)]
     database.execute("BEGIN")
     database.executemany("INSERT INTO t VALUES (?, ?, ?)", rows)
+    database.execute("CREATE TABLE k(id INTEGER PRIMARY KEY, name TEXT NOT NULL) STRICT")
+    ids = {random_rowid(random) for _ in range(ROWS)}
+    database.executemany("INSERT INTO k VALUES (?, ?)", [(rowid, f"n{rowid % 1000}") for rowid in ids])
     database.execute("COMMIT")
     for number, (columns, signs) in enumerate(INDEXES):
         database.execute(f"CREATE INDEX i{number} ON t({ordering(columns, signs)})")
@@ -122,9 +133,7 @@ def compare(tally: Tally, path: Path, database: sqlite3.Connection, number: int,
         tally.add(what, f"{len(lines)} lines, {run.stderr[:200]!r}")
         return
     tally.add(what, "")
-    # A page's path has a slash for each level.
-    depth = database.execute("SELECT max(length(path) - length(replace(path, '/', ''))) FROM dbstat WHERE name = ?", (f"i{number}",))
-    levels = depth.fetchone()[0]
+    levels = levels_of(database, f"i{number}")
     for (key, is_behind), line in zip(keys, lines[ROWS:]):
         place = sum(comes_before(entry, key, signs, is_behind) for entry in entries)
         found, _, asked = line.rpartition(",")
@@ -132,8 +141,39 @@ def compare(tally: Tally, path: Path, database: sqlite3.Connection, number: int,
         tally.add(f"{what} {key} {is_behind}", problem)
 
 
+def levels_of(database: sqlite3.Connection, name: str) -> int:
+    """How many levels the tree of a table or an index has: a page's path has a slash for each."""
+    depth = database.execute("SELECT max(length(path) - length(replace(path, '/', ''))) FROM dbstat WHERE name = ?", (name,))
+    return depth.fetchone()[0]
+
+
+def compare_rows(tally: Tally, path: Path, database: sqlite3.Connection, random: Random) -> None:
+    """Compares where searches for rows stand, half of them for rows that there are."""
+    root = database.execute("SELECT rootpage FROM sqlite_schema WHERE name = 'k'").fetchone()[0]
+    rows = dict(database.execute("SELECT id, name FROM k"))
+    there = list(rows)
+    keys = [(random.choice(there) if random.random() < 0.5 else random_rowid(random), random.random() < 0.5) for _ in range(KEYS)]
+    given = "".join(key_line([rowid], is_behind) for rowid, is_behind in keys)
+    command = [str(CRATE / "out" / "table_rows"), str(path), str(root), "rowid"]
+    run = subprocess.run(command, input=given.encode(), capture_output=True, check=False)
+    lines = run.stdout.decode().split("\n")[:-1]
+    if len(lines) != KEYS:
+        tally.add(f"{path.name}: rows", f"{len(lines)} lines, {run.stderr[:200]!r}")
+        return
+    levels = levels_of(database, "k")
+    for (rowid, is_behind), line in zip(keys, lines):
+        relation = ">" if is_behind else ">="
+        query = f"SELECT id || ',NULL,' || quote(name) || ',' FROM k WHERE id {relation} ? ORDER BY id LIMIT 1"
+        row = database.execute(query, (rowid,)).fetchone()
+        wanted = row[0] if row else ""
+        most = levels if rowid in rows and not is_behind else 2 * levels - 1
+        asked = line.removeprefix(wanted)
+        problem = "" if wanted + asked == line and asked.isdigit() and int(asked) <= most else f"{line}; {levels} levels"
+        tally.add(f"{path.name}: rowid {rowid} {is_behind}", problem)
+
+
 def main() -> int:
-    """Compares the indexes at each page size."""
+    """Compares the indexes, and the searches of a table, at each page size."""
     if not (CRATE / "out" / "table_rows").exists():
         give_up("the program isn't built")
     tally, random = Tally(), Random(7)
@@ -143,6 +183,7 @@ def main() -> int:
             database = make(path, size, random)
             for number in range(len(INDEXES)):
                 compare(tally, path, database, number, random)
+            compare_rows(tally, path, database, random)
             database.close()
     return tally.finish()
 

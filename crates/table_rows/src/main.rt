@@ -1,26 +1,48 @@
-//! Prints the rows of a table, `table_rows IMAGE ROOT`, so that they can be compared with what another program that reads
-//! SQLite's format makes of the file: a line for each row, with its number and the values of its record. Or it prints the
-//! entries of an index, `table_rows IMAGE ROOT SIGNS`, where a sign for each column, `+` or `-`, says which of them descend; and
-//! then, for each line of standard input, where a search for that key stands, and how many pages it asked for.
+//! Prints what a tree of an image holds, and where searches of it stand, so that this can be compared with what another program
+//! that reads SQLite's format makes of the file.
 //!
-//! The modules: `rows` (of a table), `keys` (what is sought) and `searches` (of an index).
+//! - `table_rows IMAGE ROOT` prints a line for each row of a table: its number and the values of its record.
+//! - `table_rows IMAGE ROOT rowid [PAGES]` prints, for each line of standard input, the row at which a search for that number
+//!   stands, and how many pages it asked for.
+//! - `table_rows IMAGE ROOT SIGNS [PAGES]`, where a sign for each column, `+` or `-`, says which of them descend, prints the
+//!   entries of an index, and then the same of searches for the keys of standard input.
+//!
+//! So many pages are kept, one if none are told.
+//!
+//! The modules: `rows` (of a table), `keys` (what is sought) and `searches` (where a search stands).
 #![tactic(auto)]
 
 mod keys;
 mod rows;
 mod searches;
 
-use anyhow::{Context, Result};
+use anyhow::{Context, Result, anyhow};
 use keys::sought;
 use pager::{FileSource, Pager, Source};
 use rows::write_rows;
-use searches::{write_entries, write_search};
+use searches::{write_entries, write_row_search, write_search};
 use std::env;
 use std::num::NonZeroUsize;
-use values::{Gathered, Sink, WriteSink};
+use values::{Gathered, Sink, Value, WriteSink};
 
-/// How many pages are kept.
-const CAPACITY: NonZeroUsize = NonZeroUsize::MIN;
+/// Writes where the searches for rows stand that standard input asks for.
+fn search_rows<S: Source, O: Sink>(
+    rt: &HostRuntime,
+    pager: &mut Pager<S>,
+    root: u32,
+    out: &mut O,
+) -> Result<()> {
+    let alloc = rt.alloc();
+    for line in rt.lines(alloc) {
+        let line = line?;
+        let sought = sought(alloc, "", line.as_str())?;
+        let Some(Value::Int(rowid)) = sought.values.first() else {
+            return Err(anyhow!("no rowid"));
+        };
+        write_row_search(alloc, pager, root, *rowid, sought.behind, out)?;
+    }
+    Ok(())
+}
 
 /// Writes the entries of an index, and where the searches stand that standard input asks for.
 fn search<S: Source, O: Sink>(
@@ -40,17 +62,18 @@ fn search<S: Source, O: Sink>(
     Ok(())
 }
 
-/// Writes the rows of a table or, where there are signs, of an index what is asked for.
+/// Writes the rows of a table or, where one is told, what a search is for.
 fn write_lines<S: Source, O: Sink>(
     rt: &HostRuntime,
     pager: &mut Pager<S>,
     root: u32,
-    signs: &Option<String>,
+    sought: Option<&str>,
     out: &mut O,
 ) -> Result<()> {
-    match signs {
+    match sought {
         None => Ok(write_rows(rt.alloc(), pager, root, out)?),
-        Some(signs) => search(rt, pager, root, signs.as_str(), out),
+        Some("rowid") => search_rows(rt, pager, root, out),
+        Some(signs) => search(rt, pager, root, signs, out),
     }
 }
 
@@ -60,14 +83,19 @@ fn run<O: Sink>(rt: &HostRuntime, out: &mut O) -> Result<()> {
     let path = words.nth(1).context("no image")?;
     let root = words.next().context("no root")?;
     let root: u32 = root.as_str().parse().context("no number")?;
+    let sought = words.next();
+    let pages: NonZeroUsize = match words.next() {
+        Some(pages) => pages.as_str().parse().context("no number of pages")?,
+        None => NonZeroUsize::MIN,
+    };
     let source = FileSource::open(rt, path.as_str())?;
-    let mut pager = match Pager::open(alloc, source, CAPACITY) {
+    let mut pager = match Pager::open(alloc, source, pages) {
         Ok(pager) => pager,
         Err((fault, _)) => return Err(fault.into()),
     };
     let mut gathered = Gathered::new(alloc, out)?;
-    let signs = words.next();
-    let written = write_lines(rt, &mut pager, root, &signs, &mut gathered);
+    let sought = sought.as_ref().map(String::as_str);
+    let written = write_lines(rt, &mut pager, root, sought, &mut gathered);
     let (_, handed_on) = gathered.finish();
     written?;
     handed_on?;

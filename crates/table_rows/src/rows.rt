@@ -8,7 +8,7 @@ use std::alloc::Global;
 use values::{Fault, Sink, ValueRef, write_all};
 
 /// Writes a row's number and the values of its record, as literals with commas between them.
-fn write_row<O: Sink>(alloc: Global, cell: &Cell<'_>, out: &mut O) -> Result<(), Fault> {
+pub fn write_row<O: Sink>(alloc: Global, cell: &Cell<'_>, out: &mut O) -> Result<(), Fault> {
     if cell.payload.overflow.is_some() {
         return Err(Fault::NotYet);
     }
@@ -24,7 +24,7 @@ fn write_row<O: Sink>(alloc: Global, cell: &Cell<'_>, out: &mut O) -> Result<(),
         write_all(out, b",")?;
         record.field(index).write_literal(out)?;
     }
-    write_all(out, b"\n")
+    Ok(())
 }
 
 /// Writes the rows of the table with this root, a line each.
@@ -37,6 +37,7 @@ pub fn write_rows<S: Source, O: Sink>(
     let mut cursor = Cursor::first(alloc, pager, TreeKind::Table, root)?;
     while let Some(cell) = cursor.entry()? {
         write_row(alloc, &cell, out)?;
+        write_all(out, b"\n")?;
         cursor.next(pager)?;
     }
     Ok(())

@@ -1,0 +1,70 @@
+"""Searches that are measured beside `sqlite3`: a million of them, for rows by their numbers and for entries of an index, each for a
+key that is there, in random order. The searches are those of the program `table_rows`, which writes what it finds."""
+
+from __future__ import annotations
+
+import random
+import sqlite3
+import subprocess
+from pathlib import Path
+
+from costs import Command, measure_all
+from program import TOP
+
+TABLE_ROWS = TOP / "crates" / "table_rows" / "out" / "table_rows"
+# At most the time that sqlite3 takes for a join with a list of the keys.
+LOOKUP_TARGET = 1.0
+
+
+def write_keys(folder: Path, name: str, keys: list[int]) -> tuple[Path, Path]:
+    """Writes keys in random order: as lines that `table_rows` reads, and as a table of an image of their own."""
+    random.Random(7).shuffle(keys)
+    lines, image = folder / f"{name}.txt", folder / f"{name}.db"
+    lines.write_text("".join(f"at\ti{key}\n" for key in keys))
+    with sqlite3.connect(image) as database:
+        database.execute("CREATE TABLE probe(k INT) STRICT")
+        database.executemany("INSERT INTO probe VALUES (?)", ((key,) for key in keys))
+    database.close()
+    return lines, image
+
+
+def lookup_line(what: str, own: float, other: float) -> str:
+    """A line of the table."""
+    verdict = "met" if own / other <= LOOKUP_TARGET else "missed"
+    return f"| {what} | {own:.3f} | {other:.3f} | {own / other:.2f} | at most {LOOKUP_TARGET}: {verdict} |"
+
+
+def lookup_lines(path: Path, folder: Path, pages: int, runs: int) -> list[str]:
+    """The lines of the table of searches on a file whose table `item` has an index on `a`. What both write without a search, the
+    entries of the index here and the keys there, is taken off."""
+    database = sqlite3.connect(path)
+    roots = dict(database.execute("SELECT name, rootpage FROM sqlite_schema WHERE name IN ('item', 'item_a')"))
+    lines = ["| A million searches | seleq, s | sqlite3, s | Ratio | Target |", "|" + "---|" * 5]
+    for what, name, column, shown, way in (
+        ("for rows by their numbers", "item", "id", "item.id, item.a, item.b, item.name", "rowid"),
+        ("for entries of an index", "item_a", "a", "item.a, item.id", "+"),
+    ):
+        keys, probe = write_keys(folder, name, [key for (key,) in database.execute(f"SELECT {column} FROM item")])
+        own = [str(TABLE_ROWS), str(path), str(roots[name]), way, str(pages)]
+        other = ["sqlite3", "-batch", "-readonly", "-quote", "-cmd", f"ATTACH '{probe}' AS p", str(path)]
+        join = f"SELECT {shown} FROM p.probe CROSS JOIN item ON item.{column} = probe.k"
+        costs = measure_all(
+            [
+                Command("own", own, given=str(keys)),
+                Command("own begin", own),
+                Command("other", [*other, join]),
+                Command("other begin", [*other, "SELECT k FROM p.probe"]),
+            ],
+            runs,
+        )
+        mine, theirs = (costs[name].processor - costs[f"{name} begin"].processor for name in ("own", "other"))
+        lines.append(lookup_line(what, mine, theirs))
+    database.close()
+    return lines
+
+
+def build_table_rows() -> None:
+    """Proves and builds the program, and runs it once."""
+    crate = TABLE_ROWS.parent.parent
+    words = ["rt", "run", "--", "data/item.db", "2"]
+    subprocess.run(words, cwd=crate, stdin=subprocess.DEVNULL, stdout=subprocess.DEVNULL, check=True)
