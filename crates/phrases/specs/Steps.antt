@@ -87,6 +87,10 @@ ends [] = true
 ends (Lexeme.Punctuation s.Semicolon ∷ []) = true
 ends _ = false
 
+abbrev pub behind_semicolon : Rest → Rest
+behind_semicolon (Lexeme.Punctuation s.Semicolon ∷ ts) = ts
+behind_semicolon ts = ts
+
 -- Lists
 
 abbrev pub Found : Type 0 → Type 0

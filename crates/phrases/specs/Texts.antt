@@ -1,6 +1,6 @@
 -- What a text spells by a grammar, and why it was refused. A grammar is its reserved words and its statements, which
 -- are a relation between trees and tokens.
-use Rattle.std.specs.Prelude.{◌<◌, ◌≤◌, ◌⊎◌, ℕ, List, length, map}
+use Rattle.std.specs.Prelude.{◌<◌, ◌≤◌, ◌⊎◌, ℕ, List, [], ◌∷◌, length, map}
 use Rattle.values.specs.declared.fault.Fault.{Fault}
 use Rattle.values.specs.declared.fault.Fault.TheVariants as f
 use Rattle.tokens.specs.Content.{lexeme_of}
@@ -15,6 +15,11 @@ lexemes = map (λ t. t.lexeme)
 -- the same of tokens of the program
 abbrev pub lexemes_of : List Token → List Lexeme
 lexemes_of = map (λ t. lexeme_of t.kind)
+
+-- where the first of them stands, or else the end of the text
+abbrev pub first_place : ℕ → List Token → ℕ
+first_place end [] = end
+first_place end (t ∷ ts) = t.place
 
 -- the text spells this tree
 pub record Spells {T : Type 0} (grammar : Grammar) (Statement : T → List Lexeme → Type 0) (text : List ℕ) (tree : T)

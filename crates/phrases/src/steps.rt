@@ -4,7 +4,7 @@ ghost use Rattle.phrases.specs.Outcomes as outcomes;
 ghost use Rattle.phrases.specs.Outcomes.{Yields};
 ghost use Rattle.phrases.specs.Steps as spec;
 ghost use Rattle.phrases.specs.Steps.{Gives, IsSyntax};
-ghost use Rattle.phrases.specs.Texts.{lexemes_of};
+ghost use Rattle.phrases.specs.Texts.{first_place, lexemes_of};
 
 use std::alloc::Global;
 use tokens::{Keyword, Sign, Token, TokenKind, name_content};
@@ -62,8 +62,10 @@ pub fn ends(tokens: &[Token<'_>]) -> bool
     )
 }
 
-/// What is behind a semicolon, if one stands at the front.
-pub fn after_semicolon<'t>(tokens: &'t [Token<'t>]) -> &'t [Token<'t>] {
+/// What is behind a semicolon, if one stands at the front, and else all of it.
+pub fn after_semicolon<'t>(tokens: &'t [Token<'t>]) -> &'t [Token<'t>]
+    ensures { lexemes_of result.now ≡ spec.behind_semicolon (lexemes_of tokens.now) }
+{
     match tokens {
         [
             Token {
@@ -77,7 +79,9 @@ pub fn after_semicolon<'t>(tokens: &'t [Token<'t>]) -> &'t [Token<'t>] {
 }
 
 /// Where the first token stands, or the end of the text.
-pub fn place_of(tokens: &[Token<'_>], end: usize) -> usize {
+pub fn place_of(tokens: &[Token<'_>], end: usize) -> usize
+    ensures { result ≡ first_place end tokens.now }
+{
     match tokens {
         [first, ..] => first.place,
         [] => end,
