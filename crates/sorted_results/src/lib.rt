@@ -5,7 +5,8 @@
 //! go while they come.
 //!
 //! The modules, in the order in which data passes them: `keys` (the values that a row is put in order by), `ranks` (numbers
-//! that tell most of an order), `order` (rows in order), `first_outputs` (the first rows in order, kept while they come), `gathered` (the rows) and `laws` of the definitions.
+//! that tell most of an order), `order` (rows in order), `first_outputs` (the first rows in order, kept while they come),
+//! `gathered` (the rows) and `laws` of the definitions.
 #![tactic(auto)]
 
 mod first_outputs;
@@ -18,4 +19,3 @@ mod ranks;
 pub use gathered::{SortedSelection, sorted_rows};
 pub use keys::{Key, KeyTerm, Output};
 pub use order::compare_at;
-pub use ranks::{Rank, rank_at};

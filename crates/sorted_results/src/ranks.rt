@@ -6,7 +6,7 @@ use values::Value;
 /// A number that is less than that of another value only where the value comes before it. Only the time of a sort depends on
 /// ranks: what they leave open, values that tie and texts that begin alike, is told by the values.
 #[derive(Clone, Copy, Default, PartialEq, Eq, PartialOrd, Ord)]
-pub struct Rank {
+pub(crate) struct Rank {
     /// NULLs first or last, and between them integers, texts and blobs.
     class: u8,
     /// The integer, or the first bytes.
@@ -41,7 +41,7 @@ fn ascending_rank(value: &Value) -> Rank {
 }
 
 /// The rank of the value at a place of a row by a direction; past its end a row has NULLs.
-pub fn rank_at(direction: Direction, row: &[Value], at: usize) -> Rank {
+pub(crate) fn rank_at(direction: Direction, row: &[Value], at: usize) -> Rank {
     let Rank { class, bits } = match row.get(at) {
         Some(value) => ascending_rank(value),
         None => Rank::default(),
