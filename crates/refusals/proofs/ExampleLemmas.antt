@@ -6,16 +6,17 @@ use Rattle.values.specs.declared.fault.Fault.TheVariants as f
 use Rattle.syntax.specs.ExprTree.{CoreTree, DefinitionTrees, ExprTree, ExprTrees, MaybeExpr, QueryTree, SourceTree, TermTrees}
 use Rattle.syntax.specs.StatementTree.{ItemTree, StatementTree}
 use Rattle.syntax.specs.Tree.{Name}
-use Rattle.naming.specs.Laws.{AmbiguousIsTwo, DistinctIsSaid, UnknownIsNone}
+use Rattle.naming.specs.Laws.{AmbiguousIsTwo, DistinctIsSaid, TypedIsTaken, UnknownIsNone}
 use Rattle.naming.specs.Parts.{core_parts, terms_parts}
-use Rattle.naming.specs.RefusedExamples.{RefusedNames, alias_in_where, in_two_sources, item_in_itself, outer_column, star_of_none, twice, two_columns, two_named, two_of_one_name, uneven, uneven_item, unknown_column, unknown_table, windows_of_one_name}
+use Rattle.naming.specs.RefusedExamples.{RefusedNames, RefusedTypes, alias_in_where, arms_of_two_types, in_two_sources, item_in_itself, mismatch, other_type, outer_column, star_of_none, twice, two_columns, two_named, two_of_one_name, uneven, uneven_item, unknown_column, unknown_table, untyped_item, unused_window, windows_of_one_name}
 use Rattle.naming.specs.Statement.{Named, from_tree}
 use Rattle.naming.specs.Typed.{typed_query}
 use Rattle.naming.specs.Worked.{by_term, called, id, item as item_alone, name_alone, results_of, tables}
-use Rattle.refusals.specs.Examples.{NothingIsWritten, ReasonsAreWritten, item_before_its_own, items_of_items, sorted_by_alias}
+use Rattle.refusals.specs.Examples.{NothingIsWritten, ReasonsAreWritten, item_before_its_own, items_of_items, of_null_alone, sorted_by_alias}
 use Rattle.refusals.specs.Reasons.{IsReason}
 use Rattle.refusals.specs.UnknownColumns.{HasLooseHaving}
 use Rattle.refusals.specs.Written.{HasQuery, HasSelect, IsDerived, IsLooseHaving, IsOperand, IsQueryOf, IsSelect, StandsIn, sources_in}
+use Rattle.refusals.proofs.MistypedQueryLemmas.{mistyped_is_refused}
 use Rattle.refusals.proofs.RefusalLemmas.{NameLaws, refusals_have_reasons}
 use Rattle.refusals.proofs.RepeatedLemmas.{repeated_is_refused}
 use Rattle.refusals.proofs.UnevenLemmas.{uneven_is_refused}
@@ -25,8 +26,8 @@ use Rattle.refusals.proofs.UnknownSourceLemmas.{unknown_source_is_refused}
 reason : NameLaws → (tree : StatementTree) (fault : Fault) → typed_query tables tree ≡ Err fault → IsReason tables tree fault
 reason laws tree fault e = refusals_have_reasons laws tables tree fault (inr e)
 
-pub reasons_are_written : NameLaws → RefusedNames → ReasonsAreWritten
-reasons_are_written laws names = (
+pub reasons_are_written : NameLaws → RefusedNames → RefusedTypes → ReasonsAreWritten
+reasons_are_written laws names types = (
   reason laws unknown_table f.UnknownTable names.0,
   reason laws item_in_itself f.UnknownTable names.1,
   reason laws item_before_its_own f.UnknownTable refl,
@@ -42,6 +43,11 @@ reasons_are_written laws names = (
   reason laws twice f.DuplicateName names.11,
   reason laws two_of_one_name f.DuplicateName names.12,
   reason laws windows_of_one_name f.DuplicateName names.13,
+  reason laws mismatch f.TypeMismatch types.0,
+  reason laws other_type f.TypeMismatch types.1,
+  reason laws unused_window f.TypeMismatch types.2,
+  reason laws arms_of_two_types f.TypeMismatch types.3,
+  reason laws untyped_item f.TypeMismatch types.4,
 )
 
 taken : (r : Result Named Fault) → is_ok r ≡ true → (n : Named) × (r ≡ Ok n)
@@ -112,13 +118,16 @@ sorted_tight has = by has.of has.has
     by IsQueryOf.whole deeper =
         tight_alone sorted_core by_k sorted_sources sorted_parts sorted_terms (λ loose. loose) deeper has.items has.is
 
-pub nothing_is_written : UnknownIsNone → AmbiguousIsTwo → DistinctIsSaid → NothingIsWritten
-nothing_is_written none two said =
+pub nothing_is_written : UnknownIsNone → AmbiguousIsTwo → DistinctIsSaid → TypedIsTaken → NothingIsWritten
+nothing_is_written none two said typed =
     let (n, items) = taken (typed_query tables items_of_items) refl in
-    let (m, alias) = taken (typed_query tables sorted_by_alias) refl in (
+    let (m, alias) = taken (typed_query tables sorted_by_alias) refl in
+    let (k, nulls) = taken (typed_query tables of_null_alone) refl in (
       λ has. unknown_source_is_refused tables items_of_items n has items,
       λ has. uneven_is_refused tables items_of_items n has items,
       λ has. repeated_is_refused said tables items_of_items n has items,
       λ has. unknown_column_is_refused none tables sorted_by_alias m has sorted_tight alias,
       λ has. ambiguous_column_is_refused two tables sorted_by_alias m has sorted_tight alias,
+      λ has. mistyped_is_refused typed tables items_of_items n has items,
+      λ has. mistyped_is_refused typed tables of_null_alone k has nulls,
     )

@@ -14,6 +14,24 @@ mod EvenLemmas
 mod TypeLemmas
 mod StatementLemmas
 mod ReasonLemmas
+mod OutcomeTypeLemmas
+mod ClashLemmas
+mod SoundLemmas
+mod FitLemmas
+mod LeastLemmas
+mod OwnLemmas
+mod HandsLemmas
+mod WithinTermLemmas
+mod WithinLemmas
+mod WithinScopeLemmas
+mod WithinPlaceLemmas
+mod WithinCoreLemmas
+mod WithinQueryLemmas
+mod WithinStatementLemmas
+mod LengthLemmas
+mod MismatchLemmas
+mod MismatchQueryLemmas
+mod MismatchStatementLemmas
 pub mod RefusalLemmas
 mod SelectLemmas
 mod ToldLemmas
@@ -23,4 +41,8 @@ pub mod UnknownSourceLemmas
 pub mod RepeatedLemmas
 pub mod UnknownColumnLemmas
 pub mod UnevenLemmas
+mod OddsLemmas
+mod MistypedLemmas
+pub mod MistypedQueryLemmas
+mod TypeExampleLemmas
 pub mod ExampleLemmas

@@ -14,7 +14,7 @@ use Rattle.naming.specs.Laws.{AreDistinct, AreSameSources, IsSameName}
 use Rattle.naming.specs.Parts.{core_parts, inner_tree, on_parts, parts}
 use Rattle.naming.specs.Scope.{Scope, column_of}
 use Rattle.naming.specs.Sources.{is_same_source, shown_from, used}
-use Rattle.naming.specs.Statement.{With, are_distinct, from_tree, item_columns, named_at, window_names, with_items}
+use Rattle.naming.specs.Statement.{With, are_distinct, from_tree, item_columns, named, named_at, window_names, with_items}
 use Rattle.naming.specs.Typed.{Table, known_tables, typed_query}
 use Rattle.refusals.specs.Columns.{AreListed, HasNames, Joins, Listed, Offers, Shows, names_of_results, results_in}
 use Rattle.refusals.specs.RepeatedNames.{HasRepeatedName, Repeats}
@@ -29,14 +29,13 @@ use Rattle.refusals.proofs.PartLemmas.{Each, weaker}
 use Rattle.refusals.proofs.QueryLemmas.{IsFineQuery, IsFineSelect}
 use Rattle.refusals.proofs.ScopeLemmas.{Says, column_only, named_none, named_some, named_two, same_there, star_of_none, used_only}
 use Rattle.refusals.proofs.SourceLemmas.{IsFineColumn, IsFineJoin, IsFineSource}
-use Rattle.refusals.proofs.StatementLemmas.{IsFineStatement, all_known, items_known, known_gives, known_listed, typed_only}
+use Rattle.refusals.proofs.StatementLemmas.{IsFineStatement, all_known, items_known, known_gives, known_listed, named_only, typed_only}
 use Rattle.refusals.proofs.TypeLemmas.{TakesTypes}
 use Rattle.refusals.proofs.WithLemmas.{IsOther, items_back, no_items, tables_back}
 
 -- what has to be written, so that of the fault this holds
 pub record HasReasons (F : Fault → Type 0) (tables : List Table) (tree : StatementTree) : Type 0 where
   pub takes : Takes F
-  pub types : TakesTypes F
   pub unknown_table : HasUnknownSource tables tree → F UnknownTable
   pub unknown_column : HasUnknownColumn tables tree → F UnknownColumn
   pub ambiguous : HasAmbiguousColumn tables tree → F Ambiguous
@@ -270,5 +269,8 @@ module _ (F : Fault → Type 0) (tables : List Table) (tree : StatementTree) (sa
     columns = λ i before after stand w begun names called. fine_item i before after stand w begun i.columns names called refl;
   }
 
-  pub only_for_reasons : Only F (typed_query tables tree)
-  only_for_reasons = typed_only F reasons.takes tables tree fine_statement reasons.types
+  pub names_for_reasons : Only F (named (known_tables tables) tree)
+  names_for_reasons = named_only F reasons.takes tables tree fine_statement
+
+  pub only_for_reasons : TakesTypes F → Only F (typed_query tables tree)
+  only_for_reasons types = typed_only F reasons.takes tables tree fine_statement types

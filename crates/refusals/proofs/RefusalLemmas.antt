@@ -1,6 +1,7 @@
 -- A statement that is no query is refused by a fault of names and types, and has what the fault says.
-use Rattle.std.proofs.Common.{◌≡◌, false, true≢false, ◌∙◌, inl, inr, List, subst, sym, arith}
+use Rattle.std.proofs.Common.{◌≡◌, ◌⊎◌, false, true≢false, ◌∙◌, inl, inr, List, Err, ap, refl, subst, sym, arith}
 use Rattle.values.specs.declared.fault.Fault.{Fault}
+use Rattle.values.specs.declared.fault.Fault.TheVariants.{TypeMismatch}
 use Rattle.syntax.specs.StatementTree.{StatementTree}
 use Rattle.syntax.specs.Tree.{Name}
 use Rattle.naming.specs.Laws.{AmbiguousIsTwo, AreDistinct, DistinctIsSaid, UnknownIsNone}
@@ -8,9 +9,11 @@ use Rattle.naming.specs.Statement.{are_distinct}
 use Rattle.naming.specs.Typed.{Table, typed_query}
 use Rattle.refusals.specs.Reasons.{IsReason, RefusalsHaveReasons}
 use Rattle.refusals.specs.Refusals.{IsNameFault, RefusalsAreNumbered}
+use Rattle.refusals.proofs.MismatchStatementLemmas.{mismatch_is_mistyped}
 use Rattle.refusals.proofs.ReasonLemmas.{HasReasons, only_for_reasons}
 use Rattle.refusals.proofs.ScopeLemmas.{Says}
 use Rattle.refusals.proofs.StatementLemmas.{fault_is}
+use Rattle.refusals.proofs.TypeLemmas.{TakesTypes}
 
 numbered : (tables : List Table) (tree : StatementTree) → HasReasons IsNameFault tables tree
 numbered tables tree = record {
@@ -20,17 +23,16 @@ numbered tables tree = record {
     bad_frame = (omega arith, omega arith);
     limit = (omega arith, omega arith);
   };
-  types = record {
-    mismatch = (omega arith, omega arith);
-    bad_frame = (omega arith, omega arith);
-    wrong_place = (omega arith, omega arith);
-  };
   unknown_table = λ _. (omega arith, omega arith);
   unknown_column = λ _. (omega arith, omega arith);
   ambiguous = λ _. (omega arith, omega arith);
   duplicate = λ _. (omega arith, omega arith);
   column_count = λ _. (omega arith, omega arith);
 }
+
+types_numbered : TakesTypes IsNameFault
+types_numbered =
+    record { mismatch = (omega arith, omega arith); bad_frame = (omega arith, omega arith); wrong_place = (omega arith, omega arith) }
 
 no_names : Says IsNameFault
 no_names = record {
@@ -42,7 +44,7 @@ no_names = record {
 pub refusals_are_numbered : RefusalsAreNumbered
 refusals_are_numbered tables tree fault (inl none) = inl none
 refusals_are_numbered tables tree fault (inr is) =
-    inr (fault_is (typed_query tables tree) fault (only_for_reasons IsNameFault tables tree no_names (numbered tables tree)) is)
+    inr (fault_is (typed_query tables tree) fault (only_for_reasons IsNameFault tables tree no_names (numbered tables tree) types_numbered) is)
 
 -- ---- what the fault says
 
@@ -60,19 +62,27 @@ by_laws F laws = record {
   repeated = λ names e so. so (apart_or laws.2 names e);
 }
 
-reasons : (tables : List Table) (tree : StatementTree) → HasReasons (IsReason tables tree) tables tree
+-- what such a fault says is so, or it is one of types
+abbrev IsReasonOrMismatch : List Table → StatementTree → Fault → Type 0
+IsReasonOrMismatch tables tree fault = IsReason tables tree fault ⊎ (TypeMismatch ≡ fault)
+
+reasons : (tables : List Table) (tree : StatementTree) → HasReasons (IsReasonOrMismatch tables tree) tables tree
 reasons tables tree = record {
-  takes = record { bare_column = tt; wrong_place = tt; bad_frame = tt; limit = tt };
-  types = record { mismatch = tt; bad_frame = tt; wrong_place = tt };
-  unknown_table = λ is. is;
-  unknown_column = λ is. is;
-  ambiguous = λ is. is;
-  duplicate = λ is. is;
-  column_count = λ is. is;
+  takes = record { bare_column = inl tt; wrong_place = inl tt; bad_frame = inl tt; limit = inl tt };
+  unknown_table = λ is. inl is;
+  unknown_column = λ is. inl is;
+  ambiguous = λ is. inl is;
+  duplicate = λ is. inl is;
+  column_count = λ is. inl is;
 }
 
 pub refusals_have_reasons : NameLaws → RefusalsHaveReasons
 refusals_have_reasons laws tables tree fault (inl none) = subst (IsReason tables tree) (sym none) tt
 refusals_have_reasons laws tables tree fault (inr is) =
-    fault_is (typed_query tables tree) fault
-    (only_for_reasons (IsReason tables tree) tables tree (by_laws (IsReason tables tree) laws) (reasons tables tree)) is
+    by (fault_is (typed_query tables tree) fault
+    (only_for_reasons (IsReasonOrMismatch tables tree) tables tree (by_laws (IsReasonOrMismatch tables tree) laws) (reasons tables tree)
+    (record { mismatch = inr refl; bad_frame = inl tt; wrong_place = inl tt })) is)
+  where
+    by : IsReason tables tree fault ⊎ (TypeMismatch ≡ fault) → IsReason tables tree fault
+    by (inl reason) = reason
+    by (inr same) = subst (IsReason tables tree) same (mismatch_is_mistyped tables tree (is ∙ ap Err (sym same)))

@@ -149,7 +149,7 @@ module _ (F : Fault → Type 0) (takes : Takes F) where
       ended_only : (beside : List Body) (q : Queried) → Only F (ended tree beside q)
       ended_only beside q = checked_only (nat_le (sources_of_body q.body) max_sources) Limit _ (λ _. takes.limit) (ok _)
 
-      named_only : Only F (named (known_tables tables) tree)
+      pub named_only : Only F (named (known_tables tables) tree)
       named_only =
           checked_only (are_distinct (map (λ (i : ItemTree). i.name) tree.items)) DuplicateName _ fine.items
           (known_only (with_items (no_items (known_tables tables)) tree.items) _ (items_only [] tree.items (no_items (known_tables tables)) refl refl)

@@ -20,13 +20,13 @@ found-ok : {A : Type 0} (fault : Fault) (o : Option A) (a : A) → found_or faul
 found-ok fault (Some b) a e = cc
 found-ok fault None a e = absurd cc
 
-each_length : {A B : Type 0} (f : A → Result B Fault) (xs : List A) (ys : List B) → each f xs ≡ Ok ys → length ys ≡ length xs
+pub each_length : {A B : Type 0} (f : A → Result B Fault) (xs : List A) (ys : List B) → each f xs ≡ Ok ys → length ys ≡ length xs
 each_length f [] ys e = let same : [] ≡ ys = cc in ap length (sym same)
 each_length f (x ∷ xs) ys e =
     let (y, rest, first, others, same) = both-ok ◌∷◌ (f x) (each f xs) ys e in
     ap length (sym same) ∙ ap suc (each_length f xs rest others)
 
-select_length : (answers row : List Ty) (s : Select) (types : List Ty) → select_types answers row s ≡ Ok types → length types ≡ length s.columns
+pub select_length : (answers row : List Ty) (s : Select) (types : List Ty) → select_types answers row s ≡ Ok types → length types ≡ length s.columns
 select_length answers row s types e =
     let (computed, is, last) = followed-ok (computed_types answers row s) _ types e in each_length (term_type answers computed) s.columns types last
 
@@ -38,7 +38,7 @@ one_length (x ∷ xs) (y ∷ ys) zs e =
 one_length [] (y ∷ ys) zs e = absurd cc
 one_length (x ∷ xs) [] zs e = absurd cc
 
-body_length : (tables : List (List Ty)) (body : Body) (types : List Ty) → body_types tables body ≡ Ok types → length types ≡ body_width body
+pub body_length : (tables : List (List Ty)) (body : Body) (types : List Ty) → body_types tables body ≡ Ok types → length types ≡ body_width body
 body_length tables (Body.select from s) types e =
     let (answers, are, more) = followed-ok (answer_types tables from) _ types e in
     let (row, is, last) = followed-ok (from_types tables answers from) _ types more in

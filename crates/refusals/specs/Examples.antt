@@ -1,9 +1,11 @@
 -- Worked statements, and what is written in them.
-use Rattle.std.specs.Prelude.{false, [], ◌∷◌, codes}
-use Rattle.syntax.specs.ExprTree.{ExprTree, FromTree, ResultTree}
+use Rattle.std.specs.Prelude.{false, [], ◌∷◌, codes, None}
+use Rattle.syntax.specs.ExprTree.{ExprTree, FromTree, ResultTree, SourceTree}
 use Rattle.syntax.specs.StatementTree.{StatementTree}
-use Rattle.naming.specs.RefusedExamples.{alias_in_where, in_two_sources, item_in_itself, outer_column, star_of_none, twice, two_columns, two_named, two_of_one_name, uneven, uneven_item, unknown_column, unknown_table, windows_of_one_name}
-use Rattle.naming.specs.Worked.{by_term, called, id, item, name_alone, number, one, ordered, select, shown, table, tables, with, with_item, without_from}
+use Rattle.syntax.specs.declared.expr.BinaryOperator.TheVariants.{Add, Concatenate}
+use Rattle.naming.specs.RefusedExamples.{alias_in_where, arms_of_two_types, in_two_sources, item_in_itself, mismatch, other_type, outer_column, star_of_none, twice, two_columns, two_named, two_of_one_name, uneven, uneven_item, unknown_column, unknown_table, untyped_item, unused_window, windows_of_one_name}
+use Rattle.naming.specs.Worked.{by_term, called, id, item, name_alone, number, one, ordered, select, shown, statement, table, tables, with, with_item, without_from}
+use Rattle.refusals.specs.Mismatches.{IsMistyped}
 use Rattle.refusals.specs.RepeatedNames.{HasRepeatedName}
 use Rattle.refusals.specs.UnevenColumns.{HasUnevenColumns}
 use Rattle.refusals.specs.UnknownColumns.{HasAmbiguousColumn, HasUnknownColumn}
@@ -24,6 +26,14 @@ item_before_its_own =
 abbrev pub sorted_by_alias : StatementTree
 sorted_by_alias = ordered (select (called id (codes "k") ∷ []) item) (by_term (name_alone (codes "k")))
 
+-- SELECT x + 1, x || 'a' FROM (SELECT NULL AS x)
+abbrev pub of_null_alone : StatementTree
+of_null_alone =
+    statement (select
+    (shown (ExprTree.Binary Add (name_alone (codes "x")) (number 1)) ∷ shown (ExprTree.Binary Concatenate (name_alone (codes "x")) (ExprTree.Text (codes "a")))
+    ∷ [])
+    (FromTree.First (SourceTree.Derived (without_from (called ExprTree.Null (codes "x") ∷ [])) None)))
+
 -- what is written in each that is refused so
 abbrev pub ReasonsAreWritten : Type 0
 ReasonsAreWritten =
@@ -33,9 +43,12 @@ ReasonsAreWritten =
     × HasAmbiguousColumn tables two_named × HasAmbiguousColumn tables in_two_sources
     × HasUnevenColumns tables uneven × HasUnevenColumns tables two_columns × HasUnevenColumns tables uneven_item
     × HasRepeatedName twice × HasRepeatedName two_of_one_name × HasRepeatedName windows_of_one_name
+    × IsMistyped tables mismatch × IsMistyped tables other_type × IsMistyped tables unused_window × IsMistyped tables arms_of_two_types
+    × IsMistyped tables untyped_item
 
 -- and that nothing of it is in others
 abbrev pub NothingIsWritten : Type 0
 NothingIsWritten =
     (¬ HasUnknownSource tables items_of_items) × (¬ HasUnevenColumns tables items_of_items) × (¬ HasRepeatedName items_of_items)
     × (¬ HasUnknownColumn tables sorted_by_alias) × (¬ HasAmbiguousColumn tables sorted_by_alias)
+    × (¬ IsMistyped tables items_of_items) × (¬ IsMistyped tables of_null_alone)

@@ -5,5 +5,8 @@ pub mod UnknownSources
 pub mod UnknownColumns
 pub mod RepeatedNames
 pub mod UnevenColumns
+pub mod Clashes
+pub mod Mismatches
 pub mod Reasons
 pub mod Examples
+pub mod TypeExamples

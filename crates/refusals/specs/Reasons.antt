@@ -1,9 +1,10 @@
--- Why a statement is refused by its names, in the words of what is written in it. (SELECT; WITH clause)
+-- Why a statement is refused by its names or its types, in the words of what is written in it. (SELECT; WITH clause; STRICT Tables)
 use Rattle.std.specs.Prelude.{List}
 use Rattle.values.specs.declared.fault.Fault.{Fault}
 use Rattle.values.specs.declared.fault.Fault.TheVariants as f
 use Rattle.syntax.specs.StatementTree.{StatementTree}
 use Rattle.naming.specs.Typed.{IsRefused, Table}
+use Rattle.refusals.specs.Mismatches.{IsMistyped}
 use Rattle.refusals.specs.RepeatedNames.{HasRepeatedName}
 use Rattle.refusals.specs.UnevenColumns.{HasUnevenColumns}
 use Rattle.refusals.specs.UnknownColumns.{HasAmbiguousColumn, HasUnknownColumn}
@@ -16,6 +17,7 @@ IsReason tables tree f.UnknownColumn = HasUnknownColumn tables tree
 IsReason tables tree f.Ambiguous = HasAmbiguousColumn tables tree
 IsReason tables tree f.ColumnCount = HasUnevenColumns tables tree
 IsReason tables tree f.DuplicateName = HasRepeatedName tree
+IsReason tables tree f.TypeMismatch = IsMistyped tables tree
 IsReason tables tree _ = Unit {0}
 
 -- a statement that is refused by a fault has what the fault says

@@ -1,13 +1,15 @@
 //! What holds of the definitions alone.
 ghost use Rattle.refusals.specs.Examples.{NothingIsWritten, ReasonsAreWritten};
+ghost use Rattle.refusals.specs.Mismatches.{MistypedIsRefused};
 ghost use Rattle.refusals.specs.Reasons.{RefusalsHaveReasons};
 ghost use Rattle.refusals.specs.Refusals.{RefusalsAreNumbered};
 ghost use Rattle.refusals.specs.RepeatedNames.{RepeatedIsRefused};
+ghost use Rattle.refusals.specs.TypeExamples.{ClashesAreFound, OwnTypesAreLeast, PlacesMisfit};
 ghost use Rattle.refusals.specs.UnevenColumns.{UnevenIsRefused};
 ghost use Rattle.refusals.specs.UnknownColumns.{AmbiguousColumnIsRefused, UnknownColumnIsRefused};
 ghost use Rattle.refusals.specs.UnknownSources.{UnknownSourceIsRefused};
 
-use naming::laws::{names_are_columns, names_are_distinct, refused_statements};
+use naming::laws::{names_are_columns, names_are_distinct, refused_statements, typed_is_taken};
 
 /// A statement that is no query is refused by a fault of names and types, or for want of memory.
 pub fn refusals_are_numbered()
@@ -15,7 +17,9 @@ pub fn refusals_are_numbered()
 {}
 
 /// Where a statement is refused as one with an unknown source, an unknown or an ambiguous column, numbers of columns that differ, or
-/// a name that stands twice, this is written somewhere in it.
+/// a name that stands twice, this is written somewhere in it; and where it is refused because types don't agree, some operator in it
+/// has no type over operands that each have one, an expression is of another type than its place wants, or columns that a compound
+/// joins are of different types.
 pub fn refusals_have_reasons()
     ensures { RefusalsHaveReasons }
 {
@@ -23,16 +27,18 @@ pub fn refusals_have_reasons()
     names_are_distinct();
 }
 
-/// A statement in which one of these is written is no query.
+/// A statement of which one of these holds is no query.
 pub fn reasons_refuse()
     ensures sources { UnknownSourceIsRefused }
     ensures columns { UnknownColumnIsRefused }
     ensures ambiguous { AmbiguousColumnIsRefused }
     ensures uneven { UnevenIsRefused }
     ensures repeated { RepeatedIsRefused }
+    ensures mistyped { MistypedIsRefused }
 {
     names_are_columns();
     names_are_distinct();
+    typed_is_taken();
 }
 
 /// Statements over two tables in which it is written, and such in which nothing of it is.
@@ -43,4 +49,12 @@ pub fn reasons_are_written()
     names_are_columns();
     names_are_distinct();
     refused_statements();
+    typed_is_taken();
 }
+
+/// Terms that clash, places where they misfit, and types that a query has of its own; and such that don't.
+pub fn types_are_worked()
+    ensures clashes { ClashesAreFound }
+    ensures places { PlacesMisfit }
+    ensures own { OwnTypesAreLeast }
+{}

@@ -1,3 +1,4 @@
+use Rattle.refusals.proofs.MistypedQueryLemmas as types
 use Rattle.refusals.proofs.RepeatedLemmas as names
 use Rattle.refusals.proofs.UnevenLemmas as numbers
 use Rattle.refusals.proofs.UnknownColumnLemmas as columns
@@ -18,3 +19,6 @@ returns-clause-uneven c = numbers.uneven_is_refused
 
 pub returns-clause-repeated : goal.returns-clause-repeated
 returns-clause-repeated c = names.repeated_is_refused c.names_are_distinct.ensures.names
+
+pub returns-clause-mistyped : goal.returns-clause-mistyped
+returns-clause-mistyped c = types.mistyped_is_refused c.typed_is_taken.ensures
