@@ -100,7 +100,8 @@ module _ (answers columns : List Ty) where
   with_first t ts (inl ty) (inr h) = inr (record { operand = h.operand; among = IsAmong.later h.among; clash = h.clash })
   with_first t ts (inr clash) rest = inr (record { operand = t; among = IsAmong.first; clash = clash })
 
-  operator_so : (t : Term) → IsOperator t → AreTyped answers columns (operands t) ⊎ HaveClash (operands t) → IsTerm answers columns t ⊎ HasClash answers columns t
+  operator_so : (t : Term) → IsOperator t → AreTyped answers columns (operands t) ⊎ HaveClash (operands t)
+      → IsTerm answers columns t ⊎ HasClash answers columns t
   operator_so t operator (inr h) = inr (HasClash.inside h.operand h.among h.clash)
   operator_so t operator (inl typed) = by (type_of_term columns answers t) (has_type t) (finds t)
     where
@@ -117,7 +118,11 @@ module _ (answers columns : List Ty) where
     pub term_so : (t : Term) → IsWithin (length answers) (length columns) t → IsTerm answers columns t ⊎ HasClash answers columns t
     term_so (literal v) w = inl (type_of v, has_type (literal v) (type_of v) (inr refl))
     term_so (column i) w =
-        inl (get_or columns i Int, has_type (column i) (get_or columns i Int) (some_found (slice_get columns i) (get_or columns i Int) (slice_get-get_or columns i Int w)))
+        inl (
+          get_or columns i Int,
+          has_type (column i) (get_or columns i Int)
+              (some_found (slice_get columns i) (get_or columns i Int) (slice_get-get_or columns i Int w)),
+        )
     term_so (call f a) w = operator_so (call f a) tt (with_first a none (term_so a w) (inl tt))
     term_so (arithmetic op a b) w = operator_so (arithmetic op a b) tt (two_so a b (term_so a w.0) (term_so b w.1))
     term_so (concat a b) w = operator_so (concat a b) tt (two_so a b (term_so a w.0) (term_so b w.1))
@@ -142,7 +147,8 @@ module _ (answers columns : List Ty) where
     terms_so (answer k) w = inl w
     terms_so (more t ts) w = with_first t ts (term_so t w.0) (terms_so ts w.1)
 
-    arms_so : (rest : Arms) (last : Terms) → ArmsAreWithin (length answers) (length columns) rest → AreTyped answers columns last ⊎ HaveClash last
+    arms_so : (rest : Arms) (last : Terms) → ArmsAreWithin (length answers) (length columns) rest
+        → AreTyped answers columns last ⊎ HaveClash last
         → AreTyped answers columns (arm_operands rest last) ⊎ HaveClash (arm_operands rest last)
     arms_so no_arms last w l = l
     arms_so (arm c e rest) last w l =
@@ -182,7 +188,8 @@ module _ (answers columns : List Ty) where
       found (Some a) None ty d f g = g
       found (Some a) (Some b) ty d f g = one_none a b ty d f g
 
-      by : IsTerm answers columns x ⊎ HasClash answers columns x → IsTerm answers columns y ⊎ HasClash answers columns y → AreAtOdds answers columns x y
+      by : IsTerm answers columns x ⊎ HasClash answers columns x → IsTerm answers columns y ⊎ HasClash answers columns y
+          → AreAtOdds answers columns x y
       by (inr clash) other = AreAtOdds.left clash
       by (inl h) (inr clash) = AreAtOdds.right clash
       by (inl h) (inl k) =

@@ -26,7 +26,8 @@ all_fit_then (a ∷ first) [] types f g = absurd f
 all_fit_then (a ∷ first) (b ∷ second) [] f g = absurd g
 all_fit_then (a ∷ first) (b ∷ second) (ty ∷ types) f g = (fits_then a b ty f.0 g.0, all_fit_then first second types f.1 g.1)
 
-pub fits-append : (first second types others : List Ty) → AllZip FitsType first types → AllZip FitsType second others → AllZip FitsType (first ++ second) (types ++ others)
+pub fits-append : (first second types others : List Ty) → AllZip FitsType first types → AllZip FitsType second others
+    → AllZip FitsType (first ++ second) (types ++ others)
 fits-append [] second [] others f g = g
 fits-append [] second (ty ∷ types) others f g = absurd f
 fits-append (of ∷ first) second [] others f g = absurd f
@@ -47,7 +48,8 @@ one_null Null = refl
 pub one_fits : (a b ty : Ty) → FitsType a ty → FitsType b ty → (c : Ty) × (one_type a b ≡ Some c) × FitsType c ty
 one_fits a b ty (inl e) g = (b, subst (λ a. one_type a b ≡ Some b) (sym e) refl, g)
 one_fits a b ty (inr e) (inl n) = (a, subst (λ b. one_type a b ≡ Some a) (sym n) (one_null a), inr e)
-one_fits a b ty (inr e) (inr d) = (ty, subst (λ a. one_type a b ≡ Some ty) (sym e) (subst (λ b. one_type ty b ≡ Some ty) (sym d) (one_itself ty)), inr refl)
+one_fits a b ty (inr e) (inr d) =
+    (ty, subst (λ a. one_type a b ≡ Some ty) (sym e) (subst (λ b. one_type ty b ≡ Some ty) (sym d) (one_itself ty)), inr refl)
 
 fits_at : (first types : List Ty) (i : ℕ) (ty : Ty) → AllZip FitsType first types → FitsAt types i ty → FitsAt first i ty
 fits_at [] [] i ty fit at = at

@@ -63,20 +63,23 @@ pub checked_hands : {A : Type 0} {P : A → Type 0} (kept : Bool) (fault : Fault
 checked_hands true fault r h = h refl
 checked_hands false fault r h = record { is = tt }
 
-pub if_hands : {A : Type 0} {P : A → Type 0} (b : Bool) (r s : Result A Fault) → Hands P r → Hands P s → Hands P (if b then r else s)
-if_hands true r s h k = h
-if_hands false r s h k = k
+pub if_hands : {A : Type 0} {P : A → Type 0} (b : Bool) (r s : Result A Fault) → (b ≡ true → Hands P r) → (b ≡ false → Hands P s)
+    → Hands P (if b then r else s)
+if_hands true r s h k = h refl
+if_hands false r s h k = k refl
 
 pub each_hands : {A B : Type 0} {P : B → Type 0} (f : A → Result B Fault) (xs : List A) → ((x : A) → Hands P (f x)) → Hands (Each P) (each f xs)
 each_hands f [] h = record { is = none }
 each_hands f (x ∷ xs) h = both_hands ◌∷◌ (f x) (each f xs) (h x) (each_hands f xs h) (λ y ys p all. more y ys p all)
 
-pub given_hands : {A B : Type 0} {Q : A → Type 0} {P : B → Type 0} (f : A → Result B Fault) (xs : List A) → Each Q xs → ((x : A) → Q x → Hands P (f x))
+pub given_hands : {A B : Type 0} {Q : A → Type 0} {P : B → Type 0} (f : A → Result B Fault) (xs : List A) → Each Q xs
+    → ((x : A) → Q x → Hands P (f x))
     → Hands (Each P) (each f xs)
 given_hands f [] all h = record { is = none }
 given_hands f (x ∷ xs) all h = both_hands ◌∷◌ (f x) (each f xs) (h x (first all)) (given_hands f xs (rest all) h) (λ y ys p of. more y ys p of)
 
-pub firsts_hands : {A B : Type 0} {P : A → Type 0} (same : A → A → Bool) (found : List A) (f : B → Option (Result A Fault)) (xs : List B) → Each P found
+pub firsts_hands : {A B : Type 0} {P : A → Type 0} (same : A → A → Bool) (found : List A) (f : B → Option (Result A Fault)) (xs : List B)
+    → Each P found
     → ((x : B) → IfAny (Hands P) (f x)) → Hands (Each P) (firsts same found (filter_map f xs))
 firsts_hands same found f [] all h = hands found all
 firsts_hands {A = A} {B = B} {P = P} same found f (x ∷ xs) all h = by (f x) (h x) (λ next every. firsts_hands same next f xs every h)
@@ -85,7 +88,8 @@ firsts_hands {A = A} {B = B} {P = P} same found f (x ∷ xs) all h = by (f x) (h
     found_more a None p = join found (a ∷ []) all (one p)
     found_more a (Some at) p = all
 
-    by : (r : Option (Result A Fault)) → IfAny (Hands P) r → ((next : List A) → Each P next → Hands (Each P) (firsts same next (filter_map f xs)))
+    by : (r : Option (Result A Fault)) → IfAny (Hands P) r
+        → ((next : List A) → Each P next → Hands (Each P) (firsts same next (filter_map f xs)))
         → Hands (Each P) (firsts same found (cons_option r (filter_map f xs)))
     by None p others = others found all
     by (Some (Ok a)) p others = others (once_more (place_of same a found) found a) (found_more a (place_of same a found) p.is.is)

@@ -13,8 +13,7 @@ use Rattle.naming.specs.Outcome.{each, found_or}
 use Rattle.naming.specs.Types.{aggregate_type, answer_types, body_types, both_type, call_type, computed_types, condition_type, from_types, function_type, grouped_types, inner_type, measure_type, of_width, one_types, select_types, single_type, source_types, term_type, typed, window_types}
 use Rattle.refusals.proofs.ClashLemmas.{finds}
 use Rattle.refusals.proofs.FitLemmas.{fits-append, fits_itself, one_fits, term_fits}
-use Rattle.refusals.proofs.OkLemmas.{also-ok, both-ok, checked-ok, followed-ok}
-use Rattle.refusals.proofs.OutcomeTypeLemmas.{each-least, found-ok, ok-is, the_result}
+use Rattle.refusals.proofs.OkLemmas.{also-ok, both-ok, checked-ok, each-least, followed-ok, found-ok, ok-is, the_result}
 use Rattle.refusals.proofs.SoundLemmas.{one_column, wanted_number}
 
 -- the one type of two may stand where both may
@@ -39,28 +38,33 @@ module _ (columns other answers others : List Ty) (fit : AllZip FitsType other c
 
   pub term_least : (t : Term) (of ty : Ty) → term_type others other t ≡ Ok of → IsTermOf answers columns t ty → FitsType of ty
   term_least t of ty e h =
-      finds_fits (type_of_term other others t) of ty (found-ok TypeMismatch (type_of_term other others t) of e) (finds others other t ty (term_fits columns other answers others fit replies t ty h))
+      finds_fits (type_of_term other others t) of ty (found-ok TypeMismatch (type_of_term other others t) of e)
+      (finds others other t ty (term_fits columns other answers others fit replies t ty h))
 
   both_least : (x y : Term) (of ty : Ty) → both_type others other x y ≡ Ok of → IsTermOf answers columns x ty → IsTermOf answers columns y ty
       → FitsType of ty
   both_least x y of ty e h k =
       one_of_fits (type_of_term other others x) (type_of_term other others y) of ty
       (found-ok TypeMismatch (one_of (type_of_term other others x) (type_of_term other others y)) of e)
-      (finds others other x ty (term_fits columns other answers others fit replies x ty h)) (finds others other y ty (term_fits columns other answers others fit replies y ty k))
+      (finds others other x ty (term_fits columns other answers others fit replies x ty h))
+      (finds others other y ty (term_fits columns other answers others fit replies y ty k))
 
-  pub measure_least : (f : AggregateFunction) (t : Term) (of ty : Ty) → measure_type others other f t ≡ Ok of → AggregateGives answers columns f t ty
+  pub measure_least : (f : AggregateFunction) (t : Term) (of ty : Ty) → measure_type others other f t ≡ Ok of
+      → AggregateGives answers columns f t ty
       → FitsType of ty
   measure_least AggregateFunction.count t of ty e (h, is) =
       let (found, found_so, same) = also-ok (λ of. Int) (term_type others other t) of e in inr (sym same ∙ sym is)
   measure_least AggregateFunction.sum t of ty e (h, is) =
-      inr (wanted_number others other (type_of_term other others t) of (found-ok TypeMismatch (wanted Int (type_of_term other others t)) of e) ∙ sym is)
+      inr (wanted_number others other (type_of_term other others t) of
+      (found-ok TypeMismatch (wanted Int (type_of_term other others t)) of e) ∙ sym is)
   measure_least AggregateFunction.min t of ty e h = term_least t of ty e h
   measure_least AggregateFunction.max t of ty e h = term_least t of ty e h
 
   number_is : (of ty : Ty) → the_result Int ≡ Ok of → ty ≡ Int → FitsType of ty
   number_is of ty e is = inr (sym (ok-is Int of e) ∙ sym is)
 
-  function_least : (f : WindowFunction) (of ty : Ty) → function_type others other f ≡ Ok of → FunctionHasType answers columns f ty → FitsType of ty
+  function_least : (f : WindowFunction) (of ty : Ty) → function_type others other f ≡ Ok of → FunctionHasType answers columns f ty
+      → FitsType of ty
   function_least (WindowFunction.aggregate a) of ty e h = measure_least a.function a.argument of ty e h
   function_least WindowFunction.row_number of ty e h = number_is of ty e h
   function_least WindowFunction.rank of ty e h = number_is of ty e h
@@ -78,14 +82,16 @@ module _ (columns other answers others : List Ty) (fit : AllZip FitsType other c
   call_least c of ty e h =
       let (types, window, function) = followed-ok (window_types others other c.window) _ of e in function_least c.function of ty function h.1
 
-  terms_least : (ts : List Term) (found types : List Ty) → each (term_type others other) ts ≡ Ok found → AllZip (IsTermOf answers columns) ts types
+  terms_least : (ts : List Term) (found types : List Ty) → each (term_type others other) ts ≡ Ok found
+      → AllZip (IsTermOf answers columns) ts types
       → AllZip FitsType found types
   terms_least = each-least (term_type others other) (IsTermOf answers columns) FitsType term_least
 
 -- ---- one SELECT
 
 module _ (row other answers others : List Ty) (fit : AllZip FitsType other row) (replies : AllZip FitsType others answers) where
-  pub grouping_least : (g : Option Grouping) (found types : List Ty) → grouped_types others other g ≡ Ok found → GroupedHasTypes answers row g types
+  pub grouping_least : (g : Option Grouping) (found types : List Ty) → grouped_types others other g ≡ Ok found
+      → GroupedHasTypes answers row g types
       → AllZip FitsType found types
   grouping_least None found types e h =
       subst (λ found. AllZip FitsType found types) (ok-is other found e) (subst (AllZip FitsType other) (sym h) fit)
@@ -122,7 +128,8 @@ module _ (row other answers others : List Ty) (fit : AllZip FitsType other row) 
 
 -- ---- queries
 
-both_least_all : (first second found types : List Ty) → one_types first second ≡ Ok found → AllZip FitsType first types → AllZip FitsType second types
+both_least_all : (first second found types : List Ty) → one_types first second ≡ Ok found → AllZip FitsType first types
+    → AllZip FitsType second types
     → AllZip FitsType found types
 both_least_all [] [] found [] e f g = subst (λ found. AllZip FitsType found []) (ok-is [] found e) tt
 both_least_all [] second found (ty ∷ types) e f g = absurd f
@@ -145,7 +152,8 @@ module _ (tables : List (List Ty)) where
         let one : of ≡ types = cc in
         subst (λ found. AllZip FitsType found types) (ok-is of found same) (subst (AllZip FitsType of) one (fits_itself of))
     source_least Source.schema found types e h =
-        subst (λ found. AllZip FitsType found types) (ok-is schema_types found e) (subst (AllZip FitsType schema_types) (sym h) (fits_itself schema_types))
+        subst (λ found. AllZip FitsType found types) (ok-is schema_types found e)
+        (subst (AllZip FitsType schema_types) (sym h) (fits_itself schema_types))
     source_least (Source.derived body) found types e h = body_least body found types e h
 
     pub from_least : (answers others : List Ty) (from : From) (found types : List Ty) → from_types tables others from ≡ Ok found
@@ -186,7 +194,8 @@ module _ (tables : List (List Ty)) where
     body_least (Body.select from s) found types e (answers, row, given, shown, select) =
         let (others, are, more) = followed-ok (answer_types tables from) _ found e in
         let (rows, is, last) = followed-ok (from_types tables others from) _ found more in
-        select_least row rows answers others (from_least answers others from rows row is shown) (answers_least from others answers are given) s found types
+        select_least row rows answers others (from_least answers others from rows row is shown)
+        (answers_least from others answers are given) s found types
         last select
     body_least (Body.compound left operator from s) found types e (body, (answers, row, given, shown, select)) =
         let (first, left_is, others_of) = followed-ok (body_types tables left) _ found e in
@@ -194,5 +203,6 @@ module _ (tables : List (List Ty)) where
         let (rows, is, last) = followed-ok (from_types tables others from) _ found more in
         let (second, select_is, one) = followed-ok (select_types others rows s) (one_types first) found last in
         both_least_all first second found types one (body_least left first types left_is body)
-        (select_least row rows answers others (from_least answers others from rows row is shown) (answers_least from others answers are given) s second types
+        (select_least row rows answers others (from_least answers others from rows row is shown)
+        (answers_least from others answers are given) s second types
         select_is select)

@@ -7,8 +7,7 @@ use Rattle.meaning.specs.Query.{From, Grouping, Select, Source, from_width, sour
 use Rattle.meaning.specs.Typed.{schema_types}
 use Rattle.naming.specs.Outcome.{each, found_or}
 use Rattle.naming.specs.Types.{aggregate_type, answer_types, call_type, computed_types, condition_type, from_types, grouped_types, inner_type, of_width, source_types, term_type}
-use Rattle.refusals.proofs.OkLemmas.{also-ok, both-ok, checked-ok, followed-ok}
-use Rattle.refusals.proofs.OutcomeTypeLemmas.{ok-is}
+use Rattle.refusals.proofs.OkLemmas.{also-ok, both-ok, checked-ok, followed-ok, ok-is}
 use Rattle.refusals.proofs.TypeLemmas.{body_length, each_length}
 use Rattle.refusals.proofs.WithinLemmas.{inner_count, input_width}
 
@@ -49,14 +48,16 @@ module _ (tables : List (List Ty)) where
   source_length Source.schema types e = ap length (sym (ok-is schema_types types e))
   source_length (Source.derived body) types e = body_length tables body types e
 
-  pub from_length : (answers : List Ty) (from : From) (types : List Ty) → from_types tables answers from ≡ Ok types → length types ≡ from_width from
+  pub from_length : (answers : List Ty) (from : From) (types : List Ty) → from_types tables answers from ≡ Ok types
+      → length types ≡ from_width from
   from_length answers From.nothing types e = ap length (sym (ok-is [] types e))
   from_length answers (From.joined from kind source on) types e =
       let (left, begun, more) = followed-ok (from_types tables answers from) _ types e in
       let (right, given, last) = followed-ok (source_types tables source) _ types more in
       let (ty, condition, same) = also-ok (λ _. left ++ right) (condition_type answers (left ++ right) on) types last in
       ap length (sym same) ∙ length-append left right
-      ∙ sums (length left) (length right) (from_width from) (source_width source) (from_length answers from left begun) (source_length source right given)
+      ∙ sums (length left) (length right) (from_width from) (source_width source) (from_length answers from left begun)
+      (source_length source right given)
     where
       sums : (a b c d : ℕ) → a ≡ c → b ≡ d → a + b ≡ c + d
       sums a b c d e f = omega (arith, e, f)

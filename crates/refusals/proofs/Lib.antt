@@ -14,7 +14,7 @@ mod EvenLemmas
 mod TypeLemmas
 mod StatementLemmas
 mod ReasonLemmas
-mod OutcomeTypeLemmas
+mod ErrLemmas
 mod ClashLemmas
 mod SoundLemmas
 mod FitLemmas
@@ -44,5 +44,6 @@ pub mod UnevenLemmas
 mod OddsLemmas
 mod MistypedLemmas
 pub mod MistypedQueryLemmas
-mod TypeExampleLemmas
+pub mod MistypedFaultLemmas
 pub mod ExampleLemmas
+pub mod TypeExampleLemmas

@@ -13,7 +13,7 @@ use Rattle.refusals.specs.Mismatches.{CallMisfits, FunctionMisfits, MeasureMisfi
 use Rattle.refusals.proofs.ClashLemmas.{IsWithin, clash_of, misfits_of, odds_of}
 use Rattle.refusals.proofs.HandsLemmas.{IfAny}
 use Rattle.refusals.proofs.LengthLemmas.{computed_length, inputs_length}
-use Rattle.refusals.proofs.OutcomeTypeLemmas.{also-err, checked-err, each-err, followed-err, found-err}
+use Rattle.refusals.proofs.ErrLemmas.{also-err, checked-err, each-err, followed-err, found-err}
 use Rattle.refusals.proofs.OwnLemmas.{own_computed, own_inputs, own_keys, own_values}
 use Rattle.refusals.proofs.PartLemmas.{among}
 use Rattle.refusals.proofs.TypeLemmas.{each_length}
@@ -25,7 +25,8 @@ module _ (answers row : List Ty) where
   clash_err : (t : Term) → IsWithin (length answers) (length row) t → term_type answers row t ≡ Err TypeMismatch → HasClash answers row t
   clash_err t w e = clash_of answers row t w (found-err TypeMismatch (type_of_term row answers t) TypeMismatch e)
 
-  misfit_err : (t : Term) → IsWithin (length answers) (length row) t → condition_type answers row t ≡ Err TypeMismatch → Misfits answers row Int t
+  misfit_err : (t : Term) → IsWithin (length answers) (length row) t → condition_type answers row t ≡ Err TypeMismatch
+      → Misfits answers row Int t
   misfit_err t w e = misfits_of answers row t w (found-err TypeMismatch (wanted Int (type_of_term row answers t)) TypeMismatch e)
 
   odds_err : (x y : Term) → IsWithin (length answers) (length row) x → IsWithin (length answers) (length row) y
@@ -61,7 +62,8 @@ module _ (answers row : List Ty) where
       by (inl d) = absurd cc
       by (inr d) = clash_err x w d
 
-  call_err : (c : WindowCall) → IsWithinCall (length answers) (length row) c → call_type answers row c ≡ Err TypeMismatch → CallMisfits answers row c
+  call_err : (c : WindowCall) → IsWithinCall (length answers) (length row) c → call_type answers row c ≡ Err TypeMismatch
+      → CallMisfits answers row c
   call_err c w e = by (followed-err (window_types answers row c.window) _ TypeMismatch e)
     where
       framed : (types : List Ty) → (BadFrame ≡ TypeMismatch) ⊎ (Ok types ≡ Err TypeMismatch) → ⊥
@@ -87,7 +89,8 @@ module _ (answers row : List Ty) where
           parts (inl f) =
               let (t, there, is) = each-err (term_type answers row) c.window.partition TypeMismatch f in
               CallMisfits.partition t there (clash_err t (among w.window.partition there) is)
-          parts (inr (types, are, f)) = in_order (followed-err (each (λ (s : SortTerm). term_type answers row s.term) c.window.order) _ TypeMismatch f)
+          parts (inr (types, are, f)) =
+              in_order (followed-err (each (λ (s : SortTerm). term_type answers row s.term) c.window.order) _ TypeMismatch f)
 
       by : (window_types answers row c.window ≡ Err TypeMismatch)
           ⊎ ((types : List Ty) × (window_types answers row c.window ≡ Ok types) × (function_type answers row c.function ≡ Err TypeMismatch))
@@ -139,7 +142,8 @@ module _ (answers row : List Ty) where
       → SelectMisfits answers row s
   computed_err s w e = by (followed-err (condition_type answers row s.condition) _ TypeMismatch e)
     where
-      windows : (inputs : List Ty) → grouped_types answers row s.grouping ≡ Ok inputs → each (call_type answers inputs) s.windows ≡ Err TypeMismatch
+      windows : (inputs : List Ty) → grouped_types answers row s.grouping ≡ Ok inputs
+          → each (call_type answers inputs) s.windows ≡ Err TypeMismatch
           → SelectMisfits answers row s
       windows inputs are d =
           let (c, there, is) = each-err (call_type answers inputs) s.windows TypeMismatch d in
@@ -149,7 +153,8 @@ module _ (answers row : List Ty) where
 
       groups : (grouped_types answers row s.grouping ≡ Err TypeMismatch)
           ⊎ ((inputs : List Ty) × (grouped_types answers row s.grouping ≡ Ok inputs)
-          × (also (λ (calls : List Ty). inputs ++ calls) (each (call_type answers inputs) s.windows) ≡ Err TypeMismatch)) → SelectMisfits answers row s
+          × (also (λ (calls : List Ty). inputs ++ calls) (each (call_type answers inputs) s.windows) ≡ Err TypeMismatch))
+          → SelectMisfits answers row s
       groups (inl d) = grouped_err s s.grouping refl w.grouping d
       groups (inr (inputs, are, d)) =
           windows inputs are (also-err (λ (calls : List Ty). inputs ++ calls) (each (call_type answers inputs) s.windows) TypeMismatch d)

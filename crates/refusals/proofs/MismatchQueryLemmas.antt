@@ -13,7 +13,7 @@ use Rattle.refusals.specs.Mismatches.{AnswersMisfit, AreApart, BodyMisfits, From
 use Rattle.refusals.proofs.ClashLemmas.{IsWithin, misfits_of, one_none}
 use Rattle.refusals.proofs.LengthLemmas.{answers_length, from_length, source_length}
 use Rattle.refusals.proofs.MismatchLemmas.{select_err}
-use Rattle.refusals.proofs.OutcomeTypeLemmas.{also-err, both-err, checked-err, followed-err, found-err}
+use Rattle.refusals.proofs.ErrLemmas.{also-err, both-err, checked-err, followed-err, found-err}
 use Rattle.refusals.proofs.OwnLemmas.{own_answers, own_body, own_row, own_select, own_source}
 use Rattle.refusals.proofs.WithinLemmas.{BodyIsWithin, FromIsWithin, InnerIsWithin, IsWithinSelect, SourceIsWithin, inner_count}
 
@@ -48,7 +48,8 @@ single_err (ty ∷ other ∷ types) e = absurd cc
 
 module _ (tables : List (List Ty)) where
   -- a SELECT as it is within its own numbers is so over the types that it has
-  pub select_there : (from : From) (s : Select) (answers row : List Ty) → answer_types tables from ≡ Ok answers → from_types tables answers from ≡ Ok row
+  pub select_there : (from : From) (s : Select) (answers row : List Ty) → answer_types tables from ≡ Ok answers
+      → from_types tables answers from ≡ Ok row
       → IsWithinSelect (inner_count from) (from_width from) s → IsWithinSelect (length answers) (length row) s
   select_there from s answers row are is w =
       subst (λ n. IsWithinSelect n (length row) s) (sym (answers_length tables from answers are))
@@ -75,8 +76,10 @@ module _ (tables : List (List Ty)) where
 
   joined_err : (answers : List Ty) (from : From) (kind : JoinKind) (source : Source) (on : Term)
       → (from_types tables answers from ≡ Err TypeMismatch → FromMisfits tables answers from)
-      → (source_types tables source ≡ Err TypeMismatch → SourceMisfits tables source) → IsWithin (length answers) (from_width from + source_width source) on
-      → from_types tables answers (From.joined from kind source on) ≡ Err TypeMismatch → FromMisfits tables answers (From.joined from kind source on)
+      → (source_types tables source ≡ Err TypeMismatch → SourceMisfits tables source)
+      → IsWithin (length answers) (from_width from + source_width source) on
+      → from_types tables answers (From.joined from kind source on) ≡ Err TypeMismatch
+      → FromMisfits tables answers (From.joined from kind source on)
   joined_err answers from kind source on earlier given w e = by (followed-err (from_types tables answers from) _ TypeMismatch e)
     where
       condition : (left right : List Ty) → from_types tables answers from ≡ Ok left → source_types tables source ≡ Ok right
@@ -127,27 +130,36 @@ module _ (tables : List (List Ty)) where
       by (inl d) = AnswersMisfit.other (earlier d)
       by (inr (before, is, d)) = AnswersMisfit.inner (inner d)
 
-  -- a SELECT with its FROM, and what is asked of its types
-  pub single_misfits : (from : From) (s : Select) {A : Type 0} (g : List Ty → List Ty → Result A Fault)
-      → (answer_types tables from ≡ Err TypeMismatch → AnswersMisfit tables from)
-      → ((answers : List Ty) → answer_types tables from ≡ Ok answers → from_types tables answers from ≡ Err TypeMismatch → FromMisfits tables answers from)
-      → followed (answer_types tables from) (λ answers. followed (from_types tables answers from) (g answers)) ≡ Err TypeMismatch
-      → SingleMisfits tables from s ⊎ ((answers row : List Ty) × (answer_types tables from ≡ Ok answers) × (from_types tables answers from ≡ Ok row)
+  -- where the inner queries, or FROM behind them, are refused by types, they misfit
+  abbrev AnswersErr : From → Type 0
+  AnswersErr from = answer_types tables from ≡ Err TypeMismatch → AnswersMisfit tables from
+
+  abbrev FromErr : From → Type 0
+  FromErr from =
+      (answers : List Ty) → answer_types tables from ≡ Ok answers → from_types tables answers from ≡ Err TypeMismatch
+      → FromMisfits tables answers from
+
+  -- a SELECT with its FROM misfits, or what is asked of the types of both is refused so
+  abbrev pub IsRefusedAt : {A : Type 0} → From → Select → (List Ty → List Ty → Result A Fault) → Type 0
+  IsRefusedAt from s g =
+      SingleMisfits tables from s
+      ⊎ ((answers row : List Ty) × (answer_types tables from ≡ Ok answers) × (from_types tables answers from ≡ Ok row)
       × (g answers row ≡ Err TypeMismatch))
+
+  pub single_misfits : (from : From) (s : Select) {A : Type 0} (g : List Ty → List Ty → Result A Fault) → AnswersErr from → FromErr from
+      → followed (answer_types tables from) (λ answers. followed (from_types tables answers from) (g answers)) ≡ Err TypeMismatch
+      → IsRefusedAt from s g
   single_misfits from s g in_answers in_from e = by (followed-err (answer_types tables from) _ TypeMismatch e)
     where
       sources : (answers : List Ty) → answer_types tables from ≡ Ok answers
           → (from_types tables answers from ≡ Err TypeMismatch)
-          ⊎ ((row : List Ty) × (from_types tables answers from ≡ Ok row) × (g answers row ≡ Err TypeMismatch))
-          → SingleMisfits tables from s ⊎ ((answers row : List Ty) × (answer_types tables from ≡ Ok answers) × (from_types tables answers from ≡ Ok row)
-          × (g answers row ≡ Err TypeMismatch))
+          ⊎ ((row : List Ty) × (from_types tables answers from ≡ Ok row) × (g answers row ≡ Err TypeMismatch)) → IsRefusedAt from s g
       sources answers are (inl d) = inl (SingleMisfits.sources answers (own_answers tables from answers are) (in_from answers are d))
       sources answers are (inr (row, is, d)) = inr (answers, row, are, is, d)
 
       by : (answer_types tables from ≡ Err TypeMismatch)
-          ⊎ ((answers : List Ty) × (answer_types tables from ≡ Ok answers) × (followed (from_types tables answers from) (g answers) ≡ Err TypeMismatch))
-          → SingleMisfits tables from s ⊎ ((answers row : List Ty) × (answer_types tables from ≡ Ok answers) × (from_types tables answers from ≡ Ok row)
-          × (g answers row ≡ Err TypeMismatch))
+          ⊎ ((answers : List Ty) × (answer_types tables from ≡ Ok answers)
+          × (followed (from_types tables answers from) (g answers) ≡ Err TypeMismatch)) → IsRefusedAt from s g
       by (inl d) = inl (SingleMisfits.answers (in_answers d))
       by (inr (answers, are, d)) = sources answers are (followed-err (from_types tables answers from) (g answers) TypeMismatch d)
 
@@ -158,20 +170,16 @@ module _ (tables : List (List Ty)) where
       SingleMisfits.select answers row (own_answers tables from answers are) (own_row tables answers from row is)
       (select_err answers row s (select_there from s answers row are is w) e)
 
-  alone_err : (from : From) (s : Select) → IsWithinSelect (inner_count from) (from_width from) s
-      → (answer_types tables from ≡ Err TypeMismatch → AnswersMisfit tables from)
-      → ((answers : List Ty) → answer_types tables from ≡ Ok answers → from_types tables answers from ≡ Err TypeMismatch → FromMisfits tables answers from)
+  alone_err : (from : From) (s : Select) → IsWithinSelect (inner_count from) (from_width from) s → AnswersErr from → FromErr from
       → body_types tables (Body.select from s) ≡ Err TypeMismatch → SingleMisfits tables from s
   alone_err from s w in_answers in_from e = by (single_misfits from s (λ answers row. select_types answers row s) in_answers in_from e)
     where
-      by : SingleMisfits tables from s ⊎ ((answers row : List Ty) × (answer_types tables from ≡ Ok answers) × (from_types tables answers from ≡ Ok row)
-          × (select_types answers row s ≡ Err TypeMismatch)) → SingleMisfits tables from s
+      by : IsRefusedAt from s (λ answers row. select_types answers row s) → SingleMisfits tables from s
       by (inl m) = m
       by (inr (answers, row, are, is, d)) = select_misfits from s answers row w are is d
 
   compound_err : (left : Body) (operator : Operator) (from : From) (s : Select) → IsWithinSelect (inner_count from) (from_width from) s
-      → (body_types tables left ≡ Err TypeMismatch → BodyMisfits tables left) → (answer_types tables from ≡ Err TypeMismatch → AnswersMisfit tables from)
-      → ((answers : List Ty) → answer_types tables from ≡ Ok answers → from_types tables answers from ≡ Err TypeMismatch → FromMisfits tables answers from)
+      → (body_types tables left ≡ Err TypeMismatch → BodyMisfits tables left) → AnswersErr from → FromErr from
       → body_types tables (Body.compound left operator from s) ≡ Err TypeMismatch → BodyMisfits tables (Body.compound left operator from s)
   compound_err left operator from s w in_left in_answers in_from e = by (followed-err (body_types tables left) _ TypeMismatch e)
     where
@@ -186,8 +194,8 @@ module _ (tables : List (List Ty)) where
           (apart_err first second d)
 
       last : (first : List Ty) → body_types tables left ≡ Ok first
-          → SingleMisfits tables from s ⊎ ((answers row : List Ty) × (answer_types tables from ≡ Ok answers) × (from_types tables answers from ≡ Ok row)
-          × (followed (select_types answers row s) (one_types first) ≡ Err TypeMismatch)) → BodyMisfits tables (Body.compound left operator from s)
+          → IsRefusedAt from s (λ answers row. followed (select_types answers row s) (one_types first))
+          → BodyMisfits tables (Body.compound left operator from s)
       last first begun (inl m) = BodyMisfits.last m
       last first begun (inr (answers, row, are, is, d)) =
           columns first answers row begun are is (followed-err (select_types answers row s) (one_types first) TypeMismatch d)
@@ -206,7 +214,8 @@ module _ (tables : List (List Ty)) where
     source_err Source.schema w e = absurd cc
     source_err (Source.derived body) w e = SourceMisfits.derived (body_err body w e)
 
-    pub from_err : (answers : List Ty) (from : From) → FromIsWithin tables (length answers) from → from_types tables answers from ≡ Err TypeMismatch
+    pub from_err : (answers : List Ty) (from : From) → FromIsWithin tables (length answers) from
+        → from_types tables answers from ≡ Err TypeMismatch
         → FromMisfits tables answers from
     from_err answers From.nothing w e = absurd cc
     from_err answers (From.joined from kind source on) w e =
@@ -218,7 +227,8 @@ module _ (tables : List (List Ty)) where
     inner_err (InnerQuery.exists body) w e =
         InnerMisfits.tested (body_err body w (also-err (λ (types : List Ty). Int) (body_types tables body) TypeMismatch e))
 
-    pub answers_err : (count : ℕ) (from : From) → FromIsWithin tables count from → answer_types tables from ≡ Err TypeMismatch → AnswersMisfit tables from
+    pub answers_err : (count : ℕ) (from : From) → FromIsWithin tables count from → answer_types tables from ≡ Err TypeMismatch
+        → AnswersMisfit tables from
     answers_err count From.nothing w e = absurd cc
     answers_err count (From.joined from kind source on) w e = AnswersMisfit.joined (answers_err count from w.0 e)
     answers_err count (From.with_inner from query) w e =
@@ -227,7 +237,8 @@ module _ (tables : List (List Ty)) where
     pub body_err : (body : Body) → BodyIsWithin tables body → body_types tables body ≡ Err TypeMismatch → BodyMisfits tables body
     body_err (Body.select from s) w e =
         BodyMisfits.alone
-        (alone_err from s w.1 (λ d. answers_err (inner_count from) from w.0 d) (λ answers are d. from_err answers from (from_there from answers are w.0) d) e)
+        (alone_err from s w.1 (λ d. answers_err (inner_count from) from w.0 d)
+        (λ answers are d. from_err answers from (from_there from answers are w.0) d) e)
     body_err (Body.compound left operator from s) w e =
         compound_err left operator from s w.2 (λ d. body_err left w.0 d) (λ d. answers_err (inner_count from) from w.1 d)
         (λ answers are d. from_err answers from (from_there from answers are w.1) d) e

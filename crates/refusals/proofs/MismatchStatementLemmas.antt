@@ -15,7 +15,7 @@ use Rattle.refusals.specs.Mismatches.{BodyMisfits, HasMismatch, IsMistyped, KeyM
 use Rattle.refusals.proofs.ClashLemmas.{IsWithin}
 use Rattle.refusals.proofs.LengthLemmas.{answers_length, from_length}
 use Rattle.refusals.proofs.MismatchLemmas.{computed_err, term_err}
-use Rattle.refusals.proofs.OutcomeTypeLemmas.{also-err, checked-err, each-err, followed-err, found-err}
+use Rattle.refusals.proofs.ErrLemmas.{also-err, checked-err, each-err, followed-err, found-err}
 use Rattle.refusals.proofs.OwnLemmas.{own_answers, own_computed, own_row}
 use Rattle.refusals.proofs.PartLemmas.{among}
 use Rattle.refusals.proofs.ReasonLemmas.{HasReasons, names_for_reasons}
@@ -24,14 +24,15 @@ use Rattle.refusals.proofs.StatementLemmas.{fault_is}
 use Rattle.refusals.proofs.TypeLemmas.{body_length}
 use Rattle.refusals.proofs.WithinLemmas.{BodyIsWithin, IsWithinKey, inner_count, input_width}
 use Rattle.refusals.proofs.WithinStatementLemmas.{IsWithinNamed, statement_within}
-use Rattle.refusals.proofs.MismatchQueryLemmas.{answers_err, body_err, from_err, from_there, select_there, single_misfits}
+use Rattle.refusals.proofs.MismatchQueryLemmas.{IsRefusedAt, answers_err, body_err, from_err, from_there, select_there, single_misfits}
 
 -- ---- ORDER BY
 
 module _ (tables : List (List Ty)) where
   key_err : (body : Body) (types : List Ty) (key : KeyTerm) → BodyIsWithin tables body → body_types tables body ≡ Ok types → IsWithinKey body key
       → key_type tables body types key ≡ Err TypeMismatch → BodyMisfits tables body ⊎ KeyMisfits tables body key
-  key_err body types (KeyTerm.result at) v is w e = absurd (past (slice_get-get_or types at Int inside) (found-err TypeMismatch (slice_get types at) TypeMismatch e))
+  key_err body types (KeyTerm.result at) v is w e =
+      absurd (past (slice_get-get_or types at Int inside) (found-err TypeMismatch (slice_get types at) TypeMismatch e))
     where
       inside : at < length types
       inside = let size = body_length tables body types is in let less = w.is in omega (arith, size, less)
@@ -51,10 +52,10 @@ module _ (tables : List (List Ty)) where
           inr (KeyMisfits.term answers row computed (own_answers tables from answers are) (own_row tables answers from row of)
           (own_computed answers row s computed all) (term_err answers row s computed all t
           (subst (λ n. IsWithin n (input_width (length row) s.grouping + length s.windows) t) (sym (answers_length tables from answers are))
-          (subst (λ n. IsWithin (inner_count from) (input_width n s.grouping + length s.windows) t) (sym (from_length tables answers from row of)) w.is)) d))
+          (subst (λ n. IsWithin (inner_count from) (input_width n s.grouping + length s.windows) t)
+          (sym (from_length tables answers from row of)) w.is.1)) d))
 
-      misfits : SingleMisfits tables from s ⊎ ((answers row : List Ty) × (answer_types tables from ≡ Ok answers) × (from_types tables answers from ≡ Ok row)
-          × (followed (computed_types answers row s) (λ computed. term_type answers computed t) ≡ Err TypeMismatch))
+      misfits : IsRefusedAt tables from s (λ answers row. followed (computed_types answers row s) (λ computed. term_type answers computed t))
           → BodyMisfits tables (Body.select from s) ⊎ KeyMisfits tables (Body.select from s) (KeyTerm.term t)
       misfits (inl m) = inl (BodyMisfits.alone m)
       misfits (inr (answers, row, are, of, d)) =
@@ -66,7 +67,8 @@ module _ (tables : List (List Ty)) where
       by (inl d) = absurd cc
       by (inr d) =
           misfits (single_misfits tables from s (λ answers row. followed (computed_types answers row s) (λ computed. term_type answers computed t))
-          (λ f. answers_err tables (inner_count from) from v.0 f) (λ answers are f. from_err tables answers from (from_there tables from answers are v.0) f) d)
+          (λ f. answers_err tables (inner_count from) from v.0 f)
+          (λ answers are f. from_err tables answers from (from_there tables from answers are v.0) f) d)
   key_err (Body.compound left operator from s) types (KeyTerm.term t) v is w e = absurd cc
 
   -- ---- the query, and what stands beside it
@@ -74,7 +76,8 @@ module _ (tables : List (List Ty)) where
   query_err : (n : Named) → IsWithinNamed tables n → query_types tables n.query ≡ Err TypeMismatch → HasMismatch tables n
   query_err n w e = by (followed-err (body_types tables n.query.body) _ TypeMismatch e)
     where
-      sorted : (key : Key) → Contains n.query.order key → BodyMisfits tables n.query.body ⊎ KeyMisfits tables n.query.body key.by → HasMismatch tables n
+      sorted : (key : Key) → Contains n.query.order key → BodyMisfits tables n.query.body ⊎ KeyMisfits tables n.query.body key.by
+          → HasMismatch tables n
       sorted key there (inl m) = HasMismatch.query m
       sorted key there (inr m) = HasMismatch.order key there m
 
@@ -93,7 +96,8 @@ module _ (tables : List (List Ty)) where
   named_err n w e = by (followed-err (each (body_types tables) n.beside) _ TypeMismatch e)
     where
       by : (each (body_types tables) n.beside ≡ Err TypeMismatch)
-          ⊎ ((all : List (List Ty)) × (each (body_types tables) n.beside ≡ Ok all) × (also (λ (_ : List Ty). n) (query_types tables n.query) ≡ Err TypeMismatch))
+          ⊎ ((all : List (List Ty)) × (each (body_types tables) n.beside ≡ Ok all)
+          × (also (λ (_ : List Ty). n) (query_types tables n.query) ≡ Err TypeMismatch))
           → HasMismatch tables n
       by (inl d) =
           let (body, there, is) = each-err (body_types tables) n.beside TypeMismatch d in
@@ -128,5 +132,6 @@ mismatch_is_mistyped tables tree e = by (followed-err (named (known_tables table
     by : (named (known_tables tables) tree ≡ Err TypeMismatch)
         ⊎ ((n : Named) × (named (known_tables tables) tree ≡ Ok n) × (with_types (column_types tables) n ≡ Err TypeMismatch)) → IsMistyped tables tree
     by (inl d) =
-        absurd (fault_is (named (known_tables tables) tree) TypeMismatch (names_for_reasons IsOtherFault tables tree no_names (others tables tree)) d refl)
+        absurd (fault_is (named (known_tables tables) tree) TypeMismatch
+        (names_for_reasons IsOtherFault tables tree no_names (others tables tree)) d refl)
     by (inr (n, is, d)) = (n, is, named_err (column_types tables) n (statement_within tables tree n is) d)

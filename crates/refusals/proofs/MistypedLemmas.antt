@@ -22,7 +22,8 @@ related {A = A} {B = B} R xs ys x zip there = All-contains (λ x. (y : B) × R x
     each_of (x ∷ xs) [] zip = absurd zip
     each_of (x ∷ xs) (y ∷ ys) zip = All-cons (λ x. (y : B) × R x y) x xs (y, zip.0) (each_of xs ys zip.1)
 
-zip_more : {A B : Type 0} (R S : A → B → Type 0) → ((x : A) (y : B) → R x y → S x y) → (xs : List A) (ys : List B) → AllZip R xs ys → AllZip S xs ys
+zip_more : {A B : Type 0} (R S : A → B → Type 0) → ((x : A) (y : B) → R x y → S x y) → (xs : List A) (ys : List B) → AllZip R xs ys
+    → AllZip S xs ys
 zip_more R S so [] [] zip = tt
 zip_more R S so [] (y ∷ ys) zip = absurd zip
 zip_more R S so (x ∷ xs) [] zip = absurd zip
@@ -63,7 +64,9 @@ module _ (row general answers given : List Ty) (fit : AllZip FitsType general ro
   window_over : (v : Window) → IsWindow answers row v → IsWindow given general v
   window_over v h = record {
     partition = All-weaker (IsTerm answers row) (IsTerm given general) some_over v.partition h.partition;
-    order = All-weaker (λ (s : SortTerm). IsTerm answers row s.term) (λ (s : SortTerm). IsTerm given general s.term) (λ s of. some_over s.term of) v.order h.order;
+    order =
+        All-weaker (λ (s : SortTerm). IsTerm answers row s.term) (λ (s : SortTerm). IsTerm given general s.term)
+        (λ s of. some_over s.term of) v.order h.order;
     frame = record {
       starts = h.frame.starts;
       ends = h.frame.ends;
@@ -89,8 +92,10 @@ module _ (row general answers given : List Ty) (fit : AllZip FitsType general ro
   function_refuted WindowFunction.rank ty m h = m
   function_refuted WindowFunction.dense_rank ty m h = m
   function_refuted (WindowFunction.ntile n) ty m h = m
-  function_refuted (WindowFunction.lag x n otherwise) ty m h = odds_refuted given general x otherwise m ty (typed_over x ty h.0) (typed_over otherwise ty h.1)
-  function_refuted (WindowFunction.lead x n otherwise) ty m h = odds_refuted given general x otherwise m ty (typed_over x ty h.0) (typed_over otherwise ty h.1)
+  function_refuted (WindowFunction.lag x n otherwise) ty m h =
+      odds_refuted given general x otherwise m ty (typed_over x ty h.0) (typed_over otherwise ty h.1)
+  function_refuted (WindowFunction.lead x n otherwise) ty m h =
+      odds_refuted given general x otherwise m ty (typed_over x ty h.0) (typed_over otherwise ty h.1)
   function_refuted (WindowFunction.first_value x) ty m h = clash_refuted given general x m (ty, typed_over x ty h)
   function_refuted (WindowFunction.last_value x) ty m h = clash_refuted given general x m (ty, typed_over x ty h)
   function_refuted (WindowFunction.nth_value x n) ty m h = clash_refuted given general x m (ty, typed_over x ty h.0)
@@ -112,7 +117,8 @@ module _ (row general answers given : List Ty) (fit : AllZip FitsType general ro
   values_over : (aggregates : List Aggregate) (values : List Ty) → AllZip (AggregateHasType answers row) aggregates values
       → AllZip (AggregateHasType given general) aggregates values
   values_over =
-      zip_more (AggregateHasType answers row) (AggregateHasType given general) (λ a ty h. measure_over row general answers given fit replies a.function a.argument ty h)
+      zip_more (AggregateHasType answers row) (AggregateHasType given general)
+      (λ a ty h. measure_over row general answers given fit replies a.function a.argument ty h)
 
   -- over a row that may stand in its place, a grouping has types that may stand in theirs
   grouped_over : (g : Option Grouping) (inputs : List Ty) → GroupedHasTypes answers row g inputs
@@ -142,10 +148,12 @@ module _ (row general answers given : List Ty) (fit : AllZip FitsType general ro
           condition = typed_over row general answers given fit replies s.condition Int h.condition;
           grouped = grouped;
           windows =
-              zip_more (CallHasType answers h.inputs) (CallHasType given inputs) (call_over h.inputs inputs answers given inputs_fit replies) s.windows h.values h.windows;
+              zip_more (CallHasType answers h.inputs) (CallHasType given inputs)
+              (call_over h.inputs inputs answers given inputs_fit replies) s.windows h.values h.windows;
           types_are = refl;
         },
-        subst (AllZip FitsType (inputs ++ h.values)) (sym h.types_are) (fits-append inputs h.values h.inputs h.values inputs_fit (fits_itself h.values)),
+        subst (AllZip FitsType (inputs ++ h.values)) (sym h.types_are)
+            (fits-append inputs h.values h.inputs h.values inputs_fit (fits_itself h.values)),
       )
 
   -- the types that a SELECT's rows have of their own may stand for those that they have over another row
@@ -154,7 +162,8 @@ module _ (row general answers given : List Ty) (fit : AllZip FitsType general ro
   inputs_fit g own inputs o h =
       let (others, grouped, fits) = grouped_over g inputs h in all_fit_then own others inputs (o.least others grouped) fits
 
-  pub computed_fit : (s : Select) (own computed : List Ty) → AreOwn (ComputedHasTypes given general s) own → ComputedHasTypes answers row s computed
+  pub computed_fit : (s : Select) (own computed : List Ty) → AreOwn (ComputedHasTypes given general s) own
+      → ComputedHasTypes answers row s computed
       → AllZip FitsType own computed
   computed_fit s own computed o h =
       let (others, are, fits) = computed_over s computed h in all_fit_then own others computed (o.least others are) fits

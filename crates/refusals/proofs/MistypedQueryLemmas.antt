@@ -49,7 +49,8 @@ module _ (tables : List (List Ty)) where
         → FromHasTypes tables answers from row → ⊥
     from_refuted (FromMisfits.earlier m) answers row replies (l, r, left, right, e, condition) = from_refuted m answers l replies left
     from_refuted (FromMisfits.source m) answers row replies (l, r, left, right, e, condition) = source_refuted m r right
-    from_refuted (FromMisfits.on {answers = given} {from = from} {on = on} first second own other misfit) answers row replies (l, r, left, right, e, condition) =
+    from_refuted (FromMisfits.on {answers = given} {from = from} {on = on} first second own other misfit) answers row replies
+        (l, r, left, right, e, condition) =
         let fits : AllZip FitsType (first ++ second) row =
         subst (AllZip FitsType (first ++ second)) (sym e)
         (fits-append first second l r (own.least l (from_over answers given replies from l left)) (other.least r right)) in
@@ -65,7 +66,8 @@ module _ (tables : List (List Ty)) where
     answers_refuted (AnswersMisfit.other m) answers (before, ty, earlier, inner, e) = answers_refuted m before earlier
     answers_refuted (AnswersMisfit.inner m) answers (before, ty, earlier, inner, e) = inner_refuted m ty inner
 
-    single_refuted : {from : From} {s : Select} → SingleMisfits tables from s → (answers row types : List Ty) → AnswersHaveTypes tables from answers
+    single_refuted : {from : From} {s : Select} → SingleMisfits tables from s → (answers row types : List Ty)
+        → AnswersHaveTypes tables from answers
         → FromHasTypes tables answers from row → SelectHasTypes answers row s types → ⊥
     single_refuted (SingleMisfits.answers m) answers row types h k select = answers_refuted m answers h
     single_refuted (SingleMisfits.sources given own m) answers row types h k select = from_refuted m answers row (own.least answers h) k

@@ -12,7 +12,7 @@ use Rattle.naming.specs.Types.{aggregate_type, answer_types, body_types, compute
 use Rattle.refusals.specs.Mismatches.{AreOwn}
 use Rattle.refusals.proofs.FitLemmas.{fits_itself}
 use Rattle.refusals.proofs.LeastLemmas.{answers_least, body_least, computed_least, from_least, grouping_least, measure_least, source_least, term_least}
-use Rattle.refusals.proofs.OutcomeTypeLemmas.{each-least, each-zip}
+use Rattle.refusals.proofs.OkLemmas.{each-least, each-zip}
 use Rattle.refusals.proofs.SoundLemmas.{aggregate_is, answers_are, body_is, computed_is, from_is, grouping_is, source_is, term_is}
 
 module _ (answers row : List Ty) where
@@ -28,21 +28,25 @@ module _ (answers row : List Ty) where
       → AreOwn (AllZip (AggregateHasType answers row) aggregates) values
   own_values aggregates values e = record {
     are =
-        each-zip (aggregate_type answers row) (AggregateHasType answers row) (λ a ty is. aggregate_is answers row a.function a.argument ty is) aggregates
+        each-zip (aggregate_type answers row) (AggregateHasType answers row)
+        (λ a ty is. aggregate_is answers row a.function a.argument ty is) aggregates
         values e;
     least = λ other h.
         each-least (aggregate_type answers row) (AggregateHasType answers row) FitsType
-        (λ a of ty is k. measure_least row row answers answers (fits_itself row) (fits_itself answers) a.function a.argument of ty is k) aggregates values
+        (λ a of ty is k. measure_least row row answers answers (fits_itself row)
+        (fits_itself answers) a.function a.argument of ty is k) aggregates values
         other e h;
   }
 
-  pub own_inputs : (g : Option Grouping) (inputs : List Ty) → grouped_types answers row g ≡ Ok inputs → AreOwn (GroupedHasTypes answers row g) inputs
+  pub own_inputs : (g : Option Grouping) (inputs : List Ty) → grouped_types answers row g ≡ Ok inputs
+      → AreOwn (GroupedHasTypes answers row g) inputs
   own_inputs g inputs e = record {
     are = grouping_is answers row g inputs e;
     least = λ other h. grouping_least row row answers answers (fits_itself row) (fits_itself answers) g inputs other e h;
   }
 
-  pub own_computed : (s : Select) (computed : List Ty) → computed_types answers row s ≡ Ok computed → AreOwn (ComputedHasTypes answers row s) computed
+  pub own_computed : (s : Select) (computed : List Ty) → computed_types answers row s ≡ Ok computed
+      → AreOwn (ComputedHasTypes answers row s) computed
   own_computed s computed e = record {
     are = computed_is answers row s computed e;
     least = λ other h. computed_least row row answers answers (fits_itself row) (fits_itself answers) s computed other e h;
@@ -56,7 +60,8 @@ module _ (tables : List (List Ty)) where
   own_answers from answers e =
       record { are = answers_are tables from answers e; least = λ other h. answers_least tables from answers other e h }
 
-  pub own_row : (answers : List Ty) (from : From) (row : List Ty) → from_types tables answers from ≡ Ok row → AreOwn (FromHasTypes tables answers from) row
+  pub own_row : (answers : List Ty) (from : From) (row : List Ty) → from_types tables answers from ≡ Ok row
+      → AreOwn (FromHasTypes tables answers from) row
   own_row answers from row e =
       record { are = from_is tables answers from row e; least = λ other h. from_least tables answers answers from row other e h }
 

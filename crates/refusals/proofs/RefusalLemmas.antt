@@ -31,8 +31,7 @@ numbered tables tree = record {
 }
 
 types_numbered : TakesTypes IsNameFault
-types_numbered =
-    record { mismatch = (omega arith, omega arith); bad_frame = (omega arith, omega arith); wrong_place = (omega arith, omega arith) }
+types_numbered = record { mismatch = (omega arith, omega arith); bad_frame = (omega arith, omega arith) }
 
 no_names : Says IsNameFault
 no_names = record {
@@ -81,7 +80,7 @@ refusals_have_reasons laws tables tree fault (inl none) = subst (IsReason tables
 refusals_have_reasons laws tables tree fault (inr is) =
     by (fault_is (typed_query tables tree) fault
     (only_for_reasons (IsReasonOrMismatch tables tree) tables tree (by_laws (IsReasonOrMismatch tables tree) laws) (reasons tables tree)
-    (record { mismatch = inr refl; bad_frame = inl tt; wrong_place = inl tt })) is)
+    (record { mismatch = inr refl; bad_frame = inl tt })) is)
   where
     by : IsReason tables tree fault ⊎ (TypeMismatch ≡ fault) → IsReason tables tree fault
     by (inl reason) = reason

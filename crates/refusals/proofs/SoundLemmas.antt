@@ -13,8 +13,7 @@ use Rattle.meaning.specs.Typed.{AggregateGives, AnswersHaveTypes, BodyHasTypes, 
 use Rattle.naming.specs.Outcome.{each, found_or}
 use Rattle.naming.specs.Types.{aggregate_type, answer_types, body_types, both_type, call_type, computed_types, condition_type, from_types, function_type, grouped_types, inner_type, is_distance, is_frame, is_one_number, is_whole, measure_type, of_width, one_types, select_types, single_type, source_types, term_type, typed, unit_fits, window_types}
 use Rattle.refusals.proofs.ClashLemmas.{finds, has_type}
-use Rattle.refusals.proofs.OkLemmas.{also-ok, both-ok, checked-ok, followed-ok}
-use Rattle.refusals.proofs.OutcomeTypeLemmas.{each-all, each-zip, found-ok}
+use Rattle.refusals.proofs.OkLemmas.{also-ok, both-ok, checked-ok, each-all, each-zip, followed-ok, found-ok}
 
 -- ---- types
 
@@ -65,14 +64,19 @@ module _ (answers columns : List Ty) where
   fits_more t a b is fit = has_type answers columns t b (finds_more (type_of_term columns answers t) a b (finds answers columns t a is) fit)
 
   pub term_is : (t : Term) (ty : Ty) → term_type answers columns t ≡ Ok ty → IsTermOf answers columns t ty
-  term_is t ty e = has_type answers columns t ty (finds_itself (type_of_term columns answers t) ty (found-ok TypeMismatch (type_of_term columns answers t) ty e))
+  term_is t ty e =
+      has_type answers columns t ty (finds_itself (type_of_term columns answers t) ty (found-ok TypeMismatch (type_of_term columns answers t) ty e))
 
   pub number_is : (t : Term) (ty : Ty) → condition_type answers columns t ≡ Ok ty → IsTermOf answers columns t Int
-  number_is t ty e = has_type answers columns t Int (number_found (type_of_term columns answers t) ty (found-ok TypeMismatch (wanted Int (type_of_term columns answers t)) ty e))
+  number_is t ty e =
+      has_type answers columns t Int (number_found (type_of_term columns answers t) ty
+      (found-ok TypeMismatch (wanted Int (type_of_term columns answers t)) ty e))
 
   both_are : (x y : Term) (ty : Ty) → both_type answers columns x y ≡ Ok ty → IsTermOf answers columns x ty × IsTermOf answers columns y ty
   both_are x y ty e =
-      let (f, g) = both_find (type_of_term columns answers x) (type_of_term columns answers y) ty (found-ok TypeMismatch (one_of (type_of_term columns answers x) (type_of_term columns answers y)) ty e) in
+      let (f, g) =
+      both_find (type_of_term columns answers x) (type_of_term columns answers y) ty
+      (found-ok TypeMismatch (one_of (type_of_term columns answers x) (type_of_term columns answers y)) ty e) in
       (has_type answers columns x ty f, has_type answers columns y ty g)
 
   whole_found : (o : Option Ty) → is_whole o ≡ true → Finds o Int
@@ -91,7 +95,8 @@ module _ (answers columns : List Ty) where
   wanted_number (Some Blob) ty e = absurd cc
   wanted_number None ty e = absurd cc
 
-  pub aggregate_is : (f : AggregateFunction) (t : Term) (ty : Ty) → measure_type answers columns f t ≡ Ok ty → AggregateGives answers columns f t ty
+  pub aggregate_is : (f : AggregateFunction) (t : Term) (ty : Ty) → measure_type answers columns f t ≡ Ok ty
+      → AggregateGives answers columns f t ty
   aggregate_is AggregateFunction.count t ty e =
       let (of, is, same) = also-ok (λ of. Int) (term_type answers columns t) ty e in ((of, term_is t of is), sym same)
   aggregate_is AggregateFunction.sum t ty e =
@@ -138,7 +143,8 @@ module _ (answers columns : List Ty) where
   distances start end (inl d) = inl (distance_is start d)
   distances start end (inr d) = inr (distance_is end d)
 
-  unit_is : (order : List SortTerm) (unit : FrameUnit) (start end : Edge) → unit_fits answers columns order unit start end ≡ true → UnitFits answers columns order unit start end
+  unit_is : (order : List SortTerm) (unit : FrameUnit) (start end : Edge) → unit_fits answers columns order unit start end ≡ true
+      → UnitFits answers columns order unit start end
   unit_is order FrameUnit.rows start end e = tt
   unit_is order FrameUnit.range start end e =
       λ d. one_number_is order (asked (is_distance start) (is_distance end) (is_one_number answers columns order) e (distances start end d))
@@ -167,7 +173,9 @@ module _ (answers columns : List Ty) where
       let (fits, same) = checked-ok (is_frame answers columns v.order v.frame) BadFrame (Ok sorts) types last in
       record {
         partition = each-all (term_type answers columns) (IsTerm answers columns) (λ t ty is. (ty, term_is t ty is)) v.partition of by;
-        order = each-all (λ s. term_type answers columns s.term) (λ s. IsTerm answers columns s.term) (λ s ty is. (ty, term_is s.term ty is)) v.order sorts in_order;
+        order =
+            each-all (λ s. term_type answers columns s.term) (λ s. IsTerm answers columns s.term)
+            (λ s ty is. (ty, term_is s.term ty is)) v.order sorts in_order;
         frame = frame_is v.order v.frame fits;
       }
 
@@ -189,7 +197,9 @@ module _ (answers row : List Ty) where
         keys = keys;
         values = values;
         by = each-zip (term_type answers row) (IsTermOf answers row) (term_is answers row) g.by keys by;
-        aggregates = each-zip (aggregate_type answers row) (λ a ty. AggregateGives answers row a.function a.argument ty) (λ a ty is. aggregate_is answers row a.function a.argument ty is) g.aggregates values aggregates;
+        aggregates =
+            each-zip (aggregate_type answers row) (λ a ty. AggregateGives answers row a.function a.argument ty)
+            (λ a ty is. aggregate_is answers row a.function a.argument ty is) g.aggregates values aggregates;
         types_are = sym same;
         having = subst (λ columns. IsTermOf answers columns g.having Int) same (number_is answers (keys ++ values) g.having ty having);
       }
@@ -210,11 +220,16 @@ module _ (answers row : List Ty) where
 
   pub select_is : (s : Select) (types : List Ty) → select_types answers row s ≡ Ok types → SelectHasTypes answers row s types
   select_is s types e =
-      let (computed, is, columns) = followed-ok (computed_types answers row s) _ types e in
-      (computed, computed_is s computed is, each-zip (term_type answers computed) (IsTermOf answers computed) (term_is answers computed) s.columns types columns)
+      let (computed, is, columns) = followed-ok (computed_types answers row s) _ types e in (
+        computed,
+        computed_is s computed is,
+        each-zip (term_type answers computed) (IsTermOf answers computed)
+            (term_is answers computed) s.columns types columns,
+      )
 
   -- the columns of a SELECT have the types that theirs may stand for
-  columns_more : (computed : List Ty) (ts : List Term) (first types : List Ty) → AllZip (IsTermOf answers computed) ts first → AllZip FitsType first types → AllZip (IsTermOf answers computed) ts types
+  columns_more : (computed : List Ty) (ts : List Term) (first types : List Ty) → AllZip (IsTermOf answers computed) ts first
+      → AllZip FitsType first types → AllZip (IsTermOf answers computed) ts types
   columns_more computed [] [] [] is fit = tt
   columns_more computed [] [] (ty ∷ types) is fit = absurd fit
   columns_more computed [] (of ∷ first) types is fit = absurd is
@@ -223,7 +238,8 @@ module _ (answers row : List Ty) where
   columns_more computed (t ∷ ts) (of ∷ first) (ty ∷ types) is fit =
       (fits_more answers computed t of ty is.0 fit.0, columns_more computed ts first types is.1 fit.1)
 
-  select_more : (s : Select) (first types : List Ty) → SelectHasTypes answers row s first → AllZip FitsType first types → SelectHasTypes answers row s types
+  select_more : (s : Select) (first types : List Ty) → SelectHasTypes answers row s first → AllZip FitsType first types
+      → SelectHasTypes answers row s types
   select_more s first types (computed, is, columns) fit = (computed, is, columns_more computed s.columns first types columns fit)
 
 -- ---- queries
@@ -249,7 +265,8 @@ all_fit (a ∷ first) (b ∷ second) types e =
 
 module _ (tables : List (List Ty)) where
   -- a query has the types that its own may stand for
-  body_more : (body : Body) (first types : List Ty) → BodyHasTypes tables body first → AllZip FitsType first types → BodyHasTypes tables body types
+  body_more : (body : Body) (first types : List Ty) → BodyHasTypes tables body first → AllZip FitsType first types
+      → BodyHasTypes tables body types
   body_more (Body.select from s) first types (answers, row, given, shown, select) fit =
       (answers, row, given, shown, select_more answers row s first types select fit)
   body_more (Body.compound left operator from s) first types (body, (answers, row, given, shown, select)) fit =
@@ -272,7 +289,8 @@ module _ (tables : List (List Ty)) where
     source_is Source.schema types e = cc
     source_is (Source.derived body) types e = body_is body types e
 
-    pub from_is : (answers : List Ty) (from : From) (types : List Ty) → from_types tables answers from ≡ Ok types → FromHasTypes tables answers from types
+    pub from_is : (answers : List Ty) (from : From) (types : List Ty) → from_types tables answers from ≡ Ok types
+        → FromHasTypes tables answers from types
     from_is answers From.nothing types e = cc
     from_is answers (From.joined from kind source on) types e =
         let (l, left, more) = followed-ok (from_types tables answers from) _ types e in
@@ -299,7 +317,8 @@ module _ (tables : List (List Ty)) where
     answers_are From.nothing types e = cc
     answers_are (From.joined from kind source on) types e = answers_are from types e
     answers_are (From.with_inner from query) types e =
-        let (before, ty, earlier, inner, same) = both-ok (λ before ty. before ++ ty ∷ []) (answer_types tables from) (inner_type tables query) types e in
+        let (before, ty, earlier, inner, same) =
+        both-ok (λ before ty. before ++ ty ∷ []) (answer_types tables from) (inner_type tables query) types e in
         (before, ty, answers_are from before earlier, inner_is query ty inner, sym same)
 
     pub body_is : (body : Body) (types : List Ty) → body_types tables body ≡ Ok types → BodyHasTypes tables body types

@@ -162,7 +162,7 @@ module _ (F : Fault → Type 0) (takes : Takes F) where
       types_only typed types n even all =
           followed_only (each (body_types types) n.beside) _
           (each_only (body_types types) n.beside (weaker (λ body even. body_only F typed types body even) all))
-          (λ _. also_only (λ _. n) (query_types types n.query) (query_only F typed types n.query even))
+          (λ _. also_only (λ _. n) (query_types types n.query) (query_only F typed types takes.wrong_place n.query even))
 
       pub typed_only : TakesTypes F → Only F (typed_query tables tree)
       typed_only typed =

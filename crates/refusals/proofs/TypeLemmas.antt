@@ -1,5 +1,5 @@
 -- The types of a query, or why it has none.
-use Rattle.std.proofs.Common.{not, List, [], ◌∷◌, ◌++◌, length, Option, Some, None, Result, Ok, ◌≡◌, suc, nat_eq, nat_lt, slice_get, ap, sym, ◌∙◌, arith}
+use Rattle.std.proofs.Common.{false, not, List, [], ◌∷◌, ◌++◌, length, Option, Some, None, Result, Ok, ◌≡◌, suc, nat_eq, nat_lt, slice_get, ap, sym, ◌∙◌, arith}
 use Rattle.std.proofs.lemmas.Bool.{eqb-false}
 use Rattle.values.specs.declared.fault.Fault.{Fault}
 use Rattle.values.specs.declared.fault.Fault.TheVariants.{BadFrame, ColumnCount, TypeMismatch, WrongPlace}
@@ -11,14 +11,10 @@ use Rattle.meaning.specs.Query.{Aggregate, AggregateFunction, Body, From, Groupi
 use Rattle.naming.specs.Outcome.{each, found_or}
 use Rattle.naming.specs.Types.{aggregate_type, answer_types, body_types, both_type, call_type, computed_types, condition_type, from_types, function_type, grouped_types, inner_type, is_frame, key_type, measure_type, of_width, one_types, query_types, select_types, single_type, source_types, term_type, typed, window_types}
 use Rattle.refusals.proofs.EvenLemmas.{IsEvenBody, IsEvenFrom, IsEvenInner, IsEvenSource}
-use Rattle.refusals.proofs.OkLemmas.{both-ok, followed-ok}
+use Rattle.refusals.proofs.OkLemmas.{both-ok, followed-ok, found-ok}
 use Rattle.refusals.proofs.OutcomeLemmas.{Only, also_only, all_only, both_only, checked_only, followed_only, found_only, known_only, ok, refused}
 
 -- ---- as many types as columns
-
-found-ok : {A : Type 0} (fault : Fault) (o : Option A) (a : A) → found_or fault o ≡ Ok a → o ≡ Some a
-found-ok fault (Some b) a e = cc
-found-ok fault None a e = absurd cc
 
 pub each_length : {A B : Type 0} (f : A → Result B Fault) (xs : List A) (ys : List B) → each f xs ≡ Ok ys → length ys ≡ length xs
 each_length f [] ys e = let same : [] ≡ ys = cc in ap length (sym same)
@@ -54,10 +50,9 @@ body_length tables (Body.compound left operator from s) types e =
 pub record TakesTypes (F : Fault → Type 0) : Type 0 where
   pub mismatch : F TypeMismatch
   pub bad_frame : F BadFrame
-  pub wrong_place : F WrongPlace
 
 module _ (F : Fault → Type 0) (takes : TakesTypes F) where
-  typed_only : (ty : Option Ty) → Only F (typed ty)
+  pub typed_only : (ty : Option Ty) → Only F (typed ty)
   typed_only ty = found_only TypeMismatch ty takes.mismatch
 
   module _ (answers columns : List Ty) where
@@ -176,17 +171,22 @@ module _ (F : Fault → Type 0) (takes : TakesTypes F) where
           known_only (select_types answers row s) (one_types first) (select_only answers row s) (λ types are.
           one_types_only first types (body_length tables left first is ∙ even.2 ∙ sym (select_length answers row s types are))))))
 
-    key_only : (body : Body) (types : List Ty) (key : KeyTerm) → IsEvenBody tables body → Only F (key_type tables body types key)
-    key_only body types (KeyTerm.result at) even = typed_only (slice_get types at)
-    key_only (Body.select from s) types (KeyTerm.term t) even =
-        checked_only (not s.distinct) WrongPlace _ (λ _. takes.wrong_place)
+    -- a term of ORDER BY over one SELECT
+    pub order_only : (from : From) (s : Select) (t : Term) → IsEvenFrom tables from → (not s.distinct ≡ false → F WrongPlace)
+        → (types : List Ty) → Only F (key_type tables (Body.select from s) types (KeyTerm.term t))
+    order_only from s t even place types =
+        checked_only (not s.distinct) WrongPlace _ place
         (followed_only (answer_types tables from) _ (answers_only from even) (λ answers.
         followed_only (from_types tables answers from) _ (from_only answers from even) (λ row.
         followed_only (computed_types answers row s) _ (computed_only answers row s) (λ computed. term_only answers computed t))))
-    key_only (Body.compound left operator from s) types (KeyTerm.term t) even = refused WrongPlace takes.wrong_place
 
-    pub query_only : (q : QueryData) → IsEvenBody tables q.body → Only F (query_types tables q)
-    query_only q even =
+    key_only : F WrongPlace → (body : Body) (types : List Ty) (key : KeyTerm) → IsEvenBody tables body → Only F (key_type tables body types key)
+    key_only place body types (KeyTerm.result at) even = typed_only (slice_get types at)
+    key_only place (Body.select from s) types (KeyTerm.term t) even = order_only from s t even (λ _. place) types
+    key_only place (Body.compound left operator from s) types (KeyTerm.term t) even = refused WrongPlace place
+
+    pub query_only : F WrongPlace → (q : QueryData) → IsEvenBody tables q.body → Only F (query_types tables q)
+    query_only place q even =
         followed_only (body_types tables q.body) _ (body_only q.body even) (λ types.
         also_only (λ _. types) (each (λ k. key_type tables q.body types k.by) q.order)
-        (all_only (λ (k : Key). key_type tables q.body types k.by) q.order (λ k. key_only q.body types k.by even)))
+        (all_only (λ (k : Key). key_type tables q.body types k.by) q.order (λ k. key_only place q.body types k.by even)))

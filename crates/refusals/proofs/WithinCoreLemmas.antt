@@ -70,7 +70,7 @@ module _ (K : KeyTerm → Type 0) (names : List Name) (there : (at : ℕ) → at
 -- a key of a SELECT, of which these are the names
 abbrev pub KeyIsThere : ℕ → ℕ → Select → ℕ → KeyTerm → Type 0
 KeyIsThere count width s names (KeyTerm.result at) = at < names
-KeyIsThere count width s names (KeyTerm.term t) = IsWithin count (input_width width s.grouping + length s.windows) t
+KeyIsThere count width s names (KeyTerm.term t) = (s.distinct ≡ false) × IsWithin count (input_width width s.grouping + length s.windows) t
 
 pub record IsWithinCore (count width : ℕ) (c : CoreData) : Type 0 where
   pub select : IsWithinSelect count width c.select
@@ -98,7 +98,8 @@ module _ (count : ℕ) (answers : Answers) (answered : AreAnswers count answers)
     same = sym size;
   }
 
-  condition_within : (w : ℕ) (says : Says) → IsSaying w says → (condition : MaybeExpr) → Hands (IsWithin count w) (condition_of answers says condition)
+  condition_within : (w : ℕ) (says : Says) → IsSaying w says → (condition : MaybeExpr)
+      → Hands (IsWithin count w) (condition_of answers says condition)
   condition_within w says saying MaybeExpr.Absent = record { is = tt }
   condition_within w says saying (MaybeExpr.Present e) = term_so count answers answered w says saying e
 
@@ -110,7 +111,8 @@ module _ (count : ℕ) (answers : Answers) (answered : AreAnswers count answers)
       → Each (λ (a : Aggregate). IsWithin count width a.argument) aggregates → Hands IsWithinInput (grouped answers scope by aggregates having)
   grouped_within by aggregates having in_by in_aggregates =
       also_hands _ (condition_of answers (groups_say answers scope by aggregates) having)
-      (condition_within (length by + length aggregates) (groups_say answers scope by aggregates) (groups_within count answers answered by scope aggregates)
+      (condition_within (length by + length aggregates) (groups_say answers scope by aggregates)
+      (groups_within count answers answered by scope aggregates)
       having)
       (λ h in_having. record {
         saying = groups_within count answers answered by scope aggregates;
@@ -166,7 +168,8 @@ module _ (count : ℕ) (answers : Answers) (answered : AreAnswers count answers)
     result_within (ResultTree.Value e name) =
         also_hands _ (term_of answers says e) (term_so count answers answered wide says saying e) (λ t h. one h)
 
-    results_within : (results : ResultTrees) → Hands (Each (λ (r : ResultColumn). IsWithin count wide r.term)) (all_results answers scope input says results)
+    results_within : (results : ResultTrees)
+        → Hands (Each (λ (r : ResultColumn). IsWithin count wide r.term)) (all_results answers scope input says results)
     results_within ResultTrees.No_result = record { is = none }
     results_within (ResultTrees.Result r rs) =
         both_hands ◌++◌ (results_of answers scope input says r) (all_results answers scope input says rs) (result_within r) (results_within rs)
@@ -182,17 +185,20 @@ module _ (count : ℕ) (answers : Answers) (answered : AreAnswers count answers)
   module _ (distinct : Bool) (results : ResultTrees) (order : TermTrees) (behind : List ExprTree) where
     module _ (condition : Term) (in_condition : IsWithin count width condition) (input : Input) (is : IsWithinInput input) where
       module _ (defined : List Defined) (calls : List WindowCall) (says : Says) (saying : IsSaying (input.width + length calls) says)
-          (in_defined : Each (λ (d : Defined). IsWithinWindow count input.width d.window) defined) (in_calls : Each (IsWithinCall count input.width) calls)
+          (in_defined : Each (λ (d : Defined). IsWithinWindow count input.width d.window) defined)
+          (in_calls : Each (IsWithinCall count input.width) calls)
         where
           row_within : (columns : List ResultColumn) (e : ExprTree)
-              → Hands (KeyIsThere count width ((finished distinct condition input.grouping defined calls columns []).select) (length (names_in columns)))
+              → Hands (KeyIsThere count width ((finished distinct condition input.grouping defined calls columns []).select)
+              (length (names_in columns)))
               (on_row answers distinct says e)
           row_within columns e =
-              if_hands distinct (Err WrongPlace) _ (no_hands WrongPlace)
-              (also_hands KeyTerm.term (term_of answers says e) (term_so count answers answered (input.width + length calls) says saying e)
-              (λ t h. subst (λ w. IsWithin count (w + length calls) t) (sym is.same) h))
+              if_hands distinct (Err WrongPlace) _ (λ _. no_hands WrongPlace) (λ plain.
+              also_hands KeyTerm.term (term_of answers says e) (term_so count answers answered (input.width + length calls) says saying e)
+              (λ t h. (plain, subst (λ w. IsWithin count (w + length calls) t) (sym is.same) h)))
 
-          core_made : (columns : List ResultColumn) (keys : List Key) → Each (λ (r : ResultColumn). IsWithin count (input.width + length calls) r.term) columns
+          core_made : (columns : List ResultColumn) (keys : List Key)
+              → Each (λ (r : ResultColumn). IsWithin count (input.width + length calls) r.term) columns
               → Each (λ (k : Key). KeyIsThere count width ((finished distinct condition input.grouping defined calls columns []).select)
               (length (names_in columns)) k.by) keys
               → IsWithinCore count width (finished distinct condition input.grouping defined calls columns keys)
@@ -216,7 +222,8 @@ module _ (count : ℕ) (answers : Answers) (answered : AreAnswers count answers)
               (results_within input is (input.width + length calls) (omega arith) says saying results)
               (λ columns in_columns.
               checked_hands (nat_le (length columns) max_columns) Limit _ (λ e.
-              also_hands (finished distinct condition input.grouping defined calls columns) (keys_of (names_in columns) (on_row answers distinct says) order)
+              also_hands (finished distinct condition input.grouping defined calls columns)
+              (keys_of (names_in columns) (on_row answers distinct says) order)
               (keys_within
               (KeyIsThere count width ((finished distinct condition input.grouping defined calls columns []).select) (length (names_in columns)))
               (names_in columns) (λ at less. less) (on_row answers distinct says) (row_within columns) order)

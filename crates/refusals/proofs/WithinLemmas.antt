@@ -1,5 +1,5 @@
 -- The terms of a query name columns and answers that there are.
-use Rattle.std.proofs.Common.{◌≡◌, ℕ, ◌+◌, ◌<◌, List, length, Option, Some, None, slice_get}
+use Rattle.std.proofs.Common.{◌≡◌, false, ℕ, ◌+◌, ◌<◌, List, length, Option, Some, None, slice_get}
 use Rattle.values.specs.declared.value.Ty.{Ty}
 use Rattle.meaning.specs.Query.{Aggregate, Body, From, Grouping, InnerQuery, KeyTerm, Select, SortTerm, Source, Window, WindowCall, WindowFunction, body_width, from_width, source_width}
 use Rattle.refusals.proofs.ClashLemmas.{IsWithin}
@@ -73,11 +73,12 @@ module _ (types : List (List Ty)) where
     BodyIsWithin (Body.compound left operator from s) =
         BodyIsWithin left × FromIsWithin (inner_count from) from × IsWithinSelect (inner_count from) (from_width from) s
 
--- a key is a result column that there is, or a term over the row that they speak of
+-- a key is a result column that there is, or a term over the row that those of one SELECT without DISTINCT speak of
 abbrev KeyHolds : Body → KeyTerm → Type 0
 KeyHolds body (KeyTerm.result at) = at < body_width body
-KeyHolds (Body.select from s) (KeyTerm.term t) = IsWithin (inner_count from) (input_width (from_width from) s.grouping + length s.windows) t
-KeyHolds (Body.compound left operator from s) (KeyTerm.term t) = Unit {0}
+KeyHolds (Body.select from s) (KeyTerm.term t) =
+    (s.distinct ≡ false) × IsWithin (inner_count from) (input_width (from_width from) s.grouping + length s.windows) t
+KeyHolds (Body.compound left operator from s) (KeyTerm.term t) = ⊥
 
 pub record IsWithinKey (body : Body) (key : KeyTerm) : Type 0 where
   pub is : KeyHolds body key

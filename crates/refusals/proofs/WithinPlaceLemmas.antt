@@ -32,7 +32,8 @@ pub anything : {A : Type 0} (r : Result A Fault) → Hands (λ _. Unit {0}) r
 anything (Ok a) = record { is = tt }
 anything (Err fault) = record { is = tt }
 
-pub column_there : (start most width : ℕ) (at : Option ℕ) → start + most ≤ width → IsBelow most at → IfAny (IsOfColumns width) (column_from start at)
+pub column_there : (start most width : ℕ) (at : Option ℕ) → start + most ≤ width → IsBelow most at
+    → IfAny (IsOfColumns width) (column_from start at)
 column_there start most width None few h = record { is = tt }
 column_there start most width (Some at) few h =
     let less : at < most = h.is in record { is = record { places = (start + at) ∷ []; is = refl; within = one (omega arith) } }
@@ -42,7 +43,8 @@ module _ (count : ℕ) (answers : Answers) (answered : AreAnswers count answers)
     pub term_so : (e : ExprTree) → Hands (IsWithin count width) (term_of answers says e)
     term_so = term_within count width answers says (answered.so width) saying.so
 
-    filter_within : (filter : MaybeExpr) (argument : Term) → IsWithin count width argument → Hands (IsWithin count width) (filter_of answers says filter argument)
+    filter_within : (filter : MaybeExpr) (argument : Term) → IsWithin count width argument
+        → Hands (IsWithin count width) (filter_of answers says filter argument)
     filter_within MaybeExpr.Absent argument h = record { is = h }
     filter_within (MaybeExpr.Present e) argument h =
         also_hands (λ condition. filtered condition argument) (term_of answers says e) (term_so e) (λ c k. ((k, h, tt), tt))
@@ -63,7 +65,8 @@ module _ (count : ℕ) (answers : Answers) (answered : AreAnswers count answers)
     count_within filter =
         also_hands (aggregate AggregateFunction.count) (filter_of answers says filter always) (filter_within filter always tt) (λ t h. h)
 
-    pub aggregate_within : (part : ExprTree) → IfAny (Hands (λ (a : Aggregate). IsWithin count width a.argument)) (aggregate_of answers says part)
+    pub aggregate_within : (part : ExprTree)
+        → IfAny (Hands (λ (a : Aggregate). IsWithin count width a.argument)) (aggregate_of answers says part)
     aggregate_within (ExprTree.CountRows (BehindTree.Behind filter OverTree.No_over)) = record { is = count_within filter }
     aggregate_within (ExprTree.Call function items (BehindTree.Behind filter OverTree.No_over)) =
         aggregate_call_within (aggregate_named function) items filter
@@ -84,7 +87,8 @@ module _ (count : ℕ) (answers : Answers) (answered : AreAnswers count answers)
         → Hands (IsWithinWindow count width) (defined_as defined name)
     defined_within [] name all = no_hands BadFrame
     defined_within (d ∷ ds) name all =
-        if_hands (str_eq_ignore_ascii_case d.name name) (Ok d.window) (defined_as ds name) (record { is = first all }) (defined_within ds name (rest all))
+        if_hands (str_eq_ignore_ascii_case d.name name) (Ok d.window) (defined_as ds name) (λ _. record { is = first all })
+        (λ _. defined_within ds name (rest all))
 
     over_within : (defined : List Defined) (o : OverTree) → Each (λ (d : Defined). IsWithinWindow count width d.window) defined
         → IfAny (Hands (IsWithinWindow count width)) (over answers says defined o)
@@ -92,7 +96,8 @@ module _ (count : ℕ) (answers : Answers) (answered : AreAnswers count answers)
     over_within defined (OverTree.OverName name) all = record { is = defined_within defined name all }
     over_within defined (OverTree.Over v) all = record { is = window_within v }
 
-    of_term_within : (function : Term → WindowFunction) (e : ExprTree) → ((t : Term) → IsWithin count width t → FunctionIsWithin count width (function t))
+    of_term_within : (function : Term → WindowFunction) (e : ExprTree)
+        → ((t : Term) → IsWithin count width t → FunctionIsWithin count width (function t))
         → Hands (FunctionIsWithin count width) (of_term answers says function e)
     of_term_within function e so = also_hands function (term_of answers says e) (term_so e) so
 
@@ -176,10 +181,12 @@ module _ (count : ℕ) (answers : Answers) (answered : AreAnswers count answers)
     beside_within scope aggregates (ExprTree.Column table name) = bare_none (length by + length aggregates) (column_of scope table name)
     beside_within scope aggregates part = aggregate_there aggregates (aggregate_of answers (columns_say scope) part)
 
-    pub groups_within : (scope : Scope) (aggregates : List Aggregate) → IsSaying (length by + length aggregates) (groups_say answers scope by aggregates)
+    pub groups_within : (scope : Scope) (aggregates : List Aggregate)
+        → IsSaying (length by + length aggregates) (groups_say answers scope by aggregates)
     groups_within scope aggregates = record {
       so = λ part.
-          key_or_within (length by + length aggregates) (key_column by (term_of answers (columns_say scope) part)) (beside_keys answers scope by aggregates part)
+          key_or_within (length by + length aggregates) (key_column by (term_of answers (columns_say scope) part))
+          (beside_keys answers scope by aggregates part)
           (key_there (length by + length aggregates) (term_of answers (columns_say scope) part) (omega arith)) (beside_within scope aggregates part);
     }
 
@@ -192,7 +199,8 @@ module _ (count : ℕ) (answers : Answers) (answered : AreAnswers count answers)
   call_there width calls None (Err fault) h = no_hands fault
   call_there width calls (Some r) beneath h =
       also_hands _ r (anything r)
-      (λ c any. column_there width (length calls) (width + length calls) (place_of is_same_call c calls) (omega arith) (place_below is_same_call c calls))
+      (λ c any. column_there width (length calls) (width + length calls) (place_of is_same_call c calls) (omega arith)
+      (place_below is_same_call c calls))
 
   pub windows_within : (width : ℕ) (says : Says) → IsSaying width says → (defined : List Defined) (calls : List WindowCall)
       → IsSaying (width + length calls) (windows_say answers says defined width calls)

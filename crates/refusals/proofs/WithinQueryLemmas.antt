@@ -190,7 +190,8 @@ module _ (types : List (List Ty)) where
         followed_hands (source_of known queries source) (joined answers left (kind_of join_kind) on) (source_within source)
         (λ g of. joined_within count answers answered left (kind_of join_kind) on g h of))
 
-    single_made : (inners : List Inner) → Each IsWithinInner inners → (f : Sources) → IsWithinSources (length (map (λ (i : Inner). i.query) inners)) f
+    single_made : (inners : List Inner) → Each IsWithinInner inners → (f : Sources)
+        → IsWithinSources (length (map (λ (i : Inner). i.query) inners)) f
         → (c : CoreData) → IsWithinCore (length (map (λ (i : Inner). i.query) inners)) (length f.scope) c → IsWithinSingle (single inners f c)
     single_made inners in_inners f h c of =
         let asked : List InnerQuery = map (λ (i : Inner). i.query) inners in

@@ -82,7 +82,8 @@ module _ (width : ℕ) where
       by : (b : Bool) → Each (λ (r : ResultColumn). IsOfColumns width r.term) (starred_of table (suc at) others)
           → Each (λ (r : ResultColumn). IsOfColumns width r.term)
           (if b then result s.name (column at) ∷ starred_of table (suc at) others else starred_of table (suc at) others)
-      by true h = more (result s.name (column at)) (starred_of table (suc at) others) (record { places = at ∷ []; is = refl; within = one (omega arith) }) h
+      by true h =
+          more (result s.name (column at)) (starred_of table (suc at) others) (record { places = at ∷ []; is = refl; within = one (omega arith) }) h
       by false h = h
 
   -- ---- the columns of a source
@@ -96,13 +97,15 @@ module _ (width : ℕ) where
   -- ---- USING
 
   merged_within : (name : Name) (places : List ℕ) (scope : Scope) → Each (λ at. at < width) places
-      → Each (λ (s : Shown). Each (λ at. at < width) s.places) scope → Each (λ (s : Shown). Each (λ at. at < width) s.places) (merged name places scope)
+      → Each (λ (s : Shown). Each (λ at. at < width) s.places) scope
+      → Each (λ (s : Shown). Each (λ at. at < width) s.places) (merged name places scope)
   merged_within name places [] some all = none
   merged_within name places (s ∷ others) some all =
       more (if is_called None name s then record { source = s.source; name = s.name; places = s.places ++ places } else s) (merged name places others)
       (by (is_called None name s)) (merged_within name places others some (rest all))
     where
-      by : (b : Bool) → Each (λ at. at < width) ((if b then record { source = s.source; name = s.name; places = s.places ++ places } else s).places)
+      by : (b : Bool)
+          → Each (λ at. at < width) ((if b then record { source = s.source; name = s.name; places = s.places ++ places } else s).places)
       by true = join s.places places (first all) some
       by false = first all
 
@@ -138,8 +141,10 @@ module _ (count width : ℕ) where
     pub right_within : IsWithinScope width u.right
     pub equalities : Each (IsWithin count width) u.equalities
 
-  used_within : (names : List Name) (theirs left right : Scope) (m n : ℕ) → length left ≡ m → length right ≡ n → m ≤ width → length theirs ≤ width
-      → IsWithinScope width theirs → IsWithinScope width left → IsWithinScope width right → Hands (IsWithinUsing m n) (used theirs left right names)
+  used_within : (names : List Name) (theirs left right : Scope) (m n : ℕ) → length left ≡ m → length right ≡ n → m ≤ width
+      → length theirs ≤ width
+      → IsWithinScope width theirs → IsWithinScope width left → IsWithinScope width right
+      → Hands (IsWithinUsing m n) (used theirs left right names)
   used_within [] theirs left right m n same other few little all some more_of =
       record { is = record { left_size = same; right_size = other; left_within = some; right_within = more_of; equalities = none } }
   used_within (name ∷ names) theirs left right m n same other few little all some more_of =

@@ -59,7 +59,8 @@ module _ (types : List (List Ty)) where
 
   item_within : (w : With) (item : ItemTree) → IsWithinWith w → Hands IsWithinWith (item_of w item)
   item_within w item h =
-      followed_hands (queried max_levels w.known item.query TermTrees.No_term) _ (queried_within types max_levels w.known h.known item.query TermTrees.No_term)
+      followed_hands (queried max_levels w.known item.query TermTrees.No_term) _
+      (queried_within types max_levels w.known h.known item.query TermTrees.No_term)
       (λ q of.
       also_hands (with_item w item q) (item_columns item.columns q.names)
       (hands_of {P = λ columns. item_columns item.columns q.names ≡ Ok columns} (item_columns item.columns q.names) (λ columns e. e))
@@ -79,7 +80,8 @@ module _ (types : List (List Ty)) where
   named_within : (tables : List Known) (tree : StatementTree) → All (IsWithinKnown types) tables → Hands IsWithinNamed (named tables tree)
   named_within tables tree all =
       checked_hands (are_distinct (map (λ (i : ItemTree). i.name) tree.items)) DuplicateName _ (λ e.
-      followed_hands (with_items (no_items tables) tree.items) _ (items_within tree.items (no_items tables) (record { known = all; beside = none })) (λ w h.
+      followed_hands (with_items (no_items tables) tree.items) _
+      (items_within tree.items (no_items tables) (record { known = all; beside = none })) (λ w h.
       followed_hands (queried max_levels w.known tree.query tree.order) (ended tree w.beside)
       (queried_within types max_levels w.known h.known tree.query tree.order) (λ q of. ended_within tree w.beside q h.beside of)))
 

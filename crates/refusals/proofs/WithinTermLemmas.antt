@@ -95,12 +95,14 @@ module _ (count width : ℕ) where
 
   -- ---- functions
 
-  unary_within : (function : Function) (items : List Term) → Each (IsWithin count width) items → Hands (IsWithin count width) (unary function items)
+  unary_within : (function : Function) (items : List Term) → Each (IsWithin count width) items
+      → Hands (IsWithin count width) (unary function items)
   unary_within function [] all = no_hands WrongPlace
   unary_within function (x ∷ []) all = record { is = first all }
   unary_within function (x ∷ y ∷ items) all = no_hands WrongPlace
 
-  several_within : (name : written.Function) (items : List Term) → Each (IsWithin count width) items → Hands (IsWithin count width) (several name items)
+  several_within : (name : written.Function) (items : List Term) → Each (IsWithin count width) items
+      → Hands (IsWithin count width) (several name items)
   several_within w.Coalesce items all = record { is = all_within items all }
   several_within w.IfNull (x ∷ y ∷ []) all = record { is = (first all, (first (rest all), tt)) }
   several_within w.NullIf (x ∷ y ∷ []) all = record { is = (first all, first (rest all)) }

@@ -1,6 +1,7 @@
 -- Where in a query an expression is of another type than its place wants. (SELECT; Window Functions; STRICT Tables)
-use Rattle.std.specs.Prelude.{◌≡◌, ℕ, Contains, List, ◌++◌, Some, Ok, slice_get}
+use Rattle.std.specs.Prelude.{◌≡◌, ◌⊎◌, ℕ, Contains, List, ◌++◌, Some, Ok, slice_get}
 use Rattle.std.specs.List.{AllZip}
+use Rattle.values.specs.declared.fault.Fault.TheVariants.{BadFrame, TypeMismatch}
 use Rattle.values.specs.declared.value.Ty.{Ty}
 use Rattle.values.specs.declared.value.Ty.TheVariants.{Int}
 use Rattle.expr.specs.Term.{Term}
@@ -9,7 +10,7 @@ use Rattle.syntax.specs.StatementTree.{StatementTree}
 use Rattle.meaning.specs.Query.{Aggregate, AggregateFunction, Body, From, Grouping, InnerQuery, JoinKind, Key, KeyTerm, Operator, Select, SortTerm, Source, WindowCall, WindowFunction}
 use Rattle.meaning.specs.Typed.{AggregateHasType, AnswersHaveTypes, BodyHasTypes, ComputedHasTypes, FromHasTypes, GroupedHasTypes, IsTermOf, SourceHasTypes}
 use Rattle.naming.specs.Statement.{Named, named}
-use Rattle.naming.specs.Typed.{Table, Types, column_types, known_tables}
+use Rattle.naming.specs.Typed.{IsRefused, Table, Types, column_types, known_tables}
 use Rattle.refusals.specs.Clashes.{AreAtOdds, HasClash, Misfits}
 
 -- Its own types, where NULL fits any: it has them, and they may stand for all others that it has, so that what is NULL alone
@@ -137,3 +138,8 @@ IsMistyped tables tree = (n : Named) × (named (known_tables tables) tree ≡ Ok
 -- such a statement is no query
 abbrev pub MistypedIsRefused : Type 0
 MistypedIsRefused = (tables : List Table) (tree : StatementTree) (n : Named) → IsMistyped tables tree → ¬ Types tables tree n
+
+-- it is refused because types don't agree, unless because a window's frame is none
+abbrev pub MistypedIsMismatch : Type 0
+MistypedIsMismatch =
+    (tables : List Table) (tree : StatementTree) → IsMistyped tables tree → IsRefused tables tree TypeMismatch ⊎ IsRefused tables tree BadFrame

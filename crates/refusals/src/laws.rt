@@ -1,6 +1,6 @@
 //! What holds of the definitions alone.
 ghost use Rattle.refusals.specs.Examples.{NothingIsWritten, ReasonsAreWritten};
-ghost use Rattle.refusals.specs.Mismatches.{MistypedIsRefused};
+ghost use Rattle.refusals.specs.Mismatches.{MistypedIsMismatch, MistypedIsRefused};
 ghost use Rattle.refusals.specs.Reasons.{RefusalsHaveReasons};
 ghost use Rattle.refusals.specs.Refusals.{RefusalsAreNumbered};
 ghost use Rattle.refusals.specs.RepeatedNames.{RepeatedIsRefused};
@@ -27,7 +27,7 @@ pub fn refusals_have_reasons()
     names_are_distinct();
 }
 
-/// A statement of which one of these holds is no query.
+/// A statement of which one of these holds is no query; where types don't agree, it is refused so, unless a window's frame is none.
 pub fn reasons_refuse()
     ensures sources { UnknownSourceIsRefused }
     ensures columns { UnknownColumnIsRefused }
@@ -35,6 +35,7 @@ pub fn reasons_refuse()
     ensures uneven { UnevenIsRefused }
     ensures repeated { RepeatedIsRefused }
     ensures mistyped { MistypedIsRefused }
+    ensures mismatch { MistypedIsMismatch }
 {
     names_are_columns();
     names_are_distinct();

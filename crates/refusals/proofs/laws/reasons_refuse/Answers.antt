@@ -1,3 +1,4 @@
+use Rattle.refusals.proofs.MistypedFaultLemmas as faults
 use Rattle.refusals.proofs.MistypedQueryLemmas as types
 use Rattle.refusals.proofs.RepeatedLemmas as names
 use Rattle.refusals.proofs.UnevenLemmas as numbers
@@ -22,3 +23,6 @@ returns-clause-repeated c = names.repeated_is_refused c.names_are_distinct.ensur
 
 pub returns-clause-mistyped : goal.returns-clause-mistyped
 returns-clause-mistyped c = types.mistyped_is_refused c.typed_is_taken.ensures
+
+pub returns-clause-mismatch : goal.returns-clause-mismatch
+returns-clause-mismatch c = faults.mistyped_is_mismatch c.typed_is_taken.ensures
