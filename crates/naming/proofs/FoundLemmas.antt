@@ -29,7 +29,7 @@ use Rattle.naming.proofs.TypeLemmas.{body_is, statement_is}
 Gives : {A : Type 0} → Result A Fault → (A → Type 0) → Type 0
 Gives {A} r P = (a : A) × (r ≡ Ok a) × P a
 
-followed-gives : {A B : Type 0} (r : Result A Fault) (g : A → Result B Fault) (a : A) (b : B) → r ≡ Ok a → g a ≡ Ok b → followed r g ≡ Ok b
+pub followed-gives : {A B : Type 0} (r : Result A Fault) (g : A → Result B Fault) (a : A) (b : B) → r ≡ Ok a → g a ≡ Ok b → followed r g ≡ Ok b
 followed-gives r g a b e d = subst (λ r. followed r g ≡ Ok b) (sym e) d
 
 also-gives : {A B : Type 0} (g : A → B) (r : Result A Fault) (a : A) → r ≡ Ok a → also g r ≡ Ok (g a)
@@ -44,7 +44,7 @@ checked-gives kept fault r a e d = subst (λ k. checked k fault r ≡ Ok a) (sym
 typed-gives : (o : Option Ty) (ty : Ty) → o ≡ Some ty → typed o ≡ Ok ty
 typed-gives o ty e = subst (λ o. typed o ≡ Ok ty) (sym e) refl
 
-each-zip-gives : {A B C : Type 0} (f : A → Result B Fault) (R : A → C → Type 0) (S : B → C → Type 0)
+pub each-zip-gives : {A B C : Type 0} (f : A → Result B Fault) (R : A → C → Type 0) (S : B → C → Type 0)
     → ((x : A) (c : C) → R x c → (b : B) × (f x ≡ Ok b) × S b c) → (xs : List A) (cs : List C) → AllZip R xs cs → (bs : List B) × (each f xs ≡ Ok bs) × AllZip S bs cs
 each-zip-gives f R S gives [] [] zip = ([], refl, tt)
 each-zip-gives f R S gives [] (c ∷ cs) zip = absurd zip
@@ -66,16 +66,16 @@ each-all-gives f P gives (x ∷ xs) all =
 AllFit : List Ty → List Ty → Type 0
 AllFit = AllZip FitsType
 
-fits_itself : (types : List Ty) → AllZip FitsType types types
+pub fits_itself : (types : List Ty) → AllZip FitsType types types
 fits_itself [] = tt
 fits_itself (ty ∷ types) = (inr refl, fits_itself types)
 
-fits_then : (a b c : Ty) → FitsType a b → FitsType b c → FitsType a c
+pub fits_then : (a b c : Ty) → FitsType a b → FitsType b c → FitsType a c
 fits_then a b c (inl e) g = inl e
 fits_then a b c (inr e) (inl n) = inl (e ∙ n)
 fits_then a b c (inr e) (inr d) = inr (e ∙ d)
 
-fits-append : (first second types others : List Ty) → AllZip FitsType first types → AllZip FitsType second others → AllZip FitsType (first ++ second) (types ++ others)
+pub fits-append : (first second types others : List Ty) → AllZip FitsType first types → AllZip FitsType second others → AllZip FitsType (first ++ second) (types ++ others)
 fits-append [] second [] others f g = g
 fits-append [] second (ty ∷ types) others f g = absurd f
 fits-append (of ∷ first) second [] others f g = absurd f
@@ -99,7 +99,7 @@ one_null Text = refl
 one_null Blob = refl
 one_null Null = refl
 
-one_fits : (a b ty : Ty) → FitsType a ty → FitsType b ty → (c : Ty) × (one_type a b ≡ Some c) × FitsType c ty
+pub one_fits : (a b ty : Ty) → FitsType a ty → FitsType b ty → (c : Ty) × (one_type a b ≡ Some c) × FitsType c ty
 one_fits a b ty (inl e) g = (b, subst (λ a. one_type a b ≡ Some b) (sym e) refl, g)
 one_fits a b ty (inr e) (inl n) = (a, subst (λ b. one_type a b ≡ Some a) (sym n) (one_null a), inr e)
 one_fits a b ty (inr e) (inr d) = (ty, subst (λ a. one_type a b ≡ Some ty) (sym e) (subst (λ b. one_type ty b ≡ Some ty) (sym d) (one_itself ty)), inr refl)
@@ -127,7 +127,7 @@ fits_at (f ∷ first) (t ∷ types) (suc i) ty fit at = fits_at first types i ty
 -- what is typed over columns and answers is so over those that may stand in their places
 module _ (columns other answers others : List Ty) (fit : AllZip FitsType other columns) (replies : AllZip FitsType others answers) where
   mutual
-    term_fits : (t : Term) (ty : Ty) → HasType columns answers t ty → HasType other others t ty
+    pub term_fits : (t : Term) (ty : Ty) → HasType columns answers t ty → HasType other others t ty
     term_fits (literal v) ty h = h
     term_fits (column i) ty h = fits_at other columns i ty fit h
     term_fits (call f a) ty (of, x, takes, e) = (of, term_fits a of x, takes, e)
@@ -177,13 +177,13 @@ module _ (columns other answers others : List Ty) (fit : AllZip FitsType other c
         fits,
       )
 
-  terms_give : (ts : List Term) (types : List Ty) → AllZip (IsTermOf answers columns) ts types
+  pub terms_give : (ts : List Term) (types : List Ty) → AllZip (IsTermOf answers columns) ts types
       → (found : List Ty) × (each (term_type others other) ts ≡ Ok found) × AllZip FitsType found types
   terms_give = each-zip-gives (term_type others other) (IsTermOf answers columns) FitsType term_gives
 
   -- ---- aggregates and windows
 
-  aggregate_gives : (f : AggregateFunction) (t : Term) (ty : Ty) → AggregateGives answers columns f t ty → (of : Ty) × (measure_type others other f t ≡ Ok of) × FitsType of ty
+  pub aggregate_gives : (f : AggregateFunction) (t : Term) (ty : Ty) → AggregateGives answers columns f t ty → (of : Ty) × (measure_type others other f t ≡ Ok of) × FitsType of ty
   aggregate_gives AggregateFunction.count t ty ((of, h), e) =
       let (found, found_so, fits) = term_gives t of h in (Int, also-gives (λ of. Int) (term_type others other t) found found_so, inr (sym e))
   aggregate_gives AggregateFunction.sum t ty (h, e) = (Int, number_gives t h, inr (sym e))
@@ -263,7 +263,7 @@ module _ (columns other answers others : List Ty) (fit : AllZip FitsType other c
 -- ---- one SELECT
 
 module _ (row other answers others : List Ty) (fit : AllZip FitsType other row) (replies : AllZip FitsType others answers) where
-  grouping_gives : (g : Option Grouping) (types : List Ty) → GroupedHasTypes answers row g types
+  pub grouping_gives : (g : Option Grouping) (types : List Ty) → GroupedHasTypes answers row g types
       → (found : List Ty) × (grouped_types others other g ≡ Ok found) × AllZip FitsType found types
   grouping_gives None types e = (other, refl, subst (AllZip FitsType other) (sym e) fit)
   grouping_gives (Some g) types h =
@@ -281,7 +281,7 @@ module _ (row other answers others : List Ty) (fit : AllZip FitsType other row) 
         both_fit,
       )
 
-  computed_gives : (s : Select) (types : List Ty) → ComputedHasTypes answers row s types
+  pub computed_gives : (s : Select) (types : List Ty) → ComputedHasTypes answers row s types
       → (found : List Ty) × (computed_types others other s ≡ Ok found) × AllZip FitsType found types
   computed_gives s types h =
       let (inputs, grouped, inputs_fit) = grouping_gives s.grouping h.inputs h.grouped in
@@ -323,7 +323,7 @@ one_column_gives (of ∷ other ∷ rest) ty f = absurd f.1
 
 module _ (tables : List (List Ty)) where
   mutual
-    source_gives : (source : Source) (types : List Ty) → SourceHasTypes tables source types
+    pub source_gives : (source : Source) (types : List Ty) → SourceHasTypes tables source types
         → (found : List Ty) × (source_types tables source ≡ Ok found) × AllZip FitsType found types
     source_gives (Source.table at width) types (there, wide) = (
       types,
@@ -335,7 +335,7 @@ module _ (tables : List (List Ty)) where
     source_gives Source.schema types e = (schema_types, refl, subst (AllZip FitsType schema_types) (sym e) (fits_itself schema_types))
     source_gives (Source.derived body) types h = body_gives body types h
 
-    from_gives : (answers others : List Ty) → AllZip FitsType others answers → (from : From) (types : List Ty) → FromHasTypes tables answers from types
+    pub from_gives : (answers others : List Ty) → AllZip FitsType others answers → (from : From) (types : List Ty) → FromHasTypes tables answers from types
         → (found : List Ty) × (from_types tables others from ≡ Ok found) × AllZip FitsType found types
     from_gives answers others replies From.nothing types e = ([], refl, subst (AllZip FitsType []) (sym e) tt)
     from_gives answers others replies (From.joined from kind source on) types (l, r, left, right, e, condition) =
@@ -359,7 +359,7 @@ module _ (tables : List (List Ty)) where
         let (found, found_so, found_fit) = body_gives body types h in
         (Int, also-gives (λ types. Int) (body_types tables body) found found_so, inr (sym e))
 
-    answers_give : (from : From) (types : List Ty) → AnswersHaveTypes tables from types
+    pub answers_give : (from : From) (types : List Ty) → AnswersHaveTypes tables from types
         → (found : List Ty) × (answer_types tables from ≡ Ok found) × AllZip FitsType found types
     answers_give From.nothing types e = ([], refl, subst (AllZip FitsType []) (sym e) tt)
     answers_give (From.joined from kind source on) types h = answers_give from types h
@@ -371,7 +371,7 @@ module _ (tables : List (List Ty)) where
           subst (AllZip FitsType (found ++ of ∷ [])) (sym e) (fits-append found (of ∷ []) before (ty ∷ []) found_fit (fits, tt)),
         )
 
-    body_gives : (body : Body) (types : List Ty) → BodyHasTypes tables body types
+    pub body_gives : (body : Body) (types : List Ty) → BodyHasTypes tables body types
         → (found : List Ty) × (body_types tables body ≡ Ok found) × AllZip FitsType found types
     body_gives (Body.select from s) types (answers, row, given, shown, select) =
         let (others, found_so, replies) = answers_give from answers given in

@@ -1,9 +1,9 @@
-mod OneLemmas
-mod OutcomeLemmas
-mod TypeLemmas
+pub mod OneLemmas
+pub mod OutcomeLemmas
+pub mod TypeLemmas
 mod ScopeLemmas
 mod SourceLemmas
-mod FoundLemmas
+pub mod FoundLemmas
 mod SameLemmas
 mod LimitLemmas
 mod PlaceLemmas

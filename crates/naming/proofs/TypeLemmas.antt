@@ -53,7 +53,7 @@ number_found : (o : Option Ty) (ty : Ty) → wanted Int o ≡ Some ty → Finds 
 number_found (Some of) ty e = number_fits of ty e
 number_found None ty e = absurd cc
 
-finds_itself : (o : Option Ty) (ty : Ty) → o ≡ Some ty → Finds o ty
+pub finds_itself : (o : Option Ty) (ty : Ty) → o ≡ Some ty → Finds o ty
 finds_itself (Some of) ty e = inr cc
 finds_itself None ty e = absurd cc
 
@@ -65,13 +65,13 @@ finds_more (Some of) a b (inr e) (inl n) = inl (e ∙ n)
 finds_more (Some of) a b (inr e) (inr s) = inr (e ∙ s)
 
 module _ (answers columns : List Ty) where
-  has_type : (t : Term) (ty : Ty) → Finds (type_of_term columns answers t) ty → IsTermOf answers columns t ty
+  pub has_type : (t : Term) (ty : Ty) → Finds (type_of_term columns answers t) ty → IsTermOf answers columns t ty
   has_type t ty found = (types_are_found columns answers t ty).1 found
 
   fits_more : (t : Term) (a b : Ty) → IsTermOf answers columns t a → FitsType a b → IsTermOf answers columns t b
   fits_more t a b is fit = has_type t b (finds_more (type_of_term columns answers t) a b ((types_are_found columns answers t a).0 is) fit)
 
-  term_is : (t : Term) (ty : Ty) → term_type answers columns t ≡ Ok ty → IsTermOf answers columns t ty
+  pub term_is : (t : Term) (ty : Ty) → term_type answers columns t ≡ Ok ty → IsTermOf answers columns t ty
   term_is t ty e = has_type t ty (finds_itself (type_of_term columns answers t) ty (found-ok TypeMismatch (type_of_term columns answers t) ty e))
 
   number_is : (t : Term) (ty : Ty) → condition_type answers columns t ≡ Ok ty → IsTermOf answers columns t Int
@@ -98,7 +98,7 @@ module _ (answers columns : List Ty) where
   wanted_number (Some Blob) ty e = absurd cc
   wanted_number None ty e = absurd cc
 
-  aggregate_is : (f : AggregateFunction) (t : Term) (ty : Ty) → measure_type answers columns f t ≡ Ok ty → AggregateGives answers columns f t ty
+  pub aggregate_is : (f : AggregateFunction) (t : Term) (ty : Ty) → measure_type answers columns f t ≡ Ok ty → AggregateGives answers columns f t ty
   aggregate_is AggregateFunction.count t ty e =
       let (of, is, same) = also-ok (λ of. Int) (term_type answers columns t) ty e in ((of, term_is t of is), sym same)
   aggregate_is AggregateFunction.sum t ty e =
@@ -186,7 +186,7 @@ module _ (answers columns : List Ty) where
 -- ---- one SELECT
 
 module _ (answers row : List Ty) where
-  grouping_is : (g : Option Grouping) (types : List Ty) → grouped_types answers row g ≡ Ok types → GroupedHasTypes answers row g types
+  pub grouping_is : (g : Option Grouping) (types : List Ty) → grouped_types answers row g ≡ Ok types → GroupedHasTypes answers row g types
   grouping_is None types e = cc
   grouping_is (Some g) types e =
       let (keys, by, more) = followed-ok (each (term_type answers row) g.by) _ types e in
@@ -201,7 +201,7 @@ module _ (answers row : List Ty) where
         having = subst (λ columns. IsTermOf answers columns g.having Int) same (number_is answers (keys ++ values) g.having ty having);
       }
 
-  computed_is : (s : Select) (types : List Ty) → computed_types answers row s ≡ Ok types → ComputedHasTypes answers row s types
+  pub computed_is : (s : Select) (types : List Ty) → computed_types answers row s ≡ Ok types → ComputedHasTypes answers row s types
   computed_is s types e =
       let (ty, condition, more) = followed-ok (condition_type answers row s.condition) _ types e in
       let (inputs, grouped, last) = followed-ok (grouped_types answers row s.grouping) _ types more in
@@ -268,7 +268,7 @@ module _ (tables : List (List Ty)) where
   one_column (of ∷ other ∷ rest) ty e = absurd cc
 
   mutual
-    source_is : (source : Source) (types : List Ty) → source_types tables source ≡ Ok types → SourceHasTypes tables source types
+    pub source_is : (source : Source) (types : List Ty) → source_types tables source ≡ Ok types → SourceHasTypes tables source types
     source_is (Source.table at width) types e =
         let (found, there, sized) = followed-ok (found_or TypeMismatch (slice_get tables at)) (of_width width) types e in
         let (wide, same) = checked-ok (nat_eq width (length found)) ColumnCount (Ok found) types sized in
@@ -279,7 +279,7 @@ module _ (tables : List (List Ty)) where
     source_is Source.schema types e = cc
     source_is (Source.derived body) types e = body_is body types e
 
-    from_is : (answers : List Ty) (from : From) (types : List Ty) → from_types tables answers from ≡ Ok types → FromHasTypes tables answers from types
+    pub from_is : (answers : List Ty) (from : From) (types : List Ty) → from_types tables answers from ≡ Ok types → FromHasTypes tables answers from types
     from_is answers From.nothing types e = cc
     from_is answers (From.joined from kind source on) types e =
         let (l, left, more) = followed-ok (from_types tables answers from) _ types e in
@@ -302,7 +302,7 @@ module _ (tables : List (List Ty)) where
         let (types, is, same) = also-ok (λ types. Int) (body_types tables body) ty e in
         ((types, body_is body types is), sym same)
 
-    answers_are : (from : From) (types : List Ty) → answer_types tables from ≡ Ok types → AnswersHaveTypes tables from types
+    pub answers_are : (from : From) (types : List Ty) → answer_types tables from ≡ Ok types → AnswersHaveTypes tables from types
     answers_are From.nothing types e = cc
     answers_are (From.joined from kind source on) types e = answers_are from types e
     answers_are (From.with_inner from query) types e =

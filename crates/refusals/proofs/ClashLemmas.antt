@@ -1,14 +1,16 @@
 -- A term whose columns and answers are there has a type, or a clash.
-use Rattle.std.proofs.Common.{◌≡◌, ◌⊎◌, inl, inr, ℕ, ◌<◌, List, length, Option, Some, None, get_or, slice_get, refl, subst}
+use Rattle.std.proofs.Common.{◌≡◌, ◌⊎◌, inl, inr, ℕ, ◌<◌, List, length, Option, Some, None, get_or, slice_get, refl, sym, subst, ◌∙◌}
 use Rattle.std.proofs.lemmas.Option.{slice_get-get_or}
 use Rattle.values.specs.Datum.{type_of}
 use Rattle.values.specs.declared.value.Ty.{Ty}
-use Rattle.values.specs.declared.value.Ty.TheVariants.{Int, Text, Blob, Null}
+use Rattle.values.specs.declared.value.Ty.TheVariants.{Int}
 use Rattle.expr.specs.Term.{Term, Terms, Arms, literal, column, call, arithmetic, concat, compare, is, and, or, between, among, coalesce, choice, choice_of, null_if, like, none, answer, more, no_arms, arm}
 use Rattle.expr.specs.TermType.{Finds, one_of, one_type, type_of_term, wanted}
 use Rattle.expr.specs.Types.{FitsType}
 use Rattle.expr.proofs.TermTypeLemmas.{types_are_found}
 use Rattle.meaning.specs.Typed.{IsTerm, IsTermOf}
+use Rattle.naming.proofs.FoundLemmas.{one_fits}
+use Rattle.naming.proofs.TypeLemmas.{finds_itself, has_type}
 use Rattle.refusals.specs.Clashes.{AreAtOdds, AreTyped, HasClash, IsAmong, IsOperator, Misfits, arm_operands, operands}
 
 -- its columns are among so many, and its answers among so many
@@ -41,51 +43,15 @@ module _ (count width : ℕ) where
     ArmsAreWithin no_arms = Unit {0}
     ArmsAreWithin (arm c e rest) = IsWithin c × IsWithin e × ArmsAreWithin rest
 
-some_found : (o : Option Ty) (ty : Ty) → o ≡ Some ty → Finds o ty
-some_found (Some of) ty e = inr cc
-some_found None ty e = absurd cc
-
-number_fits : (of : Ty) → FitsType of Int → one_type Int of ≡ None → ⊥
-number_fits Int fit e = absurd cc
-number_fits Null fit e = absurd cc
-number_fits Text (inl e) d = absurd cc
-number_fits Text (inr e) d = absurd cc
-number_fits Blob (inl e) d = absurd cc
-number_fits Blob (inr e) d = absurd cc
-
 -- two types that are one where both may stand
 pub one_none : (a b ty : Ty) → one_type a b ≡ None → FitsType a ty → FitsType b ty → ⊥
-one_none Null b ty e f g = absurd cc
-one_none Int Null ty e f g = absurd cc
-one_none Int Int ty e f g = absurd cc
-one_none Int Text ty e (inl d) g = absurd cc
-one_none Int Text ty e (inr d) (inl c) = absurd cc
-one_none Int Text ty e (inr d) (inr c) = absurd cc
-one_none Int Blob ty e (inl d) g = absurd cc
-one_none Int Blob ty e (inr d) (inl c) = absurd cc
-one_none Int Blob ty e (inr d) (inr c) = absurd cc
-one_none Text Null ty e f g = absurd cc
-one_none Text Text ty e f g = absurd cc
-one_none Text Int ty e (inl d) g = absurd cc
-one_none Text Int ty e (inr d) (inl c) = absurd cc
-one_none Text Int ty e (inr d) (inr c) = absurd cc
-one_none Text Blob ty e (inl d) g = absurd cc
-one_none Text Blob ty e (inr d) (inl c) = absurd cc
-one_none Text Blob ty e (inr d) (inr c) = absurd cc
-one_none Blob Null ty e f g = absurd cc
-one_none Blob Blob ty e f g = absurd cc
-one_none Blob Int ty e (inl d) g = absurd cc
-one_none Blob Int ty e (inr d) (inl c) = absurd cc
-one_none Blob Int ty e (inr d) (inr c) = absurd cc
-one_none Blob Text ty e (inl d) g = absurd cc
-one_none Blob Text ty e (inr d) (inl c) = absurd cc
-one_none Blob Text ty e (inr d) (inr c) = absurd cc
+one_none a b ty e f g =
+    let (c, one, fits) = one_fits a b ty f g in
+    let both : None ≡ Some c = sym e ∙ one in
+    absurd cc
 
 module _ (answers columns : List Ty) where
-  pub has_type : (t : Term) (ty : Ty) → Finds (type_of_term columns answers t) ty → IsTermOf answers columns t ty
-  has_type t ty found = (types_are_found columns answers t ty).1 found
-
-  pub finds : (t : Term) (ty : Ty) → IsTermOf answers columns t ty → Finds (type_of_term columns answers t) ty
+  finds : (t : Term) (ty : Ty) → IsTermOf answers columns t ty → Finds (type_of_term columns answers t) ty
   finds t ty h = (types_are_found columns answers t ty).0 h
 
   -- one of them has a clash
@@ -103,7 +69,7 @@ module _ (answers columns : List Ty) where
   operator_so : (t : Term) → IsOperator t → AreTyped answers columns (operands t) ⊎ HaveClash (operands t)
       → IsTerm answers columns t ⊎ HasClash answers columns t
   operator_so t operator (inr h) = inr (HasClash.inside h.operand h.among h.clash)
-  operator_so t operator (inl typed) = by (type_of_term columns answers t) (has_type t) (finds t)
+  operator_so t operator (inl typed) = by (type_of_term columns answers t) (has_type answers columns t) (finds t)
     where
       by : (o : Option Ty) → ((ty : Ty) → Finds o ty → IsTermOf answers columns t ty) → ((ty : Ty) → IsTermOf answers columns t ty → Finds o ty)
           → IsTerm answers columns t ⊎ HasClash answers columns t
@@ -116,12 +82,12 @@ module _ (answers columns : List Ty) where
 
   mutual
     pub term_so : (t : Term) → IsWithin (length answers) (length columns) t → IsTerm answers columns t ⊎ HasClash answers columns t
-    term_so (literal v) w = inl (type_of v, has_type (literal v) (type_of v) (inr refl))
+    term_so (literal v) w = inl (type_of v, has_type answers columns (literal v) (type_of v) (inr refl))
     term_so (column i) w =
         inl (
           get_or columns i Int,
-          has_type (column i) (get_or columns i Int)
-              (some_found (slice_get columns i) (get_or columns i Int) (slice_get-get_or columns i Int w)),
+          has_type answers columns (column i) (get_or columns i Int)
+              (finds_itself (slice_get columns i) (get_or columns i Int) (slice_get-get_or columns i Int w)),
         )
     term_so (call f a) w = operator_so (call f a) tt (with_first a none (term_so a w) (inl tt))
     term_so (arithmetic op a b) w = operator_so (arithmetic op a b) tt (two_so a b (term_so a w.0) (term_so b w.1))
@@ -173,7 +139,7 @@ module _ (answers columns : List Ty) where
     where
       found : (o : Option Ty) → wanted Int o ≡ None → Finds o Int → ⊥
       found None d f = f
-      found (Some of) d f = number_fits of f d
+      found (Some of) d f = one_none Int of Int d (inr refl) f
 
       by : IsTerm answers columns t ⊎ HasClash answers columns t → Misfits answers columns Int t
       by (inl h) = Misfits.other h (λ number. found (type_of_term columns answers t) e (finds t Int number))

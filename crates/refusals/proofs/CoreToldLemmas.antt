@@ -14,11 +14,12 @@ use Rattle.naming.specs.Places.{Defined, aggregate_of, call_of, columns_say, dir
 use Rattle.naming.specs.Same.{is_same_aggregate, is_same_call}
 use Rattle.naming.specs.Scope.{Scope}
 use Rattle.naming.specs.Statement.{CoreData, Input, ResultColumn, all_results, are_distinct, as_input, behind_groups, by_of, condition_of, core_of, defined_of, finished, firsts, input_of, key, key_term, keys_of, max_columns, named_at, on_row, one_or, results_of, shown, some_of, starred_of, ungrouped, window_names}
+use Rattle.naming.proofs.OutcomeLemmas.{also-ok, both-ok, checked-ok, followed-ok}
 use Rattle.refusals.specs.Columns.{names_of_results, results_in}
 use Rattle.refusals.specs.UnknownColumns.{IsNoResult}
 use Rattle.refusals.specs.Written.{IsLooseHaving, spoken_in, stars_in, terms_in}
 use Rattle.refusals.proofs.NameLemmas.{all_names, names_in}
-use Rattle.refusals.proofs.OkLemmas.{IsGiven, also-ok, both-ok, checked-ok, followed-ok}
+use Rattle.refusals.proofs.OkLemmas.{IsGiven}
 use Rattle.refusals.proofs.PartLemmas.{Each, among, join, more, none, one}
 use Rattle.refusals.proofs.ScopeLemmas.{named_some}
 use Rattle.refusals.proofs.ToldLemmas.{IsNamed, Tells, columns_tell, groups_tell, told, window_told, windows_tell}

@@ -21,8 +21,9 @@ use Rattle.naming.specs.Scope.{Scope}
 use Rattle.naming.specs.Sources.{Condition, Given, Known, Sources, is_same_source, joined, joined_on, kind_of, known_as, no_sources, shown_from}
 use Rattle.naming.specs.Statement.{CoreData, Inner, Named, Queried, ResultColumn, Single, With, alias_or, all_results, answers_of, are_distinct, behind_groups, by_of, compounded, condition_of, core_of, defined_of, ended, exists_inner, finished, firsts, from_of, from_tree, given_known, given_query, inner, inner_of, input_of, item_of, keys_of, max_columns, max_levels, max_sources, named, no_row, offset_or, on_row, operator_of, queried, query_of, shown, simple, single, single_of, source_of, sources_of_body, values_inner, window_names, with_answers, with_inners, with_item, with_items, within}
 use Rattle.naming.specs.Typed.{Table, column_types, known_from, known_schema, known_tables}
+use Rattle.naming.proofs.OutcomeLemmas.{also-ok, both-ok, checked-ok, followed-ok}
 use Rattle.refusals.proofs.NameLemmas.{names_in}
-use Rattle.refusals.proofs.OkLemmas.{also-ok, both-ok, checked-ok, followed-ok}
+use Rattle.refusals.proofs.OkLemmas.{ok-is}
 use Rattle.refusals.proofs.PartLemmas.{Each, first, join, more, none, one, rest}
 use Rattle.refusals.proofs.TakenLemmas.{inside}
 use Rattle.refusals.proofs.WithLemmas.{found_all, item_taken, no_items}
@@ -47,12 +48,6 @@ module _ (tables : List (List Ty)) where
     pub IsEvenBody : Body → Type 0
     IsEvenBody (Body.select from s) = IsEvenFrom from
     IsEvenBody (Body.compound left operator from s) = IsEvenBody left × IsEvenFrom from × (body_width left ≡ length s.columns)
-
-abbrev the_result : {A : Type 0} → A → Result A Fault
-the_result a = Ok a
-
-ok_same : {A : Type 0} (a b : A) → the_result a ≡ Ok b → a ≡ b
-ok_same a b e = cc
 
 abbrev table_source : ℕ → Table → Result Source Fault
 table_source at t = Ok (Source.table at (length t.columns))
@@ -272,7 +267,7 @@ module _ (types : List (List Ty)) where
         beside = beside ++ q.beside;
       } in
       let (few, made) = checked-ok (nat_le (sources_of_body q.body) max_sources) Limit (Ok whole) n e in
-      let same : whole ≡ n = ok_same whole n made in
+      let same : whole ≡ n = ok-is whole n made in
       subst (λ (n : Named). IsEvenBody types n.query.body × Each (IsEvenBody types) n.beside) same
       (query.body, join beside q.beside all query.beside)
 

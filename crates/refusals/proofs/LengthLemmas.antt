@@ -7,7 +7,8 @@ use Rattle.meaning.specs.Query.{From, Grouping, Select, Source, from_width, sour
 use Rattle.meaning.specs.Typed.{schema_types}
 use Rattle.naming.specs.Outcome.{each, found_or}
 use Rattle.naming.specs.Types.{aggregate_type, answer_types, call_type, computed_types, condition_type, from_types, grouped_types, inner_type, of_width, source_types, term_type}
-use Rattle.refusals.proofs.OkLemmas.{also-ok, both-ok, checked-ok, followed-ok, ok-is}
+use Rattle.naming.proofs.OutcomeLemmas.{also-ok, both-ok, checked-ok, followed-ok}
+use Rattle.refusals.proofs.OkLemmas.{ok-is}
 use Rattle.refusals.proofs.TypeLemmas.{body_length, each_length}
 use Rattle.refusals.proofs.WithinLemmas.{inner_count, input_width}
 

@@ -16,9 +16,6 @@ mod StatementLemmas
 mod ReasonLemmas
 mod ErrLemmas
 mod ClashLemmas
-mod SoundLemmas
-mod FitLemmas
-mod LeastLemmas
 mod OwnLemmas
 mod HandsLemmas
 mod WithinTermLemmas

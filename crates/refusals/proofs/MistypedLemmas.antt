@@ -8,9 +8,9 @@ use Rattle.expr.specs.Term.{Term}
 use Rattle.expr.specs.Types.{FitsType}
 use Rattle.meaning.specs.Query.{Aggregate, AggregateFunction, Edge, FrameUnit, Grouping, Select, SortTerm, Window, WindowCall, WindowFunction}
 use Rattle.meaning.specs.Typed.{AggregateGives, AggregateHasType, CallHasType, ComputedHasTypes, FunctionHasType, GroupedHasTypes, GroupingHasTypes, IsTerm, IsTermOf, IsWindow, SelectHasTypes, UnitFits}
+use Rattle.naming.proofs.FoundLemmas.{fits-append, fits_itself, fits_then, term_fits}
 use Rattle.refusals.specs.Clashes.{Misfits}
 use Rattle.refusals.specs.Mismatches.{AreOwn, CallMisfits, FunctionMisfits, MeasureMisfits, SelectMisfits}
-use Rattle.refusals.proofs.FitLemmas.{all_fit_then, fits-append, fits_itself, term_fits}
 use Rattle.refusals.proofs.OddsLemmas.{clash_refuted, misfit_refuted, odds_refuted}
 
 -- what is related to something that stands in a list
@@ -28,6 +28,14 @@ zip_more R S so [] [] zip = tt
 zip_more R S so [] (y ∷ ys) zip = absurd zip
 zip_more R S so (x ∷ xs) [] zip = absurd zip
 zip_more R S so (x ∷ xs) (y ∷ ys) zip = (so x y zip.0, zip_more R S so xs ys zip.1)
+
+all_fit_then : (first second types : List Ty) → AllZip FitsType first second → AllZip FitsType second types → AllZip FitsType first types
+all_fit_then [] [] [] f g = tt
+all_fit_then [] [] (ty ∷ types) f g = absurd g
+all_fit_then [] (b ∷ second) types f g = absurd f
+all_fit_then (a ∷ first) [] types f g = absurd f
+all_fit_then (a ∷ first) (b ∷ second) [] f g = absurd g
+all_fit_then (a ∷ first) (b ∷ second) (ty ∷ types) f g = (fits_then a b ty f.0 g.0, all_fit_then first second types f.1 g.1)
 
 -- what is typed over answers and a row is so over those that may stand in their places
 module _ (row general answers given : List Ty) (fit : AllZip FitsType general row) (replies : AllZip FitsType given answers) where

@@ -10,8 +10,8 @@ use Rattle.meaning.specs.Typed.{AnswersHaveTypes, BodyHasTypes, FromHasTypes, In
 use Rattle.naming.specs.Laws.{IsTypedBody, TypedIsTaken}
 use Rattle.naming.specs.Statement.{Named}
 use Rattle.naming.specs.Typed.{column_types}
+use Rattle.naming.proofs.FoundLemmas.{fits-append, fits_itself, term_fits}
 use Rattle.refusals.specs.Mismatches.{AnswersMisfit, AreApart, BodyMisfits, FromMisfits, HasMismatch, InnerMisfits, KeyMisfits, MistypedIsRefused, SingleMisfits, SourceMisfits}
-use Rattle.refusals.proofs.FitLemmas.{fits-append, fits_itself, term_fits}
 use Rattle.refusals.proofs.MistypedLemmas.{computed_fit, select_refuted}
 use Rattle.refusals.proofs.OddsLemmas.{clash_refuted, misfit_refuted}
 

@@ -17,8 +17,8 @@ use Rattle.naming.specs.Same.{is_same_aggregate, is_same_call}
 use Rattle.naming.specs.Scope.{Scope, places_of}
 use Rattle.naming.specs.Sources.{Condition, Given, Known, Sources, Using, hidden, is_same_source, joined, joined_on, kind_of, known_as, merged, no_sources, shown_from, used}
 use Rattle.naming.specs.Statement.{CoreData, Input, Queried, ResultColumn, Single, all_results, alias_or, are_distinct, as_input, behind_groups, by_of, compounded, condition_of, core_of, defined_of, finished, firsts, from_of, from_tree, given_known, given_query, input_of, keys_of, max_columns, no_row, on_row, operator_of, queried, query_of, result, results_of, select_of, shown, simple, single_of, some_of, source_of, starred, starred_of, window_names}
+use Rattle.naming.proofs.OutcomeLemmas.{also-ok, both-ok, checked-ok, followed-ok}
 use Rattle.refusals.specs.Columns.{HasNames, IsListed, Joins, Listed, Merges, Offers, Shows, names_of_result, names_of_results, results_in}
-use Rattle.refusals.proofs.OkLemmas.{also-ok, both-ok, checked-ok, followed-ok}
 use Rattle.refusals.proofs.TakenLemmas.{answers_with, from_taken}
 
 -- ---- result columns

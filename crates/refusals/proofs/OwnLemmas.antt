@@ -1,5 +1,5 @@
 -- The types that are computed are a query's own.
-use Rattle.std.proofs.Common.{◌≡◌, List, Option, Result, Ok, subst, sym}
+use Rattle.std.proofs.Common.{◌≡◌, List, Option, Result, Ok, subst}
 use Rattle.std.specs.List.{AllZip}
 use Rattle.values.specs.declared.fault.Fault.{Fault}
 use Rattle.values.specs.declared.value.Ty.{Ty}
@@ -7,72 +7,69 @@ use Rattle.expr.specs.Term.{Term}
 use Rattle.expr.specs.Types.{FitsType}
 use Rattle.meaning.specs.Query.{Aggregate, Body, From, Grouping, Select, Source}
 use Rattle.meaning.specs.Typed.{AggregateHasType, AnswersHaveTypes, BodyHasTypes, ComputedHasTypes, FromHasTypes, GroupedHasTypes, IsTermOf, SourceHasTypes}
-use Rattle.naming.specs.Outcome.{each, followed}
+use Rattle.naming.specs.Outcome.{each}
 use Rattle.naming.specs.Types.{aggregate_type, answer_types, body_types, computed_types, from_types, grouped_types, select_types, source_types, term_type}
+use Rattle.naming.proofs.FoundLemmas.{aggregate_gives, answers_give, body_gives, computed_gives, each-zip-gives, fits_itself, followed-gives, from_gives, grouping_gives, source_gives, terms_give}
+use Rattle.naming.proofs.OneLemmas.{one_ok}
+use Rattle.naming.proofs.OutcomeLemmas.{each-zip}
+use Rattle.naming.proofs.TypeLemmas.{aggregate_is, answers_are, body_is, computed_is, from_is, grouping_is, source_is, term_is}
 use Rattle.refusals.specs.Mismatches.{AreOwn}
-use Rattle.refusals.proofs.FitLemmas.{fits_itself}
-use Rattle.refusals.proofs.LeastLemmas.{answers_least, body_least, computed_least, from_least, grouping_least, measure_least, source_least, term_least}
-use Rattle.refusals.proofs.OkLemmas.{each-least, each-zip}
-use Rattle.refusals.proofs.SoundLemmas.{aggregate_is, answers_are, body_is, computed_is, from_is, grouping_is, source_is, term_is}
+
+-- where what is handed out is so typed, and may stand for all that is, it is the types of its own
+own : (Has : List Ty → Type 0) (r : Result (List Ty) Fault) → ((types : List Ty) → r ≡ Ok types → Has types)
+    → ((other : List Ty) → Has other → (found : List Ty) × (r ≡ Ok found) × AllZip FitsType found other)
+    → (types : List Ty) → r ≡ Ok types → AreOwn Has types
+own Has r is gives types e = record {
+  are = is types e;
+  least = λ other h. let (found, found_so, fit) = gives other h in subst (λ types. AllZip FitsType types other) (one_ok found types r found_so e) fit;
+}
 
 module _ (answers row : List Ty) where
   pub own_keys : (by : List Term) (keys : List Ty) → each (term_type answers row) by ≡ Ok keys → AreOwn (AllZip (IsTermOf answers row) by) keys
-  own_keys by keys e = record {
-    are = each-zip (term_type answers row) (IsTermOf answers row) (term_is answers row) by keys e;
-    least = λ other h.
-        each-least (term_type answers row) (IsTermOf answers row) FitsType
-        (term_least row row answers answers (fits_itself row) (fits_itself answers)) by keys other e h;
-  }
+  own_keys by =
+      own (AllZip (IsTermOf answers row) by) (each (term_type answers row) by)
+      (each-zip (term_type answers row) (IsTermOf answers row) (term_is answers row) by)
+      (terms_give row row answers answers (fits_itself row) (fits_itself answers) by)
 
   pub own_values : (aggregates : List Aggregate) (values : List Ty) → each (aggregate_type answers row) aggregates ≡ Ok values
       → AreOwn (AllZip (AggregateHasType answers row) aggregates) values
-  own_values aggregates values e = record {
-    are =
-        each-zip (aggregate_type answers row) (AggregateHasType answers row)
-        (λ a ty is. aggregate_is answers row a.function a.argument ty is) aggregates
-        values e;
-    least = λ other h.
-        each-least (aggregate_type answers row) (AggregateHasType answers row) FitsType
-        (λ a of ty is k. measure_least row row answers answers (fits_itself row)
-        (fits_itself answers) a.function a.argument of ty is k) aggregates values
-        other e h;
-  }
+  own_values aggregates =
+      own (AllZip (AggregateHasType answers row) aggregates) (each (aggregate_type answers row) aggregates)
+      (each-zip (aggregate_type answers row) (AggregateHasType answers row)
+      (λ a ty is. aggregate_is answers row a.function a.argument ty is) aggregates)
+      (each-zip-gives (aggregate_type answers row) (AggregateHasType answers row) FitsType
+      (λ a ty h. aggregate_gives row row answers answers (fits_itself row) (fits_itself answers) a.function a.argument ty h) aggregates)
 
   pub own_inputs : (g : Option Grouping) (inputs : List Ty) → grouped_types answers row g ≡ Ok inputs
       → AreOwn (GroupedHasTypes answers row g) inputs
-  own_inputs g inputs e = record {
-    are = grouping_is answers row g inputs e;
-    least = λ other h. grouping_least row row answers answers (fits_itself row) (fits_itself answers) g inputs other e h;
-  }
+  own_inputs g =
+      own (GroupedHasTypes answers row g) (grouped_types answers row g) (grouping_is answers row g)
+      (grouping_gives row row answers answers (fits_itself row) (fits_itself answers) g)
 
   pub own_computed : (s : Select) (computed : List Ty) → computed_types answers row s ≡ Ok computed
       → AreOwn (ComputedHasTypes answers row s) computed
-  own_computed s computed e = record {
-    are = computed_is answers row s computed e;
-    least = λ other h. computed_least row row answers answers (fits_itself row) (fits_itself answers) s computed other e h;
-  }
-
-followed-is : {A B : Type 0} (r : Result A Fault) (g : A → Result B Fault) (a : A) (b : B) → r ≡ Ok a → g a ≡ Ok b → followed r g ≡ Ok b
-followed-is r g a b e d = subst (λ r. followed r g ≡ Ok b) (sym e) d
+  own_computed s =
+      own (ComputedHasTypes answers row s) (computed_types answers row s) (computed_is answers row s)
+      (computed_gives row row answers answers (fits_itself row) (fits_itself answers) s)
 
 module _ (tables : List (List Ty)) where
   pub own_answers : (from : From) (answers : List Ty) → answer_types tables from ≡ Ok answers → AreOwn (AnswersHaveTypes tables from) answers
-  own_answers from answers e =
-      record { are = answers_are tables from answers e; least = λ other h. answers_least tables from answers other e h }
+  own_answers from = own (AnswersHaveTypes tables from) (answer_types tables from) (answers_are tables from) (answers_give tables from)
 
   pub own_row : (answers : List Ty) (from : From) (row : List Ty) → from_types tables answers from ≡ Ok row
       → AreOwn (FromHasTypes tables answers from) row
-  own_row answers from row e =
-      record { are = from_is tables answers from row e; least = λ other h. from_least tables answers answers from row other e h }
+  own_row answers from =
+      own (FromHasTypes tables answers from) (from_types tables answers from) (from_is tables answers from)
+      (from_gives tables answers answers (fits_itself answers) from)
 
   pub own_source : (source : Source) (types : List Ty) → source_types tables source ≡ Ok types → AreOwn (SourceHasTypes tables source) types
-  own_source source types e = record { are = source_is tables source types e; least = λ other h. source_least tables source types other e h }
+  own_source source = own (SourceHasTypes tables source) (source_types tables source) (source_is tables source) (source_gives tables source)
 
   pub own_body : (body : Body) (types : List Ty) → body_types tables body ≡ Ok types → AreOwn (BodyHasTypes tables body) types
-  own_body body types e = record { are = body_is tables body types e; least = λ other h. body_least tables body types other e h }
+  own_body body = own (BodyHasTypes tables body) (body_types tables body) (body_is tables body) (body_gives tables body)
 
   pub own_select : (from : From) (s : Select) (answers row types : List Ty) → answer_types tables from ≡ Ok answers
       → from_types tables answers from ≡ Ok row → select_types answers row s ≡ Ok types → AreOwn (BodyHasTypes tables (Body.select from s)) types
   own_select from s answers row types e d f =
       own_body (Body.select from s) types
-      (followed-is (answer_types tables from) _ answers types e (followed-is (from_types tables answers from) _ row types d f))
+      (followed-gives (answer_types tables from) _ answers types e (followed-gives (from_types tables answers from) _ row types d f))

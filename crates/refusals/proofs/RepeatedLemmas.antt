@@ -15,9 +15,9 @@ use Rattle.naming.specs.Outcome.{also}
 use Rattle.naming.specs.Sources.{Condition, Given, Known, Sources, is_same_source, joined, joined_on, kind_of, shown_from}
 use Rattle.naming.specs.Statement.{Named, Queried, are_distinct, from_of, item_columns, named, source_of, window_names}
 use Rattle.naming.specs.Typed.{column_types, known_tables, with_types}
+use Rattle.naming.proofs.OutcomeLemmas.{checked-ok, followed-ok}
 use Rattle.refusals.specs.RepeatedNames.{HasRepeatedName, RepeatedIsRefused, Repeats}
 use Rattle.refusals.specs.Written.{HasSelect, called_so, names_of_sources, windows_in}
-use Rattle.refusals.proofs.OkLemmas.{checked-ok, followed-ok}
 use Rattle.refusals.proofs.SourceLemmas.{from_called, source_called}
 use Rattle.refusals.proofs.SelectLemmas.{TakenSelect, begins_taken, core_apart, item_at, part_taken, select_taken}
 use Rattle.refusals.proofs.TakenLemmas.{answers_with, inside}

@@ -16,9 +16,9 @@ use Rattle.naming.specs.Scope.{Scope, places_of}
 use Rattle.naming.specs.Sources.{Condition, Given, Known, Sources, Using, hidden, is_same_source, joined, joined_on, kind_of, known_as, merged, no_sources, shown_from, used}
 use Rattle.naming.specs.Statement.{Queried, Single, With, alias_or, compounded, from_of, given_known, given_query, item_of, keys_of, max_levels, no_row, operator_of, queried, query_of, simple, single_of, source_of, with_items}
 use Rattle.naming.specs.Typed.{Table, known_tables}
+use Rattle.naming.proofs.OutcomeLemmas.{also-ok, checked-ok, followed-ok}
 use Rattle.refusals.specs.Columns.{AreListed, HasNames, IsListed, Joins, Listed, Merges, Offers, Shows, columns_or, names_of_results, results_in}
 use Rattle.refusals.proofs.NameLemmas.{core_names, listed_of}
-use Rattle.refusals.proofs.OkLemmas.{also-ok, checked-ok, followed-ok}
 use Rattle.refusals.proofs.StatementLemmas.{all_tables_are, columns_are, with_more}
 use Rattle.refusals.proofs.TakenLemmas.{answers_with, from_taken, inside}
 use Rattle.refusals.proofs.WithLemmas.{item_taken, no_items, split_items}

@@ -14,8 +14,9 @@ use Rattle.naming.specs.Scope.{Scope}
 use Rattle.naming.specs.Sources.{Known, Sources}
 use Rattle.naming.specs.Statement.{CoreData, Inner, Named, Queried, With, are_distinct, behind_groups, by_of, condition_of, core_of, firsts, from_of, from_tree, input_of, item_columns, max_levels, named, queried, window_names, with_items}
 use Rattle.naming.specs.Typed.{Table, known_tables}
+use Rattle.naming.proofs.OutcomeLemmas.{checked-ok, followed-ok}
 use Rattle.refusals.specs.Written.{Begins, HasQueryWith, IsSelect, windows_in}
-use Rattle.refusals.proofs.OkLemmas.{IsGiven, checked-ok, followed-ok}
+use Rattle.refusals.proofs.OkLemmas.{IsGiven}
 use Rattle.refusals.proofs.TakenLemmas.{IsTakenQuery, all_taken, answers_with, from_taken, inside, single_in}
 use Rattle.refusals.proofs.WithLemmas.{no_items, query_taken, split_items}
 

@@ -16,10 +16,10 @@ use Rattle.naming.specs.Places.{columns_say}
 use Rattle.naming.specs.Scope.{Scope, column_of}
 use Rattle.naming.specs.Sources.{Condition, Given, Known, Sources, is_same_source, joined, joined_on, kind_of, known_as, no_sources, shown_from, used}
 use Rattle.naming.specs.Statement.{Queried, alias_or, from_of, given_known, given_query, source_of}
+use Rattle.naming.proofs.OutcomeLemmas.{also-ok, followed-ok}
 use Rattle.refusals.specs.Columns.{HasNames, Offers, Shows}
 use Rattle.refusals.specs.Written.{Begins, IsDerived, called_so, names_of_sources, sources_in}
 use Rattle.refusals.proofs.NameLemmas.{from_shows, listed_of, source_offers}
-use Rattle.refusals.proofs.OkLemmas.{also-ok, followed-ok}
 use Rattle.refusals.proofs.OutcomeLemmas.{Gives, Only, Takes, also_only, followed_gives, followed_only, if_only, known_only, ok, refused}
 use Rattle.refusals.proofs.PartLemmas.{Each, back, first, front, more, none, rest}
 use Rattle.refusals.proofs.TermLemmas.{Sound, term_only}

@@ -15,11 +15,11 @@ use Rattle.naming.specs.Sources.{Known, known_as}
 use Rattle.naming.specs.Statement.{Named, Queried, With, are_distinct, ended, item_columns, item_of, max_levels, max_sources, named, queried, sources_of_body, with_item, with_items, within}
 use Rattle.naming.specs.Typed.{Table, column_types, known_from, known_schema, known_tables, typed_query, with_types}
 use Rattle.naming.specs.Types.{body_types, query_types}
+use Rattle.naming.proofs.OutcomeLemmas.{checked-ok, followed-ok}
 use Rattle.refusals.specs.Columns.{AreListed, HasNames, columns_or, schema_listed, table_listed, tables_listed}
 use Rattle.refusals.specs.Written.{HasQuery, IsQueryOf}
 use Rattle.refusals.proofs.EvenLemmas.{IsEvenBody, named_even, tables_even}
 use Rattle.refusals.proofs.NameLemmas.{listed_of, queried_names}
-use Rattle.refusals.proofs.OkLemmas.{checked-ok, followed-ok}
 use Rattle.refusals.proofs.OutcomeLemmas.{Gives, Only, Takes, also_only, checked_only, each_only, followed_only, known_only, ok}
 use Rattle.refusals.proofs.PartLemmas.{Each, weaker}
 use Rattle.refusals.proofs.QueryLemmas.{IsFineQuery, queried_only}

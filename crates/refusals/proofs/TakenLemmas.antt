@@ -11,8 +11,9 @@ use Rattle.naming.specs.Parts.{core_parts, inner_tree, inner_trees, parts, terms
 use Rattle.naming.specs.Places.{direction_of}
 use Rattle.naming.specs.Sources.{Given, Known, Sources, joined, kind_of, no_sources}
 use Rattle.naming.specs.Statement.{CoreData, Inner, Queried, Single, answers_of, compounded, core_of, exists_inner, from_of, from_tree, given_query, inner_of, key, key_term, keys_of, no_row, queried, query_of, simple, single, single_of, source_of, values_inner, with_inners}
+use Rattle.naming.proofs.OutcomeLemmas.{also-ok, both-ok, checked-ok, followed-ok}
 use Rattle.refusals.specs.Written.{HasQuery, IsDerived, IsOperand, IsSelect, StandsIn, sources_in}
-use Rattle.refusals.proofs.OkLemmas.{IsGiven, also-ok, both-ok, checked-ok, each-ok, filtered, followed-ok}
+use Rattle.refusals.proofs.OkLemmas.{IsGiven, each-ok, filtered}
 
 -- ---- ORDER BY of a compound has no query in it
 

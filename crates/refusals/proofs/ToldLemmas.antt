@@ -13,7 +13,8 @@ use Rattle.naming.specs.Outcome.{also, both, chosen, followed}
 use Rattle.naming.specs.Parts.{all_parts, arms_parts, behind_parts, maybe_parts, over_parts, parts, terms_parts, window_parts}
 use Rattle.naming.specs.Places.{Defined, aggregate, aggregate_call, aggregate_column, aggregate_named, aggregate_of, bare, beside_keys, call_column, call_of, columns_say, count_rows, filter_of, frame_of, function_or, groups_say, key_column, key_or, of_term, over, over_call, ranking, ranking_unless, sorted, window, window_call, window_of, windows_say}
 use Rattle.naming.specs.Scope.{Scope, column_of}
-use Rattle.refusals.proofs.OkLemmas.{IsGiven, also-ok, both-ok, followed-ok}
+use Rattle.naming.proofs.OutcomeLemmas.{also-ok, both-ok, followed-ok}
+use Rattle.refusals.proofs.OkLemmas.{IsGiven}
 use Rattle.refusals.proofs.PartLemmas.{Each, join, none, one}
 
 -- if it is a name of a column, it stands for one

@@ -10,8 +10,8 @@ use Rattle.expr.specs.TermType.{one_of, one_type, type_of_term, wanted}
 use Rattle.meaning.specs.Query.{Aggregate, AggregateFunction, Body, From, Grouping, InnerQuery, Key, KeyTerm, QueryData, Select, SortTerm, Source, Window, WindowCall, WindowFunction, body_width}
 use Rattle.naming.specs.Outcome.{each, found_or}
 use Rattle.naming.specs.Types.{aggregate_type, answer_types, body_types, both_type, call_type, computed_types, condition_type, from_types, function_type, grouped_types, inner_type, is_frame, key_type, measure_type, of_width, one_types, query_types, select_types, single_type, source_types, term_type, typed, window_types}
+use Rattle.naming.proofs.OutcomeLemmas.{both-ok, followed-ok, found-ok}
 use Rattle.refusals.proofs.EvenLemmas.{IsEvenBody, IsEvenFrom, IsEvenInner, IsEvenSource}
-use Rattle.refusals.proofs.OkLemmas.{both-ok, followed-ok, found-ok}
 use Rattle.refusals.proofs.OutcomeLemmas.{Only, also_only, all_only, both_only, checked_only, followed_only, found_only, known_only, ok, refused}
 
 -- ---- as many types as columns

@@ -14,11 +14,12 @@ use Rattle.naming.specs.Parts.{core_parts, inner_tree, inner_trees}
 use Rattle.naming.specs.Sources.{Known}
 use Rattle.naming.specs.Statement.{Named, Queried, With, compounded, inner_of, item_columns, max_levels, named, query_of, simple, single_of, values_inner, with_inners, with_items}
 use Rattle.naming.specs.Typed.{Table, column_types, known_tables, with_types}
+use Rattle.naming.proofs.OutcomeLemmas.{checked-ok, followed-ok}
 use Rattle.refusals.specs.Columns.{HasNames}
 use Rattle.refusals.specs.UnevenColumns.{HasUnevenColumns, HasWideMembers, IsUneven, UnevenIsRefused}
 use Rattle.refusals.specs.Written.{BeginsQuery, IsSelect}
 use Rattle.refusals.proofs.NameLemmas.{listed_of}
-use Rattle.refusals.proofs.OkLemmas.{IsGiven, checked-ok, each-ok, filtered, followed-ok}
+use Rattle.refusals.proofs.OkLemmas.{IsGiven, each-ok, filtered}
 use Rattle.refusals.proofs.SameColumnLemmas.{listed_same, names_one, same_inside, same_names}
 use Rattle.refusals.proofs.SelectLemmas.{item_at, part_taken}
 use Rattle.refusals.proofs.TakenLemmas.{IsTakenQuery, inside, single_in}

@@ -20,12 +20,13 @@ use Rattle.naming.specs.Scope.{Scope, bare_term, column_of, is_source, places_of
 use Rattle.naming.specs.Sources.{Condition, Known, Using, hidden, joined, kind_of, merged, shown_from, used}
 use Rattle.naming.specs.Statement.{CoreData, Named, Queried, Single, all_results, are_distinct, behind_groups, by_of, compounded, condition_of, core_of, defined_of, finished, firsts, from_of, from_tree, input_of, keys_of, max_columns, named, named_at, no_row, on_row, one_or, operator_of, query_of, result, simple, single, single_of, source_of, starred_of, window_names}
 use Rattle.naming.specs.Typed.{Table, column_types, known_tables, with_types}
+use Rattle.naming.proofs.OutcomeLemmas.{also-ok, checked-ok, followed-ok}
 use Rattle.refusals.specs.Columns.{Listed, Shows, names_of_results, results_in}
 use Rattle.refusals.specs.UnknownColumns.{AmbiguousColumnIsRefused, HasLooseHaving, InSelect, IsAmbiguous, IsNamedAt, IsNoResult, IsOf, IsTwofold, IsUnknown, NamesColumn, NamesUnknownColumn, SortsByTwo, UnknownColumnIsRefused, columns_behind}
 use Rattle.refusals.specs.Written.{HasQueryWith, IsLooseHaving, stars_in}
 use Rattle.refusals.proofs.CoreToldLemmas.{core_told, keys_given}
 use Rattle.refusals.proofs.NameLemmas.{listed_of, names_in}
-use Rattle.refusals.proofs.OkLemmas.{IsGiven, also-ok, checked-ok, followed-ok}
+use Rattle.refusals.proofs.OkLemmas.{IsGiven}
 use Rattle.refusals.proofs.PartLemmas.{among}
 use Rattle.refusals.proofs.SameColumnLemmas.{joined_is, listed_same, names_one, offers_one, same_inside, shows_one}
 use Rattle.refusals.proofs.ScopeLemmas.{called_in}

@@ -9,9 +9,10 @@ use Rattle.naming.specs.Laws.{IsSameName}
 use Rattle.naming.specs.Sources.{Known, known_as}
 use Rattle.naming.specs.Statement.{Queried, With, alias_or, from_tree, given_known, named, source_of, with_items}
 use Rattle.naming.specs.Typed.{Table, column_types, known_tables, with_types}
+use Rattle.naming.proofs.OutcomeLemmas.{followed-ok}
 use Rattle.refusals.specs.UnknownSources.{IsNoSource, NamesNoSource, UnknownSourceIsRefused}
 use Rattle.refusals.specs.Written.{HasSelect, sources_in}
-use Rattle.refusals.proofs.OkLemmas.{IsGiven, followed-ok}
+use Rattle.refusals.proofs.OkLemmas.{IsGiven}
 use Rattle.refusals.proofs.SelectLemmas.{TakenSelect, part_taken, select_taken}
 use Rattle.refusals.proofs.TakenLemmas.{answers_with, inside, sources_taken}
 use Rattle.refusals.proofs.WithLemmas.{IsOther, items_there, no_items, none_known, tables_there}

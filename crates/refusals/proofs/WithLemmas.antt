@@ -12,9 +12,10 @@ use Rattle.naming.specs.Outcome.{followed}
 use Rattle.naming.specs.Sources.{Known, known_as}
 use Rattle.naming.specs.Statement.{Named, Queried, With, are_distinct, ended, item_columns, item_of, max_levels, named, queried, with_item, with_items}
 use Rattle.naming.specs.Typed.{Table, known_from, known_schema, known_tables}
+use Rattle.naming.proofs.OutcomeLemmas.{also-ok, checked-ok, followed-ok}
 use Rattle.refusals.specs.UnknownSources.{table_names}
 use Rattle.refusals.specs.Written.{IsQueryOf}
-use Rattle.refusals.proofs.OkLemmas.{IsGiven, also-ok, back, checked-ok, followed-ok, front}
+use Rattle.refusals.proofs.OkLemmas.{IsGiven, back, front}
 
 abbrev pub no_items : List Known → With
 no_items tables = record { known = tables; beside = [] }

@@ -13,8 +13,8 @@ use Rattle.syntax.specs.Tree.{Name}
 use Rattle.naming.specs.Sources.{Known}
 use Rattle.naming.specs.Statement.{Named, Queried, With, are_distinct, ended, item_columns, item_of, max_levels, max_sources, named, queried, sources_of_body, with_item, with_items, within}
 use Rattle.naming.specs.Typed.{Table, column_types, known_from, known_schema, known_tables}
+use Rattle.naming.proofs.OutcomeLemmas.{checked-ok}
 use Rattle.refusals.proofs.HandsLemmas.{Hands, also_hands, checked_hands, followed_hands, handed, hands_of}
-use Rattle.refusals.proofs.OkLemmas.{checked-ok}
 use Rattle.refusals.proofs.PartLemmas.{Each, join, more, none}
 use Rattle.refusals.proofs.WithinLemmas.{BodyIsWithin, IsWithinKey}
 use Rattle.refusals.proofs.WithinQueryLemmas.{IsWithinKnown, IsWithinQuery, IsWithinSource, queried_within}
