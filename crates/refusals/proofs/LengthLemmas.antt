@@ -12,6 +12,9 @@ use Rattle.refusals.proofs.OkLemmas.{ok-is}
 use Rattle.refusals.proofs.TypeLemmas.{body_length, each_length}
 use Rattle.refusals.proofs.WithinLemmas.{inner_count, input_width}
 
+sums : (a b c d : ℕ) → a ≡ c → b ≡ d → a + b ≡ c + d
+sums a b c d e f = omega (arith, e, f)
+
 pub inputs_length : (answers row : List Ty) (g : Option Grouping) (inputs : List Ty) → grouped_types answers row g ≡ Ok inputs
     → length inputs ≡ input_width (length row) g
 inputs_length answers row None inputs e = ap length (sym (ok-is row inputs e))
@@ -22,9 +25,6 @@ inputs_length answers row (Some g) inputs e =
     let first : length keys ≡ length g.by = each_length (term_type answers row) g.by keys by in
     let second : length values ≡ length g.aggregates = each_length (aggregate_type answers row) g.aggregates values aggregates in
     ap length (sym same) ∙ length-append keys values ∙ sums (length keys) (length values) (length g.by) (length g.aggregates) first second
-  where
-    sums : (a b c d : ℕ) → a ≡ c → b ≡ d → a + b ≡ c + d
-    sums a b c d e f = omega (arith, e, f)
 
 pub computed_length : (answers row : List Ty) (s : Select) (computed : List Ty) → computed_types answers row s ≡ Ok computed
     → length computed ≡ input_width (length row) s.grouping + length s.windows
@@ -36,9 +36,6 @@ computed_length answers row s computed e =
     let second : length values ≡ length s.windows = each_length (call_type answers inputs) s.windows values calls in
     ap length (sym same) ∙ length-append inputs values
     ∙ sums (length inputs) (length values) (input_width (length row) s.grouping) (length s.windows) first second
-  where
-    sums : (a b c d : ℕ) → a ≡ c → b ≡ d → a + b ≡ c + d
-    sums a b c d e f = omega (arith, e, f)
 
 module _ (tables : List (List Ty)) where
   pub source_length : (source : Source) (types : List Ty) → source_types tables source ≡ Ok types → length types ≡ source_width source
@@ -59,9 +56,6 @@ module _ (tables : List (List Ty)) where
       ap length (sym same) ∙ length-append left right
       ∙ sums (length left) (length right) (from_width from) (source_width source) (from_length answers from left begun)
       (source_length source right given)
-    where
-      sums : (a b c d : ℕ) → a ≡ c → b ≡ d → a + b ≡ c + d
-      sums a b c d e f = omega (arith, e, f)
   from_length answers (From.with_inner from query) types e = from_length answers from types e
 
   pub answers_length : (from : From) (answers : List Ty) → answer_types tables from ≡ Ok answers → length answers ≡ inner_count from

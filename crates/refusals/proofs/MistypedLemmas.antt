@@ -1,17 +1,21 @@
 -- A SELECT in which an expression is of another type than its place wants has no types.
-use Rattle.std.proofs.Common.{◌≡◌, List, [], ◌∷◌, ◌++◌, Option, Some, None, All, Contains, refl, sym, subst}
+use Rattle.std.proofs.Common.{◌≡◌, List, [], ◌∷◌, ◌++◌, Option, Some, Result, Ok, All, Contains, sym, subst}
 use Rattle.std.specs.List.{AllZip}
-use Rattle.std.proofs.lemmas.List.Elements.{All-cons, All-contains, All-nil, All-weaker}
+use Rattle.std.proofs.lemmas.List.Elements.{All-cons, All-contains, All-nil}
+use Rattle.values.specs.declared.fault.Fault.{Fault}
 use Rattle.values.specs.declared.value.Ty.{Ty}
 use Rattle.values.specs.declared.value.Ty.TheVariants.{Int}
 use Rattle.expr.specs.Term.{Term}
 use Rattle.expr.specs.Types.{FitsType}
-use Rattle.meaning.specs.Query.{Aggregate, AggregateFunction, Edge, FrameUnit, Grouping, Select, SortTerm, Window, WindowCall, WindowFunction}
-use Rattle.meaning.specs.Typed.{AggregateGives, AggregateHasType, CallHasType, ComputedHasTypes, FunctionHasType, GroupedHasTypes, GroupingHasTypes, IsTerm, IsTermOf, IsWindow, SelectHasTypes, UnitFits}
-use Rattle.naming.proofs.FoundLemmas.{fits-append, fits_itself, fits_then, term_fits}
+use Rattle.meaning.specs.Query.{AggregateFunction, Grouping, Select, SortTerm, WindowCall, WindowFunction}
+use Rattle.meaning.specs.Typed.{AggregateGives, AggregateHasType, CallHasType, ComputedHasTypes, FunctionHasType, GroupedHasTypes, GroupingHasTypes, IsTerm, IsTermOf, SelectHasTypes}
+use Rattle.naming.specs.Outcome.{each}
+use Rattle.naming.specs.Types.{aggregate_type, computed_types, grouped_types, term_type}
+use Rattle.naming.proofs.FoundLemmas.{computed_gives, fits-append, fits_then, grouping_gives, term_fits, terms_give}
 use Rattle.refusals.specs.Clashes.{Misfits}
 use Rattle.refusals.specs.Mismatches.{AreOwn, CallMisfits, FunctionMisfits, MeasureMisfits, SelectMisfits}
 use Rattle.refusals.proofs.OddsLemmas.{clash_refuted, misfit_refuted, odds_refuted}
+use Rattle.refusals.proofs.OwnLemmas.{own_computed, own_inputs, own_keys, own_values, values_give}
 
 -- what is related to something that stands in a list
 related : {A B : Type 0} (R : A → B → Type 0) (xs : List A) (ys : List B) (x : A) → AllZip R xs ys → Contains xs x → (y : B) × R x y
@@ -22,13 +26,7 @@ related {A = A} {B = B} R xs ys x zip there = All-contains (λ x. (y : B) × R x
     each_of (x ∷ xs) [] zip = absurd zip
     each_of (x ∷ xs) (y ∷ ys) zip = All-cons (λ x. (y : B) × R x y) x xs (y, zip.0) (each_of xs ys zip.1)
 
-zip_more : {A B : Type 0} (R S : A → B → Type 0) → ((x : A) (y : B) → R x y → S x y) → (xs : List A) (ys : List B) → AllZip R xs ys
-    → AllZip S xs ys
-zip_more R S so [] [] zip = tt
-zip_more R S so [] (y ∷ ys) zip = absurd zip
-zip_more R S so (x ∷ xs) [] zip = absurd zip
-zip_more R S so (x ∷ xs) (y ∷ ys) zip = (so x y zip.0, zip_more R S so xs ys zip.1)
-
+-- types that may stand for others may stand for what those may
 all_fit_then : (first second types : List Ty) → AllZip FitsType first second → AllZip FitsType second types → AllZip FitsType first types
 all_fit_then [] [] [] f g = tt
 all_fit_then [] [] (ty ∷ types) f g = absurd g
@@ -37,54 +35,19 @@ all_fit_then (a ∷ first) [] types f g = absurd f
 all_fit_then (a ∷ first) (b ∷ second) [] f g = absurd g
 all_fit_then (a ∷ first) (b ∷ second) (ty ∷ types) f g = (fits_then a b ty f.0 g.0, all_fit_then first second types f.1 g.1)
 
+-- types of their own may stand for what the types that are handed out may stand for
+own_fit : (Has : List Ty → Type 0) (r : Result (List Ty) Fault) → ((types : List Ty) → r ≡ Ok types → AreOwn Has types)
+    → (own types : List Ty) → AreOwn Has own → (found : List Ty) × (r ≡ Ok found) × AllZip FitsType found types
+    → AllZip FitsType own types
+own_fit Has r are own types o (found, is, fit) = all_fit_then own found types (o.least found (are found is).are) fit
+
 -- what is typed over answers and a row is so over those that may stand in their places
 module _ (row general answers given : List Ty) (fit : AllZip FitsType general row) (replies : AllZip FitsType given answers) where
-  pub typed_over : (t : Term) (ty : Ty) → IsTermOf answers row t ty → IsTermOf given general t ty
+  typed_over : (t : Term) (ty : Ty) → IsTermOf answers row t ty → IsTermOf given general t ty
   typed_over = term_fits row general answers given fit replies
 
   some_over : (t : Term) → IsTerm answers row t → IsTerm given general t
   some_over t (ty, h) = (ty, typed_over t ty h)
-
-  measure_over : (f : AggregateFunction) (t : Term) (ty : Ty) → AggregateGives answers row f t ty → AggregateGives given general f t ty
-  measure_over AggregateFunction.count t ty (h, e) = (some_over t h, e)
-  measure_over AggregateFunction.sum t ty (h, e) = (typed_over t Int h, e)
-  measure_over AggregateFunction.min t ty h = typed_over t ty h
-  measure_over AggregateFunction.max t ty h = typed_over t ty h
-
-  function_over : (f : WindowFunction) (ty : Ty) → FunctionHasType answers row f ty → FunctionHasType given general f ty
-  function_over (WindowFunction.aggregate a) ty h = measure_over a.function a.argument ty h
-  function_over WindowFunction.row_number ty h = h
-  function_over WindowFunction.rank ty h = h
-  function_over WindowFunction.dense_rank ty h = h
-  function_over (WindowFunction.ntile n) ty h = h
-  function_over (WindowFunction.lag x n otherwise) ty h = (typed_over x ty h.0, typed_over otherwise ty h.1)
-  function_over (WindowFunction.lead x n otherwise) ty h = (typed_over x ty h.0, typed_over otherwise ty h.1)
-  function_over (WindowFunction.first_value x) ty h = typed_over x ty h
-  function_over (WindowFunction.last_value x) ty h = typed_over x ty h
-  function_over (WindowFunction.nth_value x n) ty h = (typed_over x ty h.0, h.1)
-
-  unit_over : (order : List SortTerm) (unit : FrameUnit) (start end : Edge) → UnitFits answers row order unit start end
-      → UnitFits given general order unit start end
-  unit_over order FrameUnit.rows start end h = tt
-  unit_over order FrameUnit.range start end h = λ d. let (s, only, of) = h d in (s, only, typed_over s.term Int of)
-  unit_over order FrameUnit.groups start end h = h
-
-  window_over : (v : Window) → IsWindow answers row v → IsWindow given general v
-  window_over v h = record {
-    partition = All-weaker (IsTerm answers row) (IsTerm given general) some_over v.partition h.partition;
-    order =
-        All-weaker (λ (s : SortTerm). IsTerm answers row s.term) (λ (s : SortTerm). IsTerm given general s.term)
-        (λ s of. some_over s.term of) v.order h.order;
-    frame = record {
-      starts = h.frame.starts;
-      ends = h.frame.ends;
-      in_turn = h.frame.in_turn;
-      unit = unit_over v.order v.frame.unit v.frame.start v.frame.end h.frame.unit;
-    };
-  }
-
-  call_over : (c : WindowCall) (ty : Ty) → CallHasType answers row c ty → CallHasType given general c ty
-  call_over c ty (over, h) = (window_over c.window over, function_over c.function ty h)
 
   -- ---- what has no type
 
@@ -119,62 +82,19 @@ module _ (row general answers given : List Ty) (fit : AllZip FitsType general ro
 -- ---- groups, and what windows give
 
 module _ (row general answers given : List Ty) (fit : AllZip FitsType general row) (replies : AllZip FitsType given answers) where
-  keys_over : (by : List Term) (keys : List Ty) → AllZip (IsTermOf answers row) by keys → AllZip (IsTermOf given general) by keys
-  keys_over = zip_more (IsTermOf answers row) (IsTermOf given general) (typed_over row general answers given fit replies)
-
-  values_over : (aggregates : List Aggregate) (values : List Ty) → AllZip (AggregateHasType answers row) aggregates values
-      → AllZip (AggregateHasType given general) aggregates values
-  values_over =
-      zip_more (AggregateHasType answers row) (AggregateHasType given general)
-      (λ a ty h. measure_over row general answers given fit replies a.function a.argument ty h)
-
-  -- over a row that may stand in its place, a grouping has types that may stand in theirs
-  grouped_over : (g : Option Grouping) (inputs : List Ty) → GroupedHasTypes answers row g inputs
-      → (general_inputs : List Ty) × GroupedHasTypes given general g general_inputs × AllZip FitsType general_inputs inputs
-  grouped_over None inputs h = (general, refl, subst (AllZip FitsType general) (sym h) fit)
-  grouped_over (Some g) inputs h = (
-    inputs,
-    record {
-      keys = h.keys;
-      values = h.values;
-      by = keys_over g.by h.keys h.by;
-      aggregates = values_over g.aggregates h.values h.aggregates;
-      types_are = h.types_are;
-      having = term_fits inputs inputs answers given (fits_itself inputs) replies g.having Int h.having;
-    },
-    fits_itself inputs,
-  )
-
-  computed_over : (s : Select) (computed : List Ty) → ComputedHasTypes answers row s computed
-      → (general_computed : List Ty) × ComputedHasTypes given general s general_computed × AllZip FitsType general_computed computed
-  computed_over s computed h =
-      let (inputs, grouped, inputs_fit) = grouped_over s.grouping h.inputs h.grouped in (
-        inputs ++ h.values,
-        record {
-          inputs = inputs;
-          values = h.values;
-          condition = typed_over row general answers given fit replies s.condition Int h.condition;
-          grouped = grouped;
-          windows =
-              zip_more (CallHasType answers h.inputs) (CallHasType given inputs)
-              (call_over h.inputs inputs answers given inputs_fit replies) s.windows h.values h.windows;
-          types_are = refl;
-        },
-        subst (AllZip FitsType (inputs ++ h.values)) (sym h.types_are)
-            (fits-append inputs h.values h.inputs h.values inputs_fit (fits_itself h.values)),
-      )
-
   -- the types that a SELECT's rows have of their own may stand for those that they have over another row
   inputs_fit : (g : Option Grouping) (own inputs : List Ty) → AreOwn (GroupedHasTypes given general g) own → GroupedHasTypes answers row g inputs
       → AllZip FitsType own inputs
   inputs_fit g own inputs o h =
-      let (others, grouped, fits) = grouped_over g inputs h in all_fit_then own others inputs (o.least others grouped) fits
+      own_fit (GroupedHasTypes given general g) (grouped_types given general g) (own_inputs given general g) own inputs o
+      (grouping_gives row general answers given fit replies g inputs h)
 
   pub computed_fit : (s : Select) (own computed : List Ty) → AreOwn (ComputedHasTypes given general s) own
       → ComputedHasTypes answers row s computed
       → AllZip FitsType own computed
   computed_fit s own computed o h =
-      let (others, are, fits) = computed_over s computed h in all_fit_then own others computed (o.least others are) fits
+      own_fit (ComputedHasTypes given general s) (computed_types given general s) (own_computed given general s) own computed o
+      (computed_gives row general answers given fit replies s computed h)
 
   -- ---- the SELECT
 
@@ -188,8 +108,12 @@ module _ (row general answers given : List Ty) (fit : AllZip FitsType general ro
   having_refuted g keys values inputs in_keys in_values misfit h =
       let fits : AllZip FitsType (keys ++ values) inputs =
       subst (AllZip FitsType (keys ++ values)) (sym h.types_are)
-      (fits-append keys values h.keys h.values (in_keys.least h.keys (keys_over g.by h.keys h.by))
-      (in_values.least h.values (values_over g.aggregates h.values h.aggregates))) in
+      (fits-append keys values h.keys h.values
+      (own_fit (AllZip (IsTermOf given general) g.by) (each (term_type given general) g.by) (own_keys given general g.by) keys h.keys in_keys
+      (terms_give row general answers given fit replies g.by h.keys h.by))
+      (own_fit (AllZip (AggregateHasType given general) g.aggregates) (each (aggregate_type given general) g.aggregates)
+      (own_values given general g.aggregates) values h.values in_values
+      (values_give row general answers given fit replies g.aggregates h.values h.aggregates))) in
       misfit_refuted given (keys ++ values) Int g.having misfit
       (term_fits inputs (keys ++ values) answers given fits replies g.having Int h.having)
 

@@ -15,7 +15,7 @@ use Rattle.naming.proofs.OutcomeLemmas.{each-zip}
 use Rattle.naming.proofs.TypeLemmas.{aggregate_is, answers_are, body_is, computed_is, from_is, grouping_is, source_is, term_is}
 use Rattle.refusals.specs.Mismatches.{AreOwn}
 
--- where what is handed out is so typed, and may stand for all that is, it is the types of its own
+-- the types that are handed out are its own: it has them, and they may stand for all that it has
 own : (Has : List Ty → Type 0) (r : Result (List Ty) Fault) → ((types : List Ty) → r ≡ Ok types → Has types)
     → ((other : List Ty) → Has other → (found : List Ty) × (r ≡ Ok found) × AllZip FitsType found other)
     → (types : List Ty) → r ≡ Ok types → AreOwn Has types
@@ -23,6 +23,13 @@ own Has r is gives types e = record {
   are = is types e;
   least = λ other h. let (found, found_so, fit) = gives other h in subst (λ types. AllZip FitsType types other) (one_ok found types r found_so e) fit;
 }
+
+module _ (row other answers others : List Ty) (fit : AllZip FitsType other row) (replies : AllZip FitsType others answers) where
+  pub values_give : (aggregates : List Aggregate) (values : List Ty) → AllZip (AggregateHasType answers row) aggregates values
+      → (found : List Ty) × (each (aggregate_type others other) aggregates ≡ Ok found) × AllZip FitsType found values
+  values_give =
+      each-zip-gives (aggregate_type others other) (AggregateHasType answers row) FitsType
+      (λ a ty h. aggregate_gives row other answers others fit replies a.function a.argument ty h)
 
 module _ (answers row : List Ty) where
   pub own_keys : (by : List Term) (keys : List Ty) → each (term_type answers row) by ≡ Ok keys → AreOwn (AllZip (IsTermOf answers row) by) keys
@@ -37,8 +44,7 @@ module _ (answers row : List Ty) where
       own (AllZip (AggregateHasType answers row) aggregates) (each (aggregate_type answers row) aggregates)
       (each-zip (aggregate_type answers row) (AggregateHasType answers row)
       (λ a ty is. aggregate_is answers row a.function a.argument ty is) aggregates)
-      (each-zip-gives (aggregate_type answers row) (AggregateHasType answers row) FitsType
-      (λ a ty h. aggregate_gives row row answers answers (fits_itself row) (fits_itself answers) a.function a.argument ty h) aggregates)
+      (values_give row row answers answers (fits_itself row) (fits_itself answers) aggregates)
 
   pub own_inputs : (g : Option Grouping) (inputs : List Ty) → grouped_types answers row g ≡ Ok inputs
       → AreOwn (GroupedHasTypes answers row g) inputs
