@@ -1,9 +1,9 @@
 -- A query that names make has as many columns as it is counted on to have.
-use Rattle.std.proofs.Common.{◌≡◌, Bool, true, false, if◌then◌else◌, ℕ, zero, suc, ◌+◌, List, [], ◌∷◌, ◌++◌, length, map, flat_map, Some, Result, Ok, Err, All, codes, nat_eq, nat_le, slice_get, arith, ap, sym, subst, ◌∙◌}
+use Rattle.std.proofs.Common.{◌≡◌, Bool, true, false, if◌then◌else◌, ℕ, zero, suc, List, [], ◌∷◌, ◌++◌, length, map, flat_map, Some, Result, Ok, Err, All, nat_eq, nat_le, slice_get, ap, sym, subst, ◌∙◌}
 use Rattle.std.specs.List.{filter_map, list_any}
 use Rattle.std.proofs.lemmas.Bool.{eqb-true}
 use Rattle.std.proofs.lemmas.List.{length-map}
-use Rattle.std.proofs.lemmas.List.Elements.{All-append, All-cons, All-nil}
+use Rattle.std.proofs.lemmas.List.Elements.{All-cons}
 use Rattle.values.specs.declared.fault.Fault.{Fault}
 use Rattle.values.specs.declared.fault.Fault.TheVariants.{ColumnCount, DuplicateName, Limit}
 use Rattle.values.specs.declared.value.Ty.{Ty}
@@ -20,11 +20,12 @@ use Rattle.naming.specs.Same.{is_same_aggregate, is_same_call}
 use Rattle.naming.specs.Scope.{Scope}
 use Rattle.naming.specs.Sources.{Condition, Given, Known, Sources, is_same_source, joined, joined_on, kind_of, known_as, no_sources, shown_from}
 use Rattle.naming.specs.Statement.{CoreData, Inner, Named, Queried, ResultColumn, Single, With, alias_or, all_results, answers_of, are_distinct, behind_groups, by_of, compounded, condition_of, core_of, defined_of, ended, exists_inner, finished, firsts, from_of, from_tree, given_known, given_query, inner, inner_of, input_of, item_of, keys_of, max_columns, max_levels, max_sources, named, no_row, offset_or, on_row, operator_of, queried, query_of, shown, simple, single, single_of, source_of, sources_of_body, values_inner, window_names, with_answers, with_inners, with_item, with_items, within}
-use Rattle.naming.specs.Typed.{Table, column_types, known_from, known_schema, known_tables}
+use Rattle.naming.specs.Typed.{Table, column_types, known_schema, known_tables}
 use Rattle.naming.proofs.OutcomeLemmas.{also-ok, both-ok, checked-ok, followed-ok}
+use Rattle.refusals.proofs.KnownLemmas.{known_table, tables_all}
 use Rattle.refusals.proofs.NameLemmas.{names_in}
 use Rattle.refusals.proofs.OkLemmas.{ok-is}
-use Rattle.refusals.proofs.PartLemmas.{Each, first, join, more, none, one, rest}
+use Rattle.refusals.proofs.PartLemmas.{Each, first, flattened, join, mapped, more, none, one, rest}
 use Rattle.refusals.proofs.TakenLemmas.{inside}
 use Rattle.refusals.proofs.WithLemmas.{found_all, item_taken, no_items}
 
@@ -48,9 +49,6 @@ module _ (tables : List (List Ty)) where
     pub IsEvenBody : Body → Type 0
     IsEvenBody (Body.select from s) = IsEvenFrom from
     IsEvenBody (Body.compound left operator from s) = IsEvenBody left × IsEvenFrom from × (body_width left ≡ length s.columns)
-
-abbrev table_source : ℕ → Table → Result Source Fault
-table_source at t = Ok (Source.table at (length t.columns))
 
 -- what each gives
 each_gives : {A B : Type 0} (P : B → Type 0) (f : A → Result B Fault) → ((x : A) (y : B) → f x ≡ Ok y → P y) → (xs : List A) (ys : List B) → each f xs ≡ Ok ys
@@ -133,14 +131,6 @@ module _ (types : List (List Ty)) where
   answers_even from [] even all = even
   answers_even from (q ∷ qs) even all = answers_even (From.with_inner from q) qs (even, first all) (rest all)
 
-  queries_even : (inners : List Inner) → Each IsEvenAnswer inners → Each (IsEvenInner types) (map (λ (i : Inner). i.query) inners)
-  queries_even [] all = none
-  queries_even (i ∷ is) all = more i.query (map (λ (i : Inner). i.query) is) (first all).query (queries_even is (rest all))
-
-  besides_even : (inners : List Inner) → Each IsEvenAnswer inners → Each (IsEvenBody types) (flat_map (λ (i : Inner). i.beside) inners)
-  besides_even [] all = none
-  besides_even (i ∷ is) all = join i.beside (flat_map (λ (i : Inner). i.beside) is) (first all).beside (besides_even is (rest all))
-
   module _ (known : List Known) (all : All IsEvenKnown known) (queries : QueryTree → Result Queried Fault)
       (inner_even : (tree : QueryTree) (q : Queried) → queries tree ≡ Ok q → IsEvenQuery q) where
     answer_even : (tree : InnerTree) (i : Inner) → inner_of known queries tree ≡ Ok i → IsEvenAnswer i
@@ -195,12 +185,12 @@ module _ (types : List (List Ty)) where
         let (c, of, same) = also-ok (single inners f) (core_of answers f.scope core order) s last in
         let given = each_gives IsEvenAnswer (inner_of known queries) answer_even (inner_trees core order) inners are in
         let sources = from_even answers (from_tree core) f from in
-        let whole = answers_even f.from (map (λ (i : Inner). i.query) inners) sources.from (queries_even inners given) in
+        let whole = answers_even f.from (map (λ (i : Inner). i.query) inners) sources.from (mapped (λ (i : Inner). i.query) (λ i h. h.query) given) in
         subst IsEvenSingle same (record {
           from = whole;
           names = core_even answers f.scope core order c of;
           beside = join (flat_map (λ (i : Inner). i.beside) inners ++ f.beside) _
-              (join (flat_map (λ (i : Inner). i.beside) inners) f.beside (besides_even inners given) sources.beside) (one whole);
+              (join (flat_map (λ (i : Inner). i.beside) inners) f.beside (flattened (λ (i : Inner). i.beside) (λ i h. h.beside) given) sources.beside) (one whole);
         })
 
     query_even : (query : QueryTree) (order : TermTrees) (q : Queried) → query_of known queries query order ≡ Ok q → IsEvenQuery q
@@ -281,36 +271,19 @@ module _ (types : List (List Ty)) where
       let query = queried_even max_levels w.known even.known tree.query tree.order q is in
       ended_even tree w.beside q n even.beside query last
 
-  -- the tables from a place on
-  from_even_tables : (at : ℕ) (ts : List Table) → ((i : ℕ) → slice_get types (at + i) ≡ slice_get (column_types ts) i) → All IsEvenKnown (known_from at ts)
-  from_even_tables at [] same = All-nil IsEvenKnown
-  from_even_tables at (t ∷ ts) same =
-      All-cons IsEvenKnown _ (known_from (suc at) ts) (record { is = here })
-      (from_even_tables (suc at) ts (λ i. subst (λ k. slice_get types k ≡ slice_get (column_types ts) i) (step i) (same (suc i))))
-    where
-      step : (i : ℕ) → at + suc i ≡ suc at + i
-      step i = omega arith
-
-      here : (source : Source) → table_source at t ≡ Ok source → IsEvenSource types source
-      here source e =
-          let is : Source.table at (length t.columns) ≡ source = cc in
-          subst (IsEvenSource types) is (λ found there.
-          let first_of : slice_get types (at + 0) ≡ Some (map (λ c. c.ty) t.columns) = same 0 in
-          let place : at + 0 ≡ at = omega arith in
-          let one_of : Some (map (λ c. c.ty) t.columns) ≡ Some found = sym first_of ∙ ap (slice_get types) place ∙ there in
-          let lists : map (λ c. c.ty) t.columns ≡ found = cc in
-          sym (length-map t.columns (λ c. c.ty)) ∙ ap length lists)
-
 pub tables_even : (tables : List Table) → All (IsEvenKnown (column_types tables)) (known_tables tables)
-tables_even tables =
-    let P : Known → Type 0 = IsEvenKnown (column_types tables) in
-    All-append P (known_from 0 tables) (known_schema (codes "sqlite_schema") ∷ known_schema (codes "sqlite_master") ∷ [])
-    (from_even_tables (column_types tables) 0 tables (λ i. ap (slice_get (column_types tables)) (zero_plus i)))
-    (All-cons P (known_schema (codes "sqlite_schema")) (known_schema (codes "sqlite_master") ∷ []) (schema_even (codes "sqlite_schema"))
-    (All-cons P (known_schema (codes "sqlite_master")) [] (schema_even (codes "sqlite_master")) (All-nil P)))
+tables_even tables = tables_all (IsEvenKnown types) tables table_even schema_even
   where
-    zero_plus : (i : ℕ) → 0 + i ≡ i
-    zero_plus i = omega arith
+    types : List (List Ty)
+    types = column_types tables
 
-    schema_even : (name : Name) → IsEvenKnown (column_types tables) (known_schema name)
-    schema_even name = record { is = λ source e. let is : Source.schema ≡ source = cc in subst (IsEvenSource (column_types tables)) is tt }
+    table_even : (at : ℕ) (t : Table) → slice_get types at ≡ Some (map (λ c. c.ty) t.columns) → IsEvenKnown types (known_table at t)
+    table_even at t there = record {
+      is = λ source e. subst (IsEvenSource types) (ok-is (Source.table at (length t.columns)) source e) (λ found is.
+          let both : Some (map (λ c. c.ty) t.columns) ≡ Some found = sym there ∙ is in
+          let lists : map (λ c. c.ty) t.columns ≡ found = cc in
+          sym (length-map t.columns (λ c. c.ty)) ∙ ap length lists);
+    }
+
+    schema_even : (name : Name) → IsEvenKnown types (known_schema name)
+    schema_even name = record { is = λ source e. subst (IsEvenSource types) (ok-is Source.schema source e) tt }

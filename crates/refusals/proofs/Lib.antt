@@ -1,6 +1,7 @@
 mod OkLemmas
 mod TakenLemmas
 mod WithLemmas
+mod KnownLemmas
 mod NameLemmas
 mod PartLemmas
 mod OutcomeLemmas

@@ -1,6 +1,7 @@
 -- What holds of the parts of expressions.
-use Rattle.std.proofs.Common.{List, [], ◌∷◌, ◌++◌, All, Contains}
-use Rattle.std.proofs.lemmas.List.Elements.{All-append, All-cons, All-contains, All-head, All-nil, All-tail, All-weaker}
+use Rattle.std.proofs.Common.{List, [], ◌∷◌, ◌++◌, All, Contains, map, flat_map}
+use Rattle.std.proofs.lemmas.List.Elements.{All-append, All-cons, All-contains, All-contains_itself, All-head, All-map, All-nil, All-tail, All-weaker}
+use Rattle.meaning.proofs.ElementLemmas.{All-flat_map}
 use Rattle.syntax.specs.ExprTree.{ArmTrees, BehindTree, CoreTree, DefinitionTrees, ExprTree, ExprTrees, MaybeExpr, OverTree, ResultTree, ResultTrees, TermTrees, WindowTree}
 use Rattle.naming.specs.Parts.{all_parts, arms_parts, behind_parts, definitions_parts, maybe_parts, over_parts, parts, result_parts, results_parts, terms_parts, window_parts}
 use Rattle.refusals.specs.Written.{spoken_in}
@@ -43,6 +44,16 @@ module _ {X : Type 0} {P : X → Type 0} where
 
   pub weaker : {Q : X → Type 0} {xs : List X} → ((x : X) → P x → Q x) → Each P xs → Each Q xs
   weaker {Q = Q} {xs = xs} more a = record { is = All-weaker P Q more xs a.is }
+
+  pub mapped : {Y : Type 0} {Q : Y → Type 0} {xs : List X} (f : X → Y) → ((x : X) → P x → Q (f x)) → Each P xs → Each Q (map f xs)
+  mapped {Q = Q} {xs = xs} f so a = record { is = All-map Q f xs (weaker so a).is }
+
+  pub flattened : {Y : Type 0} {Q : Y → Type 0} {xs : List X} (f : X → List Y) → ((x : X) → P x → Each Q (f x)) → Each P xs
+      → Each Q (flat_map f xs)
+  flattened {Q = Q} {xs = xs} f so a = record { is = All-flat_map Q f xs (weaker (λ x p. (so x p).is) a).is }
+
+pub each_itself : {X : Type 0} (xs : List X) → Each (Contains xs) xs
+each_itself xs = record { is = All-contains_itself xs }
 
 pub two : {X : Type 0} {P Q : X → Type 0} (xs ys : List X) → (Each P xs → Each Q xs) → (Each P ys → Each Q ys) → Each P (xs ++ ys) → Each Q (xs ++ ys)
 two xs ys f g a = join xs ys (f (front xs ys a)) (g (back xs ys a))

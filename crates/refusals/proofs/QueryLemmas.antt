@@ -1,7 +1,6 @@
 -- A query by its names, or why it is none.
 use Rattle.std.proofs.Common.{◌≡◌, ◌⊎◌, inl, inr, false, ℕ, zero, suc, List, [], ◌∷◌, ◌++◌, length, map, Option, Some, None, Result, Ok, Contains, nat_eq, ap, refl, subst, arith}
 use Rattle.std.specs.List.{cons_option, filter_map}
-use Rattle.std.proofs.lemmas.List.Elements.{All-contains_itself}
 use Rattle.values.specs.declared.fault.Fault.{Fault}
 use Rattle.values.specs.declared.fault.Fault.TheVariants.{ColumnCount, DuplicateName, Limit}
 use Rattle.syntax.specs.ExprTree.{CoreTree, ExprTree, FromTree, OnTree, QueryTree, SourceTree, TermTrees}
@@ -22,7 +21,7 @@ use Rattle.refusals.specs.Written.{Begins, BeginsQuery, HasQuery, IsDerived, IsO
 use Rattle.refusals.proofs.CoreLemmas.{IsFineOrder, IsFineStar, IsFineTerm, core_only, keys_only, no_row_only}
 use Rattle.refusals.proofs.NameLemmas.{from_shows, listed_of, queried_names, query_names}
 use Rattle.refusals.proofs.OutcomeLemmas.{Only, Takes, also_only, checked_only, each_only, followed_only, known_only, ok, refused}
-use Rattle.refusals.proofs.PartLemmas.{Each, back, first, front, join, more, none, rest, weaker}
+use Rattle.refusals.proofs.PartLemmas.{Each, back, each_itself, first, front, join, more, none, rest, weaker}
 use Rattle.refusals.proofs.SourceLemmas.{IsFineAnswer, IsFineColumn, IsFineJoin, IsFineSource, from_only, with_answers}
 use Rattle.refusals.proofs.TakenLemmas.{inside}
 use Rattle.refusals.proofs.TermLemmas.{Sound}
@@ -60,9 +59,6 @@ gathered P (x ∷ xs) all = by (inner_tree x) (first all) (gathered P xs (rest a
         → Each P (cons_option o (filter_map inner_tree xs))
     by None so others = others
     by (Some tree) so others = more tree (filter_map inner_tree xs) (so tree refl) others
-
-each_itself : {X : Type 0} (xs : List X) → Each (Contains xs) xs
-each_itself xs = record { is = All-contains_itself xs }
 
 all_units : {X : Type 0} (xs : List X) → Each (λ _. Unit {0}) xs
 all_units xs = record { is = λ k d short. tt }

@@ -2,7 +2,6 @@
 use Rattle.std.proofs.Common.{◌≡◌, ◌∷◌, ◌++◌, Bool, true, false, inl, inr, ℕ, List, [], length, map, Option, Some, None, Ok, All, Contains, nat_eq, ap, refl, sym, subst, ◌∙◌, arith}
 use Rattle.std.specs.List.{list_any}
 use Rattle.std.proofs.lemmas.Bool.{eqb-false}
-use Rattle.std.proofs.lemmas.List.Elements.{All-contains_itself}
 use Rattle.values.specs.declared.fault.Fault.{Fault}
 use Rattle.values.specs.declared.fault.Fault.TheVariants.{Ambiguous, ColumnCount, DuplicateName, UnknownColumn, UnknownTable}
 use Rattle.syntax.specs.ExprTree.{CoreTree, ExprTree, FromTree, OnTree, QueryTree, SourceTree, TermTrees}
@@ -25,7 +24,7 @@ use Rattle.refusals.specs.Written.{Begins, HasQuery, HasQueryWith, HasSelect, Is
 use Rattle.refusals.proofs.CoreLemmas.{IsFineOrder, IsFineStar, IsFineTerm}
 use Rattle.refusals.proofs.NameLemmas.{listed_of}
 use Rattle.refusals.proofs.OutcomeLemmas.{Only, Takes, checked_only, ok}
-use Rattle.refusals.proofs.PartLemmas.{Each, weaker}
+use Rattle.refusals.proofs.PartLemmas.{Each, each_itself, weaker}
 use Rattle.refusals.proofs.QueryLemmas.{IsFineQuery, IsFineSelect}
 use Rattle.refusals.proofs.ScopeLemmas.{Says, column_only, named_none, named_some, named_two, same_there, star_of_none, used_only}
 use Rattle.refusals.proofs.SourceLemmas.{IsFineColumn, IsFineJoin, IsFineSource}
@@ -41,9 +40,6 @@ pub record HasReasons (F : Fault → Type 0) (tables : List Table) (tree : State
   pub ambiguous : HasAmbiguousColumn tables tree → F Ambiguous
   pub duplicate : HasRepeatedName tree → F DuplicateName
   pub column_count : HasUnevenColumns tables tree → F ColumnCount
-
-each_itself : {X : Type 0} (xs : List X) → Each (Contains xs) xs
-each_itself xs = record { is = All-contains_itself xs }
 
 offers_called : {listed : List Listed} {source : SourceTree} {called : Option Name} {columns : List Name} → Offers listed source called columns
     → called ≡ called_so source

@@ -16,6 +16,7 @@ use Rattle.naming.specs.Scope.{Scope, places_of}
 use Rattle.naming.specs.Sources.{Condition, Given, Known, Sources, Using, hidden, is_same_source, joined, joined_on, kind_of, known_as, merged, no_sources, shown_from, used}
 use Rattle.naming.specs.Statement.{Queried, Single, With, alias_or, compounded, from_of, given_known, given_query, item_of, keys_of, max_levels, no_row, operator_of, queried, query_of, simple, single_of, source_of, with_items}
 use Rattle.naming.specs.Typed.{Table, known_tables}
+use Rattle.naming.proofs.OneLemmas.{one_ok}
 use Rattle.naming.proofs.OutcomeLemmas.{also-ok, checked-ok, followed-ok}
 use Rattle.refusals.specs.Columns.{AreListed, HasNames, IsListed, Joins, Listed, Merges, Offers, Shows, columns_or, names_of_results, results_in}
 use Rattle.refusals.proofs.NameLemmas.{core_names, listed_of}
@@ -26,9 +27,6 @@ use Rattle.refusals.proofs.WithLemmas.{item_taken, no_items, split_items}
 abbrev scope_or : Scope → Result Condition Fault → Scope
 scope_or otherwise (Ok c) = c.scope
 scope_or otherwise (Err fault) = otherwise
-
-ok_one : {A : Type 0} (r : Result A Fault) (a b : A) → r ≡ Ok a → r ≡ Ok b → a ≡ b
-ok_one r a b e is = cc
 
 abbrev item_listed : ItemTree → List Name → Listed
 item_listed i columns = record { name = i.name; columns = columns }
@@ -71,7 +69,7 @@ merges_one {theirs = theirs} (Merges.both {name = name} {names = names} {left = 
     let (mine, own, others) = followed-ok (places_of left None name) _ u e in
     let (found, are, last) = followed-ok (places_of theirs None name) _ u others in
     let (m, merging, same) = also-ok _ (used theirs (merged name found left) (hidden name right) names) u last in
-    let one : found ≡ places = ok_one (places_of theirs None name) found places are is in
+    let one : found ≡ places = one_ok found places (places_of theirs None name) are is in
     let (lefts, rights) = merges_one merges m (subst (λ p. used theirs (merged name p left) (hidden name right) names ≡ Ok m) one merging) in
     (lefts ∙ ap (λ (u : Using). u.left) same, rights ∙ ap (λ (u : Using). u.right) same)
 

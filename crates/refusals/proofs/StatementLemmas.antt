@@ -2,7 +2,7 @@
 use Rattle.std.proofs.Common.{◌≡◌, Bool, true, false, if◌then◌else◌, ℕ, suc, List, [], ◌∷◌, ◌++◌, codes, length, map, Result, Ok, Err, All, append_assoc, append-nil, ap, refl, sym, subst, ◌∙◌, nat_eq, nat_le}
 use Rattle.std.specs.Str.{str_eq_ignore_ascii_case}
 use Rattle.std.proofs.lemmas.List.{map-append}
-use Rattle.std.proofs.lemmas.List.Elements.{All-append, All-cons, All-nil, All-tail, All-head}
+use Rattle.std.proofs.lemmas.List.Elements.{All-cons, All-tail, All-head}
 use Rattle.values.specs.declared.fault.Fault.{Fault}
 use Rattle.values.specs.declared.fault.Fault.TheVariants.{ColumnCount, DuplicateName, Limit, UnknownTable}
 use Rattle.values.specs.declared.value.Ty.{Ty}
@@ -19,6 +19,7 @@ use Rattle.naming.proofs.OutcomeLemmas.{checked-ok, followed-ok}
 use Rattle.refusals.specs.Columns.{AreListed, HasNames, columns_or, schema_listed, table_listed, tables_listed}
 use Rattle.refusals.specs.Written.{HasQuery, IsQueryOf}
 use Rattle.refusals.proofs.EvenLemmas.{IsEvenBody, named_even, tables_even}
+use Rattle.refusals.proofs.KnownLemmas.{tables_all}
 use Rattle.refusals.proofs.NameLemmas.{listed_of, queried_names}
 use Rattle.refusals.proofs.OutcomeLemmas.{Gives, Only, Takes, also_only, checked_only, each_only, followed_only, known_only, ok}
 use Rattle.refusals.proofs.PartLemmas.{Each, weaker}
@@ -89,15 +90,8 @@ module _ (F : Fault → Type 0) (takes : Takes F) where
       let (q, columns, taken, named, same) = item_taken w m i is in
       items_known items m v more (subst (λ (w : With). All IsFineKnown w.known) same (All-cons IsFineKnown _ w.known (within_only q.body) all))
 
-  from_known : (at : ℕ) (tables : List Table) → All IsFineKnown (known_from at tables)
-  from_known at [] = All-nil IsFineKnown
-  from_known at (t ∷ ts) = All-cons IsFineKnown _ (known_from (suc at) ts) (ok _) (from_known (suc at) ts)
-
   pub all_known : (tables : List Table) → All IsFineKnown (known_tables tables)
-  all_known tables =
-      All-append IsFineKnown (known_from 0 tables) (known_schema (codes "sqlite_schema") ∷ known_schema (codes "sqlite_master") ∷ []) (from_known 0 tables)
-      (All-cons IsFineKnown (known_schema (codes "sqlite_schema")) (known_schema (codes "sqlite_master") ∷ []) (ok _)
-      (All-cons IsFineKnown (known_schema (codes "sqlite_master")) [] (ok _) (All-nil IsFineKnown)))
+  all_known tables = tables_all IsFineKnown tables (λ at t _. ok _) (λ name. ok _)
 
   -- a name that is no source is one that nothing is called
   pub known_gives : (known : List Known) (name : Name) → All IsFineKnown known → (All (IsOther name) known → F UnknownTable)

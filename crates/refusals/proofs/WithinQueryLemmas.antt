@@ -16,7 +16,7 @@ use Rattle.naming.specs.Sources.{Condition, Given, Known, Sources, is_same_sourc
 use Rattle.naming.specs.Statement.{CoreData, Inner, Queried, Single, alias_or, answer_at, answers_of, compounded, core_of, exists_inner, from_of, from_tree, given_known, given_query, inner_of, keys_of, no_row, operator_of, over_defined, queried, query_of, simple, single, single_of, source_of, values_inner, with_answers, with_inners, with_windows}
 use Rattle.refusals.proofs.ClashLemmas.{AreWithin, IsWithin}
 use Rattle.refusals.proofs.HandsLemmas.{Hands, IsBelow, also_hands, checked_hands, each_hands, followed_hands, hands_of, no_hands, place_below}
-use Rattle.refusals.proofs.PartLemmas.{Each, first, join, more, none, one, rest, weaker}
+use Rattle.refusals.proofs.PartLemmas.{Each, first, flattened, join, mapped, more, none, one, rest, weaker}
 use Rattle.refusals.proofs.TakenLemmas.{inside}
 use Rattle.refusals.proofs.WithinCoreLemmas.{IsWithinCore, KeyIsThere, core_within, keys_within}
 use Rattle.refusals.proofs.WithinLemmas.{BodyIsWithin, FromIsWithin, InnerIsWithin, IsWithinCall, IsWithinKey, IsWithinSelect, IsWithinWindow, SourceIsWithin, inner_count, input_width}
@@ -97,14 +97,6 @@ module _ (types : List (List Ty)) where
       → FromIsWithin types count (with_answers from queries)
   answers_within count from [] h all = h
   answers_within count from (q ∷ qs) h all = answers_within count (From.with_inner from q) qs (h, first all) (rest all)
-
-  queries_within : (inners : List Inner) → Each IsWithinInner inners → Each (InnerIsWithin types) (map (λ (i : Inner). i.query) inners)
-  queries_within [] all = none
-  queries_within (i ∷ is) all = more i.query (map (λ (i : Inner). i.query) is) (first all).query (queries_within is (rest all))
-
-  besides_within : (inners : List Inner) → Each IsWithinInner inners → Each (BodyIsWithin types) (flat_map (λ (i : Inner). i.beside) inners)
-  besides_within [] all = none
-  besides_within (i ∷ is) all = join i.beside (flat_map (λ (i : Inner). i.beside) is) (first all).beside (besides_within is (rest all))
 
   -- ---- joins
 
@@ -199,14 +191,14 @@ module _ (types : List (List Ty)) where
         let number : length asked ≡ inner_count from = counted asked f.from h.none_inner (answers_count f.from asked) in
         let wide : length f.scope ≡ from_width from = sym h.size ∙ sym (answers_width f.from asked) in
         let whole : FromIsWithin types (inner_count from) from =
-        subst (λ n. FromIsWithin types n from) number (answers_within (length asked) f.from asked h.from (queries_within inners in_inners)) in
+        subst (λ n. FromIsWithin types n from) number (answers_within (length asked) f.from asked h.from (mapped (λ (i : Inner). i.query) (λ i h. h.query) in_inners)) in
         let core : IsWithinCore (inner_count from) (from_width from) c =
         subst (λ n. IsWithinCore n (from_width from) c) number (subst (λ w. IsWithinCore (length asked) w c) wide of) in
         record {
           from = whole;
           core = core;
           beside = join (flat_map (λ (i : Inner). i.beside) inners ++ f.beside) _
-              (join (flat_map (λ (i : Inner). i.beside) inners) f.beside (besides_within inners in_inners) h.beside)
+              (join (flat_map (λ (i : Inner). i.beside) inners) f.beside (flattened (λ (i : Inner). i.beside) (λ i h. h.beside) in_inners) h.beside)
               (one (whole, windows_select (inner_count from) (from_width from) c core));
         }
       where

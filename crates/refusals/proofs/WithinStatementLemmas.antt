@@ -1,9 +1,8 @@
 -- The query of a statement names columns, answers and tables that there are, and so does what is written beside it.
-use Rattle.std.proofs.Common.{◌≡◌, ℕ, suc, ◌+◌, List, [], ◌∷◌, codes, length, map, Some, Result, Ok, All, nat_eq, nat_le, slice_get, arith, ap, refl, sym, subst, ◌∙◌}
+use Rattle.std.proofs.Common.{◌≡◌, ℕ, List, [], ◌∷◌, length, map, Some, Ok, All, nat_eq, nat_le, slice_get, ap, refl, sym, subst, ◌∙◌}
 use Rattle.std.proofs.lemmas.Bool.{eqb-true}
 use Rattle.std.proofs.lemmas.List.{length-map}
-use Rattle.std.proofs.lemmas.List.Elements.{All-append, All-cons, All-nil}
-use Rattle.values.specs.declared.fault.Fault.{Fault}
+use Rattle.std.proofs.lemmas.List.Elements.{All-cons}
 use Rattle.values.specs.declared.fault.Fault.TheVariants.{ColumnCount, DuplicateName, Limit}
 use Rattle.values.specs.declared.value.Ty.{Ty}
 use Rattle.meaning.specs.Query.{Body, Key, Source}
@@ -12,19 +11,15 @@ use Rattle.syntax.specs.StatementTree.{ItemTree, StatementTree}
 use Rattle.syntax.specs.Tree.{Name}
 use Rattle.naming.specs.Sources.{Known}
 use Rattle.naming.specs.Statement.{Named, Queried, With, are_distinct, ended, item_columns, item_of, max_levels, max_sources, named, queried, sources_of_body, with_item, with_items, within}
-use Rattle.naming.specs.Typed.{Table, column_types, known_from, known_schema, known_tables}
+use Rattle.naming.specs.Typed.{Table, column_types, known_schema, known_tables}
 use Rattle.naming.proofs.OutcomeLemmas.{checked-ok}
 use Rattle.refusals.proofs.HandsLemmas.{Hands, also_hands, checked_hands, followed_hands, handed, hands_of}
+use Rattle.refusals.proofs.KnownLemmas.{known_table, tables_all}
+use Rattle.refusals.proofs.OkLemmas.{ok-is}
 use Rattle.refusals.proofs.PartLemmas.{Each, join, more, none}
 use Rattle.refusals.proofs.WithinLemmas.{BodyIsWithin, IsWithinKey}
 use Rattle.refusals.proofs.WithinQueryLemmas.{IsWithinKnown, IsWithinQuery, IsWithinSource, queried_within}
 use Rattle.refusals.proofs.WithLemmas.{no_items}
-
-abbrev the_source : Source → Result Source Fault
-the_source source = Ok source
-
-source_same : (a b : Source) → the_source a ≡ Ok b → a ≡ b
-source_same a b e = cc
 
 columns_length : (written names columns : List Name) → item_columns written names ≡ Ok columns → length columns ≡ length names
 columns_length [] names columns e = let same : names ≡ columns = cc in ap length (sym same)
@@ -54,7 +49,7 @@ module _ (types : List (List Ty)) where
       here : (source : Source) → within q.body ≡ Ok source → IsWithinSource types (length columns) source
       here source d =
           let (few, is) = checked-ok (nat_le (sources_of_body q.body) max_sources) Limit (Ok (Source.derived q.body)) source d in
-          subst (IsWithinSource types (length columns)) (source_same (Source.derived q.body) source is)
+          subst (IsWithinSource types (length columns)) (ok-is (Source.derived q.body) source is)
           (record { is = of.body; width = columns_length item.columns q.names columns e ∙ of.names })
 
   item_within : (w : With) (item : ItemTree) → IsWithinWith w → Hands IsWithinWith (item_of w item)
@@ -85,40 +80,22 @@ module _ (types : List (List Ty)) where
       followed_hands (queried max_levels w.known tree.query tree.order) (ended tree w.beside)
       (queried_within types max_levels w.known h.known tree.query tree.order) (λ q of. ended_within tree w.beside q h.beside of)))
 
-  -- the tables from a place on
-  from_tables : (at : ℕ) (ts : List Table) → ((i : ℕ) → slice_get types (at + i) ≡ slice_get (column_types ts) i)
-      → All (IsWithinKnown types) (known_from at ts)
-  from_tables at [] same = All-nil (IsWithinKnown types)
-  from_tables at (t ∷ ts) same =
-      All-cons (IsWithinKnown types) _ (known_from (suc at) ts) (record { is = here })
-      (from_tables (suc at) ts (λ i. subst (λ k. slice_get types k ≡ slice_get (column_types ts) i) (step i) (same (suc i))))
-    where
-      step : (i : ℕ) → at + suc i ≡ suc at + i
-      step i = omega arith
-
-      here : (source : Source) → the_source (Source.table at (length t.columns)) ≡ Ok source
-          → IsWithinSource types (length (map (λ c. c.name) t.columns)) source
-      here source e =
-          let place : at + 0 ≡ at = omega arith in
-          let there : slice_get types at ≡ Some (map (λ c. c.ty) t.columns) = ap (slice_get types) (sym place) ∙ same 0 in
-          subst (IsWithinSource types (length (map (λ c. c.name) t.columns))) (source_same (Source.table at (length t.columns)) source e)
-          (record { is = (map (λ c. c.ty) t.columns, there); width = length-map t.columns (λ c. c.name) })
-
 tables_within : (tables : List Table) → All (IsWithinKnown (column_types tables)) (known_tables tables)
-tables_within tables =
-    let P : Known → Type 0 = IsWithinKnown (column_types tables) in
-    All-append P (known_from 0 tables) (known_schema (codes "sqlite_schema") ∷ known_schema (codes "sqlite_master") ∷ [])
-    (from_tables (column_types tables) 0 tables (λ i. ap (slice_get (column_types tables)) (zero_plus i)))
-    (All-cons P (known_schema (codes "sqlite_schema")) (known_schema (codes "sqlite_master") ∷ []) (schema_within (codes "sqlite_schema"))
-    (All-cons P (known_schema (codes "sqlite_master")) [] (schema_within (codes "sqlite_master")) (All-nil P)))
+tables_within tables = tables_all (IsWithinKnown types) tables table_within schema_within
   where
-    zero_plus : (i : ℕ) → 0 + i ≡ i
-    zero_plus i = omega arith
+    types : List (List Ty)
+    types = column_types tables
 
-    schema_within : (name : Name) → IsWithinKnown (column_types tables) (known_schema name)
-    schema_within name = record {
+    table_within : (at : ℕ) (t : Table) → slice_get types at ≡ Some (map (λ c. c.ty) t.columns) → IsWithinKnown types (known_table at t)
+    table_within at t there = record {
       is = λ source e.
-          subst (IsWithinSource (column_types tables) 5) (source_same Source.schema source e) (record { is = tt; width = refl });
+          subst (IsWithinSource types (length (map (λ c. c.name) t.columns))) (ok-is (Source.table at (length t.columns)) source e)
+          (record { is = (map (λ c. c.ty) t.columns, there); width = length-map t.columns (λ c. c.name) });
+    }
+
+    schema_within : (name : Name) → IsWithinKnown types (known_schema name)
+    schema_within name = record {
+      is = λ source e. subst (IsWithinSource types 5) (ok-is Source.schema source e) (record { is = tt; width = refl });
     }
 
 pub statement_within : (tables : List Table) (tree : StatementTree) (n : Named) → named (known_tables tables) tree ≡ Ok n
