@@ -1,5 +1,5 @@
 -- Each once, where it is first.
-use Rattle.std.proofs.Common.{◌≡◌, ◌⊎◌, ◌<◌, ◌+◌, Bool, ℕ, List, [], ◌∷◌, map, drop, length, get_or, Option, Some, None, Result, Ok, Err, refl, ap, sym, inl, inr, ◌∙◌}
+use Rattle.std.proofs.Common.{◌≡◌, ◌⊎◌, ◌<◌, ◌+◌, Bool, ℕ, List, ◌∷◌, map, drop, length, get_or, Option, Some, None, Result, Ok, Err, refl, ap, sym, inl, inr, ◌∙◌}
 use Rattle.std.proofs.lemmas.List.{at_drop_more}
 use Rattle.std.specs.List.{cons_option, filter_map}
 use Rattle.values.specs.declared.fault.Fault.{Fault}

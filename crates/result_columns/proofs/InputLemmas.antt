@@ -1,5 +1,5 @@
 -- Columns of FROM, over the rows that result columns speak of.
-use Rattle.std.proofs.Common.{◌≡◌, ◌==◌, Bool, true, false, List, [], ◌∷◌, Result, Ok, None, length, map, refl, ap, sym, ◌∙◌}
+use Rattle.std.proofs.Common.{◌≡◌, ◌==◌, false, List, [], ◌∷◌, Result, Ok, None, length, map, refl, ap}
 use Rattle.values.specs.declared.fault.Fault.{Fault}
 use Rattle.naming.specs.Outcome.{both, each, followed}
 use Rattle.naming.specs.Statement.{ResultColumn, some_of}

@@ -1,4 +1,4 @@
-use Rattle.std.proofs.Common.{rules, ◌∙◌, SFits, ap, get_or, of_z, pos, sym, to_z, w64}
+use Rattle.std.proofs.Common.{rules, ◌∙◌, SFits, ap, get_or, pos, sym, to_z, w64}
 use Rattle.std.proofs.lemmas.Int.{to_z-of_z}
 use Rattle.std.proofs.lemmas.Option.{slice_get-get_or}
 use Rattle.entry_batches.specs.declared.batch.Slot.{Slot}
