@@ -1,5 +1,6 @@
 pub mod RowLemmas
 pub mod MatchLemmas
+pub mod WantedLemmas
 pub mod NestLemmas
 pub mod TreeLemmas
 pub mod StepLemmas

@@ -4,9 +4,10 @@
 //! none of overflow chains where no cell has one; and that over any source of bytes it returns, falls by a measure and tells of a
 //! failed read.
 //!
-//! The modules, in the order in which data passes them: `nest` (what is read anew behind the rows before it), `flagged` (the rows of
-//! what a RIGHT or FULL JOIN puts there), `gathering` (groups, and how many of them were given), `windowing` (rows with the values
-//! of windows, and which of them are left), `tree` (a plan's sources, conditions, groups and windows) and `laws` of the definitions.
+//! The modules, in the order in which data passes them: `wanted` (kept rows that are looked up by a value), `nest` (what is read
+//! anew behind the rows before it), `flagged` (the rows of what a RIGHT or FULL JOIN puts there), `gathering` (groups, and how many
+//! of them were given), `windowing` (rows with the values of windows, and which of them are left), `tree` (a plan's sources,
+//! conditions, groups and windows) and `laws` of the definitions.
 #![tactic(auto)]
 
 mod flagged;
@@ -14,6 +15,7 @@ mod gathering;
 pub mod laws;
 mod nest;
 mod tree;
+mod wanted;
 mod windowing;
 
 pub use gathering::Gathering;
