@@ -1,7 +1,8 @@
 #!/usr/bin/env python3
 """Interrupts the program: each of its reads fails in turn, each byte of its output is the last that is taken, and the image is
 another from each read on. It calls the C library's pread and write, which devices.c stands before. How many reads there are
-is what the documents promise: the header, each page once at opening and each page of the answer's table once more.
+is what the documents promise: the header, each page once at opening and each page of the answer's table once more, and no more
+of them than the answer wants.
 
 Run from any folder. The last line is 'N passed, M failed'.
 """
@@ -66,13 +67,17 @@ class Interrupter:
         is_well = answer.status == 1 and answer.err in lines and begins
         self.tally.add(f"{case.what}, {what}", "" if is_well else f"{answer}; wanted {lines}")
 
-    def try_reads(self, case: Case) -> None:
-        """Each read fails in turn, alone or with all behind it; and how many there are."""
+    def try_whole(self, case: Case) -> None:
+        """No read fails: the answer, and how many reads there are."""
         answer, reads = self.run(case)
         problem = "" if answer == case.whole() else str(answer)
         wanted = case.opening + case.running
         self.tally.add(f"{case.what}, whole", problem or ("" if reads == wanted else f"{reads} reads, not {wanted}"))
-        for read in range(1, wanted + 1):
+
+    def try_reads(self, case: Case) -> None:
+        """Each read fails in turn, alone or with all behind it; and how many there are."""
+        self.try_whole(case)
+        for read in range(1, case.opening + case.running + 1):
             answer, met = self.run(case, READ_FAILS=read)
             self.stopped(f"read {read} fails", case, answer, READ_FAILED)
             self.tally.add(f"{case.what}, reads when read {read} fails", "" if met == read else f"{met} reads")
@@ -107,6 +112,24 @@ def small() -> tuple[Case, Writer, Tree]:
     return Case("60 rows", bytes(writer.image()), "SELECT a FROM t", lines, len(writer.pages) + 1, pages), writer, tree
 
 
+def computed(case: Case) -> list[Case]:
+    """Statements over the sixty rows, with what they answer, and how often they read the table's pages: conditions, expressions, an
+    order, groups, a compound, a join and a query in a query, each with rows that are computed; and such that read few pages or none."""
+    once, depth = case.running, 4
+    statements = (
+        ("SELECT a * 2, b || '!' FROM t WHERE a % 20 = 3", "6,'row!'\n46,'row!'\n86,'row!'\n", once),
+        ("SELECT DISTINCT a % 4 FROM t ORDER BY 1 DESC LIMIT 2 OFFSET 1", "2\n1\n", once),
+        ("SELECT a % 2, count(*), sum(a) FROM t GROUP BY a % 2 HAVING sum(a) > 900", "0,30,930\n", once),
+        ("SELECT a FROM t WHERE a < 3 UNION SELECT 7 ORDER BY 1", "1\n2\n7\n", once),
+        ("SELECT x.a, y.a FROM (SELECT 4 AS a) AS x FULL JOIN t AS y ON x.a = y.a LIMIT 2", "4,4\nNULL,1\n", once),
+        ("SELECT a FROM t WHERE a IN (SELECT a + 58 FROM t)", "59\n60\n", 2 * once),
+        ("SELECT count(*) OVER (), a FROM t WHERE a > 58", "2,59\n2,60\n", once),
+        ("SELECT a FROM t LIMIT 1", "1\n", depth),
+        ("SELECT a FROM t WHERE a LIMIT 3 OFFSET 2", "3\n4\n5\n", depth + 1),
+    )
+    return [Case(f"60 rows, {sql}", case.image, sql, lines, case.opening, running) for sql, lines, running in statements]
+
+
 def chains() -> Case:
     """Three rows, two of which have chains of three pages and of one."""
     writer, tree, lines = long_values("BLOB", [2000, 477, 985])
@@ -128,7 +151,9 @@ def try_rows(interrupter: Interrupter) -> None:
     """A table of some levels."""
     case, writer, tree = small()
     interrupter.path.write_bytes(case.image)
-    interrupter.try_reads(case)
+    for each in (case, *computed(case)):
+        interrupter.try_reads(each)
+    interrupter.try_whole(Case("60 rows, none asked for", case.image, "SELECT a FROM t WHERE 0", "", case.opening, 0))
     image, root, leaf = case.image, tree.root, tree.leaves[7]
     cell = cell_offset(image, leaf, 2)
     further, _ = numbers(1000, 60, leaf=3, fan=2)
@@ -167,7 +192,8 @@ def try_outputs(interrupter: Interrupter) -> None:
     lines = "".join(f"{number}\n" for number in range(1, 13))
     case = Case("12 rows", bytes(writer.image()), "SELECT a FROM t", lines, len(writer.pages) + 1, 4)
     interrupter.path.write_bytes(case.image)
-    interrupter.try_writes(case)
+    for sql, lines in ((case.sql, lines), ("SELECT -a, b || 's' FROM t WHERE a < 4", "-1,'rows'\n-2,'rows'\n-3,'rows'\n")):
+        interrupter.try_writes(Case(f"12 rows, {sql}", case.image, sql, lines, case.opening, case.running))
     # Behind a failed write nothing is read: the output is gathered, and that of these rows fills the memory for it often.
     writer, tree, lines = long_values("TEXT", [400] * 1000, fan=20)
     running = sum(len(level) for level in tree.levels)

@@ -19,9 +19,18 @@ from random import Random
 from oracle import Reader, header_line
 from program import Run, Tally, fault_line, rows_of, run
 from recipes import fill, make_file, random_text
+from statements import line
 
 SOURCE = Path(__file__).resolve().parent / "refuse.c"
 NO_MEMORY = fault_line(28)
+# Statements whose rows are computed, and leave no choice: values that are made, an order, groups, windows, joins and compounds.
+COMPUTED = (
+    "SELECT DISTINCT a || '!', length(a) FROM item ORDER BY 2 DESC, 1 LIMIT 2 OFFSET 1",
+    "SELECT c0 % 3, count(*), sum(c1), min(c2) FROM sale GROUP BY c0 % 3 HAVING count(*) > 2 ORDER BY 1",
+    "SELECT id FROM item UNION SELECT c0 FROM sale WHERE c0 < 9 EXCEPT SELECT 2 ORDER BY id DESC",
+    "SELECT id, sum(id) OVER (ORDER BY id ROWS 1 PRECEDING), lag(hex(b)) OVER (ORDER BY id) FROM item WHERE length(b) < 99 ORDER BY id",
+    "SELECT item.id, c0 FROM item FULL JOIN sale ON c0 = id * 2 WHERE id IS NOT NULL OR c0 > 87 ORDER BY c0, id",
+)
 
 
 def build_library(folder: Path) -> Path:
@@ -85,6 +94,10 @@ def try_memory(tally: Tally, folder: Path) -> None:
     try_words(tally, library, folder, ["--header", "--cache", "1", path, "SELECT c7, c0 FROM sale"], Run(0, some, b""))
     nested = "WITH w AS (SELECT id, a FROM item WHERE id IN (SELECT c0 FROM sale WHERE c0 < 3)) SELECT id FROM w WHERE EXISTS (SELECT b FROM item)"
     try_words(tally, library, folder, [path, nested], Run(0, b"0\n1\n2\n", b""))
+    with sqlite3.connect(path) as connection:
+        for sql in COMPUTED:
+            rows = b"".join(map(line, connection.execute(sql)))
+            try_words(tally, library, folder, [path, sql], Run(0, rows, b""))
     try_words(tally, library, folder, [path, "SELECT a FROM nowhere"], Run(1, b"", fault_line(31)))
     for words in (["--help"], ["--cache", "0", path, "SELECT * FROM item"]):
         try_words(tally, library, folder, words, run(*words))

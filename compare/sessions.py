@@ -2,7 +2,8 @@
 """Steps three statements of a session over one engine that keeps one page, in schedules that are written here: each gets the replies
 that it gets alone, step by step and where all steps are made by one call. Each read of a schedule fails in turn: the statement that
 was stepped says so and has ended, and the others are whole. Each allocation is refused in turn: a reply says so, or none does. A
-statement that gathers its rows is opened, stepped once and closed 2,000 times within the memory of one run.
+statement that gathers its rows is opened, stepped once and closed 2,000 times within the memory of 400 times, and one that has ended
+keeps none of it, though it isn't closed.
 
 Run from any folder. The last line is 'N passed, M failed'.
 """
@@ -10,6 +11,7 @@ Run from any folder. The last line is 'N passed, M failed'.
 from __future__ import annotations
 
 import os
+import re
 import sqlite3
 import subprocess
 import sys
@@ -28,6 +30,8 @@ PROGRAM = CRATE / "out" / "stepped_statements"
 
 # More reads than any schedule makes.
 MOST_READS = 5000
+# How many bytes more a run may have where memory is given back: less than a third of what one statement gathers.
+MORE_MEMORY = 256 << 10
 
 READ_FAILED, NO_MEMORY, FINISHED = (fault_line(number).decode() for number in (27, 28, 53))
 NO_STATEMENT, TAKEN = fault_line(54).decode(), fault_line(55).decode()
@@ -192,12 +196,29 @@ def try_memory(tally: Tally, path: Path, folder: Path, schedule: Schedule) -> No
         at += 1
 
 
+def peak_of(path: Path, lines: list[str]) -> int:
+    """The most memory that a run which makes these steps had when it wrote its replies, of which a pipe holds back a page."""
+    steps, peak = path.with_suffix(".steps"), 0
+    steps.write_text("".join(f"{line}\n" for line in lines))
+    with open(steps) as given, subprocess.Popen([str(PROGRAM), str(path)], stdin=given, stdout=subprocess.PIPE, pipesize=4096) as child:
+        while child.stdout.read1():
+            told = re.search(r"VmHWM:\s+([0-9]+) kB", Path(f"/proc/{child.pid}/status").read_text())
+            peak = max(peak, int(told[1]) * 1024 if told else 0)
+    return peak
+
+
 def try_again(tally: Tally, path: Path) -> None:
-    """A statement that gathers its rows, many times in one slot."""
-    steps = ["open\t3\tSELECT pad, id FROM big ORDER BY id", "next\t3", "close\t3"]
+    """A statement that gathers its rows, many times in one slot, and one in each slot that has ended and isn't closed."""
+    steps = ["open\t3\tSELECT id FROM big ORDER BY pad, id", "next\t3", "close\t3"]
     status, replies, errors = run(path, steps * 2000)
-    wanted = ["opened pad id\n", "'" + "x" * 380 + "',1\n", "closed\n"] * 2000
-    tally.add("2,000 times", differing(wanted, replies) or (errors if status else ""))
+    tally.add("2,000 times", differing(["opened id\n", "1\n", "closed\n"] * 2000, replies) or (errors if status else ""))
+    few, many = peak_of(path, steps * 400), peak_of(path, steps * 2000)
+    tally.add("memory of 2,000 times", "" if many < few + MORE_MEMORY else f"{many} bytes, {few} of 400 times")
+    gathered = "SELECT count(*) FROM (SELECT DISTINCT pad, id FROM big)"
+    ended = [[f"open\t{slot}\t{gathered}", f"next\t{slot}", f"next\t{slot}"] for slot in range(16)]
+    behind = ["next\t0"] * 500
+    one, each = peak_of(path, ended[0] + behind), peak_of(path, [step for steps in ended for step in steps] + behind)
+    tally.add("memory of ended statements", "" if each < one + MORE_MEMORY else f"{each} bytes, {one} of one")
 
 
 def build() -> None:

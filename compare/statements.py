@@ -2,7 +2,7 @@
 """Compares what the program answers to random statements over random tables with what SQLite answers: expressions, WHERE,
 GROUP BY, HAVING, aggregates with FILTER, DISTINCT, ORDER BY, LIMIT and OFFSET over one table, with rowids or without, over tables
 that are joined by joins of each kind, or over none, some over the table of the schema's rows; and several of these that UNION,
-UNION ALL, INTERSECT and EXCEPT join. An operation or a total that leaves 64 bits is `fault 50: Overflow`, where SQLite goes on with a
+UNION ALL, INTERSECT and EXCEPT join. A third of them have one table at most and no groups, and a third groups or operators. An operation or a total that leaves 64 bits is `fault 50: Overflow`, where SQLite goes on with a
 floating-point number or stops; such statements are asked for that fault, or for any answer where it isn't reached.
 
 Run from any folder. The last line is 'N passed, M failed'. `--seed S --only N` makes one statement anew and prints it.
@@ -15,6 +15,7 @@ import sys
 from collections import Counter
 from collections.abc import Callable
 from dataclasses import dataclass
+from enum import Enum
 from pathlib import Path
 from random import Random
 
@@ -24,8 +25,8 @@ from recipes import fill, random_value
 from tried import random_file, read_words, try_statements
 
 OVERFLOW = fault_line(50)
-# How many statements are tried, and how many where few are asked for.
-STATEMENTS, FEW = 3000, 300
+# How many statements are tried, a third of each form, and how many where few are asked for.
+STATEMENTS, FEW = 9000, 450
 # The names of the table of the schema's rows, and its columns with their types.
 SCHEMA_NAMES = ("sqlite_schema", "sqlite_master", "SQLite_Schema")
 SCHEMA_KINDS = {"type": "TEXT", "name": "TEXT", "tbl_name": "TEXT", "rootpage": "INT", "sql": "TEXT"}
@@ -36,6 +37,14 @@ JOINS = (
 )
 # What joins SELECTs.
 OPERATORS = ("UNION", "UNION ALL", "INTERSECT", "EXCEPT", "union  all", "except")
+
+
+class Form(Enum):
+    """What a statement has: one SELECT over one table at most, without groups; anything; or groups, or several SELECTs."""
+
+    PLAIN = 0
+    ANY = 1
+    GATHERED = 2
 
 
 def literal(value: int | str | bytes | float | None) -> bytes:
@@ -294,15 +303,18 @@ class Core:
         return risky + ([f"{operation} AS x{self.rows}" for operation in self.shown.maker.risky] if self.is_grouped else [])
 
 
-def random_core(rng: Random, tables: dict[str, dict[str, str]], kinds: list[str] | None = None, queries: Queries = ()) -> Core:
+def random_core(
+    rng: Random, tables: dict[str, dict[str, str]], kinds: list[str] | None = None, queries: Queries = (), form: Form = Form.ANY
+) -> Core:
     """A SELECT over one of these tables, over several that are joined, or over none, with result columns of these types, if any are
     given, whose expressions may ask these queries."""
-    form, table = rng.random(), rng.choice(list(tables))
-    if form < 0.1:
+    share, table = rng.random(), rng.choice(list(tables))
+    if share < 0.1:
         source = no_source(rng, queries)
     else:
-        source = joined_source(rng, tables, queries) if form < 0.4 else one_source(rng, table, tables[table], queries)
-    is_grouped = rng.random() < (0.25 if kinds else 0.4)
+        is_joined = share < 0.4 and form is not Form.PLAIN
+        source = joined_source(rng, tables, queries) if is_joined else one_source(rng, table, tables[table], queries)
+    is_grouped = form is Form.GATHERED or (form is Form.ANY and rng.random() < (0.25 if kinds else 0.4))
     if is_grouped:
         shown = group_columns(rng, source, kinds)
     else:
@@ -322,9 +334,9 @@ def random_limit(rng: Random) -> tuple[int | None, int]:
     return limit, rng.randint(-2, 6) if rng.random() < 0.5 else 0
 
 
-def random_alone(rng: Random, tables: dict[str, dict[str, str]], queries: Queries) -> Statement:
+def random_alone(rng: Random, tables: dict[str, dict[str, str]], queries: Queries, form: Form) -> Statement:
     """One SELECT."""
-    core = random_core(rng, tables, queries=queries)
+    core = random_core(rng, tables, queries=queries, form=form)
     is_ordered, text = rng.random() < 0.5, core.text
     if is_ordered:
         text += random_keys(rng, core.shown.maker, core.shown.width, is_final=True, is_distinct=core.is_distinct)
@@ -347,9 +359,10 @@ def random_compound(rng: Random, tables: dict[str, dict[str, str]], queries: Que
     return Statement(text, tuple(risky for core in cores for risky in core.risky()), is_ordered, limit, offset)
 
 
-def random_statement(rng: Random, tables: dict[str, dict[str, str]], queries: Queries = ()) -> Statement:
+def random_statement(rng: Random, tables: dict[str, dict[str, str]], queries: Queries = (), form: Form = Form.ANY) -> Statement:
     """A statement of one SELECT, or of several that are joined, whose expressions may ask these queries."""
-    return random_compound(rng, tables, queries) if rng.random() < 0.25 else random_alone(rng, tables, queries)
+    shares = {Form.PLAIN: 0.0, Form.ANY: 0.25, Form.GATHERED: 0.5}
+    return random_compound(rng, tables, queries) if rng.random() < shares[form] else random_alone(rng, tables, queries, form)
 
 
 def leaves_64_bits(connection: sqlite3.Connection, statement: Statement) -> bool:
@@ -397,7 +410,7 @@ def ask_each(
         asked, told = make(number, tables)
         if is_shown:
             print(asked.whole(), told.whole(), sep="\n")
-        cache = ("--cache", "1") if number % 3 == 0 else ()
+        cache = ("--cache", "1") if number % 5 == 0 else ()
         answer = run(*cache, path, asked.whole())
         problem = "" if is_too_large(asked.whole(), answer) else answer_problem(connection, told, answer)
         tally.add(f"--seed {seed} --only {number}: {asked.whole()}", problem)
@@ -415,7 +428,7 @@ def try_file(tally: Tally, path: Path, seed: int, numbers: range, is_shown: bool
     def make(number: int, tables: dict[str, dict[str, str]]) -> tuple[Statement, Statement]:
         rng = Random(f"{seed} {number}")
         known = {**tables, rng.choice(SCHEMA_NAMES): SCHEMA_KINDS} if rng.random() < 0.4 else tables
-        statement = random_statement(rng, known)
+        statement = random_statement(rng, known, form=Form(number % len(Form)))
         return statement, statement
 
     ask_each(tally, path, seed, numbers, is_shown, make, random_table)
