@@ -38,6 +38,8 @@ mod CoreToldLemmas
 pub mod UnknownSourceLemmas
 pub mod RepeatedLemmas
 pub mod UnknownColumnLemmas
+mod TightLemmas
+pub mod SpeltLemmas
 pub mod UnevenLemmas
 mod OddsLemmas
 mod MistypedLemmas

@@ -3,6 +3,7 @@ pub mod Written
 pub mod Columns
 pub mod UnknownSources
 pub mod UnknownColumns
+pub mod Spelt
 pub mod RepeatedNames
 pub mod UnevenColumns
 pub mod Clashes

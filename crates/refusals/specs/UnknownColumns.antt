@@ -96,7 +96,8 @@ pub data IsTwofold (tables : List Table) (items : List ItemTree) (query : QueryT
 abbrev pub HasAmbiguousColumn : List Table → StatementTree → Type 0
 HasAmbiguousColumn tables tree = HasQueryWith tree (IsTwofold tables)
 
--- HAVING stands somewhere without GROUP BY: no text spells such a statement, and it isn't looked at where there is no aggregate either
+-- HAVING stands somewhere without GROUP BY: no tokens spell such a statement (Spelt.antt), and it isn't looked at where there is no
+-- aggregate either
 abbrev pub HasLooseHaving : StatementTree → Type 0
 HasLooseHaving tree = HasSelectWith tree (λ items core by. IsLooseHaving core)
 

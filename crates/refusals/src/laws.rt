@@ -4,6 +4,7 @@ ghost use Rattle.refusals.specs.Mismatches.{MistypedIsMismatch, MistypedIsRefuse
 ghost use Rattle.refusals.specs.Reasons.{RefusalsHaveReasons};
 ghost use Rattle.refusals.specs.Refusals.{RefusalsAreNumbered};
 ghost use Rattle.refusals.specs.RepeatedNames.{RepeatedIsRefused};
+ghost use Rattle.refusals.specs.Spelt.{SpeltAmbiguousColumnIsRefused, SpeltHavingHasGroups, SpeltUnknownColumnIsRefused};
 ghost use Rattle.refusals.specs.TypeExamples.{ClashesAreFound, OwnTypesAreLeast, PlacesMisfit};
 ghost use Rattle.refusals.specs.UnevenColumns.{UnevenIsRefused};
 ghost use Rattle.refusals.specs.UnknownColumns.{AmbiguousColumnIsRefused, UnknownColumnIsRefused};
@@ -40,6 +41,16 @@ pub fn reasons_refuse()
     names_are_columns();
     names_are_distinct();
     typed_is_taken();
+}
+
+/// In a statement that tokens spell HAVING stands behind GROUP BY alone, however deep, so that one with an unknown column or an
+/// ambiguous name is no query.
+pub fn spelt_statements_are_refused()
+    ensures having { SpeltHavingHasGroups }
+    ensures columns { SpeltUnknownColumnIsRefused }
+    ensures ambiguous { SpeltAmbiguousColumnIsRefused }
+{
+    names_are_columns();
 }
 
 /// Statements over two tables in which it is written, and such in which nothing of it is.
