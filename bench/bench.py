@@ -10,6 +10,7 @@ read with each piece of its output. Run it on a machine that is else idle.
 from __future__ import annotations
 
 import argparse
+import math
 import re
 import shutil
 import subprocess
@@ -24,7 +25,7 @@ sys.path.insert(0, str(TOP / "compare"))
 
 from costs import Command, Cost, measure_all  # noqa: E402
 from lookups import build_table_rows, lookup_lines  # noqa: E402
-from measured import INDEXED_TARGET, INDEXES, JOINS, STATEMENTS, Statement  # noqa: E402
+from measured import GATHERED, INDEXED_TARGET, INDEXES, JOINS, STATEMENTS, WINDOWS, Statement  # noqa: E402
 from program import PROGRAM, build, give_up  # noqa: E402
 from reading import reading_lines  # noqa: E402
 
@@ -153,6 +154,12 @@ def indexed_lines(costs: dict[str, Cost]) -> list[str]:
     ]
 
 
+def indexed_memory(path: Path) -> list[str]:
+    """The lines that tell the peak of memory where the table has two indexes."""
+    own = peak_of(Command("all", seleq(path, "SELECT * FROM item")))
+    return [f"Where the table has two indexes, seleq has at most {own / 2**20:.1f} MB: {met(own <= MEMORY_TARGET)}."]
+
+
 def memory_lines(path: Path) -> list[str]:
     """The lines that tell the peaks of memory on one file."""
     wanted = ("one", "all", "sqlite all")
@@ -162,6 +169,16 @@ def memory_lines(path: Path) -> list[str]:
         f"seleq has at most {own / 2**20:.1f} MB, sqlite3 {peaks['sqlite all'] / 2**20:.1f} MB. The target is 16 MB, the cache",
         f"and twice the longest payload, {MEMORY_TARGET / 2**20:.1f} MB: {met(own <= MEMORY_TARGET)}.",
     ]
+
+
+def gathered_lines(path: Path) -> list[str]:
+    """The lines of the table of what statements have in memory that keep rows."""
+    lines = ["", "| What | seleq, MB | sqlite3, MB |", "|---|---|---|"]
+    for it in [*STATEMENTS, *JOINS]:
+        if it.what in GATHERED:
+            own, other = (peak_of(command) / 2**20 for command in statement_commands(path, [it]))
+            lines.append(f"| {it.what} | {own:.1f} | {other:.1f} |")
+    return lines
 
 
 def growth_lines(sizes: list[int], all_costs: list[dict[str, Cost]]) -> list[str]:
@@ -180,6 +197,18 @@ def growth_lines(sizes: list[int], all_costs: list[dict[str, Cost]]) -> list[str
         f"From the first table to the third all columns take {growth:.1f} times as much more as from the first to the",
         f"second, with {by_rows:.1f} times as many more rows; the target is at most {GROWTH_TARGET} times that: {linear}.",
     ]
+
+
+def window_growth_lines(sizes: list[int], all_costs: list[dict[str, Cost]]) -> list[str]:
+    """The lines of the table of how windows grow with the rows: in `n log n`, or by less."""
+    lines = [f"| What | {' | '.join(f'{rows} rows, s' for rows in sizes)} | Beside `n log n` |", "|---|" + "---|" * (len(sizes) + 1)]
+    by_rows = sizes[-1] * math.log(sizes[-1]) / (sizes[-2] * math.log(sizes[-2]))
+    for it in WINDOWS:
+        own = [parts_of(costs, it)[0] for costs in all_costs]
+        growth = own[-1] / max(own[-2], 1e-6) / by_rows
+        wanted = f"{growth:.2f} times that growth; at most {GROWTH_TARGET}: {met(growth <= GROWTH_TARGET)}"
+        lines.append(f"| {it.what} | {' | '.join(f'{time:.4f}' for time in own)} | {wanted} |")
+    return lines
 
 
 def report(
@@ -206,6 +235,7 @@ def report(
         "\n".join(memory),
         "## Growth",
         "\n".join(growth_lines(sizes, all_costs)),
+        "\n".join(window_growth_lines(sizes, all_costs)),
         "## Reading a text",
         "Instructions for each byte of a text, those for a short one taken off, as `valgrind` counts them.",
         "\n".join(reading_lines()),
@@ -232,12 +262,13 @@ def main() -> int:
         for rows in sizes:
             path = Path(folder) / f"{rows}.db"
             make_table(path, rows)
-            more = statement_commands(path, STATEMENTS) if rows == sizes[-1] else []
+            more = statement_commands(path, STATEMENTS if rows == sizes[-1] else WINDOWS)
             all_costs.append(measure_all([*commands_for(path), *more], words.runs))
         # A join takes long, and is run once.
         all_costs[-1] |= measure_all(statement_commands(path, JOINS), 1)
-        memory = memory_lines(path)
+        memory, gathered = memory_lines(path), gathered_lines(path)
         subprocess.run(["sqlite3", "-bail", str(path), INDEXES], check=True)
+        memory += [*indexed_memory(path), *gathered]
         indexed = indexed_lines(measure_all(indexed_commands(path), words.runs))
         lookups = lookup_lines(path, Path(folder), CACHE, words.runs)
     words.out.write_text(report(sizes, all_costs, indexed, lookups, memory, words.runs))

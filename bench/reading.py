@@ -27,7 +27,7 @@ def padded(front: str, item: str, behind: str, length: int) -> str:
     return front + item * (room // len(item)) + " " * (room % len(item)) + behind
 
 
-# How deep tables are derived from one another.
+# How deep tables are derived from one another, and how many SELECTs stand in a chain: each is a level, of which there are at most 100.
 DEPTH = 90
 
 # What is read: a front, a middle that is repeated as often as there is room, and an end. There are too many result columns
@@ -38,25 +38,34 @@ FORMS = {
     "texts with quotes": ("SELECT id FROM item WHERE id IN ('a'", ",'it''s'", ")"),
     "comments": ("SELECT id", "/* a */", " FROM item"),
     "names and functions": ("SELECT id FROM item WHERE id IN (1", ",abs(item.id)", ")"),
-    "a chain of UNION ALL": ("SELECT id FROM item", " UNION ALL SELECT id FROM item", ""),
     "a chain of JOIN": ("SELECT id FROM item", " JOIN item ON a = b", ""),
 }
 
 
+def listed(front: str, length: int) -> str:
+    """A SELECT of about so many bytes with a list, which is one level however long it is."""
+    return f"{front} IN (1{',1' * max(0, (length - len(front) - len(' IN (1)')) // 2)})"
+
+
 def derived(length: int) -> str:
-    """A text of so many bytes of tables that are derived from one another, each with as many conditions as there is room for."""
-    level = length // DEPTH - len("SELECT a FROM (SELECT a) AS t WHERE a")
-    condition = " AND a" * (level // len(" AND a"))
+    """A text of so many bytes of tables that are derived from one another, each with as long a list as there is room for."""
     text = "SELECT a"
     for _ in range(DEPTH - 1):
-        text = f"SELECT a FROM ({text}) AS t WHERE a{condition}"
+        text = f"SELECT a FROM ({text}) AS t WHERE {listed('a', length // DEPTH - len('SELECT a FROM () AS t WHERE '))}"
     return text.ljust(length)
+
+
+def chained(length: int) -> str:
+    """A text of so many bytes of SELECTs that UNION ALL joins, each with as long a list as there is room for."""
+    arm = listed("SELECT id FROM item WHERE id", length // DEPTH - len(" UNION ALL "))
+    return " UNION ALL ".join([arm] * DEPTH).ljust(length)
 
 
 def texts() -> Iterator[tuple[str, list[str]]]:
     """What is read, and the texts of growing length."""
     for what, (front, item, behind) in FORMS.items():
         yield what, [padded(front, item, behind, length) for length in LENGTHS]
+    yield "a chain of UNION ALL", [chained(length) for length in LENGTHS]
     yield "tables derived from tables", [derived(length) for length in LENGTHS]
 
 
