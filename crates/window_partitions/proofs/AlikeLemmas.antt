@@ -5,7 +5,7 @@ use Rattle.std.specs.List.Sorted.{IsStableByKey, ties}
 use Rattle.std.specs.Ordering.{is_eq, is_lt, ordering_reverse, ordering_then}
 use Rattle.std.proofs.lemmas.List.{get_or-map, length-map}
 use Rattle.std.proofs.lemmas.List.Elements.{All-map, All-tail}
-use Rattle.std.proofs.lemmas.List.Sorted.{All-permutation}
+use Rattle.std.proofs.lemmas.List.Sorted.{All-permutation, length_permutation}
 use Rattle.values.specs.Datum.{datum_of}
 use Rattle.values.specs.Order.{row_cmp}
 use Rattle.values.specs.Row.{Row}
@@ -100,6 +100,11 @@ module _ (ds : List Direction) (K : Row → Row) where
 pub rows-of_tags : (es : List Entry) → rows_of_tags (tags_of es) ≡ rows_of es
 rows-of_tags [] = refl
 rows-of_tags (e ∷ es) = ap (λ l. map datum_of e.row.now ∷ l) (rows-of_tags es)
+
+pub as_many_entries : (given placed : List Entry) → IsPermutation (tags_of given) (tags_of placed) → length placed ≡ length given
+as_many_entries given placed same =
+    let tag : Entry → Row × ℕ = λ e. (map datum_of e.row.now, e.index) in
+    sym (length-map placed tag) ∙ length_permutation (tags_of given) (tags_of placed) same ∙ length-map given tag
 
 pub sort_values-as_terms : (value : Valuation) (order : List SortTerm) (ts : List Term) → terms_of order ≡ ts → (row : Row) → sort_values value order row ≡ term_values value ts row
 sort_values-as_terms value order ts is row = twice order ∙ ap (map (λ t. value t row)) is

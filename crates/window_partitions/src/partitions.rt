@@ -45,6 +45,7 @@ pub fn partitioned<'a>(
 ) -> Result<Partitions<'a>, Fault>
     ensures parts { IfOk result (λ parts. (w : Datum) (window : query.Window) → window.partition ≡ map term terms.now
         → ArePartitions (eval w) window (map (λ row. map datum_of row.items) rows.now) (tags_of parts.entries.items) parts.starts.items) }
+    ensures size { IfOk result (λ parts. length parts.entries.items ≡ length rows.now) }
     ensures overflow { result ≡ Err Fault.Overflow → Any (λ row. Any (λ t. Overflows t row) (map term terms.now)) (map (λ row. map datum_of row.items) rows.now) }
     ensures only { IfErr result (λ e. (e ≡ Fault.Overflow) ⊎ (e ≡ Fault.NoMemory)) }
 {

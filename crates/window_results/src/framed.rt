@@ -1,5 +1,5 @@
 //! Functions of the values of a frame.
-ghost use Rattle.std.specs.Prelude.{◌≡◌, ◌⊎◌, Err, IfErr, IfOk, None, Option, Some, length, map};
+ghost use Rattle.std.specs.Prelude.{◌≡◌, ◌≤◌, ◌⊎◌, Err, IfErr, IfOk, None, Option, Some, length, map};
 ghost use Rattle.values.specs.Datum.{Datum, datum_of};
 ghost use Rattle.query_trees.specs.SelectView.{aggregate_function_of};
 ghost use Rattle.frames.specs.Ranges.{AreInside};
@@ -44,6 +44,16 @@ impl Framed {
             AggregateFunction::Max => {
                 Ok(Framed::First(Firsts::new(alloc, Side::Greatest, values)?))
             }
+        }
+    }
+
+    /// How many values were added to totals: each of those along the sequence once, or none.
+    pub(crate) fn added(&self) -> usize
+        ensures { result ≤ length (framed_of self.now).values }
+    {
+        match self {
+            Framed::Count(totals) | Framed::Sum(totals) => totals.added,
+            _ => 0,
         }
     }
 

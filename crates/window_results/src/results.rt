@@ -1,5 +1,5 @@
 //! The values of a function at the places of a sequence.
-ghost use Rattle.std.specs.Prelude.{◌≡◌, ◌<◌, ◌⊎◌, ◌+◌, ℕ, All, Any, Err, IfErr, IfOk, None, OnOk, Option, Some, length, map, pos};
+ghost use Rattle.std.specs.Prelude.{◌≡◌, ◌<◌, ◌≤◌, ◌⊎◌, ◌+◌, ℕ, All, Any, Err, IfErr, IfOk, None, OnOk, Option, Some, length, map, pos};
 ghost use Rattle.values.specs.Datum.{Datum, datum_of};
 ghost use Rattle.expr.specs.Meaning.{Overflows, eval};
 ghost use Rattle.expr.specs.Operations.{settle};
@@ -38,6 +38,16 @@ fn bucket_number(sequence: &Sequence, buckets: u64, here: usize) -> Result<Value
 }
 
 impl Computed {
+    /// How many values were added to totals: each of those along the sequence once, or none.
+    fn added(&self) -> usize
+        ensures { (size : ℕ) → IsAsLong size (known_of self.now) → result ≤ size }
+    {
+        match self {
+            Computed::OverFrame(framed) => framed.added(),
+            _ => 0,
+        }
+    }
+
     /// The value at a place, from what is known of the sequence.
     fn known_value(
         &self,
@@ -138,26 +148,28 @@ impl Computed {
     }
 }
 
-/// Puts the value of a function at each place of a sequence where the row there stands among those that are given. Its faults are
-/// `Overflow`, where an argument reaches an operation out of range on a row or the number of the function leaves 64 bits at a
-/// place, and `NoMemory`.
+/// Puts the value of a function at each place of a sequence where the row there stands among those that are given, and answers
+/// how many values it added to totals. Its faults are `Overflow`, where an argument reaches an operation out of range on a row or
+/// the number of the function leaves 64 bits at a place, and `NoMemory`.
 pub fn put_values(
     alloc: Global,
     function: &Function,
     frame: Frame,
     sequence: &Sequence,
     results: &mut Vec<Value>,
-) -> Result<(), Fault>
+) -> Result<usize, Fault>
     requires { All (λ i. i < length results.old.items) (numbers_in sequence.now) }
     ensures size { length results.new.items ≡ length results.old.items }
     ensures values { OnOk result ((w : Datum) (o : Option Datum) (window : query.Window) (want : ℕ → Option Datum) → IsOver (eval w) window sequence.now frame
         → AreWanted want (window_result (eval w) o window (function_data function.now) (rows_in sequence.now)) (numbers_in sequence.now)
         → PutsEach want (numbers_in sequence.now) (map datum_of results.old.items) (map datum_of results.new.items)) }
+    ensures added { IfOk result (λ added. added ≤ length (rows_in sequence.now)) }
     ensures overflow { result ≡ Err Fault.Overflow → Any (λ row. Any (λ t. Overflows t row) (function_terms (function_data function.now))) (rows_in sequence.now)
         ⊎ ((w : Datum) (window : query.Window) → IsOver (eval w) window sequence.now frame
         → Any (λ here. window_result (eval w) None window (function_data function.now) (rows_in sequence.now) here ≡ None) (places (rows_in sequence.now))) }
     ensures only { IfErr result (λ e. (e ≡ Fault.Overflow) ⊎ (e ≡ Fault.NoMemory)) }
 {
     let computed = compute(alloc, function, sequence)?;
-    computed.put_along(alloc, sequence, frame, results)
+    computed.put_along(alloc, sequence, frame, results)?;
+    Ok(computed.added())
 }

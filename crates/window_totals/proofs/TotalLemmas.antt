@@ -1,5 +1,5 @@
 -- Totals and counts of the first values of a list, and of a part of it.
-use Rattle.std.proofs.Common.{◌≡◌, ◌∙◌, ◌+◌, ◌-◌, ◌*◌, ◌^◌, ◌<◌, ◌≤◌, ◌≤ℤ◌, ◌+ℤ◌, ◌-ℤ◌, ◌++◌, ◌⊎◌, inl, inr, true, false, not, cond, ℕ, zero, suc, ℤ, pos, List, [], ◌∷◌, Option, All, drop, get_or, length, map, slice_range, take, refl, sym, ap, subst, arith}
+use Rattle.std.proofs.Common.{◌≡◌, ◌∙◌, ◌+◌, ◌-◌, ◌<◌, ◌≤◌, ◌+ℤ◌, ◌-ℤ◌, ◌++◌, ◌⊎◌, inl, inr, true, false, not, cond, ℕ, zero, suc, ℤ, pos, List, [], ◌∷◌, Option, All, drop, get_or, length, map, slice_range, take, refl, sym, ap, subst, arith}
 use Rattle.std.proofs.lemmas.Int.{ints}
 use Rattle.std.proofs.lemmas.List.{drop-take, get_or_append_left, get_or_push, length-map, length_push, take-append-drop, take-take, take_more}
 use Rattle.std.proofs.lemmas.List.Elements.{All-drop, All-from_get_or, All-head, All-tail, All-take}
@@ -10,7 +10,7 @@ use Rattle.meaning.specs.Query.{AggregateFunction}
 use Rattle.meaning.specs.Groups.{measure, number, total}
 use Rattle.frames.specs.declared.ranges.Ranges.{Ranges}
 use Rattle.frames.specs.Slices.{slices}
-use Rattle.window_totals.specs.Totals.{AreTotals, IsSmall, kept}
+use Rattle.window_totals.specs.Totals.{AreTotals, IsBounded, IsSmall, kept}
 
 -- ---- totals
 
@@ -33,10 +33,6 @@ pub total-range : (xs : List Datum) (a b : ℕ) → a ≤ b → total (slice_ran
 total-range xs a b h =
     let sum : total (take b xs) ≡ total (take a xs) +ℤ total (slice_range xs a b) = ap total (parted xs a b h) ∙ total-append (take a xs) (slice_range xs a b) in
     omega (arith, ints, sum)
-
-pub record IsBounded (n : ℕ) (z : ℤ) : Type 0 where
-  pub low : pos 0 ≤ℤ (z +ℤ pos (n * 2 ^ 63))
-  pub high : z ≤ℤ pos (n * 2 ^ 63)
 
 -- what holds of each 64 bits holds of their sum
 total-bounded : (xs : List Datum) → All IsSmall xs → IsBounded (length xs) (total xs)
@@ -152,9 +148,6 @@ pushed d P xs y i size each last k h = elim (last_or_before k i h) [
 pub record IsAdded (xs : List Datum) (i : ℕ) (sum : ℤ) (count : ℕ) (sums : List ℤ) (counts : List ℕ) : Type 0 where
   pub sum_is : sum ≡ total (take i xs)
   pub count_is : count ≡ length (kept (take i xs))
-  pub few : count ≤ i
-  pub low : pos 0 ≤ℤ (sum +ℤ pos (i * 2 ^ 63))
-  pub high : sum ≤ℤ pos (i * 2 ^ 63)
   pub sums_size : length sums ≡ i + 1
   pub counts_size : length counts ≡ i + 1
   pub total_of : (k : ℕ) → k ≤ i → get_or sums k (pos 0) ≡ total (take k xs)
@@ -171,9 +164,6 @@ pub none_added : (xs : List Datum) → IsAdded xs 0 (pos 0) 0 (pos 0 ∷ []) (0 
 none_added xs = record {
   sum_is = refl;
   count_is = refl;
-  few = omega arith;
-  low = omega (arith, ints);
-  high = omega (arith, ints);
   sums_size = refl;
   counts_size = refl;
   total_of = λ k h. let none : 0 ≡ k = omega (arith, h) in subst (λ n. get_or (pos 0 ∷ []) n (pos 0) ≡ total (take n xs)) none refl;
@@ -182,18 +172,15 @@ none_added xs = record {
 }
 
 pub added_more : (xs : List Datum) (i : ℕ) (sum : ℤ) (count : ℕ) (sums : List ℤ) (counts : List ℕ) → IsAdded xs i sum count sums counts → i < length xs
-    → (v : Datum) → get_or xs i null ≡ v → IsSmall v → length (kept (v ∷ [])) ≤ 1
+    → (v : Datum) → get_or xs i null ≡ v → IsSmall v
     → (sum' : ℤ) (count' : ℕ) (sums' : List ℤ) (counts' : List ℕ) → sum' ≡ sum +ℤ number v → count' ≡ count + length (kept (v ∷ [])) → sums' ≡ sums ++ sum' ∷ [] → counts' ≡ counts ++ count' ∷ []
     → IsAdded xs (i + 1) sum' count' sums' counts'
-added_more xs i sum count sums counts w inside v is small one sum' count' sums' counts' new_sum new_count new_sums new_counts =
+added_more xs i sum count sums counts w inside v is small sum' count' sums' counts' new_sum new_count new_sums new_counts =
     let sum_is : sum' ≡ total (take (i + 1) xs) = new_sum ∙ (λ j. w.sum_is j +ℤ number (sym is j)) ∙ sym (total-more xs i inside) in
     let count_is : count' ≡ length (kept (take (i + 1) xs)) = new_count ∙ (λ j. w.count_is j + length (kept (sym is j ∷ []))) ∙ sym (count-more xs i inside) in
     record {
       sum_is = sum_is;
       count_is = count_is;
-      few = omega (arith, new_count, one, w.few);
-      low = omega (arith, ints, new_sum, w.low, small.low);
-      high = omega (arith, ints, new_sum, w.high, small.high);
       sums_size = ap length new_sums ∙ length_push sums sum' ∙ ap (λ n. n + 1) w.sums_size;
       counts_size = ap length new_counts ∙ length_push counts count' ∙ ap (λ n. n + 1) w.counts_size;
       total_of = λ k h. subst (λ l. get_or l k (pos 0) ≡ total (take k xs)) (sym new_sums) (pushed (pos 0) (λ n z. z ≡ total (take n xs)) sums sum' i w.sums_size w.total_of sum_is k h);

@@ -1,5 +1,5 @@
 -- Totals and counts of the first values of a list. (Built-in Aggregate Functions)
-use Rattle.std.specs.Prelude.{◌≡◌, ◌<◌, ◌≤◌, ◌≤ℤ◌, ◌+◌, ◌+ℤ◌, ◌^◌, ℕ, ℤ, pos, not, List, filter, length, slice_index, slice_index_or, take}
+use Rattle.std.specs.Prelude.{◌≡◌, ◌<◌, ◌≤◌, ◌≤ℤ◌, ◌+◌, ◌+ℤ◌, ◌*◌, ◌^◌, ℕ, ℤ, pos, not, List, filter, length, slice_index, slice_index_or, take}
 use Rattle.values.specs.Datum.{Datum, null}
 use Rattle.expr.specs.Operations.{is_null}
 use Rattle.meaning.specs.Groups.{number, total}
@@ -12,6 +12,11 @@ kept values = filter (λ v. not (is_null v)) values
 pub record IsSmall (value : Datum) : Type 0 where
   pub low : pos 0 ≤ℤ (number value +ℤ pos (2 ^ 63))
   pub high : number value ≤ℤ pos (2 ^ 63)
+
+-- a total of so many numbers of 64 bits
+pub record IsBounded (size : ℕ) (sum : ℤ) : Type 0 where
+  pub low : pos 0 ≤ℤ (sum +ℤ pos (size * 2 ^ 63))
+  pub high : sum ≤ℤ pos (size * 2 ^ 63)
 
 pub record AreTotals (values : List Datum) (sums : List ℤ) (counts : List ℕ) : Type 0 where
   pub sums_size : length sums ≡ length values + 1

@@ -1,11 +1,22 @@
 //! Totals and counts of the first values of a sequence.
-ghost use Rattle.std.specs.Prelude.{◌≡◌, ◌≤◌, ◌∷◌, [], IfOk, length, map};
+ghost use Rattle.std.specs.Prelude.{◌≡◌, ◌≤◌, ◌<◌, ◌+◌, ◌^◌, ◌+ℤ◌, ◌∷◌, [], IfOk, length, map, pos};
 ghost use Rattle.values.specs.Datum.{datum_of};
 ghost use Rattle.meaning.specs.Groups.{number};
-ghost use Rattle.window_totals.specs.Totals.{AreTotals, IsSmall, kept};
+ghost use Rattle.window_totals.specs.Totals.{AreTotals, IsBounded, IsSmall, kept};
 
 use std::alloc::{AllocError, Global};
 use values::Value;
+
+/// The exact total of values, in 128 bits, and how many of them aren't NULL.
+#[derive(Drop)]
+pub struct Total {
+    pub sum: i128,
+    pub count: usize,
+    /// How many values were added, NULL or not.
+    pub added: usize,
+    ghost bounded: { IsBounded added sum },
+    ghost few: { count ≤ added },
+}
 
 /// The values of an argument along a sequence, with the exact totals of the first of them and how many of these aren't NULL,
 /// for each number of them.
@@ -14,7 +25,10 @@ pub struct Totals {
     pub values: Vec<Value>,
     pub sums: Vec<i128>,
     pub counts: Vec<usize>,
+    /// How many values were added to make them.
+    pub added: usize,
     ghost totals: { AreTotals (map datum_of values.items) sums.items counts.items },
+    ghost once: { added ≡ length values.items },
 }
 
 /// The number that a value is, and 0 of all else.
@@ -40,6 +54,34 @@ fn counted(value: &Value) -> usize
     }
 }
 
+impl Total {
+    /// The total of no values.
+    pub fn new() -> Total
+        ensures sum { result.sum ≡ pos 0 }
+        ensures count { result.count ≡ 0 }
+        ensures added { result.added ≡ 0 }
+    {
+        Total {
+            sum: 0,
+            count: 0,
+            added: 0,
+        }
+    }
+
+    /// Adds a value. No other call adds one to a total.
+    pub fn add(&mut self, value: &Value)
+        requires { self.old.added + 1 < 2 ^ 64 }
+        ensures sum { self.new.sum ≡ self.old.sum +ℤ number (datum_of value.now) }
+        ensures count { self.new.count ≡ self.old.count + length (kept (datum_of value.now ∷ [])) }
+        ensures added { self.new.added ≡ self.old.added + 1 }
+        ensures small { IsSmall (datum_of value.now) }
+    {
+        self.sum += number_of(value);
+        self.count += counted(value);
+        self.added += 1;
+    }
+}
+
 impl Totals {
     /// Each value is added once.
     pub fn new(alloc: Global, values: Vec<Value>) -> Result<Totals, AllocError>
@@ -47,21 +89,20 @@ impl Totals {
     {
         let mut sums = Vec::new(alloc);
         let mut counts = Vec::new(alloc);
-        let mut sum = 0;
-        let mut count = 0;
-        sums.push(sum)?;
-        counts.push(count)?;
-        let added = values.as_slice();
-        for value in added {
-            sum += number_of(value);
-            count += counted(value);
-            sums.push(sum)?;
-            counts.push(count)?;
+        let mut total = Total::new();
+        sums.push(total.sum)?;
+        counts.push(total.count)?;
+        let given = values.as_slice();
+        for value in given {
+            total.add(value);
+            sums.push(total.sum)?;
+            counts.push(total.count)?;
         }
         Ok(Totals {
             values,
             sums,
             counts,
+            added: total.added,
         })
     }
 }

@@ -14,6 +14,7 @@ use Rattle.window_order.specs.Entries.{rows_of}
 use Rattle.window_entries.specs.Tags.{tags_of}
 use Rattle.window_partitions.specs.Partition.{ArePartitions, IsPartition, part_at}
 use Rattle.window_partitions.proofs.AlikeLemmas.{rows-of_tags}
+use Rattle.window_partitions.proofs.PartLemmas.{length-slice}
 use Rattle.window_results.specs.Put.{PutsEach}
 use Rattle.windows.specs.Wanted.{column_of, wanted}
 use Rattle.windows.proofs.NumberedLemmas.{length-numbered_after}
@@ -80,6 +81,19 @@ pub part_before : (value : Valuation) (window : Window) (rows : List Row) (tags 
 part_before value window rows tags part starts number are some inside is =
     let next : number - 1 + 1 ≡ number = omega (arith, some) in
     subst (IsPartition value window rows) (ap (λ n. slice_range tags (slice_index starts (number - 1)) (slice_index starts n)) next ∙ sym is) (are.each (number - 1) (omega (arith, some, inside)))
+
+-- ---- how many values were added to totals
+
+-- where no more are added than a part has rows, no more were added than there are rows before its end
+pub added_before : (es given : List Entry) (starts begins : List ℕ) (number added more : ℕ) → given ≡ es → begins ≡ starts
+    → slice_index starts (number - 1) ≤ slice_index starts number → slice_index starts number ≤ length es → added ≤ slice_index starts (number - 1)
+    → more ≤ length (slice_range given (slice_index begins (number - 1)) (slice_index begins number)) → added + more ≤ slice_index starts number
+added_before es given starts begins number added more p q rises within before few =
+    let part = slice_range es (slice_index starts (number - 1)) (slice_index starts number) in
+    let same : slice_range given (slice_index begins (number - 1)) (slice_index begins number) ≡ part = (λ i. slice_range (p i) (slice_index (q i) (number - 1)) (slice_index (q i) number)) in
+    let size = length-slice es (slice_index starts (number - 1)) (slice_index starts number) rises within in
+    let here : more ≤ length part = subst (λ (l : List Entry). more ≤ length l) same few in
+    omega (arith, rises, before, size, here)
 
 -- ---- one part more
 

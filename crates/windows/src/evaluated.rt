@@ -1,5 +1,5 @@
 //! The values of a call on all rows.
-ghost use Rattle.std.specs.Prelude.{◌≡◌, ◌⊎◌, ◌<◌, ◌+◌, ℕ, All, Any, Err, IfErr, IfOk, List, OnOk, Option, Some, length, map};
+ghost use Rattle.std.specs.Prelude.{◌≡◌, ◌⊎◌, ◌<◌, ◌≤◌, ◌+◌, ℕ, All, Any, Err, IfErr, IfOk, List, OnOk, Option, Some, length, map};
 ghost use Rattle.values.specs.Datum.{Datum, datum_of};
 ghost use Rattle.values.specs.Row.{Row};
 ghost use Rattle.expr.specs.Meaning.{Overflows, eval};
@@ -28,19 +28,20 @@ fn nulls(alloc: Global, count: usize) -> Result<Vec<Value>, AllocError>
     Ok(values)
 }
 
-/// Puts the value of a call on each row of all partitions where it stands among the rows that are given. Its faults are
-/// `Overflow` and `NoMemory`.
+/// Puts the value of a call on each row of all partitions where it stands among the rows that are given, and answers how many
+/// values it added to totals. Its faults are `Overflow` and `NoMemory`.
 fn put_parts(
     alloc: Global,
     call: &WindowCall,
     parts: &Partitions,
     results: &mut Vec<Value>,
-) -> Result<(), Fault>
+) -> Result<usize, Fault>
     requires { All (λ t. t.1 < length results.old.items) (tags_of parts.now.entries.items) }
     ensures size { length results.new.items ≡ length results.old.items }
     ensures values { OnOk result ((w : Datum) (o : Option Datum) (rows : List Row) → ArePartitions (eval w) (window_data call.now.window) rows (tags_of parts.now.entries.items) parts.now.starts.items
         → (g : ℕ) → g + 1 < length parts.now.starts.items
         → All (λ i. wanted w o (call_data call.now) rows i ≡ Some (value_at (map datum_of results.new.items) i)) (map (λ t. t.1) (part_at (tags_of parts.now.entries.items) parts.now.starts.items g))) }
+    ensures added { IfOk result (λ added. added ≤ length parts.now.entries.items) }
     ensures overflow { result ≡ Err Fault.Overflow → Any (λ row. Any (λ t. Overflows t row) (call_terms (call_data call.now))) (rows_of parts.now.entries.items)
         ⊎ ((w : Datum) (rows : List Row) → ArePartitions (eval w) (window_data call.now.window) rows (tags_of parts.now.entries.items) parts.now.starts.items
         → CallLeaves (eval w) rows (call_data call.now)) }
@@ -48,13 +49,33 @@ fn put_parts(
 {
     let entries = parts.entries.as_slice();
     let starts = parts.starts.as_slice();
+    let mut added = 0;
     for number in 1..starts.len() {
         let start = starts[number - 1];
         let end = starts[number];
         let part = &entries[start..end];
-        put_part(alloc, call, part, results)?;
+        added += put_part(alloc, call, part, results)?;
     }
-    Ok(())
+    Ok(added)
+}
+
+/// The value of a call on each row, in the order in which the rows are given, and how many values of its argument were added to
+/// totals: each once at most, however many frames it stands in. The faults are those of `evaluate`. (Window Functions)
+pub fn evaluate_counted(
+    alloc: Global,
+    call: &WindowCall,
+    rows: &[Vec<Value>],
+) -> Result<(Vec<Value>, usize), Fault>
+    ensures values { IfOk result (λ answer. (w : Datum) → map datum_of answer.0.items ≡ column_of w (map (λ row. map datum_of row.items) rows.now) (call_data call.now)) }
+    ensures counted { IfOk result (λ answer. answer.1 ≤ length rows.now) }
+    ensures overflow { result ≡ Err Fault.Overflow → IsReachedBy (call_data call.now) (map (λ row. map datum_of row.items) rows.now) }
+    ensures only { IfErr result (λ e. (e ≡ Fault.Overflow) ⊎ (e ≡ Fault.NoMemory)) }
+{
+    let terms = call.window.partition.as_slice();
+    let parts = partitioned(alloc, terms, rows)?;
+    let mut results = nulls(alloc, rows.len())?;
+    let added = put_parts(alloc, call, &parts, &mut results)?;
+    Ok((results, added))
 }
 
 /// The value of a call on each row, in the order in which the rows are given. Its faults are `Overflow`, where an expression of the
@@ -64,11 +85,8 @@ pub fn evaluate(alloc: Global, call: &WindowCall, rows: &[Vec<Value>]) -> Result
     ensures overflow { result ≡ Err Fault.Overflow → IsReachedBy (call_data call.now) (map (λ row. map datum_of row.items) rows.now) }
     ensures only { IfErr result (λ e. (e ≡ Fault.Overflow) ⊎ (e ≡ Fault.NoMemory)) }
 {
-    let terms = call.window.partition.as_slice();
-    let parts = partitioned(alloc, terms, rows)?;
-    let mut results = nulls(alloc, rows.len())?;
-    put_parts(alloc, call, &parts, &mut results)?;
-    Ok(results)
+    let (values, _) = evaluate_counted(alloc, call, rows)?;
+    Ok(values)
 }
 
 /// The values of each call on all rows, call by call, in the order in which the rows are given. Its faults are `Overflow`, where an

@@ -1,5 +1,5 @@
 //! One partition.
-ghost use Rattle.std.specs.Prelude.{◌≡◌, ◌⊎◌, ◌<◌, ℕ, All, Any, Err, IfErr, List, None, OnOk, Option, length, map};
+ghost use Rattle.std.specs.Prelude.{◌≡◌, ◌⊎◌, ◌<◌, ◌≤◌, ℕ, All, Any, Err, IfErr, IfOk, List, None, OnOk, Option, length, map};
 ghost use Rattle.values.specs.Datum.{Datum, datum_of};
 ghost use Rattle.values.specs.Row.{Row};
 ghost use Rattle.expr.specs.Meaning.{Overflows, eval};
@@ -21,20 +21,21 @@ use window_partitions::ordered;
 use window_results::put_values;
 use window_terms::WindowCall;
 
-/// Puts the value of a call at each place of the sequence of a partition where its row stands among those that are given. Its
-/// faults are `Overflow` and `NoMemory`.
+/// Puts the value of a call at each place of the sequence of a partition where its row stands among those that are given, and
+/// answers how many values it added to totals. Its faults are `Overflow` and `NoMemory`.
 fn put_in_order(
     alloc: Global,
     call: &WindowCall,
     entries: &[Entry],
     results: &mut Vec<Value>,
-) -> Result<(), Fault>
+) -> Result<usize, Fault>
     requires in_order { IsInOrder (map direction_of call.now.window.directions.items) (keys_of entries.now) }
     requires within { All (λ i. i < length results.old.items) (map (λ entry. entry.index) entries.now) }
     ensures size { length results.new.items ≡ length results.old.items }
     ensures values { OnOk result ((w : Datum) (o : Option Datum) (want : ℕ → Option Datum) → keys_of entries.now ≡ map (sort_values (eval w) (window_data call.now.window).order) (rows_of entries.now)
         → AreWanted want (window_result (eval w) o (window_data call.now.window) (function_data call.now.function) (rows_of entries.now)) (map (λ entry. entry.index) entries.now)
         → PutsEach want (map (λ entry. entry.index) entries.now) (map datum_of results.old.items) (map datum_of results.new.items)) }
+    ensures added { IfOk result (λ added. added ≤ length entries.now) }
     ensures overflow { result ≡ Err Fault.Overflow → Any (λ row. Any (λ t. Overflows t row) (function_terms (function_data call.now.function))) (rows_of entries.now)
         ⊎ ((w : Datum) → keys_of entries.now ≡ map (sort_values (eval w) (window_data call.now.window).order) (rows_of entries.now)
         → Any (λ here. window_result (eval w) None (window_data call.now.window) (function_data call.now.function) (rows_of entries.now) here ≡ None) (places (rows_of entries.now))) }
@@ -50,19 +51,20 @@ fn put_in_order(
     put_values(alloc, &call.function, call.window.frame, &sequence, results)
 }
 
-/// Puts the value of a call on each row of a partition where it stands among the rows that are given. Its faults are `Overflow`,
-/// where an expression of the call reaches an operation out of range on a row or the number of the call leaves 64 bits, and
-/// `NoMemory`.
+/// Puts the value of a call on each row of a partition where it stands among the rows that are given, and answers how many values
+/// it added to totals. Its faults are `Overflow`, where an expression of the call reaches an operation out of range on a row or
+/// the number of the call leaves 64 bits, and `NoMemory`.
 pub(crate) fn put_part(
     alloc: Global,
     call: &WindowCall,
     part: &[Entry],
     results: &mut Vec<Value>,
-) -> Result<(), Fault>
+) -> Result<usize, Fault>
     requires { All (λ t. t.1 < length results.old.items) (tags_of part.now) }
     ensures size { length results.new.items ≡ length results.old.items }
     ensures values { OnOk result ((w : Datum) (o : Option Datum) (rows : List Row) → IsPartition (eval w) (window_data call.now.window) rows (tags_of part.now)
         → PutsEach (wanted w o (call_data call.now) rows) (map (λ t. t.1) (tags_of part.now)) (map datum_of results.old.items) (map datum_of results.new.items)) }
+    ensures added { IfOk result (λ added. added ≤ length part.now) }
     ensures overflow { result ≡ Err Fault.Overflow → Any (λ row. Any (λ t. Overflows t row) (call_terms (call_data call.now))) (rows_of part.now)
         ⊎ ((w : Datum) (rows : List Row) → IsPartition (eval w) (window_data call.now.window) rows (tags_of part.now) → CallLeaves (eval w) rows (call_data call.now)) }
     ensures only { IfErr result (λ e. (e ≡ Fault.Overflow) ⊎ (e ≡ Fault.NoMemory)) }

@@ -17,7 +17,7 @@ use Rattle.window_order.proofs.EntryLemmas.{length-keys_of}
 use Rattle.window_entries.specs.Tags.{tags_of}
 use Rattle.window_entries.proofs.ValueLemmas.{map-map}
 use Rattle.window_partitions.specs.Tagged.{AreAlike, tagged}
-use Rattle.window_partitions.proofs.AlikeLemmas.{rows-of_tags}
+use Rattle.window_partitions.proofs.AlikeLemmas.{as_many_entries, rows-of_tags}
 use Rattle.window_partitions.proofs.PartLemmas.{are_partitions, start_rises}
 use Rattle.window_partitions.proofs.partitions.partitioned.Goals as goal
 
@@ -71,3 +71,10 @@ returns-clause-parts c = λ w window is.
     (subst (λ (l : List (Row × ℕ)). IsPermutation l (tags_of placed)) given c.in_ok-placed.ensures.same)
     (subst (λ (l : List (Row × ℕ)). AreAlike l (tags_of placed)) given c.in_ok-placed.ensures.ties)
     (eval w) window (ap (term_values (eval w)) (sym is))
+
+pub returns-clause-size : goal.returns-clause-size
+returns-clause-size c =
+    let given = c.in_ok-given.given.items in
+    as_many_entries c.as_slice-2.result.now c.in_ok-placed.placed.items c.in_ok-placed.ensures.same ∙ ap length c.as_slice-2.ensures.value
+    ∙ sym (length-map given (λ (e : Entry). map datum_of e.row.now)) ∙ ap length c.in_ok-given.ensures.rows
+    ∙ length-map c.args.rows.now (λ (row : Vec Value Global). map datum_of row.items)

@@ -1,25 +1,34 @@
-use Rattle.std.proofs.Common.{inr, length, sym, subst}
-use Rattle.std.proofs.lemmas.Result.{on_ok_weaker}
+use Rattle.std.proofs.Common.{◌≡◌, ℕ, inr, length, refl, sym, subst}
+use Rattle.std.proofs.lemmas.Result.{err_from_is_err_and}
 use Rattle.values.specs.Datum.{null}
 use Rattle.expr.specs.Meaning.{eval}
+use Rattle.meaning.specs.Query.{WindowFunction}
+use Rattle.window_order.specs.declared.placed.Sequence.{Sequence}
 use Rattle.window_order.specs.Placed.{keys_in, rows_in}
 use Rattle.window_terms.specs.FunctionView.{function_data}
-use Rattle.window_results.specs.Known.{IsAsLong, Known}
+use Rattle.window_results.specs.Known.{IsAsLong, Known, known_for}
 use Rattle.window_results.proofs.KnownLemmas.{known_size, same_length}
 use Rattle.window_results.proofs.results.put_values.Goals as goal
+
+-- there is a value for each row
+as_long : (s : Sequence) (known : Known) (f : WindowFunction) → known ≡ known_for (eval null) f (rows_in s) → (n : ℕ) → length (rows_in s) ≡ n → IsAsLong n known
+as_long s known f is n size = subst (λ (k : Known). IsAsLong n k) (sym is) (known_size (eval null) f (rows_in s) n size)
 
 pub put_along-requires-clause-whole : goal.put_along-requires-clause-whole
 put_along-requires-clause-whole c =
     let s = c.args.sequence.now in
-    subst (λ (k : Known). IsAsLong (length (keys_in s)) k) (sym (c.in_ok-computed.ensures.known null))
-    (known_size (eval null) (function_data c.args.function.now) (rows_in s) (length (keys_in s)) (same_length s.entries.now))
+    as_long s _ (function_data c.args.function.now) (c.in_ok-computed.ensures.known null) (length (keys_in s)) (same_length s.entries.now)
 
 pub returns-clause-values : goal.returns-clause-values
-returns-clause-values c =
-    on_ok_weaker c.put_along.result
-    (λ h. λ w o window want over wanted. h (eval w) o window (function_data c.args.function.now) want over (c.in_ok-computed.ensures.known w) wanted)
-    c.put_along.ensures.values
+returns-clause-values c = λ w o window want over wanted.
+    c.in_ok-put_along.ensures.values (eval w) o window (function_data c.args.function.now) want over (c.in_ok-computed.ensures.known w) wanted
 
-pub returns-clause-overflow : goal.returns-clause-overflow
-returns-clause-overflow c = λ is.
-    inr (λ w window over. c.put_along.ensures.overflow is (eval w) window (function_data c.args.function.now) over (c.in_ok-computed.ensures.known w))
+pub returns-clause-added : goal.returns-clause-added
+returns-clause-added c =
+    let s = c.args.sequence.now in
+    c.added.ensures (length (rows_in s)) (as_long s _ (function_data c.args.function.now) (c.in_ok-computed.ensures.known null) (length (rows_in s)) refl)
+
+pub returns-in_err-put_along-clause-overflow : goal.returns-in_err-put_along-clause-overflow
+returns-in_err-put_along-clause-overflow c = λ is.
+    let p = err_from_is_err_and c.from_residual-in_err-put_along.result c.from_residual-in_err-put_along.ensures.1 in
+    inr (λ w window over. c.in_err-put_along.ensures.overflow (cc (is, p.1, p.2)) (eval w) window (function_data c.args.function.now) over (c.in_ok-computed.ensures.known w))

@@ -1,4 +1,4 @@
-use Rattle.std.proofs.Common.{◌∙◌, ◌-◌, ◌<◌, ◌≤◌, inl, inr, All, Any, ℕ, List, length, map, slice_index, slice_range, sym, ap, subst, arith}
+use Rattle.std.proofs.Common.{◌≡◌, ◌∙◌, ◌+◌, ◌-◌, ◌<◌, ◌≤◌, inl, inr, All, Any, ℕ, List, length, map, slice_index, slice_range, sym, ap, subst, arith}
 use Rattle.std.proofs.lemmas.Result.{err_from_is_err_and}
 use Rattle.values.specs.Datum.{datum_of}
 use Rattle.values.specs.Row.{Row}
@@ -7,7 +7,7 @@ use Rattle.meaning.specs.Hits.{call_terms}
 use Rattle.window_entries.specs.Tags.{tags_of}
 use Rattle.window_terms.specs.CallView.{call_data, window_data}
 use Rattle.windows.specs.Wanted.{wanted}
-use Rattle.windows.proofs.AllLemmas.{All-slice, one_part_more, part_before, rows_before, tags_before}
+use Rattle.windows.proofs.AllLemmas.{All-slice, added_before, one_part_more, part_before, rows_before, tags_before}
 use Rattle.windows.proofs.evaluated.put_parts.Goals as goal
 
 pub put_part-requires : goal.put_part-requires
@@ -31,11 +31,20 @@ loop-number-preserved c =
     let long = ap length c.as_slice-starts.ensures.value in
     let some : 1 ≤ number = omega arith in
     let inside : number < length starts = omega (arith, long, c.loop-number-test.true) in
+    let next : number - 1 + 1 ≡ number = omega (arith, some) in
+    let first : number - 1 + 1 < length starts = omega (arith, some, inside) in
+    let rises : slice_index starts (number - 1) ≤ slice_index starts number = subst (λ n. slice_index starts (number - 1) ≤ slice_index starts n) next (c.args.parts.now.rises (number - 1) first) in
+    let within = c.args.parts.now.within number inside in
+    let behind = added_before c.args.parts.now.entries.items c.as_slice-entries.result.now starts begins number c.loop-number.added c.in_ok-added.field-0
+    c.as_slice-entries.ensures.value c.as_slice-starts.ensures.value rises within c.loop-number.invariant.behind c.in_ok-added.ensures.added in
+    let here : number ≡ number + 1 - 1 = omega arith in
     record {
       size = c.put_part.ensures.size ∙ c.loop-number.invariant.size;
+      few = omega (arith, behind, within);
+      behind = subst (λ n. c.loop-number.added + c.in_ok-added.field-0 ≤ slice_index starts n) here behind;
       right = λ w o rows are.
           one_part_more (wanted w o (call_data c.args.call.now) rows) tags starts (map datum_of c.loop-number.results.items) (map datum_of c.put_part.new.results.items) number part some is
-          (c.in_ok-put_part.ensures.values w o rows (part_before (eval w) (window_data c.args.call.now.window) rows tags part starts number are some inside is))
+          (c.in_ok-added.ensures.values w o rows (part_before (eval w) (window_data c.args.call.now.window) rows tags part starts number are some inside is))
           (c.loop-number.invariant.right w o rows are);
     }
 
@@ -44,8 +53,8 @@ returns-clause-values c = λ w o rows are g h.
     let long = ap length c.as_slice-starts.ensures.value in
     c.loop-number.invariant.right w o rows are g (omega (arith, h, long, c.loop-number-test.false)) h
 
-pub returns-in_err-put_part-clause-overflow : goal.returns-in_err-put_part-clause-overflow
-returns-in_err-put_part-clause-overflow c = λ is.
+pub returns-in_err-added-clause-overflow : goal.returns-in_err-added-clause-overflow
+returns-in_err-added-clause-overflow c = λ is.
     let p = err_from_is_err_and c.from_residual.result c.from_residual.ensures.1 in
     let tags = tags_of c.args.parts.now.entries.items in
     let starts = c.args.parts.now.starts.items in
@@ -56,7 +65,7 @@ returns-in_err-put_part-clause-overflow c = λ is.
     let long = ap length c.as_slice-starts.ensures.value in
     let some : 1 ≤ number = omega arith in
     let inside : number < length starts = omega (arith, long, c.loop-number-test.true) in
-    elim (c.in_err-put_part.ensures.overflow (cc (is, p.1, p.2))) [
+    elim (c.in_err-added.ensures.overflow (cc (is, p.1, p.2))) [
       | inl reached ↦ inl (rows_before (λ row. Any (λ t. Overflows t row) (call_terms (call_data c.args.call.now))) c.args.parts.now.entries.items c.as_slice-entries.result.now
           (slice_index begins (number - 1)) (slice_index begins number) c.as_slice-entries.ensures.value reached)
       | inr leave ↦ inr (λ w rows are. leave w rows (part_before (eval w) (window_data c.args.call.now.window) rows tags part starts number are some inside same))

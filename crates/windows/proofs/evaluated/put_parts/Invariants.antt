@@ -1,4 +1,4 @@
-use Rattle.std.proofs.Common.{◌≡◌, ◌+◌, ◌<◌, ℕ, All, List, length, map, Option, Some}
+use Rattle.std.proofs.Common.{◌≡◌, ◌+◌, ◌-◌, ◌<◌, ◌≤◌, ℕ, All, List, length, map, slice_index, Option, Some}
 use Rattle.values.specs.Datum.{Datum, datum_of}
 use Rattle.values.specs.Row.{Row}
 use Rattle.expr.specs.Meaning.{eval}
@@ -12,6 +12,8 @@ use Rattle.windows.proofs.evaluated.put_parts.Given as goal
 abbrev pub invariant-loop-number : goal.invariant-loop-number
 invariant-loop-number l = record {
   size : length l.results.items ≡ length l.fn.results.items;
+  few : l.added ≤ length l.parts.entries.items;
+  behind : l.added ≤ slice_index l.parts.starts.items (l.number - 1);
   right : (w : Datum) (o : Option Datum) (rows : List Row) → ArePartitions (eval w) (window_data l.call.window) rows (tags_of l.parts.entries.items) l.parts.starts.items
       → (g : ℕ) → g + 1 < l.number → g + 1 < length l.parts.starts.items
       → All (λ i. wanted w o (call_data l.call) rows i ≡ Some (value_at (map datum_of l.results.items) i)) (map (λ (t : Row × ℕ). t.1) (part_at (tags_of l.parts.entries.items) l.parts.starts.items g));

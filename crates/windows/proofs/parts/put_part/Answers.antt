@@ -1,7 +1,8 @@
-use Rattle.std.proofs.Common.{inl, inr, length, map, sym}
-use Rattle.std.proofs.lemmas.Result.{err_from_is_err_and, on_ok_weaker}
+use Rattle.std.proofs.Common.{◌∙◌, ◌≤◌, inl, inr, length, map, sym, ap, arith}
+use Rattle.std.proofs.lemmas.Result.{IfOk-weaker, err_from_is_err_and, on_ok_weaker}
 use Rattle.values.specs.Datum.{datum_of}
 use Rattle.window_order.specs.Entries.{rows_of}
+use Rattle.window_partitions.proofs.AlikeLemmas.{as_many_entries}
 use Rattle.window_terms.specs.CallView.{call_data}
 use Rattle.windows.specs.Wanted.{wanted}
 use Rattle.windows.proofs.PartLemmas.{all_wanted, leaves}
@@ -29,6 +30,13 @@ returns-clause-values c =
     put_on_rows call part placed of (wanted w o (call_data call) rows) (map datum_of c.args.results.now.items) (map datum_of c.put_in_order.new.results.items)
     (h w o (wanted w o (call_data call) rows) (keys_agree call part placed of w) (all_wanted w (call_data call) rows part placed is of.same of.alike (is_sequence call part placed of w) o)))
     c.put_in_order.ensures.values
+
+pub returns-clause-added : goal.returns-clause-added
+returns-clause-added c =
+    let part = c.args.part.now in
+    let placed = c.as_slice-placed.result.now in
+    let size = ap length c.as_slice-placed.ensures.value ∙ as_many_entries part c.in_ok-entries.entries.items c.in_ok-entries.ensures.same in
+    IfOk-weaker c.put_in_order.result (λ added. added ≤ length placed) (λ added. added ≤ length part) (λ added few. omega (arith, few, size)) c.put_in_order.ensures.added
 
 pub returns-clause-overflow : goal.returns-clause-overflow
 returns-clause-overflow c = λ is.

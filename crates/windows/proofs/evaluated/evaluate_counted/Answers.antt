@@ -15,7 +15,7 @@ use Rattle.window_entries.specs.Tags.{tags_of}
 use Rattle.window_terms.specs.CallView.{call_data, window_data}
 use Rattle.windows.proofs.AllLemmas.{all_values, rows_given}
 use Rattle.windows.proofs.OrderedLemmas.{reached_by_partition}
-use Rattle.windows.proofs.evaluated.evaluate.Goals as goal
+use Rattle.windows.proofs.evaluated.evaluate_counted.Goals as goal
 
 pub put_parts-requires : goal.put_parts-requires
 put_parts-requires c =
@@ -35,7 +35,10 @@ returns-clause-values c = λ w.
     let all = c.in_ok-results.ensures in
     let same = c.put_parts.ensures.size in
     all_values w (call_data c.args.call.now) rows (tags_of c.in_ok-parts.parts.entries.items) c.in_ok-parts.parts.starts.items (map datum_of c.put_parts.new.results.items) are
-    (λ g h. c.in_ok-put_parts.ensures.values w (Some w) rows are g h) (omega (arith, size, long, all, same))
+    (λ g h. c.in_ok-added.ensures.values w (Some w) rows are g h) (omega (arith, size, long, all, same))
+
+pub returns-clause-counted : goal.returns-clause-counted
+returns-clause-counted c = let few = c.in_ok-added.ensures.added in let size = c.in_ok-parts.ensures.size in omega (arith, few, size)
 
 pub returns-in_err-parts-clause-overflow : goal.returns-in_err-parts-clause-overflow
 returns-in_err-parts-clause-overflow c = λ is.
@@ -44,12 +47,12 @@ returns-in_err-parts-clause-overflow c = λ is.
     inl (reached_by_partition c.args.call.now rows
     (subst (λ (ts : List Term). Any (λ row. Any (λ t. Overflows t row) ts) rows) (ap (map term) c.as_slice-terms.ensures.value) (c.in_err-parts.ensures.overflow (cc (is, p.1, p.2)))))
 
-pub returns-in_err-put_parts-clause-overflow : goal.returns-in_err-put_parts-clause-overflow
-returns-in_err-put_parts-clause-overflow c = λ is.
-    let p = err_from_is_err_and c.from_residual-in_err-put_parts.result c.from_residual-in_err-put_parts.ensures.1 in
+pub returns-in_err-added-clause-overflow : goal.returns-in_err-added-clause-overflow
+returns-in_err-added-clause-overflow c = λ is.
+    let p = err_from_is_err_and c.from_residual-in_err-added.result c.from_residual-in_err-added.ensures.1 in
     let rows = map (λ (row : Vec Value Global). map datum_of row.items) c.args.rows.now in
     let are = λ (w : Datum). c.in_ok-parts.ensures.parts w (window_data c.args.call.now.window) (ap (map term) (sym c.as_slice-terms.ensures.value)) in
-    elim (c.in_err-put_parts.ensures.overflow (cc (is, p.1, p.2))) [
+    elim (c.in_err-added.ensures.overflow (cc (is, p.1, p.2))) [
       | inl some ↦ inl (rows_given (λ row. Any (λ t. Overflows t row) (call_terms (call_data c.args.call.now))) c.in_ok-parts.parts.entries.items rows (are null).given some)
       | inr leaves ↦ inr (λ w. leaves w rows (are w))
     ]
