@@ -1,5 +1,5 @@
 -- What is known of a sequence gives the values of the definition.
-use Rattle.std.proofs.Common.{Any, ◌≡◌, ◌∙◌, ◌+◌, ◌-◌, ◌*◌, ◌/◌, ◌%◌, ◌<◌, ◌≤◌, ℕ, zero, suc, pos, nat_le, nat_lt, Bool, true, false, cond, if◌then◌else◌, List, [], ◌∷◌, filter, get_or, length, map, reverse, Option, Some, refl, sym, ap, subst, arith}
+use Rattle.std.proofs.Common.{Any, ◌≡◌, ◌∙◌, ◌+◌, ◌-◌, ◌*◌, ◌/◌, ◌%◌, ◌<◌, ◌≤◌, ℕ, zero, suc, pos, nat_le, nat_lt, Bool, true, false, cond, if◌then◌else◌, List, [], ◌∷◌, filter, length, map, reverse, Option, Some, refl, sym, ap, subst, arith}
 use native.Mathlib.Nat.{div-zero, mod-zero}
 use Rattle.std.specs.List.{range_with_len}
 use Rattle.std.proofs.lemmas.Bool.Decides.{nat_tests}
@@ -20,7 +20,6 @@ use Rattle.frames.specs.Ranges.{AreInside, IsUnion}
 use Rattle.frames.specs.Slices.{slices}
 use Rattle.frames.proofs.SliceLemmas.{chosen_slices}
 use Rattle.window_totals.specs.Totals.{kept}
-use Rattle.window_results.specs.Framed.{aggregate}
 use Rattle.window_results.specs.Known.{IsAsLong, known_for, known_result}
 
 -- ---- the values at the places of a set
