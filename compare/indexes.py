@@ -6,6 +6,7 @@ from collections.abc import Iterator
 from typing import TYPE_CHECKING
 
 from program import fault_line
+from witness import Reading
 from writer import Value, Writer, record
 
 if TYPE_CHECKING:
@@ -73,6 +74,12 @@ LEFT_OUT: list[list[tuple[Value, ...]]] = [
     [],
 ]
 
+# Lengths of payloads of an index on pages of 512 bytes: how many bytes stand in the cell, and how many overflow pages have the rest.
+PARTS = {
+    **{101: (101, 0), 102: (102, 0), 103: (39, 1), 546: (39, 1), 547: (39, 1), 548: (40, 1), 610: (102, 1), 611: (39, 2)},
+    **{1055: (39, 2), 1056: (40, 2), 1118: (102, 2), 1119: (39, 3)},
+}
+
 # Unique indexes over the rows: two agree in all columns, or have a NULL there.
 REPEATED = {
     "CREATE UNIQUE INDEX i ON item(qty)": IN_ORDER,
@@ -107,6 +114,26 @@ def long_texts(count: int, leaf: int, fan: int) -> bytes:
     writer = items([(text, None) for text in texts], 1)
     entries: list[tuple[Value, ...]] = [(text, rowid) for rowid, text in enumerate(texts, 1)]
     return indexed("CREATE INDEX i ON item(name)", entries, writer, leaf=leaf, fan=fan)
+
+
+def try_sizes(trial: Trial) -> None:
+    """Entries whose payloads are about as long as they may be without one overflow page more, on leaves and between them."""
+    for size, parts in PARTS.items():
+        # Beside a text its record has 4 bytes of the header and, but for rowid 1, one of the rowid.
+        texts = [letter.ljust(size - (4 if rowid == 1 else 5), "x") for rowid, letter in enumerate("abc", 1)]
+        image = indexed(
+            "CREATE INDEX i ON item(name)",
+            [(text, rowid) for rowid, text in enumerate(texts, 1)],
+            items([(text, rowid * 7) for rowid, text in enumerate(texts, 1)], 1),
+            leaf=1,
+            fan=2,
+        )
+        what, cells = f"entries of {size} bytes", Reading(image).tree("i").cells
+        found = [(cell.size, (cell.local, len(cell.chain))) for cell in cells]
+        trial.tally.add(f"{what}, their parts", "" if found == [(size, parts)] * 3 else str(found))
+        lines = [f"{rowid},'{text}',{rowid * 7}\n" for rowid, text in enumerate(texts, 1)]
+        answers = {f"SELECT * FROM item WHERE name = '{text}'": line for text, line in zip(texts, lines)}
+        trial.sound(what, image, {"SELECT * FROM item": "".join(lines), **answers})
 
 
 def broken_images() -> Iterator[tuple[str, bytes, bytes]]:
@@ -149,5 +176,6 @@ def try_indexes(trial: Trial) -> None:
     image = indexed("CREATE UNIQUE INDEX i ON item(qty)", entries, writer)
     trial.sound("a unique index with NULLs", image, {"SELECT name FROM item": "'a'\n'b'\n'c'\n"})
     trial.sound("an index of no rows", indexed(BY_QTY, [], items([])), {"SELECT * FROM item": ""})
+    try_sizes(trial)
     for what, image, line in broken_images():
         trial.refused(what, image, line)

@@ -1,7 +1,7 @@
 """Has sqlite3 make tables with indexes at several page sizes, and compares the entries that our cursor lists of each index, and
-where its searches of indexes and of tables stand, with the order that sqlite3 gives. Each search of an index asks for no more
-pages than the tree has levels; one of a table for a row that is there neither, and else for one less than twice as many. Run
-from the top of the repository; the last line is 'N passed, M failed'."""
+where its searches of indexes and of tables stand, at a key and behind it, with the order that sqlite3 gives. Each search of an
+index asks for no more pages than the tree has levels; one of a table for a row that is there neither, and else for one less than
+twice as many. Run from the top of the repository; the last line is 'N passed, M failed'."""
 
 from __future__ import annotations
 
@@ -10,26 +10,56 @@ import sqlite3
 import subprocess
 import sys
 import tempfile
+from bisect import bisect_left
+from dataclasses import dataclass
 from pathlib import Path
 from random import Random
 
+from oracle import Reader
 from program import TOP, Tally, give_up
+from writer import Writer, record
 
 CRATE = TOP / "crates" / "table_rows"
 SIZES = (512, 4096) if os.environ.get("SMALL") else (512, 1024, 4096, 65536)
 ROWS = 3000
 KEYS = 100 if os.environ.get("SMALL") else 1000
-# The columns of each index, and the sign of each: whether it ascends.
-INDEXES = [(("a",), "+"), (("a",), "-"), (("b", "a"), "+-"), (("b", "c"), "-+"), (("c", "b", "a"), "++-")]
+# How many levels the indexes of long texts have where a page has 512 bytes.
+MOST_LEVELS = 5
 
 Value = int | str | bytes | None
+# The first columns of entries, and whether a search goes behind the entries that have these.
+Sought = tuple[list[Value], bool]
+
+
+@dataclass(frozen=True)
+class Index:
+    """An index: its table, its columns, and the sign of each: whether it ascends."""
+
+    name: str
+    table: str
+    columns: tuple[str, ...]
+    signs: str
+
+    def ordering(self) -> str:
+        """Its columns, as they are written in an ORDER BY."""
+        return ", ".join(f"{column}{' DESC' if sign == '-' else ''}" for column, sign in zip(self.columns, self.signs))
+
+
+INDEXES = [
+    *(Index("i0", "t", ("a",), "+"), Index("i1", "t", ("a",), "-"), Index("i2", "t", ("b", "a"), "+-"), Index("i3", "t", ("b", "c"), "-+")),
+    *(Index("i4", "t", ("c", "b", "a"), "++-"), Index("far", "long", ("text",), "+"), Index("further", "long", ("n", "text"), "-+")),
+]
 
 
 def random_value(random: Random, column: str) -> Value:
     """A value of a column: whole numbers of each length, texts and blobs of up to 700 bytes, which pages of 512 bytes hold in
-    chains, few of which are long; and NULL."""
+    chains, few of which are long; long texts all of which such a page holds, and small numbers; and NULL."""
     if random.random() < 0.1:
         return None
+    if column == "n":
+        return random.getrandbits(5)
+    if column == "text":
+        return "".join(random.choice("ab é") for _ in range(random.randint(60, 80)))
     if column == "a":
         return random.choice([1, -1]) * (random.getrandbits(random.choice([2, 7, 15, 31, 62])))
     length = random.choice([0, 1, 3, 8, 30, 90] if random.random() < 0.95 else [200, 700])
@@ -95,50 +125,86 @@ def make(path: Path, size: int, random: Random) -> sqlite3.Connection:
     database.execute("CREATE TABLE k(id INTEGER PRIMARY KEY, name TEXT NOT NULL) STRICT")
     ids = {random_rowid(random) for _ in range(ROWS)}
     database.executemany("INSERT INTO k VALUES (?, ?)", [(rowid, f"n{rowid % 1000}") for rowid in ids])
+    database.execute("CREATE TABLE long(n INT, text TEXT) STRICT")
+    texts = [(random_value(random, "n"), random_value(random, "text")) for _ in range(ROWS)]
+    database.executemany("INSERT INTO long VALUES (?, ?)", texts)
     database.execute("COMMIT")
-    for number, (columns, signs) in enumerate(INDEXES):
-        database.execute(f"CREATE INDEX i{number} ON t({ordering(columns, signs)})")
+    for index in INDEXES:
+        database.execute(f"CREATE INDEX {index.name} ON {index.table}({index.ordering()})")
     return database
 
 
-def ordering(columns: tuple[str, ...], signs: str) -> str:
-    return ", ".join(f"{column}{' DESC' if sign == '-' else ''}" for column, sign in zip(columns, signs))
-
-
-def sought_keys(random: Random, entries: list[list[Value]], columns: tuple[str, ...]) -> list[tuple[list[Value], bool]]:
-    """Keys of some of the first columns, half of them those of entries. A blob with a tab can't be written in a line."""
-    found = []
-    while len(found) < KEYS:
+def sought_keys(random: Random, entries: list[list[Value]], columns: tuple[str, ...]) -> list[Sought]:
+    """Keys of some of the first columns, half of them those of entries, each for a search at it and for one behind it. A blob with a
+    tab can't be written in a line."""
+    found: list[Sought] = []
+    while len(found) < 2 * KEYS:
         whole = random.choice(entries)[:-1] if random.random() < 0.5 else [random_value(random, column) for column in columns]
         key = whole[: random.randint(0, len(columns))]
         if not any(isinstance(value, bytes) and b"\t" in value for value in key):
-            found.append((key, random.random() < 0.5))
+            found += [(key, False), (key, True)]
     return found
 
 
-def compare(tally: Tally, path: Path, database: sqlite3.Connection, number: int, random: Random) -> None:
-    """Compares one index."""
-    columns, signs = INDEXES[number]
-    root = database.execute("SELECT rootpage FROM sqlite_schema WHERE name = ?", (f"i{number}",)).fetchone()[0]
-    shown = ", ".join([*columns, "rowid"])
-    entries = [list(row) for row in database.execute(f"SELECT {shown} FROM t ORDER BY {ordering(columns, signs)}, rowid")]
-    keys = sought_keys(random, entries, columns)
+def listed(path: Path, root: int, how: str, keys: list[Sought]) -> tuple[list[str], bytes]:
+    """What our program lists of the tree with this root, and of searches for these keys; and what it says of a fault."""
     given = "".join(key_line(*key) for key in keys)
-    command = [str(CRATE / "out" / "table_rows"), str(path), str(root), signs]
+    command = [str(CRATE / "out" / "table_rows"), str(path), str(root), how]
     run = subprocess.run(command, input=given.encode(), capture_output=True, check=False)
-    lines = run.stdout.decode().split("\n")[:-1]
+    return run.stdout.decode().split("\n")[:-1], run.stderr[:200]
+
+
+def compare_entries(
+    tally: Tally, what: str, path: Path, root: int, signs: str, entries: list[list[Value]], keys: list[Sought], levels: int
+) -> None:
+    """Compares what is listed of an index with its entries, which are in their order, and where searches stand."""
+    lines, said = listed(path, root, signs, keys)
     wanted = [",".join(map(literal, entry)) for entry in entries]
-    what = f"{path.name}: {ordering(columns, signs)}"
-    if lines[:ROWS] != wanted or len(lines) != ROWS + KEYS:
-        tally.add(what, f"{len(lines)} lines, {run.stderr[:200]!r}")
+    if lines[: len(wanted)] != wanted or len(lines) != len(wanted) + len(keys):
+        tally.add(what, f"{len(lines)} lines, {said!r}")
         return
     tally.add(what, "")
-    levels = levels_of(database, f"i{number}")
-    for (key, is_behind), line in zip(keys, lines[ROWS:]):
-        place = sum(comes_before(entry, key, signs, is_behind) for entry in entries)
+    for (key, is_behind), line in zip(keys, lines[len(wanted) :]):
+        place = bisect_left(entries, True, key=lambda entry: not comes_before(entry, key, signs, is_behind))
         found, _, asked = line.rpartition(",")
-        problem = "" if found == (wanted[place] if place < ROWS else "") and int(asked) <= levels else f"{line}; {levels} levels"
+        stands = wanted[place] if place < len(wanted) else ""
+        problem = "" if found == stands and int(asked) <= levels else f"{line}; wanted {stands}, {levels} levels"
         tally.add(f"{what} {key} {is_behind}", problem)
+
+
+def compare(tally: Tally, path: Path, database: sqlite3.Connection, index: Index, random: Random) -> None:
+    """Compares one index."""
+    root = root_of(database, index.name)
+    shown = ", ".join([*index.columns, "rowid"])
+    rows = database.execute(f"SELECT {shown} FROM {index.table} ORDER BY {index.ordering()}, rowid")
+    entries = [list(row) for row in rows]
+    levels = levels_of(database, index.name)
+    what = f"{path.name}: {index.ordering()}"
+    if index.table == "long" and path.name == "512.db":
+        tally.add(f"{what}, levels", "" if levels == MOST_LEVELS else f"{levels}, not {MOST_LEVELS}")
+    compare_entries(tally, what, path, root, index.signs, entries, sought_keys(random, entries, index.columns), levels)
+
+
+def compare_worked(tally: Tally, path: Path) -> None:
+    """Compares an index of three entries, whose root has the middle one."""
+    writer = Writer()
+    writer.table("t", "CREATE TABLE t(a INT) STRICT", [(1, record([5])), (2, record([9])), (3, record([7]))])
+    entries: list[list[Value]] = [[5, 1], [7, 3], [9, 2]]
+    tree = writer.index("i", "t", "CREATE INDEX i ON t(a)", [record(entry) for entry in entries], leaf=1, fan=2)
+    path.write_bytes(writer.image())
+    with Reader(path) as reader:
+        tally.add("three entries, SQLite's check", "" if reader.is_sound() and len(tree.leaves) == 2 else "it finds something")
+    keys: list[list[Value]] = [[], [None], *([number] for number in range(4, 11))]
+    keys += [[number, rowid] for number in (5, 7, 9) for rowid in range(5)]
+    sought = [(key, is_behind) for key in keys for is_behind in (False, True)]
+    compare_entries(tally, "three entries", path, tree.root, "+", entries, sought, 2)
+    lines, _ = listed(path, tree.root, "+", [([7], False)])
+    tally.add("three entries, at 7", "" if lines[3:] in (["7,3,1"], ["7,3,2"]) else str(lines[3:]))
+
+
+def root_of(database: sqlite3.Connection, name: str) -> int:
+    """The root of a table or an index."""
+    return database.execute("SELECT rootpage FROM sqlite_schema WHERE name = ?", (name,)).fetchone()[0]
 
 
 def levels_of(database: sqlite3.Connection, name: str) -> int:
@@ -148,17 +214,14 @@ def levels_of(database: sqlite3.Connection, name: str) -> int:
 
 
 def compare_rows(tally: Tally, path: Path, database: sqlite3.Connection, random: Random) -> None:
-    """Compares where searches for rows stand, half of them for rows that there are."""
-    root = database.execute("SELECT rootpage FROM sqlite_schema WHERE name = 'k'").fetchone()[0]
+    """Compares where searches for rows stand, at a rowid and behind it, half of them for rows that there are."""
     rows = dict(database.execute("SELECT id, name FROM k"))
-    there = list(rows)
-    keys = [(random.choice(there) if random.random() < 0.5 else random_rowid(random), random.random() < 0.5) for _ in range(KEYS)]
-    given = "".join(key_line([rowid], is_behind) for rowid, is_behind in keys)
-    command = [str(CRATE / "out" / "table_rows"), str(path), str(root), "rowid"]
-    run = subprocess.run(command, input=given.encode(), capture_output=True, check=False)
-    lines = run.stdout.decode().split("\n")[:-1]
-    if len(lines) != KEYS:
-        tally.add(f"{path.name}: rows", f"{len(lines)} lines, {run.stderr[:200]!r}")
+    there = sorted(rows)
+    found = [random.choice(there) if random.random() < 0.5 else random_rowid(random) for _ in range(KEYS)]
+    keys = [(rowid, is_behind) for rowid in found for is_behind in (False, True)]
+    lines, said = listed(path, root_of(database, "k"), "rowid", [([rowid], is_behind) for rowid, is_behind in keys])
+    if len(lines) != len(keys):
+        tally.add(f"{path.name}: rows", f"{len(lines)} lines, {said!r}")
         return
     levels = levels_of(database, "k")
     for (rowid, is_behind), line in zip(keys, lines):
@@ -173,16 +236,17 @@ def compare_rows(tally: Tally, path: Path, database: sqlite3.Connection, random:
 
 
 def main() -> int:
-    """Compares the indexes, and the searches of a table, at each page size."""
+    """Compares an index of few entries, and the indexes and the searches of a table at each page size."""
     if not (CRATE / "out" / "table_rows").exists():
         give_up("the program isn't built")
     tally, random = Tally(), Random(7)
     with tempfile.TemporaryDirectory() as folder:
+        compare_worked(tally, Path(folder, "worked.db"))
         for size in SIZES:
             path = Path(folder, f"{size}.db")
             database = make(path, size, random)
-            for number in range(len(INDEXES)):
-                compare(tally, path, database, number, random)
+            for index in INDEXES:
+                compare(tally, path, database, index, random)
             compare_rows(tally, path, database, random)
             database.close()
     return tally.finish()
