@@ -74,6 +74,48 @@ LEFT_OUT: list[list[tuple[Value, ...]]] = [
     [],
 ]
 
+# A table that got two columns when it had its first four rows, the second of them when it had its fifth; its records; and statements
+# over it. What a row lacks it has by the literal DEFAULT, or NULL.
+AGED = f"{ITEM.removesuffix(') STRICT')}, tag TEXT DEFAULT 'none', lot INT) STRICT"
+AGED_ROWS: list[tuple[Value, ...]] = [*ITEMS, ("pin", 3, "x"), ("cog", 4, None, 6), ("rod", 7, "none", None)]
+AGED_ANSWERS = {
+    "SELECT id FROM item WHERE tag = 'none' ORDER BY id": "1\n2\n3\n4\n7\n",
+    "SELECT id, tag FROM item WHERE tag > 'a' ORDER BY id DESC": "7,'none'\n5,'x'\n4,'none'\n3,'none'\n2,'none'\n1,'none'\n",
+    "SELECT id FROM item WHERE tag = 'x'": "5\n",
+    "SELECT id FROM item WHERE tag IS NULL": "6\n",
+    "SELECT id FROM item WHERE tag = 'none' AND qty = 7 ORDER BY id": "3\n4\n7\n",
+    "SELECT id FROM item WHERE lot IS NULL ORDER BY id": "1\n2\n3\n4\n5\n7\n",
+    "SELECT id, tag FROM item WHERE lot = 6": "6,NULL\n",
+}
+
+# Indexes on these columns, their entries, and such that aren't: the older rows have none, or some have none; they have NULL in the
+# place of their DEFAULT, or the DEFAULT in the place of a NULL that is stored.
+BY_TAG, BY_LOT = "CREATE INDEX i ON item(tag)", "CREATE INDEX i ON item(lot)"
+NONES: list[tuple[Value, ...]] = [("none", 1), ("none", 2), ("none", 3), ("none", 4)]
+AGED_SOUND: dict[str, list[tuple[Value, ...]]] = {
+    BY_TAG: [(None, 6), *NONES, ("none", 7), ("x", 5)],
+    "CREATE INDEX i ON item(tag DESC, qty)": [
+        *(("x", 3, 5), ("none", None, 2), ("none", 7, 3), ("none", 7, 4), ("none", 7, 7), ("none", 40, 1), (None, 4, 6)),
+    ],
+    BY_LOT: [(None, 1), (None, 2), (None, 3), (None, 4), (None, 5), (None, 7), (6, 6)],
+    "CREATE UNIQUE INDEX i ON item(lot)": [(None, 1), (None, 2), (None, 3), (None, 4), (None, 5), (None, 7), (6, 6)],
+    "CREATE UNIQUE INDEX i ON item(tag, id)": [(None, 6, 6), *(("none", row, row) for row in (1, 2, 3, 4, 7)), ("x", 5, 5)],
+    "CREATE INDEX i ON item(qty) WHERE tag = 'none'": [(None, 2), (7, 3), (7, 4), (7, 7), (40, 1)],
+    "CREATE INDEX i ON item(qty) WHERE lot NOTNULL": [(4, 6)],
+    "CREATE INDEX i ON item(tag) WHERE lot ISNULL": [*NONES, ("none", 7), ("x", 5)],
+}
+AGED_BROKEN: list[tuple[str, list[tuple[Value, ...]], bytes]] = [
+    *((BY_TAG, [(None, 6), *NONES[:count], ("none", 7), ("x", 5)], fault_line(24, "i")) for count in range(4)),
+    (BY_TAG, [(None, 1), (None, 2), (None, 3), (None, 4), (None, 6), ("none", 7), ("x", 5)], fault_line(24, "i")),
+    (BY_TAG, [*NONES, ("none", 6), ("none", 7), ("x", 5)], fault_line(24, "i")),
+    (BY_TAG, [("none", 7), ("x", 5)], fault_line(24, "i")),
+    (BY_LOT, [(6, 6)], fault_line(24, "i")),
+    (BY_LOT, [(None, 5), (None, 7), (6, 6)], fault_line(24, "i")),
+    ("CREATE INDEX i ON item(qty) WHERE tag = 'none'", [(7, 7)], fault_line(24, "i")),
+    ("CREATE INDEX i ON item(qty) WHERE tag ISNULL", [(None, 2), (4, 6), (7, 3), (7, 4), (40, 1)], fault_line(24, "i")),
+    ("CREATE UNIQUE INDEX i ON item(tag)", [(None, 6), *NONES, ("none", 7), ("x", 5)], fault_line(25, "i")),
+]
+
 # Lengths of payloads of an index on pages of 512 bytes: how many bytes stand in the cell, and how many overflow pages have the rest.
 PARTS = {
     **{101: (101, 0), 102: (102, 0), 103: (39, 1), 546: (39, 1), 547: (39, 1), 548: (40, 1), 610: (102, 1), 611: (39, 2)},
@@ -88,11 +130,11 @@ REPEATED = {
 }
 
 
-def items(rows: list[tuple[Value, ...]] | None = None, leaf: int = 4) -> Writer:
+def items(rows: list[tuple[Value, ...]] | None = None, leaf: int = 4, sql: str = ITEM) -> Writer:
     """An image of the table alone, so many rows on a leaf; its root is page 2 where it has one page."""
     writer = Writer()
     records = [(rowid, record([None, *row])) for rowid, row in enumerate(ITEMS if rows is None else rows, 1)]
-    writer.table("item", ITEM, records, leaf=leaf)
+    writer.table("item", sql, records, leaf=leaf)
     return writer
 
 
@@ -114,6 +156,29 @@ def long_texts(count: int, leaf: int, fan: int) -> bytes:
     writer = items([(text, None) for text in texts], 1)
     entries: list[tuple[Value, ...]] = [(text, rowid) for rowid, text in enumerate(texts, 1)]
     return indexed("CREATE INDEX i ON item(name)", entries, writer, leaf=leaf, fan=fan)
+
+
+def try_aged(trial: Trial) -> None:
+    """Indexes on columns that rows are older than, also of a table without rowids: with the entries of these rows, and without."""
+    for sql, entries in AGED_SOUND.items():
+        for leaf in (9, 3):
+            image = indexed(sql, entries, items(AGED_ROWS, leaf, AGED), leaf=leaf)
+            trial.sound(f"older rows, {sql}, {leaf} on a leaf", image, AGED_ANSWERS)
+    for sql, entries, line in AGED_BROKEN:
+        trial.refused(f"older rows, {sql}, the entries {entries}", indexed(sql, entries, items(AGED_ROWS, 9, AGED)), line)
+    table = "CREATE TABLE item(id INT, name TEXT, tag TEXT DEFAULT 'none', PRIMARY KEY (name, id)) STRICT, WITHOUT ROWID"
+    for line, entries in (
+        ("", [(None, "nut", 4), ("none", "bolt", 1), ("none", "cap", 3), ("x", "nut", 2)]),
+        (fault_line(24, "i"), [(None, "nut", 4), ("x", "nut", 2)]),
+        (fault_line(24, "i"), [(None, "bolt", 1), (None, "cap", 3), (None, "nut", 4), ("x", "nut", 2)]),
+    ):
+        writer = Writer()
+        writer.rowless("item", table, [record(row) for row in (("bolt", 1), ("cap", 3), ("nut", 2, "x"), ("nut", 4, None))])
+        image = indexed(BY_TAG, entries, writer)
+        if line:
+            trial.refused(f"older rows without rowids, the entries {entries}", image, line)
+        else:
+            trial.sound("older rows without rowids", image, {"SELECT id FROM item WHERE tag = 'none' ORDER BY id": "1\n3\n"})
 
 
 def try_sizes(trial: Trial) -> None:
@@ -176,6 +241,7 @@ def try_indexes(trial: Trial) -> None:
     image = indexed("CREATE UNIQUE INDEX i ON item(qty)", entries, writer)
     trial.sound("a unique index with NULLs", image, {"SELECT name FROM item": "'a'\n'b'\n'c'\n"})
     trial.sound("an index of no rows", indexed(BY_QTY, [], items([])), {"SELECT * FROM item": ""})
+    try_aged(trial)
     try_sizes(trial)
     for what, image, line in broken_images():
         trial.refused(what, image, line)
