@@ -536,6 +536,8 @@ STOPPED = {
 NO_STATEMENTS = {
     "": 0,
     "SELEC name FROM item": 0,
+    "SELEC 1": 0,
+    "SELECT 1 1": 9,
     "SELECT name FROM item WHERE": 27,
     "SELECT name, FROM item": 13,
     "SELECT name FROM item 7": 22,

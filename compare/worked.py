@@ -7,6 +7,7 @@ Run from any folder. The last line is 'N passed, M failed'.
 
 from __future__ import annotations
 
+import os
 import subprocess
 import sys
 import tempfile
@@ -252,6 +253,10 @@ def try_answers(trial: Trial) -> None:
     longest = "SELECT n FROM sale".ljust(65536)
     trial.answered("65,536 bytes", [longest], "5\n2\n9\n1\n")
     trial.tally.add("65,537 bytes", refusal_problem(run(trial.path, longest + " "), fault_line(38)))
+    began = sum(os.times()[2:4])
+    problem = refusal_problem(run(trial.path, "(" * 65536), fault_line(30, 0))
+    took = sum(os.times()[2:4]) - began
+    trial.tally.add("65,536 parentheses", problem or ("" if took < 1 else f"it took {took:.1f} seconds of processor time"))
     image = trial.path.read_bytes()
     trial.refused("no bytes", b"", fault_line(1))
     trial.refused("a byte too few", image[:-1], fault_line(9))
