@@ -2,7 +2,7 @@
 """Interrupts the program: each of its reads fails in turn, each byte of its output is the last that is taken, and the image is
 another from each read on. It calls the C library's pread and write, which devices.c stands before. How many reads there are
 is what the documents promise: the header, each page once at opening and each page of the answer's table once more, and no more
-of them than the answer wants.
+of them than the answer wants; nor than there are pages, where many places of an image name one page.
 
 Run from any folder. The last line is 'N passed, M failed'.
 """
@@ -13,15 +13,18 @@ import os
 import subprocess
 import sys
 import tempfile
+from collections.abc import Iterator
 from dataclasses import dataclass
 from pathlib import Path
 
-from program import Run, Tally, build, fault_line, rows_of, run
-from worked import cell_offset, long_values, numbers, patched
-from writer import Tree, Writer, record
+from program import Run, Tally, build, fault_line, refusal_problem, rows_of, run
+from worked import cell_offset, long_values, numbers, patched, with_freelist
+from writer import Tree, Writer, record, varint
 
 SOURCE = Path(__file__).resolve().parent / "devices.c"
 READ_FAILED, CHANGED, WRITE_FAILED = fault_line(27), fault_line(51), fault_line(52)
+# How many reads an opening may make beside one of each page: that of the header, and those of the schema's rows.
+FURTHER_READS = 4
 
 
 @dataclass
@@ -205,13 +208,84 @@ def try_outputs(interrupter: Interrupter) -> None:
     interrupter.tally.add(f"{case.what}, reads behind a failed write", problem)
 
 
+class Sharer(Writer):
+    """An image whose payloads name the overflow page of the first of them that has one."""
+
+    first = b""
+
+    def kept(self, payload: bytes, most: int, chains: list[list[int]]) -> bytes:
+        """What a page keeps of a payload, and the number of that page."""
+        if len(payload) <= most or not self.first:
+            kept = super().kept(payload, most, chains)
+            self.first = kept[-4:] if len(payload) > most else b""
+            return kept
+        return payload[:39] + self.first
+
+
+def shared_chains() -> Iterator[tuple[str, bytes, list[bytes]]]:
+    """Images in which a thousand payloads share an overflow page: rows, entries of an index, and rows without rowids, each of which
+    has 39 bytes in its cell. What each is, and the lines that may be told."""
+    rowids, shape = range(1000, 2000), {"leaf": 8, "fan": 8}
+    writer = Sharer()
+    tree = writer.table("t", "CREATE TABLE t(body TEXT) STRICT", [(number, record(["x" * 475])) for number in rowids], **shape)
+    yield "rows that share an overflow page", bytes(writer.image()), [fault_line(13, tree.chains[0][0])]
+    writer = Sharer()
+    texts = [f"{number}".ljust(97, "x") for number in rowids]
+    writer.table("t", "CREATE TABLE t(body TEXT) STRICT", [(number, record([text])) for number, text in zip(rowids, texts)], leaf=4, fan=20)
+    entries = [record([text, number]) for number, text in zip(rowids, texts)]
+    tree = writer.index("i", "t", "CREATE INDEX i ON t(body)", entries, **shape)
+    yield "entries that share an overflow page", bytes(writer.image()), [fault_line(13, tree.chains[0][0])]
+    writer = Sharer()
+    sql = "CREATE TABLE t(id INT PRIMARY KEY, body TEXT) STRICT, WITHOUT ROWID"
+    tree = writer.rowless("t", sql, [record([number, "x" * 97]) for number in rowids], **shape)
+    yield "rows without rowids that share an overflow page", bytes(writer.image()), [fault_line(13, tree.chains[0][0])]
+
+
+def loops() -> Iterator[tuple[str, bytes, list[bytes]]]:
+    """Images in which a freelist of a hundred trunk pages loops, an overflow page goes on at itself or the first, or a page has one
+    child again and again."""
+    writer, trunks = with_freelist(*[1] * 100)
+    image = bytes(writer.image())
+    for page in (trunks[0], trunks[50], trunks[-1]):
+        looped = patched(image, trunks[-1], 0, page.to_bytes(4, "big"))
+        for count in (200, 201, 1000, 2**31, 2**32 - 1):
+            what = f"a freelist that goes on at page {page} behind its last, {count} pages in the header"
+            yield what, patched(looped, 1, 36, count.to_bytes(4, "big")), [fault_line(13, page), fault_line(14)]
+    writer, tree, _ = long_values("TEXT", [2000], least=9)
+    (chain,) = tree.chains
+    writer.freelist(*[1] * 100)
+    image = bytes(writer.image())
+    # As long as the image has room for, with as many bytes in its cell, 476.
+    size = 476 + (len(image) - 476) // 508 * 508
+    longest = patched(image, tree.root, cell_offset(image, tree.root, 0), varint(size, 9))
+    for page in (chain[0], chain[-1]):
+        looped = patched(longest, chain[-1], 0, page.to_bytes(4, "big"))
+        yield f"a chain that goes on at page {page} behind its last", looped, [fault_line(13, page)]
+    writer, tree = numbers(1, 1000, leaf=20, fan=60)
+    image, (leaf, *_) = bytes(writer.image()), tree.leaves
+    for number in range(len(tree.leaves) - 1):
+        image = patched(image, tree.root, cell_offset(image, tree.root, number), leaf.to_bytes(4, "big"))
+    yield "a page of which each child is one leaf", image, [fault_line(13, leaf)]
+
+
+def try_costs(interrupter: Interrupter) -> None:
+    """Images in which many places name one page: it isn't read for each of them."""
+    for what, image, lines in (*shared_chains(), *loops()):
+        interrupter.path.write_bytes(image)
+        answer, reads = interrupter.run(Case(what, image, "SELECT 1", "", 0, 0))
+        interrupter.tally.add(what, refusal_problem(answer, *lines))
+        pages = len(image) // 512
+        problem = "" if 0 < reads <= pages + FURTHER_READS else f"{reads} reads, {pages} pages"
+        interrupter.tally.add(f"{what}, reads", problem)
+
+
 def main() -> int:
     """Builds the program, and interrupts it."""
     build()
     tally = Tally()
     with tempfile.TemporaryDirectory() as folder:
         interrupter = Interrupter(tally, Path(folder))
-        for attempt in (try_rows, try_chains, try_outputs):
+        for attempt in (try_rows, try_chains, try_outputs, try_costs):
             attempt(interrupter)
     return tally.finish()
 
