@@ -9,11 +9,12 @@ from random import Random
 
 from oracle import Reader
 from pages import (
-    cell_place, cell_places, interior_pages, page_count, page_start, pointer_places, set_number, size_of_page, tree_pages,
+    cell_place, cell_places, interior_pages, number_at, page_count, page_start, pointer_places, set_number, size_of_page, tree_pages,
 )
 from program import Run, Tally, fault_line, refusal_problem, rows_of, run
 from recipes import fill, make_file, random_text
 from sound import answer_problem
+from witness import WITNESSED, Reading
 
 # A damage changes the bytes, and tells what it did.
 Damage = Callable[[bytearray, Random], str]
@@ -166,9 +167,68 @@ def respell(image: bytearray, rng: Random) -> str:
     return f"byte {place} of the schema is {bytes(image[place : place + 1])!r}"
 
 
+def trunk_pages(image: bytearray) -> list[int]:
+    """The trunk pages of a freelist, as far as they are pages and none of them comes again."""
+    found, page = [], number_at(image, 32, 4)
+    while 1 <= page <= page_count(image) and page not in found:
+        found.append(page)
+        page = number_at(image, (page - 1) * size_of_page(image), 4)
+    return found
+
+
+def set_free(image: bytearray, rng: Random) -> str:
+    place = rng.choice((32, 36))
+    old = number_at(image, place, 4)
+    odd = odd_page(image, old, rng) if place == 32 else rng.choice((0, max(0, old - 1), old + 1, page_count(image), 2**32 - 1))
+    set_number(image, place, 4, odd % 2**32)
+    return f"the number at {place} of the header is {number_at(image, place, 4)}, not {old}"
+
+
+def spoil_trunk(image: bytearray, rng: Random) -> str:
+    trunks = trunk_pages(image)
+    if not trunks:
+        return "no freelist to spoil"
+    page = rng.choice(trunks)
+    start = (page - 1) * size_of_page(image)
+    count = min(number_at(image, start + 4, 4), (size_of_page(image) - 8) // 4)
+    place = rng.choice((0, 4, 4, 8 + 4 * rng.randrange(count or 1), 8 + 4 * rng.randrange(count or 1)))
+    old = number_at(image, start + place, 4)
+    most = size_of_page(image) // 4
+    odd = rng.choice((0, max(0, old - 1), old + 1, most - 2, most - 1, 2**32 - 1)) if place == 4 else odd_page(image, page, rng)
+    set_number(image, start + place, 4, odd % 2**32)
+    return f"the number at {place} of trunk page {page} is {number_at(image, start + place, 4)}, not {old}"
+
+
+def free_page(image: bytearray, rng: Random) -> str:
+    """Gives a page to the freelist, whatever else uses it, so that its counts agree."""
+    trunks = trunk_pages(image)
+    if not trunks:
+        return "no freelist to give a page to"
+    start, page = (rng.choice(trunks) - 1) * size_of_page(image), random_page(image, rng)
+    count = number_at(image, start + 4, 4)
+    if 12 + 4 * count > size_of_page(image):
+        return "a trunk page without room"
+    for place, number in ((start + 8 + 4 * count, page), (start + 4, count + 1), (36, (number_at(image, 36, 4) + 1) % 2**32)):
+        set_number(image, place, 4, number)
+    return f"the freelist names page {page} too"
+
+
+def take_free_page(image: bytearray, rng: Random) -> str:
+    """Takes the last page from a trunk page, so that the counts agree."""
+    trunks = trunk_pages(image)
+    start = (rng.choice(trunks or [1]) - 1) * size_of_page(image)
+    count, total = number_at(image, start + 4, 4), number_at(image, 36, 4)
+    if not trunks or count == 0 or total == 0:
+        return "no free page to take"
+    set_number(image, start + 4, 4, count - 1)
+    set_number(image, 36, 4, total - 1)
+    return f"the freelist forgets the last page at {start}"
+
+
 DAMAGES: list[Damage] = [
     flip_bit, flip_bit, set_header_byte, set_page_header, fill_page, copy_page, swap_pages, cut_file, cut_pages, cross_child,
-    cross_child, swap_children, cross_chain, swap_cells, move_cell, spoil_cell, spoil_cell, set_count, respell,
+    cross_child, swap_children, cross_chain, swap_cells, move_cell, spoil_cell, spoil_cell, set_count, respell, set_free,
+    spoil_trunk, spoil_trunk, free_page, take_free_page,
 ]  # fmt: skip
 
 
@@ -195,11 +255,22 @@ def header_fault(image: bytes) -> int:
     return next((number for number, holds in sound.items() if not holds), 0)
 
 
+def witness_problem(image: bytes, answer: Run) -> str:
+    """What a reading of an image by other code says against what is told of it. A condition that the reading looks for is one that it
+    finds broken, with this page; an image that was opened has none. It says nothing where it can't read a text of the schema."""
+    reading = Reading(image)
+    lines, number = reading.lines(), answer.fault()
+    is_well = answer.err in lines if number in WITNESSED else number in range(21, 27) or not lines
+    return "" if is_well or not reading.is_known else f"{answer}; a reading of the file finds {sorted(lines)[:9]}"
+
+
 def refused_problem(path: Path, answer: Run) -> str:
     """What is wrong with a refusal of a damaged file whose header is sound."""
     number = answer.fault()
     if number not in OPENING_FAULTS or answer.out:
         return f"{answer}; wanted whole rows or one fault of opening or preparing, and nothing else"
+    if problem := witness_problem(path.read_bytes(), answer):
+        return problem
     try:
         with Reader(path) as reader:
             found = number not in SEEN_BY_SQLITE or not reader.is_sound()
@@ -215,6 +286,8 @@ def damaged_problem(path: Path, table: str, answer: Run) -> str:
         return refusal_problem(answer, fault_line(wanted))
     if answer.status != 0:
         return refused_problem(path, answer)
+    if problem := witness_problem(path.read_bytes(), answer):
+        return problem
     try:
         with Reader(path) as reader:
             rows = reader.lines(table, reader.columns(table))
@@ -257,7 +330,60 @@ def without_rowids(connection: sqlite3.Connection, rng: Random) -> None:
         connection.execute(f"CREATE TABLE {table}(a INT, b TEXT, c BLOB, PRIMARY KEY (b, a)) STRICT, WITHOUT ROWID")
         fill(connection, table, ((row, random_text(rng, rng.choice((9, 60, 400))), rng.randbytes(rng.choice((2, 90)))) for row in range(rows)))
     connection.execute("CREATE INDEX by_c ON item(c DESC)")
+    connection.execute("CREATE UNIQUE INDEX once ON item(a, c)")
     connection.execute("DELETE FROM item WHERE a % 5 = 0")
+
+
+def with_keys(connection: sqlite3.Connection, rng: Random) -> None:
+    """A table with indexes for its keys, partial ones, one of which is unique, and one that descends; and one of the same shape."""
+    columns = "a TEXT PRIMARY KEY, b INT UNIQUE, c BLOB, d INT NOT NULL, UNIQUE (d, a)"
+    for table, rows in (("item", 160), ("other", 20)):
+        connection.execute(f"CREATE TABLE {table}({columns}) STRICT")
+        numbers = rng.sample(range(-(2**40), 2**40), rows)
+        texts = (f"{number} {random_text(rng, rng.choice((9, 9, 200)))}" for number in numbers)
+        fill(connection, table, ((text, number, rng.randbytes(4), number % 9) for text, number in zip(texts, numbers)))
+    connection.execute("CREATE INDEX few ON item(c DESC, d) WHERE b > 0 AND d <> 3")
+    connection.execute("CREATE UNIQUE INDEX once ON item(b DESC) WHERE d BETWEEN 2 AND 5")
+    connection.execute("CREATE INDEX down ON item(d DESC, b)")
+    connection.execute("DELETE FROM item WHERE abs(b % 6) = 1")
+
+
+def altered(connection: sqlite3.Connection, rng: Random) -> None:
+    """A table that got columns, with and without a DEFAULT, before its first row and behind some, with indexes on them; some of its
+    rows were changed since, and its names were others. One without rowids that got a column."""
+    connection.execute("CREATE TABLE old(id INTEGER PRIMARY KEY, name TEXT, gone INT) STRICT")
+    connection.execute("ALTER TABLE old ADD COLUMN early INT")
+    fill(connection, "old", ((row, random_text(rng, 40), row, row * row) for row in range(60)))
+    connection.execute("ALTER TABLE old ADD COLUMN tag TEXT DEFAULT 'none'")
+    connection.execute("ALTER TABLE old DROP COLUMN gone")
+    connection.execute("ALTER TABLE old RENAME TO item")
+    fill(connection, "item", ((row, random_text(rng, 40), None, random_text(rng, 4)) for row in range(60, 90)))
+    connection.execute("ALTER TABLE item ADD COLUMN lot INT NOT NULL DEFAULT -7")
+    connection.execute("ALTER TABLE item RENAME COLUMN name TO label")
+    connection.execute("CREATE INDEX by_tag ON item(tag, lot DESC)")
+    connection.execute("CREATE INDEX by_lot ON item(label) WHERE lot = -7")
+    connection.execute("UPDATE item SET lot = id WHERE id % 7 = 0")
+    connection.execute("CREATE TABLE other(a INT, b TEXT, PRIMARY KEY (b, a)) STRICT, WITHOUT ROWID")
+    fill(connection, "other", ((row, random_text(rng, 30)) for row in range(40)))
+    connection.execute("ALTER TABLE other ADD COLUMN c BLOB DEFAULT x'00ff'")
+    connection.execute("CREATE INDEX by_c ON other(c, a DESC)")
+
+
+def with_trunks(connection: sqlite3.Connection, rng: Random) -> None:
+    """A table most of whose rows are gone, so that the freelist has some trunk pages where a page is short."""
+    connection.execute("CREATE TABLE item(id INTEGER PRIMARY KEY, a TEXT, b BLOB) STRICT")
+    fill(connection, "item", ((row, random_text(rng, 40), rng.randbytes(rng.choice((5, 700)))) for row in range(400)))
+    connection.execute("DELETE FROM item WHERE id % 8 > 0 OR id > 300")
+
+
+def vacuumed(connection: sqlite3.Connection, rng: Random) -> None:
+    """Tables and indexes of which rows were deleted, made anew by VACUUM, and some rows that were deleted since."""
+    with_indexes(connection, rng)
+    connection.execute("CREATE TABLE gone(a TEXT) STRICT")
+    fill(connection, "gone", ((random_text(rng, 90),) for _ in range(60)))
+    connection.execute("DROP TABLE gone")
+    connection.execute("VACUUM")
+    connection.execute("DELETE FROM item WHERE id % 7 = 0")
 
 
 def one_leaf(connection: sqlite3.Connection, rng: Random) -> None:
@@ -268,7 +394,8 @@ def one_leaf(connection: sqlite3.Connection, rng: Random) -> None:
 
 BASES = [
     *((two_tables, 512), (with_chains, 512), (one_leaf, 512), (with_indexes, 512), (two_tables, 1024), (with_chains, 4096)),
-    *((with_indexes, 2048), (one_leaf, 65536), (without_rowids, 512), (without_rowids, 4096)),
+    *((with_indexes, 2048), (one_leaf, 65536), (without_rowids, 512), (without_rowids, 4096), (with_keys, 512), (with_keys, 1024)),
+    *((altered, 512), (altered, 2048), (with_trunks, 512), (with_trunks, 1024), (vacuumed, 512), (vacuumed, 4096)),
 ]
 
 

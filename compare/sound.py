@@ -13,6 +13,7 @@ from random import Random
 from oracle import Reader, header_line, named
 from program import Run, Tally, fault_line, refusal_problem, rows_of, run
 from recipes import EITHER, RECIPES, SPELLINGS, Make, fill, make_file, random_tables
+from witness import Reading
 
 BARE = re.compile(r"[A-Za-z_][A-Za-z_0-9]*")
 RESERVED = {"from", "select", "table"}
@@ -64,9 +65,13 @@ def try_table(tally: Tally, what: str, path: Path, table: str, rng: Random) -> N
 
 
 def try_file(tally: Tally, what: str, path: Path, make: Make, size: int, seed: str) -> None:
-    """Makes a file, compares what the program answers of each of its tables, and of one that it doesn't have."""
+    """Makes a file, in which the reading that witnesses faults finds none, and compares what the program answers of each of its tables,
+    and of one that it doesn't have."""
     make_file(path, make, size, Random(seed))
     before = path.read_bytes()
+    reading = Reading(before)
+    told = "" if reading.is_known and not reading.found else f"{sorted(reading.lines())[:9]}, known: {reading.is_known}"
+    tally.add(f"{what}, the reading", told)
     rng = Random(seed)
     with Reader(path) as reader:
         tables = reader.tables()

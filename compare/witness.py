@@ -22,10 +22,10 @@ Row = list[Value]
 WITNESSED = range(11, 21)
 MOST_LEVELS = 20
 # The pieces of a text of the schema: blanks and comments, quoted names and texts, words, and single characters.
-PIECE = re.compile(
-    r"""[ \t\n\f\r]+|--[^\n]*|/\*.*?\*/|"(?:[^"]|"")*"|`(?:[^`]|``)*`|'(?:[^']|'')*'|\[[^]]*\]|[A-Za-z_\x80-\U0010ffff][\w$]*|.""", re.S
-)
-NAME = re.compile(r"""["`[A-Za-z_\x80-\U0010ffff].*""", re.S)
+BLANK, QUOTED = r"[ \t\n\f\r]+|--[^\n]*|/\*.*?\*/", r"""\"(?:[^"]|"")*"|`(?:[^`]|``)*`|'(?:[^']|'')*'|\[[^]]*\]"""
+WORD = r"[A-Za-z_\x80-\U0010ffff][0-9A-Za-z_$\x80-\U0010ffff]*"
+PIECE = re.compile(f"(?s){BLANK}|{QUOTED}|{WORD}|.")
+NAME = re.compile(r"""(?s)["`[A-Za-z_\x80-\U0010ffff].*""")
 
 
 @dataclass
