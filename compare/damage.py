@@ -9,12 +9,13 @@ from random import Random
 
 from oracle import Reader
 from pages import (
-    cell_place, cell_places, interior_pages, number_at, page_count, page_start, pointer_places, set_number, size_of_page, tree_pages,
+    INDEX_INTERIOR, INDEX_LEAF, LEAF, cell_place, cell_places, interior_pages, number_at, page_count, page_start, pages_of_kinds,
+    pointer_places, set_number, size_of_page, tree_pages,
 )
 from program import Run, Tally, fault_line, refusal_problem, rows_of, run
 from recipes import fill, make_file, random_text
 from sound import answer_problem
-from witness import WITNESSED, Reading
+from witness import WITNESSED, Reading, read_varint
 
 # A damage changes the bytes, and tells what it did.
 Damage = Callable[[bytearray, Random], str]
@@ -150,6 +151,21 @@ def spoil_cell(image: bytearray, rng: Random) -> str:
     return f"byte {start} and on of a cell of page {page} are {patch.hex()}"
 
 
+def retype(image: bytearray, rng: Random) -> str:
+    """Gives a value of a record another type."""
+    page = rng.choice(pages_of_kinds(image, LEAF, INDEX_LEAF, INDEX_INTERIOR) or [1])
+    places = cell_places(image, page)
+    if not places:
+        return "no value to retype"
+    place = cell_place(image, page, rng.choice(places)) + (4 if image[page_start(image, page)] == INDEX_INTERIOR else 0)
+    # Behind the payload's size, the rowid and the header's length.
+    for _ in range(3 if image[page_start(image, page)] == LEAF else 2):
+        place = (read_varint(image, place, len(image)) or (0, place))[1]
+    place = min(place + rng.choice((0, 0, 1, 1, 2, 3)), len(image) - 1)
+    old, image[place] = image[place], rng.choice((0, 1, 6, 7, 7, 8, 9, 10, 11, 12, 13, image[place] ^ 1))
+    return f"the type at {place} of page {page} is {image[place]}, not {old}"
+
+
 def set_count(image: bytearray, rng: Random) -> str:
     page = rng.choice(tree_pages(image))
     place = page_start(image, page) + 3
@@ -227,8 +243,8 @@ def take_free_page(image: bytearray, rng: Random) -> str:
 
 DAMAGES: list[Damage] = [
     flip_bit, flip_bit, set_header_byte, set_page_header, fill_page, copy_page, swap_pages, cut_file, cut_pages, cross_child,
-    cross_child, swap_children, cross_chain, swap_cells, move_cell, spoil_cell, spoil_cell, set_count, respell, set_free,
-    spoil_trunk, spoil_trunk, free_page, take_free_page,
+    cross_child, swap_children, cross_chain, swap_cells, move_cell, spoil_cell, spoil_cell, retype, retype, set_count, respell,
+    set_free, spoil_trunk, spoil_trunk, free_page, take_free_page,
 ]  # fmt: skip
 
 
