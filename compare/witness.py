@@ -389,6 +389,8 @@ class Reading:
         indexes = [row for row in rows if row[0] == "index"]
         self.is_known = self.is_known and all(row[0] != "view" for row in rows)
         for row in (*tables, *(row for row in indexes if row[4] is not None)):
+            if names_of(row[0], row[4]) is None:
+                raise ValueError("a text that begins as none of a table or an index")
             database.execute(row[4])
         wanted = {
             (folded(name), folded(row[1]))
