@@ -42,7 +42,10 @@ PROGRAMS = {
     "text_trees": [],
 }
 # The scripts of compare/ that ask the built program.
-OURS = ("worked", "interrupted", "sessions", "catalogs", "searches", "statements", "nested", "joins", "windows", "names")
+OURS = (
+    *("worked", "conditions", "interrupted", "sessions", "catalogs", "searches"),
+    *("statements", "nested", "joins", "windows", "names"),
+)
 # The kit's command.
 RT = ["python3", "-B", str(TOP / "gate" / "command.py")]
 # How many minutes after its beginning the whole begins no further check of an edit of a turn, so that it ends on a slow machine too.
