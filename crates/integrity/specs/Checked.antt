@@ -20,6 +20,7 @@ use Rattle.indexes.specs.IndexData.{IndexData}
 use Rattle.catalog.specs.CatalogData.{CatalogData}
 use Rattle.catalog.specs.Refused.{IsBrokenSchema}
 use Rattle.tree_walk.specs.declared.counts.TreeCounts.{TreeCounts}
+use Rattle.table_walk.specs.Checked.{IsCheckedTree}
 use Rattle.table_walk.specs.Walked.{IsWalkFault}
 use Rattle.integrity.specs.declared.index_trees.IndexCounts.{IndexCounts}
 use Rattle.integrity.specs.Denotes.{HasCatalog, HasTables}
@@ -28,8 +29,9 @@ use Rattle.integrity.specs.Tables.{IsAnyBroken, IsAnyChecked}
 use Rattle.integrity.specs.Used.{users_of}
 use Rattle.stored_rows.specs.Stored.{HoldsRows, StoresRow}
 
--- the tables and indexes that an image has, and what the check counts of each
+-- the tables and indexes that an image has, and what the check counts of each and of the schema's own tree
 pub record CheckedData : Type 0 where
+  pub schema_tree : TreeCounts
   pub tables : List TableData
   pub trees : List TreeCounts
   pub indexes : List IndexData
@@ -99,15 +101,19 @@ IsCheckFault (IndexDiffers _) = Unit {0}
 IsCheckFault (NotUnique _) = Unit {0}
 IsCheckFault fault = IsWalkFault fault
 
--- An image was checked: these are its tables and indexes, with what was counted of each, and each index has just the entries
--- that its table's rows want; none of the conditions that are examined is broken.
+-- An image was checked: these are its tables and indexes, all that the rows of its schema say, with what was counted of each and
+-- of the schema's own tree, and each index has just the entries that its table's rows want; no condition is broken.
 pub record HasCheckedImage (pager : PagerState) (checked : CheckedData) : Type 0 where
   pub own_root : IsPageNumber pager schema_table.root
   pub roots : All (λ table. IsPageNumber pager table.root) checked.tables
+  pub catalog : WhereSteady pager (λ pages. (rows : List Row)
+      × HasCatalog pages rows (record { tables = checked.tables; indexes = checked.indexes }))
   pub tables : WhereSteady pager (λ pages. HasTables pages checked.tables)
+  pub schema_tree : WhereSteady pager (λ pages. IsCheckedTree pages schema_table checked.schema_tree)
   pub trees : WhereSteady pager (λ pages. AllZip (IsAnyChecked pages) checked.tables checked.trees)
   pub index_counts : WhereSteady pager (λ pages. AllZip (IsCheckedIndexOf pages checked.tables) checked.indexes checked.index_counts)
   pub entries : WhereSteady pager (λ pages. (table : TableData) (index : IndexData) → IsTableIndex pages table index → AreItsEntries pages table index)
+  pub whole : WhereSteady pager (λ pages. (fault : Fault) → ¬ IsBrokenImage pages fault)
   pub unbroken : WhereSteady pager (λ pages. (fault : Fault) → IsExamined fault → ¬ IsBrokenImage pages fault)
 
 -- why it was not

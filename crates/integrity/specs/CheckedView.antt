@@ -5,6 +5,7 @@ use Rattle.integrity.specs.declared.checked.Checked.{Checked}
 
 abbrev pub checked_data : Checked → CheckedData
 checked_data c = record {
+  schema_tree = c.schema_tree;
   tables = (catalog_data c.catalog).tables;
   trees = c.trees.items;
   indexes = (catalog_data c.catalog).indexes;

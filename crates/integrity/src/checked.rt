@@ -18,15 +18,23 @@ use tables::Table;
 use tree_walk::TreeCounts;
 use values::Fault;
 
-/// What the check of an image finds: its tables and indexes, and what the tree of each has.
+/// What the check of an image finds: its tables and indexes, and what the tree of each has, and that of the schema.
 #[derive(Drop)]
 pub struct Checked {
+    schema_tree: TreeCounts,
     catalog: Catalog,
     trees: Vec<TreeCounts>,
     index_counts: Vec<IndexCounts>,
 }
 
 impl Checked {
+    /// What the tree of the schema's own rows has.
+    pub fn schema_tree(&self) -> TreeCounts
+        ensures { result ≡ (checked_data self.now).schema_tree }
+    {
+        self.schema_tree
+    }
+
     /// The tables of the image, in the order of the schema's rows.
     pub fn tables(&self) -> &[Table]
         ensures { result.now ≡ (checked_data self.now).tables }
@@ -74,8 +82,8 @@ pub fn check<S: Source>(alloc: Global, pager: &mut Pager<S>) -> Result<Checked, 
     let mut marks = vec![in alloc; false; pages as usize + 1]?;
     let used = marks.as_mut_slice();
     let schema = Table::schema(alloc)?;
-    let rows = read_schema(alloc, pager, &schema, used)?;
-    let catalog = Catalog::read(alloc, rows.as_slice(), pages)?;
+    let own = read_schema(alloc, pager, &schema, used)?;
+    let catalog = Catalog::read(alloc, own.rows.as_slice(), pages)?;
     let tables = catalog.tables();
     let indexes = catalog.indexes();
     let trees = check_tables(alloc, pager, tables, used)?;
@@ -84,6 +92,7 @@ pub fn check<S: Source>(alloc: Global, pager: &mut Pager<S>) -> Result<Checked, 
     let counted = index_counts.as_slice();
     check_entries(alloc, pager, tables, indexes, counted)?;
     Ok(Checked {
+        schema_tree: own.tree,
         catalog,
         trees,
         index_counts,

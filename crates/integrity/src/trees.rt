@@ -21,6 +21,13 @@ use tables::{RowKey, Table};
 use tree_walk::TreeCounts;
 use values::{Fault, Row};
 
+/// What is read of the schema: the counts of its own tree, and its rows.
+#[derive(Drop)]
+pub(crate) struct SchemaRows {
+    pub(crate) tree: TreeCounts,
+    pub(crate) rows: Vec<Row>,
+}
+
 /// Checks the tree of a table of either kind, and gives its pages and chains their marks.
 fn check_tree<S: Source>(
     alloc: Global,
@@ -68,24 +75,24 @@ pub(crate) fn check_tables<S: Source>(
     Ok(trees)
 }
 
-/// Checks the schema's tree, gives its pages and chains their marks, and reads its rows.
+/// Checks the schema's tree, counts what it has, gives its pages and chains their marks, and reads its rows.
 pub(crate) fn read_schema<S: Source>(
     alloc: Global,
     pager: &mut Pager<S>,
     schema: &Table,
     used: &mut [bool],
-) -> Result<Vec<Row>, Fault>
+) -> Result<SchemaRows, Fault>
     requires is { schema.now ≡ schema_table }
     requires root { IsPageNumber pager.old.state schema.now.root }
     requires long { pager.old.state.header.pages < length used.old }
-    ensures rows { WhereSteady pager.old.state (λ pages. IfOk result (λ rows. HoldsRows pages schema_table rows.items)) }
-    ensures checked { WhereSteady pager.old.state (λ pages. OnOk result ((counts : TreeCounts) × IsCheckedTree pages schema_table counts)) }
+    ensures rows { WhereSteady pager.old.state (λ pages. IfOk result (λ own. HoldsRows pages schema_table own.rows.items)) }
+    ensures checked { WhereSteady pager.old.state (λ pages. IfOk result (λ own. IsCheckedTree pages schema_table own.tree)) }
     ensures marks { WhereSteady pager.old.state (λ pages. OnOk result (MarksTree pages (tree_of schema_table) used.old used.new)) }
     ensures fault { WhereSteady pager.old.state (λ pages. IfErr result (λ e. HasCause pages e ⊎ IsTreeTwice pages (tree_of schema_table) used.old e)) }
     ensures only { IfErr result IsWalkFault }
     ensures reads { ReadsPages result pager.old.state pager.new.state }
 {
-    check_table(alloc, pager, schema, used)?;
+    let tree = check_table(alloc, pager, schema, used)?;
     let rows = all_rows(alloc, pager, schema)?;
-    Ok(rows)
+    Ok(SchemaRows { tree, rows })
 }

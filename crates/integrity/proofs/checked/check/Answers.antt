@@ -1,6 +1,7 @@
-use Rattle.std.proofs.Common.{rules, ◌≡◌, true, ◌+◌, All, Contains, List, map, sym, ◌∙◌, ap, subst, inl, inr, ⊎_elim}
+use Rattle.std.proofs.Common.{rules, ◌≡◌, true, ◌+◌, All, Contains, IsTrue, List, map, sym, ◌∙◌, ap, subst, inl, inr, ⊎_elim}
 use Rattle.std.specs.List.{AllZip}
 use Rattle.std.proofs.lemmas.Result.{err_from_is_err_and}
+use Rattle.values.specs.declared.fault.Fault.{Fault}
 use Rattle.pager.specs.declared.header.Header.{Header}
 use Rattle.image.specs.Pages.{pages_seen, Pages}
 use Rattle.pager.proofs.CallLemmas.{SameImage-trans}
@@ -15,6 +16,8 @@ use Rattle.indexes.specs.IndexView.{index_data}
 use Rattle.schema.specs.Names.{IsSameName}
 use Rattle.tables.specs.TableData.{TableData}
 use Rattle.integrity.specs.declared.index_trees.IndexCounts.{IndexCounts}
+use Rattle.integrity.specs.Checked.{IsBrokenImage}
+use Rattle.integrity.specs.Denotes.{HasCatalog}
 use Rattle.integrity.specs.Indexes.{AreBrokenEntries, AreItsEntries, IsBrokenIndexTree, IsCheckedIndexOf, IsOwned}
 use Rattle.integrity.specs.Used.{AreTreesTwice, MarksTrees, index_tree_of}
 use Rattle.integrity.specs.Tables.{IsAnyBroken, IsAnyChecked, any_tree}
@@ -27,14 +30,14 @@ use Rattle.integrity.proofs.TreesLemmas.{IsRestFault, IsRestOnce, indexes_twice,
 use Rattle.integrity.proofs.UnbrokenLemmas.{catalog_here, unbroken_image}
 use Rattle.integrity.proofs.checked.check.Goals as goal
 
-pub returns-in_err-rows-clause-outcome : goal.returns-in_err-rows-clause-outcome
-returns-in_err-rows-clause-outcome g c =
-    let p = err_from_is_err_and c.from_residual-in_err-rows.result c.from_residual-in_err-rows.ensures.1 in
+pub returns-in_err-own-clause-outcome : goal.returns-in_err-own-clause-outcome
+returns-in_err-own-clause-outcome g c =
+    let p = err_from_is_err_and c.from_residual-in_err-own.result c.from_residual-in_err-own.ensures.1 in
     rw (p.1, p.2) (record {
-      only = walk_only _ c.in_err-rows.ensures.only;
+      only = walk_only _ c.in_err-own.ensures.only;
       cause = λ steady. ⊎_elim (λ cause. cause)
           (λ twice. inr (inr (inl (schema_twice (pages_seen c.args.pager.now.state) (c.header-pages.result.pages + 1) c.as_mut_slice-used.result.now (search rules) _ twice))))
-          (c.in_err-rows.ensures.fault steady);
+          (c.in_err-own.ensures.fault steady);
     })
 
 pub returns-in_err-catalog-clause-outcome : goal.returns-in_err-catalog-clause-outcome
@@ -45,7 +48,7 @@ returns-in_err-catalog-clause-outcome g c =
       only = refused_only _ _ _ c.in_err-catalog.ensures.refused;
       cause = λ steady.
           let count : c.header-pages.result.pages ≡ (pages_seen c.args.pager.now.state).count = ap (λ (h : Header). h.pages) c.header-pages.ensures.is in
-          refused_rows (pages_seen c.args.pager.now.state) c.in_ok-rows.rows.items (c.in_ok-rows.ensures.rows steady) _
+          refused_rows (pages_seen c.args.pager.now.state) c.in_ok-own.own.rows.items (c.in_ok-own.ensures.rows steady) _
           (refused_here _ _ _ _ _ count c.as_slice.ensures.value c.in_err-catalog.ensures.refused);
     })
 
@@ -60,18 +63,18 @@ returns-in_err-trees-clause-outcome g c =
           let stays = c.read_schema.ensures.reads.image in
           let now = still_steady _ _ stays steady in
           let count : c.header-pages.result.pages ≡ pages.count = ap (λ (h : Header). h.pages) c.header-pages.ensures.is in
-          let first = c.in_ok-rows.ensures.checked steady in
-          let catalog = catalog_here pages _ c.in_ok-rows.rows.items _ first.0 (catalog_data c.in_ok-catalog.catalog) first.1
-          (c.in_ok-rows.ensures.rows steady) count c.as_slice.ensures.value c.in_ok-catalog.ensures.said in
+          let first = c.in_ok-own.ensures.checked steady in
+          let catalog = catalog_here pages _ c.in_ok-own.own.rows.items _ c.in_ok-own.own.tree (catalog_data c.in_ok-catalog.catalog) first
+          (c.in_ok-own.ensures.rows steady) count c.as_slice.ensures.value c.in_ok-catalog.ensures.said in
           (⊎_elim inl
           (λ cause. ⊎_elim
           (λ (broken : (table : TableData) × Contains c.tables-tables.result.now table × IsAnyBroken (pages_seen c.read_schema.new.pager.state) table c.in_err-trees.field-0.0).
-          broken_table pages c.in_ok-rows.rows.items (catalog_data c.in_ok-catalog.catalog) catalog broken.0 _
+          broken_table pages c.in_ok-own.own.rows.items (catalog_data c.in_ok-catalog.catalog) catalog broken.0 _
           (subst (λ (ts : List TableData). Contains ts broken.0) c.tables-tables.ensures broken.1)
           (subst (λ (q : Pages). IsAnyBroken q broken.0 c.in_err-trees.field-0.0) (same_pages _ _ stays) broken.2))
           (λ (twice : AreTreesTwice (pages_seen c.read_schema.new.pager.state) (map any_tree c.tables-tables.result.now) c.read_schema.new.used c.in_err-trees.field-0.0).
-          inr (inr (inl (tables_twice pages (catalog_data c.in_ok-catalog.catalog) c.in_ok-rows.rows.items catalog (c.header-pages.result.pages + 1)
-          c.as_mut_slice-used.result.now c.read_schema.new.used (search rules) (c.in_ok-rows.ensures.marks steady) c.in_err-trees.field-0.0
+          inr (inr (inl (tables_twice pages (catalog_data c.in_ok-catalog.catalog) c.in_ok-own.own.rows.items catalog (c.header-pages.result.pages + 1)
+          c.as_mut_slice-used.result.now c.read_schema.new.used (search rules) (c.in_ok-own.ensures.marks steady) c.in_err-trees.field-0.0
           (subst (λ (q : Pages). AreTreesTwice q (map any_tree (catalog_data c.in_ok-catalog.catalog).tables) c.read_schema.new.used c.in_err-trees.field-0.0) (same_pages _ _ stays)
           (subst (λ (ts : List TableData). AreTreesTwice (pages_seen c.read_schema.new.pager.state) (map any_tree ts) c.read_schema.new.used c.in_err-trees.field-0.0) c.tables-tables.ensures twice))))))
           cause)
@@ -90,25 +93,25 @@ returns-in_err-index_counts-clause-outcome g c =
           let both = SameImage-trans _ _ _ stays c.check_tables.ensures.reads.image in
           let now = still_steady _ _ stays steady in
           let count : c.header-pages.result.pages ≡ pages.count = ap (λ (h : Header). h.pages) c.header-pages.ensures.is in
-          let first = c.in_ok-rows.ensures.checked steady in
+          let first = c.in_ok-own.ensures.checked steady in
           let found = catalog_data c.in_ok-catalog.catalog in
           let fault = c.in_err-index_counts.field-0.0 in
-          let catalog = catalog_here pages _ c.in_ok-rows.rows.items _ first.0 found first.1
-          (c.in_ok-rows.ensures.rows steady) count c.as_slice.ensures.value c.in_ok-catalog.ensures.said in
+          let catalog = catalog_here pages _ c.in_ok-own.own.rows.items _ c.in_ok-own.own.tree found first
+          (c.in_ok-own.ensures.rows steady) count c.as_slice.ensures.value c.in_ok-catalog.ensures.said in
           let tables = subst (λ (ts : List TableData). MarksTrees pages (map any_tree ts) c.read_schema.new.used c.check_tables.new.used) c.tables-tables.ensures
           (subst (λ (q : Pages). MarksTrees q (map any_tree c.tables-tables.result.now) c.read_schema.new.used c.check_tables.new.used) (same_pages _ _ stays) (c.in_ok-trees.ensures.marks now)) in
           (⊎_elim inl
           (λ cause. ⊎_elim
           (λ (broken : (table : TableData) × (index : IndexData) × Contains c.tables-tables.result.now table × Contains (map index_data c.indexes-indexes.result.now) index
           × IsSameName index.table table.name × IsBrokenIndexTree (pages_seen c.check_tables.new.pager.state) table index fault).
-          broken_index_tree pages c.in_ok-rows.rows.items found catalog broken.0 broken.1 _
+          broken_index_tree pages c.in_ok-own.own.rows.items found catalog broken.0 broken.1 _
           (subst (λ (ts : List TableData). Contains ts broken.0) c.tables-tables.ensures broken.2)
           (subst (λ (is : List IndexData). Contains is broken.1) c.indexes-indexes.ensures broken.3)
           broken.4
           (subst (λ (q : Pages). IsBrokenIndexTree q broken.0 broken.1 fault) (same_pages _ _ both) broken.5))
           (λ (twice : AreTreesTwice (pages_seen c.check_tables.new.pager.state) (map index_tree_of (map index_data c.indexes-indexes.result.now)) c.check_tables.new.used fault).
-          inr (inr (inl (indexes_twice pages found c.in_ok-rows.rows.items catalog (c.header-pages.result.pages + 1)
-          c.as_mut_slice-used.result.now c.read_schema.new.used (search rules) (c.in_ok-rows.ensures.marks steady) c.check_tables.new.used tables fault
+          inr (inr (inl (indexes_twice pages found c.in_ok-own.own.rows.items catalog (c.header-pages.result.pages + 1)
+          c.as_mut_slice-used.result.now c.read_schema.new.used (search rules) (c.in_ok-own.ensures.marks steady) c.check_tables.new.used tables fault
           (subst (λ (q : Pages). AreTreesTwice q (map index_tree_of found.indexes) c.check_tables.new.used fault) (same_pages _ _ both)
           (subst (λ (is : List IndexData). AreTreesTwice (pages_seen c.check_tables.new.pager.state) (map index_tree_of is) c.check_tables.new.used fault) c.indexes-indexes.ensures twice))))))
           cause)
@@ -129,10 +132,10 @@ returns-in_err-check_rest-clause-outcome g c =
           let three = SameImage-trans _ _ _ both c.check_indexes.ensures.reads.image in
           let now = still_steady _ _ stays steady in
           let count : c.header-pages.result.pages ≡ pages.count = ap (λ (h : Header). h.pages) c.header-pages.ensures.is in
-          let first = c.in_ok-rows.ensures.checked steady in
+          let first = c.in_ok-own.ensures.checked steady in
           let found = catalog_data c.in_ok-catalog.catalog in
-          let catalog = catalog_here pages _ c.in_ok-rows.rows.items _ first.0 found first.1
-          (c.in_ok-rows.ensures.rows steady) count c.as_slice.ensures.value c.in_ok-catalog.ensures.said in
+          let catalog = catalog_here pages _ c.in_ok-own.own.rows.items _ c.in_ok-own.own.tree found first
+          (c.in_ok-own.ensures.rows steady) count c.as_slice.ensures.value c.in_ok-catalog.ensures.said in
           let is = c.header-pages.ensures.is in
           let front = front_is state (subst (λ (h : Header). IsSoundHeader h) is c.header-pages.ensures.sound) (sym is ∙ c.header-pages.ensures.steady steady) in
           let header : c.check_indexes.new.pager.state.header ≡ header_on pages = three.header ∙ sym front in
@@ -143,8 +146,8 @@ returns-in_err-check_rest-clause-outcome g c =
           (c.in_ok-index_counts.ensures.marks (still_steady _ _ both steady))) in
           (⊎_elim inl
           (λ (broken : IsRestFault (pages_seen c.check_indexes.new.pager.state) c.check_indexes.new.pager.state.header c.check_indexes.new.used c.in_err-check_rest.field-0.0).
-          inr (inr (inl (rest_broken pages found c.in_ok-rows.rows.items catalog (c.header-pages.result.pages + 1)
-          c.as_mut_slice-used.result.now c.read_schema.new.used (search rules) (c.in_ok-rows.ensures.marks steady) c.check_tables.new.used tables c.check_indexes.new.used indexes
+          inr (inr (inl (rest_broken pages found c.in_ok-own.own.rows.items catalog (c.header-pages.result.pages + 1)
+          c.as_mut_slice-used.result.now c.read_schema.new.used (search rules) (c.in_ok-own.ensures.marks steady) c.check_tables.new.used tables c.check_indexes.new.used indexes
           c.in_err-check_rest.field-0.0
           (subst (λ (h : Header). IsRestFault pages h c.check_indexes.new.used c.in_err-check_rest.field-0.0) header
           (subst (λ (q : Pages). IsRestFault q c.check_indexes.new.pager.state.header c.check_indexes.new.used c.in_err-check_rest.field-0.0) (same_pages _ _ three) broken))))))
@@ -165,11 +168,11 @@ returns-in_err-check_entries-clause-outcome g c =
           let four = SameImage-trans _ _ _ three c.check_rest.ensures.reads.chains.image in
           let now = still_steady _ _ stays steady in
           let count : c.header-pages.result.pages ≡ pages.count = ap (λ (h : Header). h.pages) c.header-pages.ensures.is in
-          let first = c.in_ok-rows.ensures.checked steady in
+          let first = c.in_ok-own.ensures.checked steady in
           let found = catalog_data c.in_ok-catalog.catalog in
           let fault = c.in_err-check_entries.field-0.0 in
-          let catalog = catalog_here pages _ c.in_ok-rows.rows.items _ first.0 found first.1
-          (c.in_ok-rows.ensures.rows steady) count c.as_slice.ensures.value c.in_ok-catalog.ensures.said in
+          let catalog = catalog_here pages _ c.in_ok-own.own.rows.items _ c.in_ok-own.own.tree found first
+          (c.in_ok-own.ensures.rows steady) count c.as_slice.ensures.value c.in_ok-catalog.ensures.said in
           let numbers : All (λ table. IsPageNumber c.args.pager.now.state table.root) found.tables = search rules in
           let trees = tables_now pages (pages_seen c.check_rest.new.pager.state) found.tables c.tables-tables.result.now c.in_ok-trees.trees.items (same_pages _ _ four) c.tables-tables.ensures numbers
           (subst (λ (q : Pages). AllZip (IsAnyChecked q) c.tables-tables.result.now c.in_ok-trees.trees.items) (same_pages _ _ stays) (c.in_ok-trees.ensures.checked now)) in
@@ -179,7 +182,7 @@ returns-in_err-check_entries-clause-outcome g c =
           (⊎_elim inl
           (λ (broken : (table : TableData) × (index : IndexData) × Contains c.tables-tables.result.now table × Contains (map index_data c.indexes-indexes.result.now) index
           × IsSameName index.table table.name × AreBrokenEntries (pages_seen c.check_rest.new.pager.state) table index fault).
-          broken_entries pages c.in_ok-rows.rows.items found catalog broken.0 broken.1 fault
+          broken_entries pages c.in_ok-own.own.rows.items found catalog broken.0 broken.1 fault
           (subst (λ (ts : List TableData). Contains ts broken.0) c.tables-tables.ensures broken.2)
           (subst (λ (is : List IndexData). Contains is broken.1) c.indexes-indexes.ensures broken.3)
           broken.4
@@ -214,7 +217,7 @@ pub returns-clause-outcome : goal.returns-clause-outcome
 returns-clause-outcome g c =
     let state = c.args.pager.now.state in
     let pages = pages_seen state in
-    let rows = c.in_ok-rows.rows.items in
+    let rows = c.in_ok-own.own.rows.items in
     let found = catalog_data c.in_ok-catalog.catalog in
     let stays = c.read_schema.ensures.reads.image in
     let both = SameImage-trans _ _ _ stays c.check_tables.ensures.reads.image in
@@ -222,16 +225,57 @@ returns-clause-outcome g c =
     let four = SameImage-trans _ _ _ three c.check_rest.ensures.reads.chains.image in
     let is = c.header-pages.ensures.is in
     let count : c.header-pages.result.pages ≡ pages.count = ap (λ (h : Header). h.pages) is in
+    let has : IsTrue state.source.steady → HasCatalog pages rows found = λ steady.
+    catalog_here pages _ rows _ c.in_ok-own.own.tree found (c.in_ok-own.ensures.checked steady)
+    (c.in_ok-own.ensures.rows steady) count c.as_slice.ensures.value c.in_ok-catalog.ensures.said in
+    let whole : IsTrue state.source.steady → (fault : Fault) → ¬ IsBrokenImage pages fault = λ steady fault.
+    let now = still_steady _ _ stays steady in
+    let front = front_is state (subst (λ (h : Header). IsSoundHeader h) is c.header-pages.ensures.sound) (sym is ∙ c.header-pages.ensures.steady steady) in
+    let header : c.check_indexes.new.pager.state.header ≡ header_on pages = three.header ∙ sym front in
+    let trees = subst (λ (q : Pages). AllZip (IsAnyChecked q) c.tables-tables.result.now c.in_ok-trees.trees.items) (same_pages _ _ stays) (c.in_ok-trees.ensures.checked now) in
+    let index_trees = subst (λ (q : Pages). AllZip (IsCheckedIndexOf q c.tables-tables.result.now) (map index_data c.indexes-indexes.result.now) c.in_ok-index_counts.index_counts.items) (same_pages _ _ both)
+    (c.in_ok-index_counts.ensures.checked (still_steady _ _ both steady)) in
+    let tables = subst (λ (ts : List TableData). MarksTrees pages (map any_tree ts) c.read_schema.new.used c.check_tables.new.used) c.tables-tables.ensures
+    (subst (λ (q : Pages). MarksTrees q (map any_tree c.tables-tables.result.now) c.read_schema.new.used c.check_tables.new.used) (same_pages _ _ stays) (c.in_ok-trees.ensures.marks now)) in
+    let indexes = subst (λ (all : List IndexData). MarksTrees pages (map index_tree_of all) c.check_tables.new.used c.check_indexes.new.used) c.indexes-indexes.ensures
+    (subst (λ (q : Pages). MarksTrees q (map index_tree_of (map index_data c.indexes-indexes.result.now)) c.check_tables.new.used c.check_indexes.new.used) (same_pages _ _ both)
+    (c.in_ok-index_counts.ensures.marks (still_steady _ _ both steady))) in
+    let numbers : All (λ table. IsPageNumber c.args.pager.now.state table.root) found.tables = search rules in
+    let four_trees = tables_now pages (pages_seen c.check_rest.new.pager.state) found.tables c.tables-tables.result.now c.in_ok-trees.trees.items (same_pages _ _ four) c.tables-tables.ensures numbers
+    trees in
+    let four_index_trees = subst (λ (l : List IndexCounts). AllZip (IsCheckedIndexOf (pages_seen c.check_rest.new.pager.state) c.tables-tables.result.now) (map index_data c.indexes-indexes.result.now) l) (sym c.as_slice-counted.ensures.value)
+    (subst (λ (q : Pages). AllZip (IsCheckedIndexOf q c.tables-tables.result.now) (map index_data c.indexes-indexes.result.now) c.in_ok-index_counts.index_counts.items) (sym (same_pages _ _ four)) index_trees) in
+    unbroken_image pages rows found c.in_ok-trees.trees.items c.in_ok-own.own.tree (c.in_ok-own.ensures.checked steady) (has steady)
+    (subst (λ (ts : List TableData). AllZip (IsAnyChecked pages) ts c.in_ok-trees.trees.items) c.tables-tables.ensures trees)
+    (no_misuse pages found rows (has steady)
+    (subst (λ (h : Header). IsFreelist pages h.freelist h.free_pages) header
+    (subst (λ (q : Pages). IsFreelist q c.check_indexes.new.pager.state.header.freelist c.check_indexes.new.pager.state.header.free_pages) (same_pages _ _ three)
+    (c.in_ok-check_rest.ensures.freelist (still_steady _ _ three steady))))
+    (rest_once pages found rows (has steady) (c.header-pages.result.pages + 1)
+    c.as_mut_slice-used.result.now c.read_schema.new.used (search rules) (c.in_ok-own.ensures.marks steady) c.check_tables.new.used tables c.check_indexes.new.used indexes
+    (subst (λ (h : Header). IsRestOnce pages h c.check_indexes.new.used) header
+    (subst (λ (q : Pages). IsRestOnce q c.check_indexes.new.pager.state.header c.check_indexes.new.used) (same_pages _ _ three)
+    (c.in_ok-check_rest.ensures.once (still_steady _ _ three steady))))))
+    (sound_rows pages rows found (has steady))
+    (unbroken_indexes pages rows found (has steady) c.in_ok-index_counts.index_counts.items
+    (subst (λ (ts : List TableData). AllZip (IsCheckedIndexOf pages ts) found.indexes c.in_ok-index_counts.index_counts.items) c.tables-tables.ensures
+    (subst (λ (all : List IndexData). AllZip (IsCheckedIndexOf pages c.tables-tables.result.now) all c.in_ok-index_counts.index_counts.items) c.indexes-indexes.ensures index_trees))
+    (its_entries pages rows found (has steady)
+    (λ table index among_tables among owner.
+    subst (λ (q : Pages). AreItsEntries q table index) (same_pages _ _ four)
+    (c.in_ok-check_entries.ensures.entries (still_steady _ _ four steady) four_trees four_index_trees table index
+    (subst (λ (ts : List TableData). Contains ts table) (sym c.tables-tables.ensures) among_tables)
+    (subst (λ (all : List IndexData). Contains all index) (sym c.indexes-indexes.ensures) among) owner))))
+    fault in
     record {
       own_root = search rules;
       roots = search rules;
+      catalog = λ steady. (rows, has steady);
+      schema_tree = c.in_ok-own.ensures.checked;
       tables = λ steady.
           let now = still_steady _ _ stays steady in
           let trees = subst (λ (q : Pages). AllZip (IsAnyChecked q) c.tables-tables.result.now c.in_ok-trees.trees.items) (same_pages _ _ stays) (c.in_ok-trees.ensures.checked now) in
-          let first = c.in_ok-rows.ensures.checked steady in
-          let catalog = catalog_here pages _ rows _ first.0 found first.1
-          (c.in_ok-rows.ensures.rows steady) count c.as_slice.ensures.value c.in_ok-catalog.ensures.said in
-          has_tables pages rows found first.0 c.in_ok-trees.trees.items catalog first.1
+          has_tables pages rows found c.in_ok-own.own.tree c.in_ok-trees.trees.items (has steady) (c.in_ok-own.ensures.checked steady)
           (subst (λ (ts : List TableData). AllZip (IsAnyChecked pages) ts c.in_ok-trees.trees.items) c.tables-tables.ensures trees);
       trees = search rules;
       index_counts = λ steady.
@@ -241,61 +285,18 @@ returns-clause-outcome g c =
           (subst (λ (all : List IndexData). AllZip (IsCheckedIndexOf pages c.tables-tables.result.now) all c.in_ok-index_counts.index_counts.items) c.indexes-indexes.ensures trees);
       entries = λ steady.
           let now = still_steady _ _ stays steady in
-          let first = c.in_ok-rows.ensures.checked steady in
-          let catalog = catalog_here pages _ rows _ first.0 found first.1
-          (c.in_ok-rows.ensures.rows steady) count c.as_slice.ensures.value c.in_ok-catalog.ensures.said in
           let numbers : All (λ table. IsPageNumber c.args.pager.now.state table.root) found.tables = search rules in
           let trees = tables_now pages (pages_seen c.check_rest.new.pager.state) found.tables c.tables-tables.result.now c.in_ok-trees.trees.items (same_pages _ _ four) c.tables-tables.ensures numbers
           (subst (λ (q : Pages). AllZip (IsAnyChecked q) c.tables-tables.result.now c.in_ok-trees.trees.items) (same_pages _ _ stays) (c.in_ok-trees.ensures.checked now)) in
           let index_trees = subst (λ (l : List IndexCounts). AllZip (IsCheckedIndexOf (pages_seen c.check_rest.new.pager.state) c.tables-tables.result.now) (map index_data c.indexes-indexes.result.now) l) (sym c.as_slice-counted.ensures.value)
           (subst (λ (q : Pages). AllZip (IsCheckedIndexOf q c.tables-tables.result.now) (map index_data c.indexes-indexes.result.now) c.in_ok-index_counts.index_counts.items) (same_pages _ _ both ∙ sym (same_pages _ _ four))
           (c.in_ok-index_counts.ensures.checked (still_steady _ _ both steady))) in
-          its_entries pages rows found catalog
+          its_entries pages rows found (has steady)
           (λ table index among_tables among owner.
           subst (λ (q : Pages). AreItsEntries q table index) (same_pages _ _ four)
           (c.in_ok-check_entries.ensures.entries (still_steady _ _ four steady) trees index_trees table index
           (subst (λ (ts : List TableData). Contains ts table) (sym c.tables-tables.ensures) among_tables)
           (subst (λ (all : List IndexData). Contains all index) (sym c.indexes-indexes.ensures) among) owner));
-      unbroken = λ steady fault examined.
-          let now = still_steady _ _ stays steady in
-          let front = front_is state (subst (λ (h : Header). IsSoundHeader h) is c.header-pages.ensures.sound) (sym is ∙ c.header-pages.ensures.steady steady) in
-          let header : c.check_indexes.new.pager.state.header ≡ header_on pages = three.header ∙ sym front in
-          let trees = subst (λ (q : Pages). AllZip (IsAnyChecked q) c.tables-tables.result.now c.in_ok-trees.trees.items) (same_pages _ _ stays) (c.in_ok-trees.ensures.checked now) in
-          let index_trees = subst (λ (q : Pages). AllZip (IsCheckedIndexOf q c.tables-tables.result.now) (map index_data c.indexes-indexes.result.now) c.in_ok-index_counts.index_counts.items) (same_pages _ _ both)
-          (c.in_ok-index_counts.ensures.checked (still_steady _ _ both steady)) in
-          let first = c.in_ok-rows.ensures.checked steady in
-          let catalog = catalog_here pages _ rows _ first.0 found first.1
-          (c.in_ok-rows.ensures.rows steady) count c.as_slice.ensures.value c.in_ok-catalog.ensures.said in
-          let tables = subst (λ (ts : List TableData). MarksTrees pages (map any_tree ts) c.read_schema.new.used c.check_tables.new.used) c.tables-tables.ensures
-          (subst (λ (q : Pages). MarksTrees q (map any_tree c.tables-tables.result.now) c.read_schema.new.used c.check_tables.new.used) (same_pages _ _ stays) (c.in_ok-trees.ensures.marks now)) in
-          let indexes = subst (λ (all : List IndexData). MarksTrees pages (map index_tree_of all) c.check_tables.new.used c.check_indexes.new.used) c.indexes-indexes.ensures
-          (subst (λ (q : Pages). MarksTrees q (map index_tree_of (map index_data c.indexes-indexes.result.now)) c.check_tables.new.used c.check_indexes.new.used) (same_pages _ _ both)
-          (c.in_ok-index_counts.ensures.marks (still_steady _ _ both steady))) in
-          let numbers : All (λ table. IsPageNumber c.args.pager.now.state table.root) found.tables = search rules in
-          let four_trees = tables_now pages (pages_seen c.check_rest.new.pager.state) found.tables c.tables-tables.result.now c.in_ok-trees.trees.items (same_pages _ _ four) c.tables-tables.ensures numbers
-          trees in
-          let four_index_trees = subst (λ (l : List IndexCounts). AllZip (IsCheckedIndexOf (pages_seen c.check_rest.new.pager.state) c.tables-tables.result.now) (map index_data c.indexes-indexes.result.now) l) (sym c.as_slice-counted.ensures.value)
-          (subst (λ (q : Pages). AllZip (IsCheckedIndexOf q c.tables-tables.result.now) (map index_data c.indexes-indexes.result.now) c.in_ok-index_counts.index_counts.items) (sym (same_pages _ _ four)) index_trees) in
-          unbroken_image pages rows found c.in_ok-trees.trees.items first.0 first.1 catalog
-          (subst (λ (ts : List TableData). AllZip (IsAnyChecked pages) ts c.in_ok-trees.trees.items) c.tables-tables.ensures trees)
-          (no_misuse pages found rows catalog
-          (subst (λ (h : Header). IsFreelist pages h.freelist h.free_pages) header
-          (subst (λ (q : Pages). IsFreelist q c.check_indexes.new.pager.state.header.freelist c.check_indexes.new.pager.state.header.free_pages) (same_pages _ _ three)
-          (c.in_ok-check_rest.ensures.freelist (still_steady _ _ three steady))))
-          (rest_once pages found rows catalog (c.header-pages.result.pages + 1)
-          c.as_mut_slice-used.result.now c.read_schema.new.used (search rules) (c.in_ok-rows.ensures.marks steady) c.check_tables.new.used tables c.check_indexes.new.used indexes
-          (subst (λ (h : Header). IsRestOnce pages h c.check_indexes.new.used) header
-          (subst (λ (q : Pages). IsRestOnce q c.check_indexes.new.pager.state.header c.check_indexes.new.used) (same_pages _ _ three)
-          (c.in_ok-check_rest.ensures.once (still_steady _ _ three steady))))))
-          (sound_rows pages rows found catalog)
-          (unbroken_indexes pages rows found catalog c.in_ok-index_counts.index_counts.items
-          (subst (λ (ts : List TableData). AllZip (IsCheckedIndexOf pages ts) found.indexes c.in_ok-index_counts.index_counts.items) c.tables-tables.ensures
-          (subst (λ (all : List IndexData). AllZip (IsCheckedIndexOf pages c.tables-tables.result.now) all c.in_ok-index_counts.index_counts.items) c.indexes-indexes.ensures index_trees))
-          (its_entries pages rows found catalog
-          (λ table index among_tables among owner.
-          subst (λ (q : Pages). AreItsEntries q table index) (same_pages _ _ four)
-          (c.in_ok-check_entries.ensures.entries (still_steady _ _ four steady) four_trees four_index_trees table index
-          (subst (λ (ts : List TableData). Contains ts table) (sym c.tables-tables.ensures) among_tables)
-          (subst (λ (all : List IndexData). Contains all index) (sym c.indexes-indexes.ensures) among) owner))))
-          fault;
+      whole = whole;
+      unbroken = λ steady fault examined. whole steady fault;
     }
