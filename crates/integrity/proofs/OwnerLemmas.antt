@@ -1,5 +1,5 @@
 -- The table of each index of a catalog.
-use Rattle.std.proofs.Common.{◌≡◌, ◌∙◌, ◌++◌, ℕ, Bool, not, true, false, ◌||◌, All, Contains, List, [], ◌∷◌, length, map, nat_eq, refl, ap, sym, subst, arith, inl, inr, ⊎_elim}
+use Rattle.std.proofs.Common.{◌≡◌, ◌∙◌, ℕ, Bool, not, true, false, ◌||◌, All, Contains, List, [], ◌∷◌, length, map, nat_eq, refl, ap, sym, subst, arith, inl, inr, ⊎_elim}
 use Rattle.std.specs.Char.{to_ascii_lowercase}
 use Rattle.std.specs.List.{filter}
 use Rattle.std.proofs.lemmas.List.Elements.{All-cons, All-nil, Contains-append_left, Contains-append_right}

@@ -4,7 +4,7 @@ use Rattle.values.specs.declared.fault.Fault.{Fault}
 use Rattle.values.specs.declared.fault.Fault.TheVariants.{ReadFailed, NoMemory, BadPage, BadChain, PageUse, BadOrder, BadDepth, BadRecord, FloatValue, BadText, ValueBreaksColumn}
 use Rattle.pager.specs.Calls.{IsReadFault}
 use Rattle.pager.specs.PagerState.{PagerState}
-use Rattle.image.specs.Pages.{Pages, pages_seen}
+use Rattle.image.specs.Pages.{pages_seen}
 use Rattle.image.specs.Use.{TreeData}
 use Rattle.tables.specs.TableData.{RowKeyData, TableData}
 use Rattle.tree_walk.specs.declared.counts.TreeCounts.{TreeCounts}

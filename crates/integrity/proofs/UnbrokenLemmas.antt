@@ -18,7 +18,7 @@ use Rattle.table_walk.proofs.CheckedLemmas.{rows_fit, unbroken_table}
 use Rattle.index_rows.specs.Checked.{IsCheckedBy}
 use Rattle.primary_walk.proofs.UnbrokenLemmas.{unbroken}
 use Rattle.integrity.specs.Denotes.{HasCatalog}
-use Rattle.integrity.specs.Tables.{IsAnyBroken, IsAnyChecked, IsBrokenBy}
+use Rattle.integrity.specs.Tables.{IsAnyChecked, IsBrokenBy}
 use Rattle.integrity.specs.Checked.{HasBrokenIndex, IsBrokenImage, IsMisused, said, schema}
 
 module _ (pages : Pages) where

@@ -1,6 +1,6 @@
 -- What the check of an image finds, and what is broken of an image. (Database File Format, section 1.6; The Schema
 -- Table; the faults of docs/FAULTS.md)
-use Rattle.std.specs.Prelude.{◌≡◌, ◌⊎◌, All, List, []}
+use Rattle.std.specs.Prelude.{◌⊎◌, All, List, []}
 use Rattle.std.specs.List.{AllZip}
 use Rattle.values.specs.declared.fault.Fault.{Fault}
 use Rattle.values.specs.declared.fault.Fault.TheVariants.{BadPage, BadChain, PageUse, BadFreelist, BadOrder, BadDepth, BadRecord, FloatValue, BadText, SchemaRow, SchemaText, UnsupportedObject, ValueBreaksColumn, IndexDiffers, NotUnique}

@@ -1,4 +1,4 @@
-use Rattle.std.proofs.Common.{rules, ◌≡◌, ◌<◌, true, ℕ, All, Contains, List, get_or, length, sym, subst, take, arith}
+use Rattle.std.proofs.Common.{rules, ◌≡◌, ◌<◌, true, ℕ, All, Contains, List, get_or, length, sym, subst, arith}
 use Rattle.std.proofs.lemmas.List.{take_all}
 use Rattle.std.proofs.lemmas.List.Elements.{All-more}
 use Rattle.indexes.specs.IndexView.{index_data}
