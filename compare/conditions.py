@@ -315,7 +315,7 @@ def header_switches(base: Base) -> Iterator[Switch]:
         *((7, place, word(number)) for place in (52, 64) for number in (1, 2**24)),
         *((8, 44, word(number)) for number in (0, 1, 3, 5, 2**24 + 4)),
         *((9, 28, word(number)) for number in (0, 1, base.count - 1, base.count + 1, base.count + 2**31)),
-        *((9, place, word(number)) for place in (24, 92) for number in (0, 2, 2**24 + 1)),
+        *((9, place, word(number)) for place, numbers in ((24, (0, 2, 2**24 + 1)), (92, (3, 5, 2**24 + 2))) for number in numbers),
     ]
     for number, place, piece in pieces:
         yield Switch(number, f"{piece.hex()} at {place}", {place: piece}, said(number))

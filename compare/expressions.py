@@ -132,6 +132,9 @@ class Maker:
             return self.question(depth)
         x, y, z = (self.make(kind, depth) for _ in range(3))
         operator = self.pick("=", "==", "<>", "!=", "<", "<=", ">", ">=", "IS", "IS NOT")
+        # SQLite takes `x IN ()` for the word FALSE, and `7 IS NOT FALSE` asks whether 7 is true.
+        if operator.startswith("IS") and y.replace("/* c */ ", "").endswith("IN ())"):
+            operator = "="
         return self.pick(
             f"{x} {operator} {y}",
             f"{x} {operator} {y}",

@@ -120,7 +120,7 @@ def computed(case: Case) -> list[Case]:
     order, groups, a compound, a join and a query in a query, each with rows that are computed; and such that read few pages or none."""
     once, depth = case.running, 4
     statements = (
-        ("SELECT a * 2, b || '!' FROM t WHERE a % 20 = 3", "6,'row!'\n46,'row!'\n86,'row!'\n", once),
+        ("SELECT a * 2, b || '!' FROM t WHERE a % 20 = 0", "40,'row!'\n80,'row!'\n120,'row!'\n", once),
         ("SELECT DISTINCT a % 4 FROM t ORDER BY 1 DESC LIMIT 2 OFFSET 1", "2\n1\n", once),
         ("SELECT a % 2, count(*), sum(a) FROM t GROUP BY a % 2 HAVING sum(a) > 900", "0,30,930\n", once),
         ("SELECT a FROM t WHERE a < 3 UNION SELECT 7 ORDER BY 1", "1\n2\n7\n", once),
