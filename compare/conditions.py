@@ -636,7 +636,7 @@ def broken_alone(path: Path, switch: Switch) -> str:
     if switch.number in (21, 22):
         return ""
     if numbers:
-        return f"the reading finds {sorted(reading.found)}"
+        return "" if reading.lines() == set(switch.lines) else f"the reading finds {sorted(reading.found)}"
     return "SQLite's check finds nothing" if is_sound(path) else ""
 
 

@@ -1,5 +1,6 @@
-"""Reads an image by code of its own, and tells each of the conditions 11 to 20 of docs/FAULTS.md that it finds broken, so that what
-the program tells of an image has a witness. What columns the texts of a schema declare it asks of SQLite, on an empty database.
+"""Reads an image by code of its own, and tells each of the conditions 11 to 20 of docs/FAULTS.md that it finds broken, and 23 of the
+schema's rows, so that what the program tells of an image has a witness. What columns the texts of a schema declare it asks of SQLite,
+on an empty database.
 (Database File Format, sections 1.5 to 1.7 and 2; The Schema Table)"""
 
 from __future__ import annotations
@@ -182,14 +183,14 @@ def computed_columns(text: str) -> Iterator[bool]:
 
 
 class Reading:
-    """What an image holds whose header is sound, and what of it is broken: pairs of a fault's number and of the page that it carries,
-    or 0. It is known where each text of the schema can be read, and whole where each of its pages could be."""
+    """What an image holds whose header is sound, and what of it is broken: pairs of a fault's number and of the page or name that it
+    carries, or 0. It is known where each text of the schema can be read, and whole where each of its pages could be."""
 
     def __init__(self, image: bytes | bytearray) -> None:
         self.image = bytes(image)
         self.size, self.count = size_of_page(image), page_count(image)
         self.usable = self.size - self.image[20]
-        self.found: set[tuple[int, int]] = set()
+        self.found: set[tuple[int, int | str]] = set()
         self.uses: Counter[int] = Counter()
         self.walked: set[int] = set()
         self.is_known = self.is_whole = True
@@ -206,16 +207,16 @@ class Reading:
 
     def lines(self) -> set[bytes]:
         """The lines of the faults whose conditions are broken."""
-        return {fault_line(number, page) for number, page in self.found}
+        return {fault_line(number, carried) for number, carried in self.found}
 
     def tree(self, name: str) -> Tree:
         """The tree of a table or an index."""
         return next(tree for tree in self.trees if tree.name == name)
 
-    def tell(self, number: int, page: int = 0) -> None:
-        """A condition is broken. Behind a page, a chain or a freelist that can't be read, pages may stay that seem unused."""
-        self.found.add((number, page))
-        self.is_whole = self.is_whole and number not in (11, 12, 14, 16, 20)
+    def tell(self, number: int, carried: int | str = 0) -> None:
+        """A condition is broken. Behind what can't be read, pages may stay that seem unused."""
+        self.found.add((number, carried))
+        self.is_whole = self.is_whole and number not in (11, 12, 14, 16, 20, 23)
 
     def use(self, page: int) -> None:
         """A place names this page."""
@@ -352,7 +353,7 @@ class Reading:
         """The trees that the rows of the schema say; none where one of them can't be read, or isn't as SQLite writes it."""
         kinds = (str, str, str, int, str)
         if not all(value is None or isinstance(value, kind) for row in rows for value, kind in zip(row, kinds)):
-            self.is_known = False
+            self.tell(23, "sqlite_schema")
             return []
         if not all(self.is_written(row, rows) for row in rows):
             self.tell(20)
