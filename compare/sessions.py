@@ -212,11 +212,11 @@ def try_again(tally: Tally, path: Path) -> None:
     steps = ["open\t3\tSELECT id FROM big ORDER BY pad, id", "next\t3", "close\t3"]
     status, replies, errors = run(path, steps * 2000)
     tally.add("2,000 times", differing(["opened id\n", "1\n", "closed\n"] * 2000, replies) or (errors if status else ""))
-    few, many = peak_of(path, steps * 400), peak_of(path, steps * 2000)
+    behind = ["next\t0"] * 1000
+    few, many = peak_of(path, steps * 400 + behind), peak_of(path, steps * 2000 + behind)
     tally.add("memory of 2,000 times", "" if many < few + MORE_MEMORY else f"{many} bytes, {few} of 400 times")
     gathered = "SELECT count(*) FROM (SELECT DISTINCT pad, id FROM big)"
     ended = [[f"open\t{slot}\t{gathered}", f"next\t{slot}", f"next\t{slot}"] for slot in range(16)]
-    behind = ["next\t0"] * 500
     one, each = peak_of(path, ended[0] + behind), peak_of(path, [step for steps in ended for step in steps] + behind)
     tally.add("memory of ended statements", "" if each < one + MORE_MEMORY else f"{each} bytes, {one} of one")
 
