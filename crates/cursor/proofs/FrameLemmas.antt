@@ -1,6 +1,6 @@
 -- What a frame knows of its page.
 use Rattle.std.proofs.Common.{◌≡◌, ℕ, List, Option, None, Some, ◌+◌, ◌<◌, ◌≤◌, length, take, drop, refl, sym, ◌∙◌, ap, subst, arith, length-drop, length-take}
-use Rattle.std.specs.Prelude.{IfNone, IfOk, IfSome, IsFalse, IsSome, MatchResult, Result, Ok, Err}
+use Rattle.std.specs.Prelude.{IfNone, IfOk, IfSome, IsFalse, IsSome, Result, Ok, Err}
 use Rattle.std.specs.Option.{is_some}
 use Rattle.image.specs.Shape.{place_at}
 use Rattle.image.specs.declared.kind.TreeKind.{TreeKind}
@@ -39,11 +39,6 @@ IfOk-weaker (Err e) f p = tt
 pub IfOk-weaker_both : {T E : Type 0} {P Q R : T → Type 0} (r : Result T E) → ((x : T) → P x → Q x → R x) → IfOk r P → IfOk r Q → IfOk r R
 IfOk-weaker_both (Ok x) f p q = f x p q
 IfOk-weaker_both (Err e) f p q = tt
-
-pub MatchResult-and : {T E : Type 0} {P Q R : T → Type 0} (F : E → Type 0) (r : Result T E) → ((x : T) → P x → Q x → R x)
-    → MatchResult r P F → IfOk r Q → MatchResult r R F
-MatchResult-and F (Ok x) f p q = f x p q
-MatchResult-and F (Err e) f p q = p
 
 module _ (image : Pages) (kind : TreeKind) (frame : Frame) (usable : ℕ) (holds : Holds image frame) (same : image.usable ≡ usable) where
   pub used : take usable frame.page ≡ image.page frame.number

@@ -5,6 +5,8 @@ pub mod SeenLemmas
 pub mod LeftLemmas
 pub mod HeldLemmas
 pub mod WayLemmas
+pub mod StandLemmas
+pub mod StepsLemmas
 pub mod SeekLemmas
 pub mod DownLemmas
 pub mod RowSeekLemmas

@@ -8,12 +8,12 @@ use Rattle.image.specs.declared.kind.Level.{Level}
 use Rattle.image.specs.declared.kind.Level.TheVariants.{Leaf, Interior}
 use Rattle.image.specs.Broken.{BlamesMet}
 use Rattle.image.specs.Pages.{Pages, IsNumber}
-use Rattle.image.specs.Tree.{HasHeader, IsMetAt, from_root, by_name, IsNamedChild, IsPageOf, child_at, count_at}
+use Rattle.image.specs.Tree.{HasEntries, HasHeader, IsMetAt, from_root, by_name, IsNamedChild, IsPageOf, child_at, count_at}
 use Rattle.cursor.specs.declared.cursor.Cursor.{Cursor}
 use Rattle.cursor.specs.declared.cursor.Frame.{Frame}
 use Rattle.cursor.specs.Calls.{IsCursorFault, IsDescentFault, IsStepFault}
 use Rattle.cursor.specs.Rest.{Holds}
-use Rattle.cursor.specs.Way.{HasReached, HoldsMet, IsWay, nowhere, further, LeadsTo}
+use Rattle.cursor.specs.Way.{HasReached, HoldsMet, IsWay, nowhere, further, LeadsTo, StandsOn}
 use Rattle.btree.proofs.PageLemmas.{flag_of-same}
 
 empty_or_not : (frames : List Frame) → (frames ≡ []) ⊎ (frames ≢ [])
@@ -123,8 +123,28 @@ module _ (pages : Pages) (kind : TreeKind) (root : ℕ) where
       named is
 
   -- a cursor in a leaf
-  pub reached_leaf : (frames : List Frame) (leaf : Frame) → leaf.level ≡ Leaf → IsWay pages kind root frames → HasReached pages kind root frames leaf
-  reached_leaf frames leaf level way = record { way = way; met = λ interior. absurd (let e : Leaf ≡ Interior = sym level ∙ interior in cc) }
+  pub reached_leaf : (frames : List Frame) (leaf : Frame) → leaf.level ≡ Leaf → IsWay pages kind root frames → StandsOn pages kind root leaf
+      → HasReached pages kind root frames leaf
+  reached_leaf frames leaf level way stands = record {
+    way = way;
+    met = λ interior. absurd (let e : Leaf ≡ Interior = sym level ∙ interior in cc);
+    stands = stands;
+  }
+
+  -- a cursor on an interior page of an index, which is held among those above it
+  pub reached_interior : (frames : List Frame) (here : Frame) → HasEntries kind Interior → EndsWith frames here → HasReached pages kind root frames here
+  reached_interior frames here entries ends = record {
+    way = ends.way;
+    met = λ interior. ends.met;
+    stands = record {
+      depth = length frames + 1;
+      level = Interior;
+      met = ends.met.met;
+      holds = ends.met.holds;
+      header = ends.met.header;
+      entries = entries;
+    };
+  }
 
 -- a fault of the way down is one of a cursor, and one of a cursor is one of a step
 pub cursor_fault : (root held : ℕ) (fault : Fault) → IsDescentFault root held fault → IsCursorFault root fault

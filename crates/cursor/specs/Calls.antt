@@ -7,7 +7,7 @@ use Rattle.pager.specs.Calls.{IsReadFault}
 use Rattle.image.specs.declared.kind.TreeKind.{TreeKind}
 use Rattle.image.specs.Broken.{BlamesMet}
 use Rattle.image.specs.Cell.{CellData}
-use Rattle.image.specs.Pages.{IsNumber, WhereSteady, pages_seen}
+use Rattle.image.specs.Pages.{IsNumber, Pages, WhereSteady, pages_seen}
 use Rattle.image.specs.Shape.{IsTreeAt, most_levels, places_under, size_under}
 use Rattle.image.specs.Tree.{Place}
 use Rattle.cursor.specs.declared.cursor.Cursor.{Cursor}
@@ -15,7 +15,7 @@ use Rattle.cursor.specs.declared.cursor.Frame.{Frame}
 use Rattle.cursor.specs.Held.{HasEntryHere, IsLast, LacksEntry}
 use Rattle.cursor.specs.Left.{steps_left, worth}
 use Rattle.cursor.specs.Listing.{IsAt, IsEnded}
-use Rattle.cursor.specs.Way.{HasCome}
+use Rattle.cursor.specs.Way.{HasCome, IsOver}
 
 -- the faults of a cursor that goes down from this root
 abbrev pub IsCursorFault : ℕ → Fault → Type 0
@@ -48,7 +48,7 @@ pub record IsDepthFault (old : PagerState) (kind : TreeKind) (root : ℕ) (fault
   pub outside : ¬ IsNumber (pages_seen old) root → fault ≡ BadPage root
 
 -- A cursor was opened at a root. Over a steady source, all the cells of a tree are to come, and no more pages are asked
--- for than the tree has; of any tree it has come down from the root. Over any source it has few steps to go.
+-- for than the tree has; of any tree it has come down from the root. Over any source it stands, and has few steps to go.
 pub record IsOpenedAt (old new : PagerState) (kind : TreeKind) (root : ℕ) (cursor : Cursor) : Type 0 where
   pub kind_is : cursor.kind ≡ kind
   pub root_is : cursor.root ≡ root
@@ -57,6 +57,8 @@ pub record IsOpenedAt (old new : PagerState) (kind : TreeKind) (root : ℕ) (cur
   pub come : WhereSteady old (λ pages. HasCome pages cursor)
   pub end : steps_left cursor ≡ 0 → cursor.frames.items ≡ []
   pub few : steps_left cursor < worth (suc most_levels)
+  pub stands : ¬ IsEnded cursor
+  pub over : IsOver (pages_seen old) cursor
 
 -- Why none was opened. Over a steady source the fault is one of reading where a tree is there, and of any tree it has its
 -- condition.
@@ -77,6 +79,8 @@ pub record HasStepped (old new : PagerState) (was now : Cursor) : Type 0 where
   pub come : WhereSteady old (λ pages. HasCome pages was → HasCome pages now)
   pub left : 0 < steps_left was → steps_left now < steps_left was
   pub end : 0 < steps_left was → steps_left now ≡ 0 → (here : Frame) → was.here ≡ Some here → IsLast was.frames.items here
+  pub stands : ¬ IsEnded now
+  pub over : (pages : Pages) → IsOver pages was → IsOver pages now
 
 -- the faults of a step: a cursor that has ended is finished
 abbrev pub IsStepFault : Cursor → Fault → Type 0

@@ -5,3 +5,4 @@ pub mod Held
 pub mod Way
 pub mod Calls
 pub mod Search
+pub mod Steps

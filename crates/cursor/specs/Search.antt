@@ -1,5 +1,5 @@
 -- What a search answers. (Database File Format, section 1.6 "B-tree Pages")
-use Rattle.std.specs.Prelude.{◌≡◌, ◌⊎◌, ◌+◌, ◌*◌, ◌<◌, ◌≤◌, ℕ, ℤ, suc, Bool, false, Contains, List}
+use Rattle.std.specs.Prelude.{◌≡◌, ◌⊎◌, ◌+◌, ◌*◌, ◌<◌, ◌≤◌, ℕ, ℤ, suc, Bool, false, Contains, List, None}
 use Rattle.std.specs.Ordering.{is_lt}
 use Rattle.values.specs.Datum.{Datum}
 use Rattle.values.specs.declared.fault.Fault.{Fault}
@@ -11,11 +11,14 @@ use Rattle.image.specs.declared.kind.TreeKind.{TreeKind}
 use Rattle.image.specs.declared.kind.Level.{Level}
 use Rattle.image.specs.declared.kind.Level.TheVariants.{Leaf}
 use Rattle.image.specs.Broken.{BlamesMet, HasRowid, IsRowOrder}
+use Rattle.image.specs.Cell.{CellData}
 use Rattle.image.specs.Entries.{IsAtPlace, IsEntryOrder}
-use Rattle.image.specs.Pages.{Pages, WhereSteady}
+use Rattle.image.specs.Layout.{header_at}
+use Rattle.image.specs.Pages.{Pages, WhereSteady, pages_seen}
 use Rattle.image.specs.Search.{IsSplit, row_before}
 use Rattle.image.specs.Shape.{IsTreeAt, most_levels, places_under, size_under}
-use Rattle.image.specs.Tree.{Place, HasHeader, IsMetAt, IsPageOf, Reaches}
+use Rattle.image.specs.Tree.{Place, HasHeader, IsMetAt, IsPageOf, Reaches, count_at}
+use Rattle.btree.specs.Bytes.{IsEntryCell}
 use Rattle.key_ranges.specs.Ranges.{key_cmp}
 use Rattle.index_entries.specs.declared.columns.IndexKey.{IndexKey}
 use Rattle.index_entries.specs.Entries.{BreaksEntry, AreValuesOf}
@@ -23,8 +26,8 @@ use Rattle.index_entries.specs.Sought.{comes_before}
 use Rattle.cursor.specs.declared.cursor.Cursor.{Cursor}
 use Rattle.cursor.specs.Calls.{IsCursorFault}
 use Rattle.cursor.specs.Left.{steps_left, worth}
-use Rattle.cursor.specs.Listing.{IsAt}
-use Rattle.cursor.specs.Way.{HasCome}
+use Rattle.cursor.specs.Listing.{IsAt, IsEnded}
+use Rattle.cursor.specs.Way.{HasCome, IsOver}
 
 -- a table's tree with so many levels below its root, whose rows a search finds by their rowids
 pub record IsSearchable (pages : Pages) (levels root : ℕ) : Type 0 where
@@ -63,6 +66,8 @@ pub record IsRowSought (old new : PagerState) (root : ℕ) (behind : Bool) (rowi
       → HasRowWith pages levels root rowid → new.asked ≤ old.asked + (levels + 1))
   pub come : WhereSteady old (λ pages. HasCome pages cursor)
   pub few : steps_left cursor < worth (suc most_levels)
+  pub stands : ¬ IsEnded cursor
+  pub over : IsOver (pages_seen old) cursor
 
 -- Why it hasn't. Over a steady source the fault is one of reading where the table is in order, and of any tree it has its
 -- condition.
@@ -99,6 +104,16 @@ abbrev pub BlamesEntry : Pages → ℕ → Fault → Type 0
 BlamesEntry pages root fault =
     (depth page : ℕ) × (level : Level) × IsMetAt pages Index root depth page × HasHeader pages Index level page × BreaksEntry pages level page fault
 
+-- no entry of page n has overflow pages
+abbrev pub IsUnchainedPage : Pages → Level → ℕ → Type 0
+IsUnchainedPage pages level n = (i : ℕ) (cell : CellData) → i < count_at pages n
+    → IsEntryCell (header_at n) pages.size level (pages.page n) i cell → cell.payload.overflow ≡ None
+
+-- nor one of any page that is met in the tree of an index
+abbrev pub IsUnchainedIndex : Pages → ℕ → Type 0
+IsUnchainedIndex pages root = (depth n : ℕ) (level : Level) → IsMetAt pages Index root depth n → HasHeader pages Index level n
+    → IsUnchainedPage pages level n
+
 -- A search of an index has led to a cursor. Over a steady source and an index in order it stands at the first entry that
 -- doesn't come before what is sought, and it has asked for no more tree pages than one way down to a leaf has.
 pub record IsEntrySought (old new : PagerState) (root : ℕ) (key : IndexKey) (cursor : Cursor) : Type 0 where
@@ -110,6 +125,8 @@ pub record IsEntrySought (old new : PagerState) (root : ℕ) (key : IndexKey) (c
       × (new.asked ≤ old.asked + (levels + 1)))
   pub come : WhereSteady old (λ pages. HasCome pages cursor)
   pub few : steps_left cursor < worth (suc most_levels)
+  pub stands : ¬ IsEnded cursor
+  pub over : IsOver (pages_seen old) cursor
 
 -- Why it hasn't. Over a steady source the fault is one of reading where the index is in order, and of any tree it has its
 -- condition.

@@ -1,9 +1,11 @@
 -- The way on which a cursor has come, over a steady source, whether the tree is sound or not.
 use Rattle.std.specs.Prelude.{◌≡◌, ◌+◌, ℕ, List, [], ◌∷◌, ◌++◌, length, Some}
 use Rattle.image.specs.declared.kind.TreeKind.{TreeKind}
+use Rattle.image.specs.declared.kind.Level.{Level}
 use Rattle.image.specs.declared.kind.Level.TheVariants.{Interior}
 use Rattle.image.specs.Pages.{Pages}
-use Rattle.image.specs.Tree.{HasHeader, IsMetAt}
+use Rattle.image.specs.Tree.{HasEntries, HasHeader, IsMetAt}
+use Rattle.btree.specs.ViewData.{AreReadable}
 use Rattle.cursor.specs.declared.cursor.Cursor.{Cursor}
 use Rattle.cursor.specs.declared.cursor.Frame.{Frame}
 use Rattle.cursor.specs.Rest.{Holds}
@@ -27,11 +29,27 @@ pub record LeadsTo (pages : Pages) (kind : TreeKind) (root : ℕ) (frames : List
   pub met : IsMetAt pages kind root (length frames + 1) n
   pub first : frames ≡ [] → n ≡ root
 
+-- a frame holds a page that is met, and that has the cells of such a tree
+pub record StandsOn (pages : Pages) (kind : TreeKind) (root : ℕ) (here : Frame) : Type 0 where
+  pub depth : ℕ
+  pub level : Level
+  pub met : IsMetAt pages kind root depth here.number
+  pub holds : Holds pages here
+  pub header : HasHeader pages kind level here.number
+  pub entries : HasEntries kind level
+
 -- the frames lead from the root to the page that a cursor stands on
 pub record HasReached (pages : Pages) (kind : TreeKind) (root : ℕ) (frames : List Frame) (here : Frame) : Type 0 where
   pub way : IsWay pages kind root frames
   pub met : here.level ≡ Interior → HoldsMet pages kind root frames here
+  pub stands : StandsOn pages kind root here
 
 -- a cursor that has come down from its root
 abbrev pub HasCome : Pages → Cursor → Type 0
 HasCome pages cursor = (here : Frame) → cursor.here ≡ Some here → HasReached pages cursor.kind cursor.root cursor.frames.items here
+
+-- a cursor goes by the sizes that these pages have
+pub record IsOver (pages : Pages) (cursor : Cursor) : Type 0 where
+  pub usable : pages.usable ≡ cursor.usable
+  pub most : pages.size ≡ cursor.most
+  pub readable : AreReadable pages

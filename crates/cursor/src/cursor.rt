@@ -22,7 +22,8 @@ ghost use Rattle.btree.specs.ViewData.{AreReadable};
 ghost use Rattle.cursor.specs.Rest.{GoesOn, Holds, HasCellsFrom, IsBehind, IsInLeaf, IsLeft, IsStanding};
 ghost use Rattle.btree.specs.Views.{cell_data};
 ghost use Rattle.cursor.specs.Search.{AreEntriesSought, BlamesEntry, HasRowWith, IsEntrySeekFault, IsEntrySought, IsIndexFault, IsRowSought, IsSearchable, IsSearchableIndex, IsSeekFault, IsSought};
-ghost use Rattle.cursor.specs.Way.{HasReached, HoldsMet, IsWay, LeadsTo};
+ghost use Rattle.cursor.specs.Search.{IsUnchainedIndex, IsUnchainedPage};
+ghost use Rattle.cursor.specs.Way.{HasCome, HasReached, HoldsMet, IsOver, IsWay, LeadsTo};
 ghost use Rattle.index_entries.specs.Entries.{AreValuesOf, BreaksEntry, IsCompareFault};
 ghost use Rattle.index_entries.specs.Sought.{comes_before};
 
@@ -156,7 +157,7 @@ fn descend<S: Source>(
         → HasCellsFrom pages kind levels frames.old.items n places pager.old.state.asked budget
         → MatchResult result (λ leaf. IsStanding pages kind levels frames.new.items leaf places pager.new.state.asked budget) IsReadFault) }
     ensures way { WhereSteady pager.old.state (λ pages. LeadsTo pages kind root frames.old.items n
-        → MatchResult result (λ _. IsWay pages kind root frames.new.items) (λ e. IsReadFault e ⊎ BlamesMet pages kind root e)) }
+        → MatchResult result (HasReached pages kind root frames.new.items) (λ e. IsReadFault e ⊎ BlamesMet pages kind root e)) }
     ensures asks { pager.new.state.asked + length frames.old.items ≤ pager.old.state.asked + (length frames.new.items + 1) }
     ensures left { IfOk result (λ leaf. frames_left most_levels frames.new.items + frame_left leaf
         < frames_left most_levels frames.old.items + worth (suc most_levels - length frames.old.items)) }
@@ -202,7 +203,7 @@ fn next_child<S: Source>(
         → IsBehind pages kind levels frames.old.items frame places pager.old.state.asked budget
         → MatchResult result (λ leaf. IsStanding pages kind levels frames.new.items leaf places pager.new.state.asked budget) IsReadFault) }
     ensures way { WhereSteady pager.old.state (λ pages. IsWay pages kind root frames.old.items → HoldsMet pages kind root frames.old.items frame
-        → MatchResult result (λ _. IsWay pages kind root frames.new.items) (λ e. IsReadFault e ⊎ BlamesMet pages kind root e)) }
+        → MatchResult result (HasReached pages kind root frames.new.items) (λ e. IsReadFault e ⊎ BlamesMet pages kind root e)) }
     ensures asks { pager.new.state.asked ≤ pager.old.state.asked + length frames.new.items }
     ensures left { IfOk result (λ leaf. frames_left most_levels frames.new.items + frame_left leaf
         < frames_left most_levels frames.old.items + frame_left frame * worth (most_levels - length frames.old.items)) }
@@ -333,7 +334,7 @@ fn seek_leaf<S: Source>(
     ensures there { WhereSteady pager.old.state (λ pages. (levels : ℕ) → IsSearchable pages levels root → behind ≡ false
         → HasRowWith pages levels root key → IfOk result (λ leaf. leaf.at < leaf.count)) }
     ensures way { WhereSteady pager.old.state (λ pages.
-        MatchResult result (λ _. IsWay pages Table root frames.new.items) (λ e. IsReadFault e ⊎ BlamesMet pages Table root e)) }
+        MatchResult result (HasReached pages Table root frames.new.items) (λ e. IsReadFault e ⊎ BlamesMet pages Table root e)) }
     ensures asks { pager.new.state.asked ≤ pager.old.state.asked + (length frames.new.items + 1) }
     ensures left { IfOk result (λ leaf. frames_left most_levels frames.new.items + frame_left leaf
         < frames_left most_levels frames.old.items + worth (suc most_levels - length frames.old.items)) }
@@ -379,6 +380,8 @@ fn entries_before<S: Source>(
     ensures broken { WhereSteady pager.old.state (λ pages. (level : Level) → Holds pages frame.now → HasHeader pages Index level frame.now.number
         → IfErr result (λ e. IsReadFault e ⊎ BreaksEntry pages level frame.now.number e)) }
     ensures only { IfErr result (IsCompareFault frame.now.number) }
+    ensures local { WhereSteady pager.old.state (λ pages. (level : Level) → Holds pages frame.now
+        → HasHeader pages Index level frame.now.number → IsUnchainedPage pages level frame.now.number → pager.new.state ≡ pager.old.state) }
     ensures reads { ReadsChainPages result pager.old.state pager.new.state }
 {
     let usable = pager.header().usable as usize;
@@ -404,13 +407,15 @@ fn seek_index_leaf<S: Source>(
         → MatchResult result (λ leaf. AreEntriesSought pages key.now values levels root
         (λ places. IsInLeaf pages Index levels frames.new.items leaf places pager.new.state.asked
         (pager.old.state.asked + size_under pages levels root))) IsReadFault) }
-    ensures way { WhereSteady pager.old.state (λ pages. MatchResult result (λ _. IsWay pages Index root frames.new.items)
+    ensures way { WhereSteady pager.old.state (λ pages. MatchResult result (HasReached pages Index root frames.new.items)
         (λ e. IsReadFault e ⊎ (BlamesMet pages Index root e ⊎ BlamesEntry pages root e))) }
     ensures asks { pager.new.state.asked ≤ pager.old.state.asked + (length frames.new.items + 1) }
     ensures left { IfOk result (λ leaf. frames_left most_levels frames.new.items + frame_left leaf
         < frames_left most_levels frames.old.items + worth (suc most_levels - length frames.old.items)) }
     ensures leaf { IfOk result (λ leaf. leaf.level ≡ Leaf) }
     ensures fault { IfErr result (IsIndexFault root) }
+    ensures unchained { WhereSteady pager.old.state (λ pages. IsUnchainedIndex pages root
+        → pager.new.state.chained ≡ pager.old.state.chained) }
     ensures reads { ReadsPages result pager.old.state pager.new.state }
 {
     let mut number = root;
@@ -447,7 +452,7 @@ fn settle<S: Source>(
     ensures stands { WhereSteady pager.old.state (λ pages. (levels : ℕ) (places : List Place) (budget : ℕ)
         → IsInLeaf pages kind levels frames.old.items here places pager.old.state.asked budget
         → MatchResult result (λ next. IsStanding pages kind levels frames.new.items next places pager.new.state.asked budget) IsReadFault) }
-    ensures way { WhereSteady pager.old.state (λ pages. IsWay pages kind root frames.old.items
+    ensures way { WhereSteady pager.old.state (λ pages. HasReached pages kind root frames.old.items here
         → MatchResult result (HasReached pages kind root frames.new.items) (λ e. IsReadFault e ⊎ BlamesMet pages kind root e)) }
     ensures asks { pager.new.state.asked ≤ pager.old.state.asked + length frames.new.items }
     ensures kept { here.at < here.count → pager.new.state.asked ≡ pager.old.state.asked }
@@ -542,7 +547,8 @@ impl Cursor {
     }
 
     /// A cursor at the first entry of an index that doesn't come before what is sought. Its faults are those of `first`, and
-    /// `BadChain`, `BadRecord`, `FloatValue` and `BadText` of an entry that it has to compare.
+    /// `BadChain`, `BadRecord`, `FloatValue` and `BadText` of an entry that it has to compare. No page of an overflow chain
+    /// is asked for where no entry of the index has one.
     pub fn seek_entry<S: Source>(
         alloc: Global,
         pager: &mut Pager<S>,
@@ -552,6 +558,8 @@ impl Cursor {
         ensures outcome { MatchResult result (IsEntrySought pager.old.state pager.new.state root key.now)
             (IsEntrySeekFault pager.old.state root key.now) }
         ensures outside { ¬ IsNumber (pages_seen pager.old.state) root → result ≡ Err (Fault.BadPage root) }
+        ensures unchained { WhereSteady pager.old.state (λ pages. IsUnchainedIndex pages root
+            → pager.new.state.chained ≡ pager.old.state.chained) }
         ensures reads { ReadsPages result pager.old.state pager.new.state }
     {
         let header = pager.header();
@@ -603,6 +611,8 @@ impl Cursor {
             → IsAt image kind levels self.now places asked budget
             → MatchResult result (λ found. IsEntry image kind places (option_map cell_data found)) (λ e. ⊥) }
         ensures outcome { MatchResult result (λ found. GivesEntry self.now (option_map cell_data found)) (IsEntryFault self.now) }
+        ensures cause { (image : Pages) → HasCome image self.now → IsOver image self.now
+            → IfErr result (λ e. (e ≡ Fault.Finished) ⊎ BlamesMet image self.now.kind self.now.root e) }
     {
         let Some(here) = &self.here else {
             return Err(Fault::Finished);

@@ -4,11 +4,12 @@
 //! first row of a table in order that doesn't come before it, and a search of an index in order at the first entry that
 //! doesn't come before a cut of its columns.
 //!
-//! The modules, in the order in which data passes them: `search` (where on a page a search goes down) and `cursor` (the
-//! way down, and from one cell to the next).
+//! The modules, in the order in which data passes them: `search` (where on a page a search goes down), `cursor` (the way
+//! down, and from one cell to the next) and `laws`.
 #![tactic(auto)]
 
 mod cursor;
+pub mod laws;
 mod search;
 
 pub use cursor::{Cursor, depth};

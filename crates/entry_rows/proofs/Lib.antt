@@ -1,3 +1,4 @@
 pub mod FieldLemmas
 pub mod ListedLemmas
 pub mod LookupLemmas
+pub mod MetLemmas

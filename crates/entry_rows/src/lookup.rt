@@ -1,12 +1,13 @@
 //! Whether an index has an entry.
-ghost use Rattle.std.specs.Prelude.{◌↔◌, ℕ, Contains, IfErr, IsTrue, List, MatchResult, map};
+ghost use Rattle.std.specs.Prelude.{◌≡◌, ◌⊎◌, ◌↔◌, ℕ, Contains, IfErr, IsTrue, List, MatchResult, map};
 ghost use Rattle.values.specs.Datum.{Datum};
 ghost use Rattle.pager.specs.Calls.{IsReadFault, ReadsPages};
 ghost use Rattle.image.specs.declared.kind.TreeKind.TheVariants.{Index};
+ghost use Rattle.image.specs.Broken.{BlamesMet};
 ghost use Rattle.image.specs.Pages.{WhereSteady};
 ghost use Rattle.image.specs.Shape.{places_under};
 ghost use Rattle.image.specs.Tree.{Place};
-ghost use Rattle.cursor.specs.Search.{IsIndexFault, IsSearchableIndex};
+ghost use Rattle.cursor.specs.Search.{BlamesEntry, IsIndexFault, IsSearchableIndex, IsUnchainedIndex};
 
 use crate::rows::entry_row;
 use cursor::Cursor;
@@ -17,7 +18,8 @@ use std::alloc::Global;
 use values::{Fault, Row};
 
 /// Whether the index that has this root, and whose columns descend where that is told, has an entry with these values. Its
-/// faults are those of `Cursor::seek_entry`, also where the entry that the search leads to can't be read.
+/// faults are those of `Cursor::seek_entry`, also where the entry that the search leads to can't be read. No page of an overflow
+/// chain is asked for where no entry of the index has one.
 pub fn has_entry<'k, S: Source>(
     alloc: Global,
     pager: &mut Pager<S>,
@@ -29,6 +31,10 @@ pub fn has_entry<'k, S: Source>(
         → IsSearchableIndex pages descends.now values levels root
         → MatchResult result (λ found. IsTrue found ↔ Contains (map values (places_under pages Index levels root)) wanted.now) IsReadFault) }
     ensures only { IfErr result (IsIndexFault root) }
+    ensures cause { WhereSteady pager.old.state (λ pages.
+        IfErr result (λ e. IsReadFault e ⊎ (BlamesMet pages Index root e ⊎ BlamesEntry pages root e))) }
+    ensures unchained { WhereSteady pager.old.state (λ pages. IsUnchainedIndex pages root
+        → pager.new.state.chained ≡ pager.old.state.chained) }
     ensures reads { ReadsPages result pager.old.state pager.new.state }
 {
     let key = IndexKey {
@@ -40,11 +46,7 @@ pub fn has_entry<'k, S: Source>(
         },
     };
     let cursor = Cursor::seek_entry(alloc, pager, root, &key)?;
-    // The search has read the page that it leads to, and each of its cells is there unless the source has changed.
-    let Ok(found) = cursor.entry() else {
-        return Err(Fault::BadPage(root));
-    };
-    let Some(cell) = found else {
+    let Some(cell) = cursor.entry()? else {
         return Ok(false);
     };
     let page = cursor.page().unwrap_or(root);

@@ -1,14 +1,17 @@
 //! The rows that the entries of an index are.
-ghost use Rattle.std.specs.Prelude.{◌≡◌, ◌+◌, ◌≤◌, ℕ, Bool, IfErr, IfOk, IfSome, List, MatchResult, OnOk};
+ghost use Rattle.std.specs.Prelude.{◌≡◌, ◌⊎◌, ◌+◌, ◌<◌, ◌≤◌, ℕ, Bool, IfErr, IfOk, IfSome, List, MatchResult, None, OnOk};
 ghost use Rattle.values.specs.Datum.{Datum};
 ghost use Rattle.pager.specs.Calls.{IsReadFault, ReadsChainPages, ReadsPages};
 ghost use Rattle.records.specs.Record.{IsRecord};
+ghost use Rattle.image.specs.declared.kind.TreeKind.TheVariants.{Index};
+ghost use Rattle.image.specs.declared.kind.Level.{Level};
+ghost use Rattle.image.specs.Broken.{BlamesMet};
 ghost use Rattle.image.specs.Pages.{WhereSteady};
 ghost use Rattle.image.specs.Shape.{size_under};
-ghost use Rattle.image.specs.Tree.{Place};
+ghost use Rattle.image.specs.Tree.{Place, count_at};
 ghost use Rattle.btree.specs.Views.{cell_data};
-ghost use Rattle.index_entries.specs.Entries.{BreaksRecord, HasRecord, IsCompareFault};
-ghost use Rattle.cursor.specs.Search.{IsSearchableIndex};
+ghost use Rattle.index_entries.specs.Entries.{BreaksEntry, BreaksRecord, HasRecord, IsCompareFault, IsEntryOn};
+ghost use Rattle.cursor.specs.Search.{BlamesEntry, IsIndexFault, IsSearchableIndex, IsUnchainedIndex};
 ghost use Rattle.entry_rows.specs.Rows.{AreEntryRows};
 
 use btree::{Cell, payload};
@@ -73,7 +76,7 @@ fn record_row(alloc: Global, bytes: &[u8], n: u32) -> Result<Row, Fault>
 }
 
 /// The row of the values of an entry of page `n`. Its faults are those of reading, and `BadChain`, `BadRecord`, `FloatValue`
-/// and `BadText` where the entry can't be read.
+/// and `BadText` where the entry can't be read. Where the entry has no overflow pages nothing is asked for.
 pub fn entry_row<S: Source>(
     alloc: Global,
     pager: &mut Pager<S>,
@@ -83,7 +86,10 @@ pub fn entry_row<S: Source>(
     ensures row { WhereSteady pager.old.state (λ pages. (values : List Datum) → HasRecord pages (cell_data cell.now) values
         → MatchResult result (λ row. row ≡ values) IsReadFault) }
     ensures is { WhereSteady pager.old.state (λ pages. IfOk result (HasRecord pages (cell_data cell.now))) }
+    ensures broken { WhereSteady pager.old.state (λ pages. (level : Level) (i : ℕ) → i < count_at pages n
+        → IsEntryOn pages level n i (cell_data cell.now) → IfErr result (λ e. IsReadFault e ⊎ BreaksEntry pages level n e)) }
     ensures only { IfErr result (IsCompareFault n) }
+    ensures local { cell.now.payload.overflow ≡ None → pager.new.state ≡ pager.old.state }
     ensures reads { ReadsChainPages result pager.old.state pager.new.state }
 {
     let Some(bytes) = payload(alloc, pager, cell)? else {
@@ -93,7 +99,8 @@ pub fn entry_row<S: Source>(
 }
 
 /// All entries of the index that has this root, in their order, each as the row of its values. Its faults are those of a
-/// cursor, and `BadChain`, `BadRecord`, `FloatValue` and `BadText` of an entry that can't be read.
+/// cursor, and `BadChain`, `BadRecord`, `FloatValue` and `BadText` of an entry that can't be read. No page of an overflow
+/// chain is asked for where no entry has one.
 pub fn all_entries<S: Source>(
     alloc: Global,
     pager: &mut Pager<S>,
@@ -105,6 +112,11 @@ pub fn all_entries<S: Source>(
     ensures asks { WhereSteady pager.old.state (λ pages. (descends : List Bool) (values : Place → List Datum) (levels : ℕ)
         → IsSearchableIndex pages descends values levels root
         → OnOk result (pager.new.state.asked ≤ pager.old.state.asked + size_under pages levels root)) }
+    ensures only { IfErr result (IsIndexFault root) }
+    ensures cause { WhereSteady pager.old.state (λ pages.
+        IfErr result (λ e. IsReadFault e ⊎ (BlamesMet pages Index root e ⊎ BlamesEntry pages root e))) }
+    ensures unchained { WhereSteady pager.old.state (λ pages. IsUnchainedIndex pages root
+        → pager.new.state.chained ≡ pager.old.state.chained) }
     ensures reads { ReadsPages result pager.old.state pager.new.state }
 {
     let mut cursor = Cursor::first(alloc, pager, TreeKind::Index, root)?;

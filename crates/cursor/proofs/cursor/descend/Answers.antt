@@ -11,7 +11,9 @@ use Rattle.image.specs.declared.kind.Level.TheVariants.{Interior, Leaf}
 use Rattle.image.specs.Broken.{BlamesMet}
 use Rattle.image.specs.Tree.{HasHeader, IsNamedChild, IsPageOf, child_at, count_at}
 use Rattle.cursor.specs.Rest.{Holds}
-use Rattle.cursor.proofs.WayLemmas.{blames_child, blames_depth, blames_empty, blames_header, leads_down}
+use Rattle.image.proofs.PlaceLemmas.{leaf_entries}
+use Rattle.cursor.proofs.StandLemmas.{stands_met}
+use Rattle.cursor.proofs.WayLemmas.{blames_child, blames_depth, blames_empty, blames_header, leads_down, reached_leaf}
 use Rattle.cursor.proofs.HeldLemmas.{down_more}
 use Rattle.cursor.proofs.LeftLemmas.{left_down, left_leaf}
 use Rattle.cursor.proofs.RestLemmas.{heading_short}
@@ -64,7 +66,14 @@ returns-then-not-is_empty-clause-way g c = λ steady leads.
     inr (blames_empty _ _ _ _ _ (inv.way steady leads) some header (sym count ∙ c.if-frame-eq0.true))
 
 pub returns-in-Leaf-clause-way : goal.returns-in-Leaf-clause-way
-returns-in-Leaf-clause-way g c = λ steady leads. (c.loop-kind.invariant.way steady leads).way
+returns-in-Leaf-clause-way g c = λ steady leads.
+    let inv = c.loop-kind.invariant in
+    let same = same_pages _ _ inv.image in
+    let seen = c.in_ok-frame.ensures.seen (still_steady _ _ inv.image steady) in
+    let holds = subst (λ (x : Pages). Holds x c.in_ok-frame.frame) same seen.0 in
+    let header = subst (λ (x : Pages). HasHeader x c.args.kind Leaf c.loop-kind.number) same (rw c.in-Leaf.is at seen.1) in
+    let here = inv.way steady leads in
+    reached_leaf _ _ _ _ _ c.in-Leaf.is here.way (stands_met _ _ _ _ _ Leaf _ c.in_ok-frame.ensures.number here.met holds header (leaf_entries c.args.kind))
 
 pub returns-in_default-clause-way : goal.returns-in_default-clause-way
 returns-in_default-clause-way g c = λ steady leads.

@@ -1,14 +1,18 @@
-use Rattle.std.proofs.Common.{◌≡◌, ◌⊎◌, ap, arith, sym, subst}
+use Rattle.std.proofs.Common.{◌≡◌, ◌⊎◌, ◌<◌, ap, arith, sym, subst}
 use Rattle.pager.specs.declared.header.Header.{Header}
 use Rattle.pager.specs.PagerState.{IsSoundHeader}
 use Rattle.image.specs.declared.kind.TreeKind.TheVariants.{Index}
 use Rattle.image.specs.declared.kind.Level.{Level}
 use Rattle.image.specs.Pages.{pages_seen}
+use Rattle.image.specs.Layout.{cell_count}
+use Rattle.btree.specs.Bytes.{IsEntryCell}
+use Rattle.btree.specs.ViewData.{ViewData}
 use Rattle.btree.proofs.SeenLemmas.{readable}
 use Rattle.pager.specs.Calls.{IsReadFault}
 use Rattle.index_entries.specs.Entries.{AreValuesOf, BreaksEntry}
 use Rattle.std.specs.Prelude.{IfErr}
 use Rattle.index_entries.proofs.EntryLemmas.{count_is}
+use Rattle.cursor.specs.Search.{IsUnchainedPage}
 use Rattle.cursor.proofs.EntrySeekLemmas.{view_held, view_level}
 use Rattle.cursor.proofs.FrameLemmas.{no_view, IfOk-weaker}
 use Rattle.cursor.proofs.cursor.entries_before.Goals as goal
@@ -51,3 +55,17 @@ returns-clause-broken g c = λ steady level holds header.
     let is : c.in-Some.view.level ≡ level = view_level (pages_seen c.args.pager.now.state) c.args.frame.now _ holds usable c.in-Some.view of level header in
     subst (λ (l : Level). IfErr c.entry_boundary.result (λ e. IsReadFault e ⊎ BreaksEntry (pages_seen c.args.pager.now.state) l c.args.frame.now.number e)) is
     (c.entry_boundary.ensures.broken steady held)
+
+pub returns-clause-local : goal.returns-clause-local
+returns-clause-local g c = λ steady level holds header whole.
+    let same : c.header-usable.result ≡ c.args.pager.now.state.header = c.header-usable.ensures.is in
+    let seen = pages_seen c.args.pager.now.state in
+    let n = c.args.frame.now.number in
+    let of = c.in-Some.ensures.found.0 in
+    let usable = ap (λ (x : Header). x.usable) (sym same) in
+    let held = view_held seen c.args.frame.now _ holds usable c.in-Some.view of in
+    let is : c.in-Some.view.level ≡ level = view_level seen c.args.frame.now _ holds usable c.in-Some.view of level header in
+    let own : IsUnchainedPage seen c.in-Some.view.level n = subst (λ (l : Level). IsUnchainedPage seen l n) (sym is) whole in
+    c.entry_boundary.ensures.local (λ i cell within entry.
+    own i cell (subst (λ (v : ViewData). i < cell_count v.at v.page) held.is within)
+    (subst (λ (v : ViewData). IsEntryCell v.at seen.size v.level v.page i cell) held.is entry))

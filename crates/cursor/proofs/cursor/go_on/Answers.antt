@@ -2,16 +2,18 @@ use Rattle.std.proofs.Common.{◌≡◌, ◌≤◌, ◌+◌, ◌++◌, List, [],
 use Rattle.std.proofs.lemmas.Bool.Decides.{nat_tests}
 use Rattle.std.proofs.lemmas.List.{nil_from_length, length_push}
 use Rattle.std.proofs.lemmas.Result.{err_from_is_err_and}
+use Rattle.image.specs.declared.kind.TreeKind.{TreeKind}
 use Rattle.image.specs.declared.kind.TreeKind.TheVariants.{Table, Index}
 use Rattle.image.specs.declared.kind.Level.TheVariants.{Interior}
 use Rattle.image.specs.Pages.{pages_seen}
+use Rattle.image.specs.Tree.{HasEntries}
 use Rattle.cursor.proofs.HeldLemmas.{up_end, up_more}
 use Rattle.cursor.proofs.LeftLemmas.{left_up, left_stands, leaf_is_left}
 use Rattle.cursor.proofs.RestLemmas.{left_end, left_within, left_length, left_split, split_table, split_index}
 use Rattle.cursor.proofs.SeenLemmas.{last_end}
 use Rattle.cursor.specs.declared.cursor.Frame.{Frame}
 use Rattle.cursor.specs.Way.{IsWay}
-use Rattle.cursor.proofs.WayLemmas.{last_of, reached_leaf}
+use Rattle.cursor.proofs.WayLemmas.{last_of, reached_interior}
 use Rattle.cursor.proofs.cursor.go_on.Goals as goal
 
 table_index : Table ≡ Index → ⊥
@@ -90,7 +92,7 @@ returns-clause-passed g c =
 pub returns-in-Index-clause-way : goal.returns-in-Index-clause-way
 returns-in-Index-clause-way g c = rw (sym c.loop-frame.invariant.same) (λ steady way.
     let last = last_of (pages_seen c.loop-frame.pager.state) c.args.kind c.args.root c.pop.new.self.items c.in-Some.frame (c.loop-frame.invariant.way steady way) c.in-Some.ensures.items in
-    (last.way, record { way = last.way; met = λ interior. last.met }))
+    (last.way, reached_interior _ _ _ _ _ (subst (λ (k : TreeKind). HasEntries k Interior) (sym c.in-Index.is) tt) last))
 
 pub returns-in_err-leaf-in-Table-clause-way : goal.returns-in_err-leaf-in-Table-clause-way
 returns-in_err-leaf-in-Table-clause-way g c = rw (sym c.loop-frame.invariant.same) (λ steady way.
@@ -102,7 +104,7 @@ pub returns-in-Table-clause-way : goal.returns-in-Table-clause-way
 returns-in-Table-clause-way g c = rw (sym c.loop-frame.invariant.same) (λ steady way.
     let last = last_of (pages_seen c.loop-frame.pager.state) c.args.kind c.args.root c.pop.new.self.items c.in-Some.frame (c.loop-frame.invariant.way steady way) c.in-Some.ensures.items in
     let next = c.in_ok-leaf-in-Table.ensures.way steady last.way last.met in
-    (next, reached_leaf _ _ _ _ c.in_ok-leaf-in-Table.leaf c.in_ok-leaf-in-Table.ensures.leaf next))
+    (next.way, next))
 
 pub returns-clause-way : goal.returns-clause-way
 returns-clause-way g c = rw (sym c.loop-frame.invariant.same) (λ steady way.

@@ -4,7 +4,7 @@ use Rattle.std.proofs.lemmas.Result.{err_from_is_err_and}
 use Rattle.values.specs.declared.fault.Fault.{Fault}
 use Rattle.values.specs.declared.fault.Fault.TheVariants.{BadPage}
 use Rattle.pager.specs.declared.header.Header.{Header}
-use Rattle.pager.specs.PagerState.{IsSoundHeader}
+use Rattle.pager.specs.PagerState.{IsSoundHeader, PagerState}
 use Rattle.pager.specs.Calls.{IsReadFault}
 use Rattle.pager.proofs.CallLemmas.{SameImage-none, SameImage-trans}
 use Rattle.image.specs.declared.kind.TreeKind.TheVariants.{Index}
@@ -21,13 +21,15 @@ use Rattle.index_entries.specs.Sought.{comes_before}
 use Rattle.cursor.specs.Rest.{Holds}
 use Rattle.cursor.proofs.EntrySeekLemmas.{entry_down, entry_first, entry_header, entry_leaf, entry_page, entry_short, entry_values}
 use Rattle.cursor.proofs.LeftLemmas.{left_down, left_leaf}
-use Rattle.cursor.proofs.WayLemmas.{blames_child, blames_depth, blames_header, leads_down, leads_first}
+use Rattle.cursor.proofs.StandLemmas.{kept_page, stands_at, stands_met}
+use Rattle.cursor.proofs.WayLemmas.{blames_child, blames_depth, blames_header, leads_down, leads_first, reached_leaf}
 use Rattle.cursor.proofs.cursor.seek_index_leaf.Goals as goal
 
 pub loop-alloc-init : goal.loop-alloc-init
 loop-alloc-init g c = record {
   image = SameImage-none _;
   failures = refl;
+  chained = λ steady whole. refl;
   number = c.requires.root;
   seeks = λ steady levels values index. entry_first (pages_seen c.args.pager.now.state) c.args.key.now values levels c.args.root index c.args.frames.now.items c.args.pager.now.state.asked c.requires.top;
   way = λ steady. leads_first _ _ _ _ c.requires.top;
@@ -110,6 +112,12 @@ loop-alloc-preserved g c =
     record {
       image = SameImage-trans _ _ _ stays c.entries_before.ensures.reads.chains.image;
       failures = c.in_ok-at.ensures.reads.failures ∙ c.in_ok-frame.ensures.reads.failures ∙ inv.failures;
+      chained = λ steady whole.
+          let told = c.in_ok-frame.ensures.seen (still_steady _ _ inv.image steady) in
+          let local = kept_page seen _ _ (same_pages _ _ inv.image) (same_pages _ _ stays) c.args.root c.loop-alloc.number
+          c.loop-alloc.frames.items (inv.way steady) c.in_ok-frame.frame c.in_ok-frame.ensures.number told.0 told.1 whole _
+          (c.entries_before.ensures.local (still_steady _ _ stays steady)) in
+          ap (λ (x : PagerState). x.chained) local ∙ c.read_frame.ensures.reads.unchained ∙ inv.chained steady whole;
       number = (c.in-Some.ensures.number.0, subst (λ (x : Header). c.in-Some.child ≤ x.pages) c.header-header.ensures.is c.in-Some.ensures.number.1);
       seeks = λ steady levels values index.
           let same = same_pages _ _ inv.image in
@@ -199,7 +207,15 @@ returns-in_err-at-clause-way g c = λ steady.
     ])
 
 pub returns-in-Leaf-clause-way : goal.returns-in-Leaf-clause-way
-returns-in-Leaf-clause-way g c = λ steady. (c.loop-alloc.invariant.way steady).way
+returns-in-Leaf-clause-way g c = λ steady.
+    let inv = c.loop-alloc.invariant in
+    let same = same_pages _ _ inv.image in
+    let seen = c.in_ok-frame.ensures.seen (still_steady _ _ inv.image steady) in
+    let holds = subst (λ (x : Pages). Holds x c.in_ok-frame.frame) same seen.0 in
+    let header = subst (λ (x : Pages). HasHeader x Index Leaf c.loop-alloc.number) same (rw c.in-Leaf.is at seen.1) in
+    let here = inv.way steady in
+    reached_leaf _ _ _ _ _ c.in-Leaf.is here.way
+    (stands_at _ _ _ _ _ (stands_met _ _ _ _ _ Leaf _ c.in_ok-frame.ensures.number here.met holds header tt))
 
 pub returns-in_default-clause-way : goal.returns-in_default-clause-way
 returns-in_default-clause-way g c = λ steady.
@@ -223,3 +239,46 @@ returns-in_default-clause-way g c = λ steady.
 pub returns-clause-way : goal.returns-clause-way
 returns-clause-way g c = λ steady.
     inr (inl (blames_depth _ _ _ _ _ (c.loop-alloc.invariant.way steady) (omega (arith, c.loop-alloc.frames.ok.0))))
+
+pub returns-in_err-at-clause-unchained : goal.returns-in_err-at-clause-unchained
+returns-in_err-at-clause-unchained g c = λ steady whole.
+    let inv = c.loop-alloc.invariant in
+    let stays = SameImage-trans _ _ _ inv.image c.read_frame.ensures.reads.image in
+    let told = c.in_ok-frame.ensures.seen (still_steady _ _ inv.image steady) in
+    let local = kept_page (pages_seen c.args.pager.now.state) _ _ (same_pages _ _ inv.image) (same_pages _ _ stays) c.args.root c.loop-alloc.number
+    c.loop-alloc.frames.items (inv.way steady) c.in_ok-frame.frame c.in_ok-frame.ensures.number told.0 told.1 whole _
+    (c.entries_before.ensures.local (still_steady _ _ stays steady)) in
+    ap (λ (x : PagerState). x.chained) local ∙ c.read_frame.ensures.reads.unchained ∙ inv.chained steady whole
+
+pub returns-in-Leaf-clause-unchained : goal.returns-in-Leaf-clause-unchained
+returns-in-Leaf-clause-unchained g c = λ steady whole.
+    let inv = c.loop-alloc.invariant in
+    let stays = SameImage-trans _ _ _ inv.image c.read_frame.ensures.reads.image in
+    let told = c.in_ok-frame.ensures.seen (still_steady _ _ inv.image steady) in
+    let local = kept_page (pages_seen c.args.pager.now.state) _ _ (same_pages _ _ inv.image) (same_pages _ _ stays) c.args.root c.loop-alloc.number
+    c.loop-alloc.frames.items (inv.way steady) c.in_ok-frame.frame c.in_ok-frame.ensures.number told.0 told.1 whole _
+    (c.entries_before.ensures.local (still_steady _ _ stays steady)) in
+    ap (λ (x : PagerState). x.chained) local ∙ c.read_frame.ensures.reads.unchained ∙ inv.chained steady whole
+
+pub returns-in_default-clause-unchained : goal.returns-in_default-clause-unchained
+returns-in_default-clause-unchained g c = λ steady whole.
+    let inv = c.loop-alloc.invariant in
+    let stays = SameImage-trans _ _ _ inv.image c.read_frame.ensures.reads.image in
+    let told = c.in_ok-frame.ensures.seen (still_steady _ _ inv.image steady) in
+    let local = kept_page (pages_seen c.args.pager.now.state) _ _ (same_pages _ _ inv.image) (same_pages _ _ stays) c.args.root c.loop-alloc.number
+    c.loop-alloc.frames.items (inv.way steady) c.in_ok-frame.frame c.in_ok-frame.ensures.number told.0 told.1 whole _
+    (c.entries_before.ensures.local (still_steady _ _ stays steady)) in
+    ap (λ (x : PagerState). x.chained) local ∙ c.read_frame.ensures.reads.unchained ∙ inv.chained steady whole
+
+pub returns-in_err-frame-clause-unchained : goal.returns-in_err-frame-clause-unchained
+returns-in_err-frame-clause-unchained g c = λ steady whole. c.read_frame.ensures.reads.unchained ∙ c.loop-alloc.invariant.chained steady whole
+
+pub returns-in_err-push-in-Interior-clause-unchained : goal.returns-in_err-push-in-Interior-clause-unchained
+returns-in_err-push-in-Interior-clause-unchained g c = λ steady whole.
+    let inv = c.loop-alloc.invariant in
+    let stays = SameImage-trans _ _ _ inv.image c.read_frame.ensures.reads.image in
+    let told = c.in_ok-frame.ensures.seen (still_steady _ _ inv.image steady) in
+    let local = kept_page (pages_seen c.args.pager.now.state) _ _ (same_pages _ _ inv.image) (same_pages _ _ stays) c.args.root c.loop-alloc.number
+    c.loop-alloc.frames.items (inv.way steady) c.in_ok-frame.frame c.in_ok-frame.ensures.number told.0 told.1 whole _
+    (c.entries_before.ensures.local (still_steady _ _ stays steady)) in
+    ap (λ (x : PagerState). x.chained) local ∙ c.read_frame.ensures.reads.unchained ∙ inv.chained steady whole

@@ -3,7 +3,7 @@ use Rattle.pager.specs.PagerState.{IsPageNumber}
 use Rattle.pager.specs.Calls.{SameImage}
 use Rattle.image.specs.Shape.{size_under}
 use Rattle.cursor.specs.Left.{frames_left, worth}
-use Rattle.cursor.specs.Search.{IsSearchableIndex}
+use Rattle.cursor.specs.Search.{IsSearchableIndex, IsUnchainedIndex}
 use Rattle.image.specs.Pages.{pages_seen}
 use Rattle.cursor.proofs.EntrySeekLemmas.{IsEntrySeeking}
 use Rattle.image.specs.declared.kind.TreeKind.TheVariants.{Index}
@@ -16,6 +16,8 @@ abbrev pub invariant-loop-alloc : goal.invariant-loop-alloc
 invariant-loop-alloc g l = record {
   image : SameImage l.fn.pager.state l.pager.state;
   failures : l.pager.state.source.failures ≡ l.fn.pager.state.source.failures;
+  chained : IsTrue l.fn.pager.state.source.steady → IsUnchainedIndex (pages_seen l.fn.pager.state) l.root
+      → l.pager.state.chained ≡ l.fn.pager.state.chained;
   number : IsPageNumber l.pager.state l.number;
   seeks : IsTrue l.fn.pager.state.source.steady → (levels : ℕ) (values : Place → List Datum)
       (index : IsSearchableIndex (pages_seen l.fn.pager.state) l.key.descends.now values levels l.root)

@@ -17,7 +17,8 @@ use Rattle.btree.proofs.SeenLemmas.{still_steady, same_pages, readable}
 use Rattle.values.specs.declared.fault.Fault.{Fault}
 use Rattle.values.specs.declared.fault.Fault.TheVariants.{BadPage}
 use Rattle.image.specs.Broken.{BlamesMet}
-use Rattle.cursor.proofs.WayLemmas.{blames_child, blames_depth, blames_header, blames_page, leads_down, leads_first}
+use Rattle.cursor.proofs.StandLemmas.{stands_at, stands_met}
+use Rattle.cursor.proofs.WayLemmas.{blames_child, blames_depth, blames_header, blames_page, leads_down, leads_first, reached_leaf}
 use Rattle.cursor.proofs.cursor.seek_leaf.Goals as goal
 
 pub loop-pager-init : goal.loop-pager-init
@@ -174,7 +175,15 @@ returns-in_default-clause-way g c = λ steady.
     (subst (λ (n : ℕ). IsPageOf seen Table level n) (sym c.in_ok-frame.ensures.number) page) in cc))
 
 pub returns-in-Leaf-clause-way : goal.returns-in-Leaf-clause-way
-returns-in-Leaf-clause-way g c = λ steady. (c.loop-pager.invariant.way steady).way
+returns-in-Leaf-clause-way g c = λ steady.
+    let inv = c.loop-pager.invariant in
+    let same = same_pages _ _ inv.image in
+    let seen = c.in_ok-frame.ensures.seen (still_steady _ _ inv.image steady) in
+    let holds = subst (λ (x : Pages). Holds x c.in_ok-frame.frame) same seen.0 in
+    let header = subst (λ (x : Pages). HasHeader x Table Leaf c.loop-pager.number) same (rw c.in-Leaf.is at seen.1) in
+    let here = inv.way steady in
+    reached_leaf _ _ _ _ _ c.in-Leaf.is here.way
+    (stands_at _ _ _ _ _ (stands_met _ _ _ _ _ Leaf _ c.in_ok-frame.ensures.number here.met holds header tt))
 
 pub returns-in_default-child_of-clause-way : goal.returns-in_default-child_of-clause-way
 returns-in_default-child_of-clause-way g c = λ steady.

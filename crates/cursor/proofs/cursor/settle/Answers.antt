@@ -33,18 +33,18 @@ returns-in-None-clause-stands g c = λ steady total places budget is_in.
     standing_end _ _ _ _ _ _ _ _ end.0 end.1.0 end.1.1 c.if-here.false
 
 pub returns-then-here-clause-way : goal.returns-then-here-clause-way
-returns-then-here-clause-way g c = λ steady way. reached_leaf _ _ _ _ _ c.requires.leaf way
+returns-then-here-clause-way g c = λ steady reached. reached
 
 pub returns-in_err-found-clause-way : goal.returns-in_err-found-clause-way
-returns-in_err-found-clause-way g c = λ steady way.
+returns-in_err-found-clause-way g c = λ steady reached.
     let p = err_from_is_err_and c.from_residual.result c.from_residual.ensures.1 in
-    rw (p.1, p.2) (c.in_err-found.ensures.way steady way)
+    rw (p.1, p.2) (c.in_err-found.ensures.way steady reached.way)
 
 pub returns-in-Some-clause-way : goal.returns-in-Some-clause-way
-returns-in-Some-clause-way g c = λ steady way.
-    let found = c.in_ok-found.ensures.way steady way in
+returns-in-Some-clause-way g c = λ steady reached.
+    let found = c.in_ok-found.ensures.way steady reached.way in
     subst (λ (x : Option Frame). IfSome x (HasReached (pages_seen c.args.pager.now.state) c.args.kind c.args.root c.go_on.new.frames.items)) c.in-Some.is found.1
 
 pub returns-in-None-clause-way : goal.returns-in-None-clause-way
-returns-in-None-clause-way g c = λ steady way.
-    reached_leaf _ _ _ _ _ c.requires.leaf (c.in_ok-found.ensures.way steady way).0
+returns-in-None-clause-way g c = λ steady reached.
+    reached_leaf _ _ _ _ _ c.requires.leaf (c.in_ok-found.ensures.way steady reached.way).0 reached.stands

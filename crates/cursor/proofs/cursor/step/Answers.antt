@@ -4,10 +4,11 @@ use Rattle.image.specs.Pages.{pages_seen}
 use Rattle.cursor.specs.declared.cursor.Frame.{Frame}
 use Rattle.cursor.specs.Rest.{GoesOn}
 use Rattle.cursor.specs.Left.{IsLess}
-use Rattle.cursor.proofs.FrameLemmas.{IfOk-weaker, IfOk-weaker_both, MatchResult-and}
+use Rattle.cursor.proofs.FrameLemmas.{IfOk-weaker, IfOk-weaker_both}
 use Rattle.cursor.proofs.LeftLemmas.{leaf_is_left, cell_is_left}
 use Rattle.cursor.proofs.RestLemmas.{standing_stays, standing_step, standing_left, standing_behind, standing_end}
 use Rattle.cursor.specs.Way.{HasReached}
+use Rattle.cursor.proofs.StandLemmas.{stands_at}
 use Rattle.cursor.proofs.WayLemmas.{reached_leaf}
 use Rattle.cursor.proofs.cursor.step.Goals as goal
 
@@ -20,9 +21,7 @@ returns-in-Interior-clause-stands g c = λ steady total places budget stands.
     c.next_child.ensures.stands steady total (drop 1 places) budget (standing_behind _ _ _ _ _ _ _ _ stands c.in-Interior.is c.if-here.false)
 
 pub returns-in-Interior-clause-way : goal.returns-in-Interior-clause-way
-returns-in-Interior-clause-way g c = λ steady reached.
-    MatchResult-and _ c.next_child.result (λ next way leaf. reached_leaf _ _ _ _ next leaf way)
-    (c.next_child.ensures.way steady reached.way (reached.met c.in-Interior.is)) c.next_child.ensures.leaf
+returns-in-Interior-clause-way g c = λ steady reached. c.next_child.ensures.way steady reached.way (reached.met c.in-Interior.is)
 
 pub returns-in-Interior-clause-left : goal.returns-in-Interior-clause-left
 returns-in-Interior-clause-left g c =
@@ -79,7 +78,7 @@ returns-in-None-clause-left g c = λ within.
     omega (arith, here, next, less)
 
 pub returns-then-next-clause-way : goal.returns-then-next-clause-way
-returns-then-next-clause-way g c = λ steady reached. reached_leaf _ _ _ _ _ c.in-Leaf.is reached.way
+returns-then-next-clause-way g c = λ steady reached. reached_leaf _ _ _ _ _ c.in-Leaf.is reached.way (stands_at _ _ _ _ _ reached.stands)
 
 pub returns-in_err-found-in-Leaf-clause-way : goal.returns-in_err-found-in-Leaf-clause-way
 returns-in_err-found-in-Leaf-clause-way g c = λ steady reached.
@@ -94,4 +93,4 @@ returns-in-Some-clause-way g c = λ steady reached.
 
 pub returns-in-None-clause-way : goal.returns-in-None-clause-way
 returns-in-None-clause-way g c = λ steady reached.
-    reached_leaf _ _ _ _ _ c.in-Leaf.is (c.in_ok-found-in-Leaf.ensures.way steady reached.way).0
+    reached_leaf _ _ _ _ _ c.in-Leaf.is (c.in_ok-found-in-Leaf.ensures.way steady reached.way).0 (stands_at _ _ _ _ _ reached.stands)

@@ -1,9 +1,13 @@
 use Rattle.cursor.specs.Left.{steps_left}
 use Rattle.entry_rows.proofs.ListedLemmas.{Listing}
+use Rattle.entry_rows.proofs.MetLemmas.{Standing}
 use Rattle.entry_rows.proofs.rows.all_entries.Given as goal
 
 abbrev pub invariant-loop-rows : goal.invariant-loop-rows
-invariant-loop-rows g l = Listing l.fn.pager.state l.pager.state l.root l.cursor l.rows.items
+invariant-loop-rows g l = record {
+  listing : Listing l.fn.pager.state l.pager.state l.root l.cursor l.rows.items;
+  standing : Standing l.fn.pager.state l.pager.state l.root l.cursor;
+}
 
 abbrev pub decreases-loop-rows : goal.decreases-loop-rows
 decreases-loop-rows g l = steps_left l.cursor

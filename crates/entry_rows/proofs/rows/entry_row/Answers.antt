@@ -1,11 +1,13 @@
 use Rattle.std.proofs.Common.{◌≡◌, inr, subst, List, ℕ}
 use Rattle.std.proofs.lemmas.Result.{IfOk-weaker, MatchResult-weaker}
 use Rattle.std.specs.Cow.{cow_slice_items}
+use Rattle.pager.proofs.CallLemmas.{IfErr-weaker}
 use Rattle.records.specs.Record.{IsRecord}
 use Rattle.image.specs.Pages.{pages_seen}
 use Rattle.image.proofs.ChainLemmas.{one_payload}
 use Rattle.btree.specs.Views.{cell_data}
-use Rattle.index_entries.specs.Entries.{HasRecord}
+use Rattle.index_entries.specs.Entries.{BreaksRecord, HasRecord}
+use Rattle.entry_rows.proofs.MetLemmas.{breaks_record}
 use Rattle.entry_rows.proofs.rows.entry_row.Goals as goal
 
 pub returns-in_default-clause-row : goal.returns-in_default-clause-row
@@ -29,3 +31,11 @@ returns-clause-is g c = λ steady.
       whole = rw c.in-Some.is at (c.in_ok-bytes.ensures.outcome steady);
       record_is = subst (λ (b : List ℕ). IsRecord b row) found is;
     }) c.record_row.ensures.is
+
+pub returns-clause-broken : goal.returns-clause-broken
+returns-clause-broken g c = λ steady level i within on.
+    let found : c.as_slice.result.now ≡ cow_slice_items c.in-Some.bytes = cc in
+    IfErr-weaker c.record_row.result
+    (λ e broken. breaks_record (pages_seen c.args.pager.now.state) level c.args.n i (cell_data c.args.cell.now) within on (cow_slice_items c.in-Some.bytes)
+    (rw c.in-Some.is at (c.in_ok-bytes.ensures.outcome steady)) e (subst (λ (b : List ℕ). BreaksRecord b c.args.n e) found broken))
+    c.record_row.ensures.broken

@@ -1,4 +1,4 @@
-use Rattle.std.proofs.Common.{◌≡◌, ◌<◌, Option, Some, sym, subst}
+use Rattle.std.proofs.Common.{◌≡◌, ◌<◌, Option, Some, inr, sym, subst}
 use Rattle.image.specs.declared.kind.TreeKind.{TreeKind}
 use Rattle.image.specs.Shape.{place_at}
 use Rattle.image.specs.Tree.{IsEntryAt}
@@ -10,6 +10,7 @@ use Rattle.cursor.specs.Left.{all_left}
 use Rattle.cursor.proofs.LeftLemmas.{some_left}
 use Rattle.cursor.proofs.ListingLemmas.{entry_is, no_entry}
 use Rattle.cursor.proofs.RestLemmas.{standing_known}
+use Rattle.cursor.proofs.StandLemmas.{stands_entries}
 use Rattle.cursor.proofs.cursor.Cursor.entry.Goals as goal
 
 pub returns-then-here-clause-entry : goal.returns-then-here-clause-entry
@@ -49,4 +50,18 @@ returns-clause-outcome c =
           let same : c.in-Some.here ≡ here = cc in
           subst (λ (x : Frame). HasEntryHere c.args.self.now.kind c.args.self.now.usable c.args.self.now.most x (cell_data c.in-Some-cell_of.cell)) same
           c.in-Some-cell_of.ensures.held,
+    )
+
+pub returns-in_default-cell_of-clause-cause : goal.returns-in_default-cell_of-clause-cause
+returns-in_default-cell_of-clause-cause c = λ image come over.
+    let here : c.args.self.now.here ≡ Some c.in-Some.here = cc in
+    let s = (come c.in-Some.here here).stands in
+    inr (
+      s.depth,
+      s.met,
+      λ sound.
+          let level = sound.1.level in
+          let some = c.in_default-cell_of.ensures.sure image level s.holds over.readable over.usable over.most sound.1.page
+          (stands_entries image c.args.self.now.kind c.args.self.now.root c.in-Some.here s level sound.1.page) c.if-here.false in
+          absurd (cc),
     )

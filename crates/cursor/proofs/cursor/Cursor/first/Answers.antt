@@ -11,7 +11,7 @@ use Rattle.cursor.specs.Way.{HasReached}
 use Rattle.cursor.proofs.LeftLemmas.{leaf_most, some_left}
 use Rattle.cursor.proofs.RestLemmas.{heading_first}
 use Rattle.btree.proofs.SeenLemmas.{readable}
-use Rattle.cursor.proofs.WayLemmas.{cursor_fault, leads_first, reached_leaf}
+use Rattle.cursor.proofs.WayLemmas.{cursor_fault, leads_first}
 use Rattle.cursor.proofs.cursor.Cursor.first.Goals as goal
 
 pub returns-in_err-leaf-clause-outcome : goal.returns-in_err-leaf-clause-outcome
@@ -55,7 +55,7 @@ returns-clause-outcome g c =
           let way = c.in_ok-leaf.ensures.way steady (leads_first _ _ _ _ c.new-frames.ensures.items) in
           let same : c.in_ok-leaf.leaf ≡ here = cc in
           subst (λ (x : Frame). HasReached seen c.args.kind c.args.root c.descend.new.frames.items x) same
-          (reached_leaf _ _ _ _ c.in_ok-leaf.leaf c.in_ok-leaf.ensures.leaf way);
+          way;
       end = λ none. ⊎_elim
           (λ (within : c.in_ok-leaf.leaf.at < c.in_ok-leaf.leaf.count). let some = some_left c.descend.new.frames.items c.in_ok-leaf.leaf within in absurd (omega (arith, some, none)))
           (λ (end : c.in_ok-leaf.leaf.count ≤ c.in_ok-leaf.leaf.at). let down = c.in_ok-leaf.ensures.down in let first = down.first in down.filled (omega (arith, end, first)))
@@ -65,4 +65,10 @@ returns-clause-outcome g c =
           let none : frames_left 20 c.new-frames.result.items ≡ 0 = ap (frames_left 20) c.new-frames.ensures.items in
           let top : worth (21 - length c.new-frames.result.items) ≡ worth 21 = ap (λ (f : List Frame). worth (21 - length f)) c.new-frames.ensures.items in
           omega (arith, most, none, top, c.in_ok-leaf.ensures.left);
+      stands = λ ended. cc;
+      over = record {
+        usable = ap (λ (x : Header). x.usable) (sym header);
+        most = ap image_size (sym header) ∙ sym c.image_size-most.ensures;
+        readable = readable _ _ (subst (λ (x : Header). IsSoundHeader x) header c.header-header.ensures.sound);
+      };
     }

@@ -69,4 +69,6 @@ returns-clause-outcome g c =
           let within = left_some frames c.in-Some.here (subst (λ (x : Option Frame). 0 < all_left frames x) old some) in
           let past : c.in_ok-here.here.count ≤ c.in_ok-here.here.at = none_past c.step.new.frames.items c.in_ok-here.here none in
           subst (λ (x : Frame). IsLast frames x) same (c.in_ok-here.ensures.end within past);
+      stands = λ ended. cc;
+      over = λ pages o. record { usable = o.usable; most = o.most; readable = o.readable };
     }

@@ -11,7 +11,7 @@ use Rattle.btree.proofs.SeenLemmas.{readable, same_pages, still_steady}
 use Rattle.cursor.specs.declared.cursor.Frame.{Frame}
 use Rattle.cursor.specs.Rest.{IsInLeaf, IsStanding}
 use Rattle.cursor.specs.Search.{HasRowWith}
-use Rattle.cursor.specs.Way.{HasReached, IsWay}
+use Rattle.cursor.specs.Way.{HasReached}
 use Rattle.cursor.proofs.RestLemmas.{left_length, standing_long}
 use Rattle.cursor.proofs.cursor.Cursor.seek_row.Goals as goal
 
@@ -50,7 +50,7 @@ returns-in_err-here-clause-outcome g c =
       cause = λ steady.
           rw (← same_pages _ _ stays)
           (c.in_err-here.ensures.way (still_steady _ _ stays steady)
-          (subst (λ (x : Pages). IsWay x Table c.args.root c.seek_leaf.new.frames.items) (sym (same_pages _ _ stays)) (c.in_ok-leaf.ensures.way steady)));
+          (subst (λ (x : Pages). HasReached x Table c.args.root c.seek_leaf.new.frames.items c.in_ok-leaf.leaf) (sym (same_pages _ _ stays)) (c.in_ok-leaf.ensures.way steady)));
     })
 
 pub returns-clause-outcome : goal.returns-clause-outcome
@@ -95,8 +95,14 @@ returns-clause-outcome g c =
       come = λ steady here is.
           let same : c.in_ok-here.here ≡ here = cc in
           let reached = c.in_ok-here.ensures.way (still_steady _ _ stays steady)
-          (subst (λ (x : Pages). IsWay x Table c.args.root c.seek_leaf.new.frames.items) (sym (same_pages _ _ stays)) (c.in_ok-leaf.ensures.way steady)) in
+          (subst (λ (x : Pages). HasReached x Table c.args.root c.seek_leaf.new.frames.items c.in_ok-leaf.leaf) (sym (same_pages _ _ stays)) (c.in_ok-leaf.ensures.way steady)) in
           subst (λ (x : Frame). HasReached seen Table c.args.root c.settle.new.frames.items x) same
           (subst (λ (x : Pages). HasReached x Table c.args.root c.settle.new.frames.items c.in_ok-here.here) (same_pages _ _ stays) reached);
       few = search rules;
+      stands = λ ended. cc;
+      over = record {
+        usable = ap (λ (x : Header). x.usable) (sym header);
+        most = ap image_size (sym header) ∙ sym c.image_size-most.ensures;
+        readable = readable _ _ (subst (λ (x : Header). IsSoundHeader x) header c.header-header.ensures.sound);
+      };
     }
