@@ -1,5 +1,5 @@
 -- The entries of an index that was checked.
-use Rattle.std.proofs.Common.{◌≡◌, ◌≤◌, ℕ, Bool, Contains, IsPermutation, IsTrue, List, Some, length, map, slice_get, subst, arith}
+use Rattle.std.proofs.Common.{◌≡◌, ◌≤◌, ℕ, Bool, Contains, IsPermutation, IsTrue, List, Some, length, map, slice_get, subst}
 use Rattle.std.specs.Ordering.{is_lt}
 use Rattle.values.specs.Row.{Row}
 use Rattle.records.specs.Record.{IsRecord}
@@ -20,7 +20,7 @@ use Rattle.cursor.specs.Search.{IsSearchableIndex, entry_order}
 use Rattle.entry_rows.proofs.ListedLemmas.{strict}
 use Rattle.tree_walk.specs.declared.counts.TreeCounts.{TreeCounts}
 use Rattle.tree_walk.proofs.KindLemmas.{one_entry}
-use Rattle.index_walk.specs.Widths.{exactly}
+use Rattle.index_walk.specs.declared.tree.EntryWidths.{EntryWidths}
 use Rattle.index_walk.specs.Checked.{HasEntryValues, IsCheckedIndex}
 use Rattle.index_walk.proofs.ValueLemmas.{has_values}
 use Rattle.entry_prefixes.specs.Entries.{HoldsEntries, StoresEntry}
@@ -38,10 +38,10 @@ module _ (pages : Pages) (place : Place) where
       let bytes = one_payload pages other.has.cell.payload has.bytes other.has.has.bytes has.whole other.has.has.whole in
       one_record other.has.has.bytes a b (subst (λ (l : List ℕ). IsRecord l a) bytes has.record_is) other.has.has.record_is
 
-module _ (pages : Pages) (width : ℕ) (descends : List Bool) (root : ℕ) (counts : TreeCounts) (number : IsNumber pages root)
-    (checked : IsCheckedIndex pages (exactly width) descends root counts) where
-  pub held : HasEntryValues pages (exactly width) descends root
-  held = has_values pages (exactly width) descends root counts checked
+module _ (pages : Pages) (widths : EntryWidths) (descends : List Bool) (root : ℕ) (counts : TreeCounts) (number : IsNumber pages root)
+    (checked : IsCheckedIndex pages widths descends root counts) where
+  pub held : HasEntryValues pages widths descends root
+  held = has_values pages widths descends root counts checked
 
   abbrev pub values : Place → Row
   values = held.values
@@ -76,13 +76,9 @@ module _ (pages : Pages) (width : ℕ) (descends : List Bool) (root : ℕ) (coun
     entries_are = each_mapped (StoresEntry pages) values places (λ place h. entry_of_place place (in_order.cells.sound place h));
   }
 
-  -- each has so many values
-  pub long_entry : (place : Place) → Contains places place → length (values place) ≡ width
-  long_entry place h =
-      let long = held.long place (in_order.cells.sound place h) in
-      let least : width ≤ length (values place) = long.least in
-      let most : length (values place) ≤ width = long.most in
-      omega (arith, least, most)
+  -- each has the values of its key
+  pub long_entry : (place : Place) → Contains places place → widths.key ≤ length (values place)
+  long_entry place h = (held.long place (in_order.cells.sound place h)).least
 
   pub stand : StandInOrder descends entries
   stand i j a b less at_a at_b =

@@ -16,7 +16,7 @@ use Rattle.wanted_entries.specs.Unique.{AreApart, IsNotUnique}
 use Rattle.wanted_entries.proofs.NeighbourLemmas.{count_of, unique_of}
 use Rattle.wanted_entries.proofs.OrderLemmas.{together}
 use Rattle.tree_walk.specs.declared.counts.TreeCounts.{TreeCounts}
-use Rattle.index_walk.specs.Widths.{exactly}
+use Rattle.index_walk.specs.declared.tree.EntryWidths.{EntryWidths}
 use Rattle.index_walk.specs.Checked.{IsCheckedIndex}
 use Rattle.cursor.specs.declared.cursor.Cursor.{Cursor}
 use Rattle.cursor.specs.Calls.{IsStepFault}
@@ -37,8 +37,8 @@ pub record Following (start now : PagerState) (root width : ℕ) (cursor : Curso
   pub root_is : cursor.root ≡ root
   pub ends : EndsWith rows last
   pub long : length prefixes.distinct.items ≡ width
-  pub counted : WhereSteady start (λ pages. (many : ℕ) (descends : List Bool) (counts : TreeCounts) → width ≤ many → IsNumber pages root
-      → IsCheckedIndex pages (exactly many) descends root counts → IsCounted rows prefixes)
+  pub counted : WhereSteady start (λ pages. (widths : EntryWidths) (descends : List Bool) (counts : TreeCounts) → width ≤ widths.key → IsNumber pages root
+      → IsCheckedIndex pages widths descends root counts → IsCounted rows prefixes)
 
 -- the fault of a step of a cursor that hasn't ended
 pub step_fault : (cursor : Cursor) (fault : Fault) → 0 < steps_left cursor → IsStepFault cursor fault → IsIndexFault cursor.root fault
@@ -52,27 +52,27 @@ step_fault cursor fault left is = absurd is
 -- over a steady source, and an index that was checked
 module _ (start now : PagerState) (root width : ℕ) (cursor : Cursor) (last : Option Row) (prefixes : Prefixes)
     (f : Following start now root width cursor last prefixes) (steady : IsTrue start.source.steady)
-    (many : ℕ) (descends : List Bool) (counts : TreeCounts) (enough : width ≤ many) (number : IsNumber (pages_seen start) root)
-    (checked : IsCheckedIndex (pages_seen start) (exactly many) descends root counts) where
+    (widths : EntryWidths) (descends : List Bool) (counts : TreeCounts) (enough : width ≤ widths.key) (number : IsNumber (pages_seen start) root)
+    (checked : IsCheckedIndex (pages_seen start) widths descends root counts) where
   abbrev pub seen_values : Place → Row
-  seen_values = values (pages_seen start) many descends root counts number checked
+  seen_values = values (pages_seen start) widths descends root counts number checked
 
   abbrev all : List Place
   all = places_under (pages_seen start) Index counts.levels root
 
   pub seen_search : IsSearchableIndex (pages_seen start) descends seen_values counts.levels root
-  seen_search = searchable (pages_seen start) many descends root counts number checked
+  seen_search = searchable (pages_seen start) widths descends root counts number checked
 
   abbrev pub listed : IsListed (pages_seen start) seen_values counts.levels root cursor now.asked
       (start.asked + size_under (pages_seen start) counts.levels root) f.rows
   listed = f.listing.lists steady descends seen_values counts.levels seen_search
 
-  long_given : (row : Row) → Contains f.rows row → length row ≡ many
+  long_given : (row : Row) → Contains f.rows row → widths.key ≤ length row
   long_given row h =
       let there = subst (λ (l : List Row). Contains l row) listed.rows_are h in
       let x = mapped_at seen_values listed.given there.0 row (slice_get_read (map seen_values listed.given) (length (map seen_values listed.given)) there.0 row refl there.1 (sym there.2)) in
-      subst (λ (r : Row). length r ≡ many) x.is
-      (long_entry (pages_seen start) many descends root counts number checked x.x
+      subst (λ (r : Row). widths.key ≤ length r) x.is
+      (long_entry (pages_seen start) widths descends root counts number checked x.x
       (subst (λ (l : List Place). Contains l x.x) listed.whole (Contains-append_left listed.given listed.rest x.x (get_contains listed.given there.0 x.x x.at))))
 
   pub long_last : (one : Row) → last ≡ Some one → length prefixes.distinct.items ≤ length one
@@ -93,11 +93,11 @@ module _ (start now : PagerState) (root width : ℕ) (cursor : Cursor) (last : O
   pub has_prefixes : Tells cursor None → HasPrefixes (pages_seen start) root width prefixes
   has_prefixes told =
       let rows = map seen_values all in
-      let order = stand (pages_seen start) many descends root counts number checked in
-      let are = subst (λ (l : List Row). IsCounted l prefixes) (all_given told) (f.counted steady many descends counts enough number checked) in
+      let order = stand (pages_seen start) widths descends root counts number checked in
+      let are = subst (λ (l : List Row). IsCounted l prefixes) (all_given told) (f.counted steady widths descends counts enough number checked) in
       record {
         entries = rows;
-        entries_are = holds_entries (pages_seen start) many descends root counts number checked;
+        entries_are = holds_entries (pages_seen start) widths descends root counts number checked;
         long = f.long;
         counts = λ columns count at.
             let runs = are.counts columns count at in
@@ -126,7 +126,7 @@ module _ (start now : PagerState) (root width : ℕ) (cursor : Cursor) (last : O
     long_row is =
         let among = get_contains all (length listed.given) first.place
         (subst (λ (l : List Place). slice_get l (length listed.given) ≡ Some first.place) splits (behind listed.given first.place first.more)) in
-        let long = long_entry (pages_seen start) many descends root counts number checked first.place among in
+        let long = long_entry (pages_seen start) widths descends root counts number checked first.place among in
         let same = ap length is in
         let wide = f.long in
         omega (arith, long, same, wide, enough)

@@ -1,9 +1,9 @@
 //! All entries of an index.
-ghost use Rattle.std.specs.Prelude.{◌≡◌, ◌≤◌, ℕ, Bool, IfErr, List, MatchResult};
+ghost use Rattle.std.specs.Prelude.{◌≡◌, ◌≤◌, Bool, IfErr, List, MatchResult};
 ghost use Rattle.pager.specs.Calls.{IsReadFault, ReadsPages};
 ghost use Rattle.image.specs.Pages.{IsNumber, WhereSteady};
 ghost use Rattle.tree_walk.specs.declared.counts.TreeCounts.{TreeCounts};
-ghost use Rattle.index_walk.specs.Widths.{exactly};
+ghost use Rattle.index_walk.specs.declared.tree.EntryWidths.{EntryWidths};
 ghost use Rattle.index_walk.specs.Checked.{IsCheckedIndex};
 ghost use Rattle.cursor.specs.Search.{IsIndexFault};
 ghost use Rattle.entry_prefixes.specs.Prefixes.{HasPrefixes};
@@ -16,9 +16,9 @@ use pager::{Pager, Source};
 use std::alloc::Global;
 use values::{Fault, Row};
 
-/// What the entries of the index that has this root show of their first columns, so many, where its tree was checked. Each
-/// entry is held against the one before it alone: entries that agree in their first values stand together. (CREATE INDEX,
-/// "Unique Indexes")
+/// What the entries of the index that has this root show of their first columns, so many, where its tree was checked, by keys of
+/// as many values at least. Each entry is held against the one before it alone: entries that agree in their first values stand
+/// together. (CREATE INDEX, "Unique Indexes")
 ///
 /// # Errors
 ///
@@ -29,8 +29,8 @@ pub fn read_prefixes<S: Source>(
     root: u32,
     width: usize,
 ) -> Result<Prefixes, Fault>
-    ensures prefixes { WhereSteady pager.old.state (λ pages. (values : ℕ) (descends : List Bool) (counts : TreeCounts)
-        → width ≤ values → IsNumber pages root → IsCheckedIndex pages (exactly values) descends root counts
+    ensures prefixes { WhereSteady pager.old.state (λ pages. (widths : EntryWidths) (descends : List Bool) (counts : TreeCounts)
+        → width ≤ widths.key → IsNumber pages root → IsCheckedIndex pages widths descends root counts
         → MatchResult result (HasPrefixes pages root width) IsReadFault) }
     ensures only { IfErr result (IsIndexFault root) }
     ensures reads { ReadsPages result pager.old.state pager.new.state }

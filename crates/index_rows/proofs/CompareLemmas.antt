@@ -30,6 +30,7 @@ use Rattle.index_rows.specs.declared.index.TableIndex.{TableIndex}
 use Rattle.index_rows.specs.Checked.{IsCheckedTable, IsCheckedTableIndex}
 use Rattle.index_rows.specs.Compared.{IsDifferentIndex, IsIndexOf}
 use Rattle.entry_prefixes.specs.Entries.{HoldsEntries}
+use Rattle.index_walk.specs.Widths.{exactly}
 use Rattle.entry_prefixes.proofs.EntryLemmas.{holds_entries, in_order, same_entries, searchable, values}
 use Rattle.entry_prefixes.proofs.ListLemmas.{get_of, mapped_at}
 use Rattle.index_rows.specs.Entries.{TellsRow, indexed_by, width_by}
@@ -164,13 +165,13 @@ module _ (pages : Pages) (table : TableData) (index : TableIndex) (count : ℕ) 
   places_of_index = places_under pages kind.Index checked.counts.levels index.root
 
   abbrev pub entries_of_index : List Row
-  entries_of_index = map (values pages width index.descends.now index.root checked.counts checked.number checked.tree) places_of_index
+  entries_of_index = map (values pages (exactly width) index.descends.now index.root checked.counts checked.number checked.tree) places_of_index
 
   pub holds_of_index : HoldsEntries pages index.root entries_of_index
-  holds_of_index = holds_entries pages width index.descends.now index.root checked.counts checked.number checked.tree
+  holds_of_index = holds_entries pages (exactly width) index.descends.now index.root checked.counts checked.number checked.tree
 
   pub places_are : ArePlacesOf pages kind.Index index.root places_of_index
-  places_are = (in_order pages width index.descends.now index.root checked.counts checked.number checked.tree).cells
+  places_are = (in_order pages (exactly width) index.descends.now index.root checked.counts checked.number checked.tree).cells
 
   pub counted_are : count ≡ counted (length places_of_index)
   counted_are = checked.entries_are ∙ checked.tree.counts_are.cells_is
@@ -262,7 +263,7 @@ module _ (start now : PagerState) (table : TableData) (index : TableIndex) (m : 
 
       pub all_found : kept_many ≡ length its_places → IsIndexOf (pages_seen start) table (indexed_by index) condition index.root
       all_found as_many =
-          let long = length-map its_places (values (pages_seen start) (width_by table.key (indexed_by index)) index.descends.now index.root other.counts other.number other.tree) in
+          let long = length-map its_places (values (pages_seen start) (exactly (width_by table.key (indexed_by index))) index.descends.now index.root other.counts other.number other.tree) in
           is_index (pages_seen start) table (indexed_by index) condition index.root other.tells keyed entries (its_rows (pages_seen start) table s.within one).holds
           (holds_of_index (pages_seen start) table index m other) (omega (arith, long, as_many))
           (λ k h. ⊎_elim (λ (left : Contains (kept_rows condition here.rest) k). absurd (in_none k (subst (λ (l : List KeyedRow). Contains l k) no_kept left)))
@@ -270,17 +271,17 @@ module _ (start now : PagerState) (table : TableData) (index : TableIndex) (m : 
 
       pub not_as_many : kept_many ≢ length its_places → IsDifferentIndex (pages_seen start) table (indexed_by index) condition index.root
       not_as_many differ =
-          let long = length-map its_places (values (pages_seen start) (width_by table.key (indexed_by index)) index.descends.now index.root other.counts other.number other.tree) in
+          let long = length-map its_places (values (pages_seen start) (exactly (width_by table.key (indexed_by index))) index.descends.now index.root other.counts other.number other.tree) in
           other_count (pages_seen start) table (indexed_by index) condition index.root keyed entries (its_rows (pages_seen start) table s.within one).holds
           (holds_of_index (pages_seen start) table index m other) (λ e. differ (e ∙ long))
 
     -- what a look-up stands on
     pub search_now : IsSearchableIndex (pages_seen now) index.descends.now
-        (values (pages_seen start) (width_by table.key (indexed_by index)) index.descends.now index.root other.counts other.number other.tree) other.counts.levels index.root
+        (values (pages_seen start) (exactly (width_by table.key (indexed_by index))) index.descends.now index.root other.counts other.number other.tree) other.counts.levels index.root
     search_now = subst (λ (p : Pages). IsSearchableIndex p index.descends.now
-        (values (pages_seen start) (width_by table.key (indexed_by index)) index.descends.now index.root other.counts other.number other.tree) other.counts.levels index.root)
+        (values (pages_seen start) (exactly (width_by table.key (indexed_by index))) index.descends.now index.root other.counts other.number other.tree) other.counts.levels index.root)
         (sym (same_pages _ _ s.stays))
-        (searchable (pages_seen start) (width_by table.key (indexed_by index)) index.descends.now index.root other.counts other.number other.tree)
+        (searchable (pages_seen start) (exactly (width_by table.key (indexed_by index))) index.descends.now index.root other.counts other.number other.tree)
 
     module _ (cell : CellData) (told : TellsCell table.key cursor (Some cell)) where
       abbrev first : BeginsKeyed table.key (pages_seen start) table cell here.rest (drop 1 here.places)
@@ -291,12 +292,12 @@ module _ (start now : PagerState) (table : TableData) (index : TableIndex) (m : 
 
       -- whether the index has the entry that the row wants, as a look-up tells it
       abbrev pub IsThereNow : Type 0
-      IsThereNow = Contains (map (values (pages_seen start) (width_by table.key (indexed_by index)) index.descends.now index.root other.counts other.number other.tree)
+      IsThereNow = Contains (map (values (pages_seen start) (exactly (width_by table.key (indexed_by index))) index.descends.now index.root other.counts other.number other.tree)
           (places_under (pages_seen now) kind.Index other.counts.levels index.root))
           (entry_of (indexed_by index) first.keyed)
 
       same_there : IsThereNow ≡ Contains entries (entry_of (indexed_by index) first.keyed)
-      same_there = λ k. Contains (map (values (pages_seen start) (width_by table.key (indexed_by index)) index.descends.now index.root other.counts other.number other.tree)
+      same_there = λ k. Contains (map (values (pages_seen start) (exactly (width_by table.key (indexed_by index))) index.descends.now index.root other.counts other.number other.tree)
           (places_under (same_pages _ _ s.stays k) kind.Index other.counts.levels index.root))
           (entry_of (indexed_by index) first.keyed)
 

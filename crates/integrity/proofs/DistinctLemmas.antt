@@ -28,18 +28,18 @@ module _ (pages : Pages) (index : IndexData) (root width : ℕ) (root_is : root 
 
   -- what is told of an index whose tree was checked
   pub told_of_index : (told : Prefixes → Type 0) (result : Result Prefixes Fault)
-      → ((many : ℕ) (descends : List Bool) (counts : TreeCounts) → width ≤ many → IsNumber pages root → IsCheckedIndex pages (exactly many) descends root counts
+      → ((widths : EntryWidths) (descends : List Bool) (counts : TreeCounts) → width ≤ widths.key → IsNumber pages root → IsCheckedIndex pages widths descends root counts
       → MatchResult result told IsReadFault)
       → (table : TableData) (counts : TreeCounts) → IsNumber pages index.root → IsCheckedIndexTree pages table index counts → MatchResult result told IsReadFault
   told_of_index told result each table counts number checked =
-      each (width_of table index) (descends_of index) counts (wide table.key) (subst (λ (n : ℕ). IsNumber pages n) (sym root_is) number)
+      each (exactly (width_of table index)) (descends_of index) counts (wide table.key) (subst (λ (n : ℕ). IsNumber pages n) (sym root_is) number)
       (subst (λ (n : ℕ). IsCheckedIndex pages (exactly (width_of table index)) (descends_of index) n counts) (sym root_is) checked)
 
   module _ (prefixes : Prefixes) (has : HasPrefixes pages root width prefixes) where
     here : HoldsEntries pages index.root has.entries
     here = subst (λ (n : ℕ). HoldsEntries pages n has.entries) root_is has.entries_are
 
-    pub distinct_of : HasDistinct pages index prefixes.distinct.items
+    pub distinct_of : HasDistinct pages index.root (length (places_of index)) prefixes.distinct.items
     distinct_of = record { entries = has.entries; entries_are = here; long = has.long ∙ width_is; counts = has.counts }
 
     pub unique_of : ¬ IsTrue prefixes.repeats → IsUniqueIndex pages index.root (length (places_of index))

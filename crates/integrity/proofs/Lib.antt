@@ -7,6 +7,7 @@ pub mod OneLemmas
 pub mod IndexLemmas
 pub mod EntryLemmas
 pub mod DistinctLemmas
+pub mod KeyLemmas
 pub mod UnbrokenLemmas
 pub mod DenotesLemmas
 pub mod TreesLemmas

@@ -23,17 +23,20 @@ use Rattle.tree_walk.specs.declared.counts.TreeCounts.{TreeCounts}
 use Rattle.table_walk.specs.Checked.{IsCheckedTree}
 use Rattle.table_walk.specs.Walked.{IsWalkFault}
 use Rattle.integrity.specs.declared.index_trees.IndexCounts.{IndexCounts}
+use Rattle.integrity.specs.declared.keys.KeyCounts.{KeyCounts}
 use Rattle.integrity.specs.Denotes.{HasCatalog, HasTables}
 use Rattle.integrity.specs.Indexes.{AreBrokenEntries, AreItsEntries, IsBrokenIndexTree, IsCheckedIndexOf, IsTableIndex}
+use Rattle.integrity.specs.Keys.{HasKeyCounts}
 use Rattle.integrity.specs.Tables.{IsAnyBroken, IsAnyChecked}
 use Rattle.integrity.specs.Used.{users_of}
 use Rattle.stored_rows.specs.Stored.{HoldsRows, StoresRow}
 
--- the tables and indexes that an image has, and what the check counts of each and of the schema's own tree
+-- the tables and indexes that an image has, and what the check counts of each, of the tables' keys and of the schema's own tree
 pub record CheckedData : Type 0 where
   pub schema_tree : TreeCounts
   pub tables : List TableData
   pub trees : List TreeCounts
+  pub key_counts : List KeyCounts
   pub indexes : List IndexData
   pub index_counts : List IndexCounts
 
@@ -111,6 +114,7 @@ pub record HasCheckedImage (pager : PagerState) (checked : CheckedData) : Type 0
   pub tables : WhereSteady pager (λ pages. HasTables pages checked.tables)
   pub schema_tree : WhereSteady pager (λ pages. IsCheckedTree pages schema_table checked.schema_tree)
   pub trees : WhereSteady pager (λ pages. AllZip (IsAnyChecked pages) checked.tables checked.trees)
+  pub key_counts : WhereSteady pager (λ pages. AllZip (HasKeyCounts pages) checked.tables checked.key_counts)
   pub index_counts : WhereSteady pager (λ pages. AllZip (IsCheckedIndexOf pages checked.tables) checked.indexes checked.index_counts)
   pub entries : WhereSteady pager (λ pages. (table : TableData) (index : IndexData) → IsTableIndex pages table index → AreItsEntries pages table index)
   pub whole : WhereSteady pager (λ pages. (fault : Fault) → ¬ IsBrokenImage pages fault)

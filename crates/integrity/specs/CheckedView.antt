@@ -8,6 +8,7 @@ checked_data c = record {
   schema_tree = c.schema_tree;
   tables = (catalog_data c.catalog).tables;
   trees = c.trees.items;
+  key_counts = c.key_counts.items;
   indexes = (catalog_data c.catalog).indexes;
   index_counts = c.index_counts.items;
 }

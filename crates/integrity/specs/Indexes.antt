@@ -57,17 +57,18 @@ pub record IsOwned (tables : List TableData) (index : IndexData) : Type 0 where
   pub tells : TellsRow table.key (columns_of index)
   pub alone : (other : TableData) → Contains tables other → IsSameName index.table other.name → other ≡ table
 
--- its first columns have so many different values, for each number of columns
-pub record HasDistinct (pages : Pages) (index : IndexData) (distinct : List ℕ) : Type 0 where
+-- The entries of the tree that has this root have so many different values in their first columns, for each number of columns up
+-- to this one.
+pub record HasDistinct (pages : Pages) (root width : ℕ) (distinct : List ℕ) : Type 0 where
   pub entries : List Row
-  pub entries_are : HoldsEntries pages index.root entries
-  pub long : length distinct ≡ length (places_of index)
+  pub entries_are : HoldsEntries pages root entries
+  pub long : length distinct ≡ width
   pub counts : (columns count : ℕ) → slice_get distinct columns ≡ Some count → HasCount entries (suc columns) count
 
 -- These are the counts of an index of a table that was checked, no two entries of which agree where it is unique.
 pub record IsCheckedAlone (pages : Pages) (table : TableData) (index : IndexData) (counts : IndexCounts) : Type 0 where
   pub tree : IsCheckedIndexTree pages table index counts.tree
-  pub distinct : HasDistinct pages index counts.distinct.items
+  pub distinct : HasDistinct pages index.root (length (places_of index)) counts.distinct.items
   pub unique : index.is_unique ≡ true → IsUniqueIndex pages index.root (length (places_of index))
 
 -- the same of an index of one of these tables

@@ -8,6 +8,7 @@ ghost use Rattle.integrity.specs.Checked.{HasCheckedImage, IsCheckFailure};
 
 use crate::entries::check_entries;
 use crate::index_trees::{IndexCounts, check_indexes};
+use crate::keys::{KeyCounts, count_keys};
 use crate::trees::{check_tables, read_schema};
 use catalog::Catalog;
 use indexes::Index;
@@ -24,6 +25,7 @@ pub struct Checked {
     schema_tree: TreeCounts,
     catalog: Catalog,
     trees: Vec<TreeCounts>,
+    key_counts: Vec<KeyCounts>,
     index_counts: Vec<IndexCounts>,
 }
 
@@ -47,6 +49,13 @@ impl Checked {
         ensures { result.now ≡ (checked_data self.now).trees }
     {
         self.trees.as_slice()
+    }
+
+    /// What the check counts of each table's key, in the same order.
+    pub fn key_counts(&self) -> &[KeyCounts]
+        ensures { result.now ≡ (checked_data self.now).key_counts }
+    {
+        self.key_counts.as_slice()
     }
 
     /// The indexes of the image, in the order of the schema's rows.
@@ -91,10 +100,12 @@ pub fn check<S: Source>(alloc: Global, pager: &mut Pager<S>) -> Result<Checked, 
     check_rest(pager, used)?;
     let counted = index_counts.as_slice();
     check_entries(alloc, pager, tables, indexes, counted)?;
+    let key_counts = count_keys(alloc, pager, tables)?;
     Ok(Checked {
         schema_tree: own.tree,
         catalog,
         trees,
+        key_counts,
         index_counts,
     })
 }

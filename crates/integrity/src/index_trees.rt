@@ -114,7 +114,7 @@ fn count_distinct<S: Source>(
 ) -> Result<Vec<u64>, Fault>
     ensures counts { WhereSteady pager.old.state (λ pages. (table : TableData) (counts : TreeCounts) → IsNumber pages (index_data index.now).root
         → IsCheckedIndexTree pages table (index_data index.now) counts → MatchResult result
-        (λ distinct. HasDistinct pages (index_data index.now) distinct.items × ((index_data index.now).is_unique ≡ true
+        (λ distinct. HasDistinct pages (index_data index.now).root (length (spec.places_of (index_data index.now))) distinct.items × ((index_data index.now).is_unique ≡ true
         → IsUniqueIndex pages (index_data index.now).root (length (spec.places_of (index_data index.now)))))
         (λ e. IsReadFault e ⊎ IsBrokenIndexTree pages table (index_data index.now) e)) }
     ensures only { IfErr result IsIndexCheckFault }

@@ -4,15 +4,18 @@
 //! their trees have; and that a fault's condition is broken. Tables have rowids, or are found by their PRIMARY KEY.
 //!
 //! The modules, in the order in which data passes them: `trees` (those of all tables, and the schema's rows), `index_trees`
-//! (each index alone), `entries` (of each index, beside the rows of its table) and `checked` (the whole image).
+//! (each index alone), `entries` (of each index, beside the rows of its table), `keys` (those of tables without rowids) and
+//! `checked` (the whole image).
 #![tactic(auto)]
 
 mod checked;
 mod entries;
 mod index_trees;
+mod keys;
 mod trees;
 
 pub use checked::{Checked, check};
 pub use index_trees::IndexCounts;
+pub use keys::KeyCounts;
 pub use stored_rows::RowReader;
 pub use tree_walk::TreeCounts;

@@ -25,6 +25,7 @@ use Rattle.wanted_entries.specs.Wanted.{KeyedRow, entry_of, wanted}
 use Rattle.wanted_entries.proofs.OrderLemmas.{once}
 use Rattle.entry_batches.specs.Batches.{ComeBefore}
 use Rattle.index_batches.specs.Trees.{AllPlaced, AreTreeValues, HasAstray, TellsAll}
+use Rattle.index_walk.specs.Widths.{exactly}
 use Rattle.entry_prefixes.proofs.EntryLemmas.{searchable, stand, values}
 use Rattle.tree_walk.specs.Counts.{counted}
 use Rattle.cursor.specs.declared.cursor.Cursor.{Cursor}
@@ -96,11 +97,11 @@ module _ (start now : PagerState) (table : TableData) (index : TableIndex) (m : 
   -- the index as it is read since
   module _ (steady : IsTrue start.source.steady) (other : IsCheckedTableIndex (pages_seen start) table index m) where
     abbrev pub its_values : Place → Row
-    its_values = values (pages_seen start) (width_by table.key (indexed_by index)) index.descends.now index.root other.counts other.number other.tree
+    its_values = values (pages_seen start) (exactly (width_by table.key (indexed_by index))) index.descends.now index.root other.counts other.number other.tree
 
     searched : IsSearchableIndex (pages_seen now) index.descends.now its_values other.counts.levels index.root
     searched = subst (λ (p : Pages). IsSearchableIndex p index.descends.now its_values other.counts.levels index.root) (sym (same_pages _ _ s.stays))
-        (searchable (pages_seen start) (width_by table.key (indexed_by index)) index.descends.now index.root other.counts other.number other.tree)
+        (searchable (pages_seen start) (exactly (width_by table.key (indexed_by index))) index.descends.now index.root other.counts other.number other.tree)
 
     pub tree_now : IsTreeAt (pages_seen now) kind.Index other.counts.levels index.root
     tree_now = searched.tree
@@ -237,7 +238,7 @@ module _ (start now : PagerState) (table : TableData) (index : TableIndex) (m : 
     -- the index's entries differ from one another
     once_here : IsOnce entries_here
     once_here = once index.descends.now entries_here
-        (stand (pages_seen start) (width_by table.key (indexed_by index)) index.descends.now index.root other.counts other.number other.tree)
+        (stand (pages_seen start) (exactly (width_by table.key (indexed_by index))) index.descends.now index.root other.counts other.number other.tree)
 
     pub end_same : AllPlaced run.batch run.above None (length index.places.now) (its_values start now table index m cursor kept run s steady other)
         (its_places start now table index m cursor kept run s steady other)

@@ -10,22 +10,22 @@ use Rattle.entry_prefixes.proofs.PrefixLemmas.{has_prefixes, long_last, long_row
 use Rattle.entry_prefixes.proofs.reading.read_prefixes.Goals as goal
 
 pub returns-in_default-clause-prefixes : goal.returns-in_default-clause-prefixes
-returns-in_default-clause-prefixes g c = λ steady many descends counts enough number checked.
+returns-in_default-clause-prefixes g c = λ steady widths descends counts enough number checked.
     absurd (never _ _ _ _ _ c.loop-entry.invariant.listing steady _ _ _
-    (seen_search _ _ _ _ _ _ _ c.loop-entry.invariant steady many descends counts enough number checked) (λ pages. c.in_default.ensures.entry pages Index))
+    (seen_search _ _ _ _ _ _ _ c.loop-entry.invariant steady widths descends counts enough number checked) (λ pages. c.in_default.ensures.entry pages Index))
 
 pub returns-in_default-entry-clause-prefixes : goal.returns-in_default-entry-clause-prefixes
-returns-in_default-entry-clause-prefixes g c = λ steady many descends counts enough number checked.
-    has_prefixes _ _ _ _ _ _ _ c.loop-entry.invariant steady many descends counts enough number checked
+returns-in_default-entry-clause-prefixes g c = λ steady widths descends counts enough number checked.
+    has_prefixes _ _ _ _ _ _ _ c.loop-entry.invariant steady widths descends counts enough number checked
     (λ pages. (rw c.in_default-entry.is at c.in-Ok.ensures.entry) pages Index)
 
 pub returns-in_err-row-clause-prefixes : goal.returns-in_err-row-clause-prefixes
-returns-in_err-row-clause-prefixes g c = λ steady many descends counts enough number checked.
+returns-in_err-row-clause-prefixes g c = λ steady widths descends counts enough number checked.
     let f = c.loop-entry.invariant in
     let p = err_from_is_err_and c.from_residual-in_err-row.result c.from_residual-in_err-row.ensures.1 in
     rw (p.1, p.2)
     (c.in_err-row.ensures.row (still_steady _ _ f.listing.stays steady) _
-    (has_record _ _ _ _ _ f.listing steady _ _ _ (seen_search _ _ _ _ _ _ _ f steady many descends counts enough number checked) (cell_data c.in-Some.cell)
+    (has_record _ _ _ _ _ f.listing steady _ _ _ (seen_search _ _ _ _ _ _ _ f steady widths descends counts enough number checked) (cell_data c.in-Some.cell)
     (λ pages. (rw c.in-Some.is at c.in-Ok.ensures.entry) pages Index)))
 
 pub loop-entry-preserved : goal.loop-entry-preserved
@@ -46,23 +46,23 @@ loop-entry-preserved g c =
       root_is = c.in_ok-next.ensures.outcome.root_is ∙ f.root_is;
       ends = (f.rows, refl);
       long = c.add.ensures.long ∙ f.long;
-      counted = λ steady many descends counts enough number checked.
+      counted = λ steady widths descends counts enough number checked.
           let row = c.in_ok-row.ensures.row (still_steady _ _ f.listing.stays steady) _
-          (has_record _ _ _ _ _ f.listing steady _ _ _ (seen_search _ _ _ _ _ _ _ f steady many descends counts enough number checked) _ told) in
+          (has_record _ _ _ _ _ f.listing steady _ _ _ (seen_search _ _ _ _ _ _ _ f steady widths descends counts enough number checked) _ told) in
           c.add.ensures.counted f.rows f.ends
-          (λ one last_is. long_last _ _ _ _ _ _ _ f steady many descends counts enough number checked one last_is)
-          (long_row _ _ _ _ _ _ _ f steady many descends counts enough number checked _ told _ row)
-          (f.counted steady many descends counts enough number checked);
+          (λ one last_is. long_last _ _ _ _ _ _ _ f steady widths descends counts enough number checked one last_is)
+          (long_row _ _ _ _ _ _ _ f steady widths descends counts enough number checked _ told _ row)
+          (f.counted steady widths descends counts enough number checked);
     }
 
 pub returns-in_err-next-clause-prefixes : goal.returns-in_err-next-clause-prefixes
-returns-in_err-next-clause-prefixes g c = λ steady many descends counts enough number checked.
+returns-in_err-next-clause-prefixes g c = λ steady widths descends counts enough number checked.
     let f = c.loop-entry.invariant in
     let chains = c.in_ok-row.ensures.reads.chains in
     let p = err_from_is_err_and c.from_residual-in_err-next.result c.from_residual-in_err-next.ensures.1 in
     rw (p.1, p.2)
     (c.in_err-next.ensures.outcome.sound (still_steady _ _ (SameImage-trans _ _ _ f.listing.stays chains.image) steady) Index _ _ _
-    (still_at _ _ _ _ _ f.listing steady _ _ _ (seen_search _ _ _ _ _ _ _ f steady many descends counts enough number checked) _
+    (still_at _ _ _ _ _ f.listing steady _ _ _ (seen_search _ _ _ _ _ _ _ f steady widths descends counts enough number checked) _
     (λ pages. (rw c.in-Some.is at c.in-Ok.ensures.entry) pages Index) _ chains))
 
 pub returns-in_err-next-clause-only : goal.returns-in_err-next-clause-only

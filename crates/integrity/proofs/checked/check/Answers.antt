@@ -19,6 +19,7 @@ use Rattle.integrity.specs.declared.index_trees.IndexCounts.{IndexCounts}
 use Rattle.integrity.specs.Checked.{IsBrokenImage}
 use Rattle.integrity.specs.Denotes.{HasCatalog}
 use Rattle.integrity.specs.Indexes.{AreBrokenEntries, AreItsEntries, IsBrokenIndexTree, IsCheckedIndexOf, IsOwned}
+use Rattle.integrity.specs.Keys.{HasKeyCounts}
 use Rattle.integrity.specs.Used.{AreTreesTwice, MarksTrees, index_tree_of}
 use Rattle.integrity.specs.Tables.{IsAnyBroken, IsAnyChecked, any_tree}
 use Rattle.integrity.proofs.CheckedLemmas.{broken_table, has_tables, refused_here, refused_only, refused_rows, use_only, walk_only}
@@ -190,6 +191,27 @@ returns-in_err-check_entries-clause-outcome g c =
           (c.in_err-check_entries.ensures.fault (still_steady _ _ four steady) trees index_trees));
     })
 
+pub returns-in_err-key_counts-clause-outcome : goal.returns-in_err-key_counts-clause-outcome
+returns-in_err-key_counts-clause-outcome g c =
+    let p = err_from_is_err_and c.from_residual-in_err-key_counts.result c.from_residual-in_err-key_counts.ensures.1 in
+    rw (p.1, p.2)
+    (record {
+      only = c.in_err-key_counts.ensures.only;
+      cause = λ steady.
+          let pages = pages_seen c.args.pager.now.state in
+          let stays = c.read_schema.ensures.reads.image in
+          let both = SameImage-trans _ _ _ stays c.check_tables.ensures.reads.image in
+          let three = SameImage-trans _ _ _ both c.check_indexes.ensures.reads.image in
+          let four = SameImage-trans _ _ _ three c.check_rest.ensures.reads.chains.image in
+          let five = SameImage-trans _ _ _ four c.check_entries.ensures.reads.image in
+          let found = catalog_data c.in_ok-catalog.catalog in
+          let numbers : All (λ table. IsPageNumber c.args.pager.now.state table.root) found.tables = search rules in
+          let trees = tables_now pages (pages_seen c.check_entries.new.pager.state) found.tables c.tables-tables.result.now c.in_ok-trees.trees.items (same_pages _ _ five) c.tables-tables.ensures numbers
+          (subst (λ (q : Pages). AllZip (IsAnyChecked q) c.tables-tables.result.now c.in_ok-trees.trees.items) (same_pages _ _ stays)
+          (c.in_ok-trees.ensures.checked (still_steady _ _ stays steady))) in
+          inl (c.in_err-key_counts.ensures.counts (still_steady _ _ five steady) trees);
+    })
+
 pub check_indexes-requires-clause-roots : goal.check_indexes-requires-clause-roots
 check_indexes-requires-clause-roots g c =
     let both = SameImage-trans _ _ _ c.read_schema.ensures.reads.image c.check_tables.ensures.reads.image in
@@ -278,6 +300,15 @@ returns-clause-outcome g c =
           has_tables pages rows found c.in_ok-own.own.tree c.in_ok-trees.trees.items (has steady) (c.in_ok-own.ensures.checked steady)
           (subst (λ (ts : List TableData). AllZip (IsAnyChecked pages) ts c.in_ok-trees.trees.items) c.tables-tables.ensures trees);
       trees = search rules;
+      key_counts = λ steady.
+          let five = SameImage-trans _ _ _ four c.check_entries.ensures.reads.image in
+          let numbers : All (λ table. IsPageNumber c.args.pager.now.state table.root) found.tables = search rules in
+          let trees = tables_now pages (pages_seen c.check_entries.new.pager.state) found.tables c.tables-tables.result.now c.in_ok-trees.trees.items (same_pages _ _ five) c.tables-tables.ensures numbers
+          (subst (λ (q : Pages). AllZip (IsAnyChecked q) c.tables-tables.result.now c.in_ok-trees.trees.items) (same_pages _ _ stays)
+          (c.in_ok-trees.ensures.checked (still_steady _ _ stays steady))) in
+          subst (λ (ts : List TableData). AllZip (HasKeyCounts pages) ts c.in_ok-key_counts.key_counts.items) c.tables-tables.ensures
+          (subst (λ (q : Pages). AllZip (HasKeyCounts q) c.tables-tables.result.now c.in_ok-key_counts.key_counts.items) (same_pages _ _ five)
+          (c.in_ok-key_counts.ensures.counts (still_steady _ _ five steady) trees));
       index_counts = λ steady.
           let trees = subst (λ (q : Pages). AllZip (IsCheckedIndexOf q c.tables-tables.result.now) (map index_data c.indexes-indexes.result.now) c.in_ok-index_counts.index_counts.items) (same_pages _ _ both)
           (c.in_ok-index_counts.ensures.checked (still_steady _ _ both steady)) in

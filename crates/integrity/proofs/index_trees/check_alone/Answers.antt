@@ -37,6 +37,6 @@ returns-clause-checked g c = λ steady.
     (subst (λ (q : Pages). IsCheckedIndexTree q c.args.table.now index c.in_ok-tree.tree) (sym same) (c.in_ok-tree.ensures.checked steady)) in
     record {
       tree = c.in_ok-tree.ensures.checked steady;
-      distinct = subst (λ (q : Pages). HasDistinct q index c.in_ok-distinct.distinct.items) same told.0;
+      distinct = subst (λ (q : Pages). HasDistinct q index.root (length (places_of index)) c.in_ok-distinct.distinct.items) same told.0;
       unique = λ is. subst (λ (q : Pages). IsUniqueIndex q index.root (length (places_of index))) same (told.1 is);
     }

@@ -18,7 +18,7 @@ returns-in_err-prefixes-clause-counts g c = λ steady table counts number checke
     rw (p.1, p.2)
     (inl (told_of_index pages index c.root.result (length c.columns.result.now) c.root.ensures width
     (HasPrefixes pages c.root.result (length c.columns.result.now)) (Err c.in_err-prefixes.field-0.0)
-    (λ many descends trees enough there tree. c.in_err-prefixes.ensures.prefixes steady many descends trees enough there tree) table counts number checked))
+    (λ widths descends trees enough there tree. c.in_err-prefixes.ensures.prefixes steady widths descends trees enough there tree) table counts number checked))
 
 pub returns-then-prefixes-clause-counts : goal.returns-then-prefixes-clause-counts
 returns-then-prefixes-clause-counts g c = λ steady table counts number checked.
@@ -27,7 +27,7 @@ returns-then-prefixes-clause-counts g c = λ steady table counts number checked.
     let width : length c.columns.result.now ≡ length (places_of index) = ap length c.columns.ensures ∙ sym (length-map index.columns (λ c. c.place)) in
     let has = told_of_index pages index c.root.result (length c.columns.result.now) c.root.ensures width
     (HasPrefixes pages c.root.result (length c.columns.result.now)) (Ok c.in_ok-prefixes.prefixes)
-    (λ many descends trees enough there tree. c.in_ok-prefixes.ensures.prefixes steady many descends trees enough there tree) table counts number checked in
+    (λ widths descends trees enough there tree. c.in_ok-prefixes.ensures.prefixes steady widths descends trees enough there tree) table counts number checked in
     inr (
       c.in_ok-from_str.ensures.ok ∙ c.name.ensures,
       sym c.is_unique.ensures ∙ c.if-is_unique.true,
@@ -41,7 +41,7 @@ returns-clause-counts g c = λ steady table counts number checked.
     let width : length c.columns.result.now ≡ length (places_of index) = ap length c.columns.ensures ∙ sym (length-map index.columns (λ c. c.place)) in
     let has = told_of_index pages index c.root.result (length c.columns.result.now) c.root.ensures width
     (HasPrefixes pages c.root.result (length c.columns.result.now)) (Ok c.in_ok-prefixes.prefixes)
-    (λ many descends trees enough there tree. c.in_ok-prefixes.ensures.prefixes steady many descends trees enough there tree) table counts number checked in (
+    (λ widths descends trees enough there tree. c.in_ok-prefixes.ensures.prefixes steady widths descends trees enough there tree) table counts number checked in (
       distinct_of pages index c.root.result (length c.columns.result.now) c.root.ensures width c.in_ok-prefixes.prefixes has,
       λ is. elim c.else-is_unique.branch [
         | else-is_unique-via-then-is_unique+else-prefixes w ↦
