@@ -12,6 +12,7 @@ ghost use Rattle.tokens.specs.declared.keyword.Keyword.TheVariants as k;
 
 use crate::trees::{case, when_then};
 use clause_reader::Read;
+use fronts::OR_LEVEL;
 use phrases::{after_keyword, needed};
 use statement_trees::{Arm, Expr};
 use tokens::{Keyword, Token};
@@ -25,13 +26,13 @@ fn arm<'t, I: Inner<'t>>(inner: &I, tokens: &'t [Token<'t>]) -> Result<Read<'t, 
         (at spec.arm (I.setting inner.now) (lexemes_of tokens.now)) }
     ensures within { IfOk result (λ r. r.levels ≤ (I.setting inner.now).depth) }
 {
-    let when = inner.expr(1, tokens)?;
+    let when = inner.expr(OR_LEVEL, tokens)?;
     let rest = needed(
         after_keyword(when.rest, Keyword::Then),
         when.rest,
         inner.end(),
     )?;
-    let then = inner.expr(1, rest)?;
+    let then = inner.expr(OR_LEVEL, rest)?;
     Ok(Read {
         tree: when_then(when.tree, then.tree),
         levels: when.levels.max(then.levels),

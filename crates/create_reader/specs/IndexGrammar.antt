@@ -4,6 +4,7 @@ use Rattle.tokens.specs.Lexeme.{Lexeme}
 use Rattle.tokens.specs.declared.keyword.Keyword.TheVariants as k
 use Rattle.tokens.specs.declared.token.Quoting.{Quoting}
 use Rattle.create_reader.specs.CreateGrammar.{IndexesAll}
+use Rattle.grammar.specs.Operators.{or_level}
 use Rattle.grammar.specs.Queries.{Expresses}
 use Rattle.syntax.specs.ExprTree.{ExprTree}
 use Rattle.syntax.specs.Tree.{Name}
@@ -25,7 +26,7 @@ module _ (source : ℕ → ℕ → List ℕ) where
   -- [WHERE expr], where no query stands in the expression, and some token of it stands in so many levels, and none in more
   pub data MaybePartial : ℕ → Option ExprTree → List Lexeme → Type 0 where
     whole : MaybePartial 0 None []
-    partial : {h : ℕ} {e : ExprTree} {tokens : List Lexeme} → has_query tokens ≡ false → Expresses source 1 h e tokens []
+    partial : {h : ℕ} {e : ExprTree} {tokens : List Lexeme} → has_query tokens ≡ false → Expresses source or_level h e tokens []
         → MaybePartial h (Some e) (Lexeme.Reserved k.Where ∷ tokens)
 
   -- CREATE [UNIQUE] INDEX name ON name "(" column {"," column} ")" [WHERE expr]

@@ -8,6 +8,7 @@ use Rattle.column_reader.specs.ColumnReading.{after_on}
 use Rattle.create_reader.specs.CreateReading.{after_create, indexed_all}
 use Rattle.create_reader.specs.IndexGrammar.{has_query}
 use Rattle.create_trees.specs.CreateTrees.{IndexedColumnTree, IndexTree}
+use Rattle.grammar.specs.Operators.{or_level}
 use Rattle.grammar.specs.Reading.{expr}
 use Rattle.syntax.specs.ExprTree.{ExprTree}
 use Rattle.syntax.specs.Tree.{Name}
@@ -48,7 +49,7 @@ whole r = r >>= λ x. ended x.tree x.rest
 module _ (source : ℕ → ℕ → List ℕ) (d : ℕ) where
   -- the condition behind WHERE, which is all of the tokens
   unfoldable pub predicate : Rest → Outcome ExprTree
-  predicate ts = if has_query ts then Err Refusal.Syntax else whole (expr source d 1 ts)
+  predicate ts = if has_query ts then Err Refusal.Syntax else whole (expr source d or_level ts)
 
   abbrev pub some_predicate : Rest → Outcome (Option ExprTree)
   some_predicate ts = predicate ts >>= λ e. Ok (Some e)

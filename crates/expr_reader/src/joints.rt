@@ -10,7 +10,7 @@ ghost use Rattle.window_reader.specs.Setting.{at};
 
 use crate::trees::{between, binary, membership, postfix, query_membership};
 use clause_reader::Read;
-use fronts::{Membership, level_of, loosely, membership_at};
+use fronts::{COMPARISON_LEVEL, Membership, level_of, loosely, membership_at};
 use phrases::{after_keyword, after_sign, needed};
 use statement_trees::Expr;
 use syntax::{BinaryOperator, PostfixOperator};
@@ -101,9 +101,9 @@ pub(crate) fn with_between<'t, I: Inner<'t>>(
     ensures within { IfOk result (λ r. r.levels ≤ (I.setting inner.now).depth) }
     ensures more { IfOk result (λ r. left.entry.levels < r.levels) }
 {
-    let low = inner.expr(5, tokens)?;
+    let low = inner.expr(COMPARISON_LEVEL, tokens)?;
     let rest = needed(after_keyword(low.rest, Keyword::And), low.rest, inner.end())?;
-    let high = inner.expr(5, rest)?;
+    let high = inner.expr(COMPARISON_LEVEL, rest)?;
     Ok(Read {
         tree: between(inner.alloc(), negated, left.tree, low.tree, high.tree)?,
         levels: levels.max(low.levels.max(high.levels)),

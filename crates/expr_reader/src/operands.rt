@@ -6,13 +6,14 @@ ghost use Rattle.grammar.specs.Reading as spec;
 ghost use Rattle.phrases.specs.Outcomes.{Yields};
 ghost use Rattle.phrases.specs.Texts.{lexemes_of};
 ghost use Rattle.grammar.specs.Fronts as front;
+ghost use Rattle.grammar.specs.Operators.{or_level};
 ghost use Rattle.statement_trees.specs.TreeView.{expr_of};
 
 use crate::trees::{existence, literal, prefix};
 use call_reader::named;
 use case_reader::choice;
 use clause_reader::Read;
-use fronts::{Opening, level_of_prefix, opening_at};
+use fronts::{OR_LEVEL, Opening, level_of_prefix, opening_at};
 use phrases::{after_sign, needed, syntax_at};
 use statement_trees::Expr;
 use tokens::{Sign, Token};
@@ -27,10 +28,10 @@ fn parenthesis<'t, I: Inner<'t>>(
 ) -> Result<Read<'t, Expr>, Fault>
     requires { I.reads inner.now }
     ensures value { Yields (seen expr_of) result
-        (at spec.operand_at (I.setting inner.now) 1 (front.Opening.Parenthesis (lexemes_of tokens.now))) }
+        (at spec.operand_at (I.setting inner.now) or_level (front.Opening.Parenthesis (lexemes_of tokens.now))) }
     ensures within { IfOk result (λ r. r.levels ≤ (I.setting inner.now).depth) }
 {
-    let read = inner.expr(1, tokens)?;
+    let read = inner.expr(OR_LEVEL, tokens)?;
     let rest = needed(after_sign(read.rest, Sign::Close), read.rest, inner.end())?;
     Ok(Read {
         tree: read.tree,
@@ -44,7 +45,7 @@ fn parenthesis<'t, I: Inner<'t>>(
 fn exists<'t, I: Inner<'t>>(inner: &I, tokens: &'t [Token<'t>]) -> Result<Read<'t, Expr>, Fault>
     requires { I.reads inner.now }
     ensures value { Yields (seen expr_of) result
-        (at spec.operand_at (I.setting inner.now) 1 (front.Opening.Existence (lexemes_of tokens.now))) }
+        (at spec.operand_at (I.setting inner.now) or_level (front.Opening.Existence (lexemes_of tokens.now))) }
     ensures within { IfOk result (λ r. r.levels ≤ (I.setting inner.now).depth) }
 {
     let query = inner.query(tokens)?;

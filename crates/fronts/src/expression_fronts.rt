@@ -2,11 +2,11 @@
 ghost use Rattle.std.specs.Prelude.{◌≡◌, ◌<◌, ◌≤◌, length, IfOk, option_map};
 ghost use Rattle.fronts.specs.ExpressionFronts.{following_of, inside_of, joint_of, membership_of, opening_of};
 ghost use Rattle.grammar.specs.Fronts as spec;
-ghost use Rattle.grammar.specs.Operators as operators;
 ghost use Rattle.grammar.specs.Reading as reading;
 ghost use Rattle.phrases.specs.Outcomes.{Yields, needed};
 ghost use Rattle.phrases.specs.Texts.{lexemes_of};
 
+use crate::levels::{EQUALITY_LEVEL, NO_LEVEL, PART_LEVEL, level_of};
 use phrases::place_of;
 use syntax::{BinaryOperator, PostfixOperator, PrefixOperator};
 use tokens::{Keyword, Quoting, Sign, Token, TokenKind};
@@ -71,42 +71,6 @@ pub enum Membership<'t> {
     Empty(&'t [Token<'t>]),
     Query,
     Members,
-}
-
-/// The level of the phrases that an operator makes.
-pub fn level_of(operator: BinaryOperator) -> u8
-    ensures value { result ≡ operators.level_of operator }
-    ensures small { result ≤ 9 }
-{
-    match operator {
-        BinaryOperator::Or => 1,
-        BinaryOperator::And => 2,
-        BinaryOperator::Equal
-        | BinaryOperator::NotEqual
-        | BinaryOperator::Is
-        | BinaryOperator::IsNot
-        | BinaryOperator::Like
-        | BinaryOperator::NotLike => 4,
-        BinaryOperator::Less
-        | BinaryOperator::LessEqual
-        | BinaryOperator::Greater
-        | BinaryOperator::GreaterEqual => 5,
-        BinaryOperator::BitAnd | BinaryOperator::BitOr => 6,
-        BinaryOperator::Add | BinaryOperator::Subtract => 7,
-        BinaryOperator::Multiply | BinaryOperator::Divide | BinaryOperator::Remainder => 8,
-        BinaryOperator::Concatenate => 9,
-    }
-}
-
-/// The same of an operator before its operand.
-pub fn level_of_prefix(operator: PrefixOperator) -> u8
-    ensures value { result ≡ operators.level_of_prefix operator }
-    ensures small { result ≤ 10 }
-{
-    match operator {
-        PrefixOperator::Not => 3,
-        PrefixOperator::Minus | PrefixOperator::Plus | PrefixOperator::BitNot => 10,
-    }
 }
 
 fn opening_sign<'t>(sign: Sign, rest: &'t [Token<'t>]) -> Opening<'t>
@@ -265,15 +229,17 @@ pub fn joint_at<'t>(tokens: &'t [Token<'t>]) -> Joint<'t>
     }
 }
 
-/// The level of what an expression goes on with, or 0.
+/// The level of what an expression goes on with, or `NO_LEVEL`.
 pub fn binds(tokens: &[Token<'_>]) -> u8
     ensures { result ≡ spec.binds (lexemes_of tokens.now) }
 {
     match joint_at(tokens) {
         Joint::Binary(operator, _) => level_of(operator),
-        Joint::Between(..) | Joint::In(..) | Joint::Postfix(..) | Joint::Dangling => 4,
-        Joint::Tight => 12,
-        Joint::Stop => 0,
+        Joint::Between(..) | Joint::In(..) | Joint::Postfix(..) | Joint::Dangling => {
+            EQUALITY_LEVEL
+        }
+        Joint::Tight => PART_LEVEL,
+        Joint::Stop => NO_LEVEL,
     }
 }
 
@@ -346,11 +312,11 @@ pub fn membership_at<'t>(tokens: &'t [Token<'t>]) -> Membership<'t>
     }
 }
 
-/// These tokens, unless an operator that binds tighter than level 4 stands there.
+/// These tokens, unless an operator that binds tighter than `=` stands there.
 pub fn loosely<'t>(tokens: &'t [Token<'t>], end: usize) -> Result<&'t [Token<'t>], Fault>
     ensures { Yields (λ r. lexemes_of r.now) result (needed (reading.loosely (lexemes_of tokens.now))) }
 {
-    if binds(tokens) <= 4 {
+    if binds(tokens) <= EQUALITY_LEVEL {
         Ok(tokens)
     } else {
         Err(Fault::Syntax(place_of(tokens, end)))
@@ -369,7 +335,7 @@ pub fn alone<'t>(tokens: &'t [Token<'t>], end: usize) -> Result<&'t [Token<'t>],
             },
             rest @ ..,
         ] => {
-            if binds(rest) == 0 {
+            if binds(rest) == NO_LEVEL {
                 Ok(tokens)
             } else {
                 Err(Fault::Syntax(place_of(rest, end)))

@@ -1,16 +1,18 @@
 //! What stands at the front of the tokens of a statement: the steps by which its readers choose. It promises that each
 //! finds exactly what stands there, as the grammar's reader does.
 //!
-//! The modules: `expression_fronts` (what an expression begins and goes on with), `query_fronts` (the words of queries).
+//! The modules: `levels` (how tightly operators bind), `expression_fronts` (what an expression begins and goes on with), `query_fronts` (the words of queries).
 #![tactic(auto)]
 
 mod expression_fronts;
+mod levels;
 mod query_fronts;
 
 pub use expression_fronts::{
     Following, Inside, Joint, Literal, Membership, Opening, alone, binds, following_at, inside_at,
-    joint_at, level_of, level_of_prefix, loosely, membership_at, opening_at,
+    joint_at, loosely, membership_at, opening_at,
 };
+pub use levels::{COMPARISON_LEVEL, OR_LEVEL, level_of, level_of_prefix};
 pub use query_fronts::{
     Beginning, Joining, Wants, after_group_by, after_order_by, after_partition_by, beginning_at,
     compound_at, exclusion_at, explained_at, join_at, nulls_at, quantifier_at, turn_at, unit_at,

@@ -25,7 +25,7 @@ use Rattle.syntax.specs.declared.query.FrameUnit.TheVariants as u
 use Rattle.syntax.specs.declared.query.Join.{Join}
 use Rattle.syntax.specs.declared.query.Join.TheVariants as j
 use Rattle.grammar.specs.Clauses.{Wants}
-use Rattle.grammar.specs.Operators.{level_of}
+use Rattle.grammar.specs.Operators.{equality_level, level_of}
 
 -- what an operand begins with, and what is behind it
 pub data Opening : Type 0 where
@@ -127,16 +127,23 @@ joint (Lexeme.Reserved word ∷ ts) = joint_word word ts
 joint (Lexeme.Punctuation sign ∷ ts) = joint_sign sign ts
 joint _ = Joint.Stop
 
+-- behind the levels of the grammar on either side: looser than each, where an expression ends, and tighter than each
+abbrev pub no_level : ℕ
+no_level = 0
+
+abbrev pub part_level : ℕ
+part_level = 12
+
 abbrev pub level_of_joint : Joint → ℕ
 level_of_joint (Joint.Binary op ts) = level_of op
-level_of_joint (Joint.Between n ts) = 4
-level_of_joint (Joint.In n ts) = 4
-level_of_joint (Joint.Postfix op ts) = 4
-level_of_joint Joint.Dangling = 4
-level_of_joint Joint.Tight = 12
-level_of_joint Joint.Stop = 0
+level_of_joint (Joint.Between n ts) = equality_level
+level_of_joint (Joint.In n ts) = equality_level
+level_of_joint (Joint.Postfix op ts) = equality_level
+level_of_joint Joint.Dangling = equality_level
+level_of_joint Joint.Tight = part_level
+level_of_joint Joint.Stop = no_level
 
--- the level of what an expression goes on with, or 0
+-- the level of what an expression goes on with, or no_level
 abbrev pub binds : Rest → ℕ
 binds ts = level_of_joint (joint ts)
 

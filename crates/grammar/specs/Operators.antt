@@ -1,7 +1,5 @@
 -- The operators of expressions, and where each stands. (SQL Language Expressions, "Operators, and Parse-Affecting
 -- Attributes"). `X tree from after` says that the tokens of from, up to where after begins, spell the tree.
--- The levels of the grammar, from the loosest: 1 OR, 2 AND, 3 NOT, 4 equality, IS, LIKE, BETWEEN, IN, ISNULL, NOTNULL,
--- 5 order, 6 `&` and `|`, 7 sums, 8 products, 9 `||`, 10 a sign, 11 what stands alone.
 use Rattle.std.specs.Prelude.{Bool, true, false, ℕ, ℤ, List, ◌∷◌}
 use Rattle.tokens.specs.Lexeme.{Lexeme}
 use Rattle.tokens.specs.declared.keyword.Keyword.{Keyword}
@@ -15,34 +13,82 @@ use Rattle.syntax.specs.declared.expr.PostfixOperator.TheVariants as b
 use Rattle.syntax.specs.declared.expr.PrefixOperator.{PrefixOperator}
 use Rattle.syntax.specs.declared.expr.PrefixOperator.TheVariants as p
 
+-- The levels of the grammar, from the loosest to the tightest, as that section's table has them from its end upward. An
+-- expression of a level holds operators of this level and of tighter ones outside parentheses; so an expression of or_level
+-- is any.
+
+-- OR
+abbrev pub or_level : ℕ
+or_level = 1
+
+-- AND
+abbrev pub and_level : ℕ
+and_level = 2
+
+-- NOT
+abbrev pub not_level : ℕ
+not_level = 3
+
+-- `=`, `<>`, IS, LIKE, BETWEEN, IN, ISNULL, NOTNULL
+abbrev pub equality_level : ℕ
+equality_level = 4
+
+-- `<`, `<=`, `>`, `>=`
+abbrev pub comparison_level : ℕ
+comparison_level = 5
+
+-- `&`, `|`
+abbrev pub bits_level : ℕ
+bits_level = 6
+
+-- `+` and `-` between two operands
+abbrev pub sum_level : ℕ
+sum_level = 7
+
+-- `*`, `/`, `%`
+abbrev pub product_level : ℕ
+product_level = 8
+
+-- `||`
+abbrev pub concatenation_level : ℕ
+concatenation_level = 9
+
+-- `-`, `+`, `~` before an operand
+abbrev pub sign_level : ℕ
+sign_level = 10
+
+-- what stands alone: a literal, a name, a call, CASE, EXISTS, parentheses
+abbrev pub primary_level : ℕ
+primary_level = 11
+
 -- the level of the phrases that an operator makes
 abbrev pub level_of : BinaryOperator → ℕ
-level_of o.Or = 1
-level_of o.And = 2
-level_of o.Equal = 4
-level_of o.NotEqual = 4
-level_of o.Is = 4
-level_of o.IsNot = 4
-level_of o.Like = 4
-level_of o.NotLike = 4
-level_of o.Less = 5
-level_of o.LessEqual = 5
-level_of o.Greater = 5
-level_of o.GreaterEqual = 5
-level_of o.BitAnd = 6
-level_of o.BitOr = 6
-level_of o.Add = 7
-level_of o.Subtract = 7
-level_of o.Multiply = 8
-level_of o.Divide = 8
-level_of o.Remainder = 8
-level_of o.Concatenate = 9
+level_of o.Or = or_level
+level_of o.And = and_level
+level_of o.Equal = equality_level
+level_of o.NotEqual = equality_level
+level_of o.Is = equality_level
+level_of o.IsNot = equality_level
+level_of o.Like = equality_level
+level_of o.NotLike = equality_level
+level_of o.Less = comparison_level
+level_of o.LessEqual = comparison_level
+level_of o.Greater = comparison_level
+level_of o.GreaterEqual = comparison_level
+level_of o.BitAnd = bits_level
+level_of o.BitOr = bits_level
+level_of o.Add = sum_level
+level_of o.Subtract = sum_level
+level_of o.Multiply = product_level
+level_of o.Divide = product_level
+level_of o.Remainder = product_level
+level_of o.Concatenate = concatenation_level
 
 abbrev pub level_of_prefix : PrefixOperator → ℕ
-level_of_prefix p.Not = 3
-level_of_prefix p.Minus = 10
-level_of_prefix p.Plus = 10
-level_of_prefix p.BitNot = 10
+level_of_prefix p.Not = not_level
+level_of_prefix p.Minus = sign_level
+level_of_prefix p.Plus = sign_level
+level_of_prefix p.BitNot = sign_level
 
 -- Stands operator from after: the operator stands at the front of from, and after is what is behind it
 pub data Stands : BinaryOperator → List Lexeme → List Lexeme → Type 0 where

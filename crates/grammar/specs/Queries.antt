@@ -42,7 +42,19 @@ use Rattle.syntax.specs.declared.query.Direction.{Direction}
 use Rattle.syntax.specs.declared.query.Frame.{Frame}
 use Rattle.syntax.specs.declared.query.Join.{Join}
 use Rattle.grammar.specs.Clauses.{Aliases, Compounds, Directs, Frames, Joins, Names, Quantifies, Titles, Tokens, Wants, may_have, may_lack}
-use Rattle.grammar.specs.Operators.{Follows, IsLiteral, MaybeNot, Precedes, Stands, level_of, level_of_prefix}
+use Rattle.grammar.specs.Operators.{
+  Follows,
+  IsLiteral,
+  MaybeNot,
+  Precedes,
+  Stands,
+  comparison_level,
+  equality_level,
+  level_of,
+  level_of_prefix,
+  or_level,
+  primary_level,
+}
 
 -- in no list of members stands a number by rule
 abbrev pub nowhere : ℕ → Bool
@@ -62,73 +74,73 @@ module _ (source : ℕ → ℕ → List ℕ) where
           → Expresses (level_of op) (suc (max h i)) (ExprTree.Binary op x y) from after
       -- eq [NOT] BETWEEN rel AND rel
       between : {h i j : ℕ} {n : Bool} {e x y : ExprTree} {from mid low high after : Tokens}
-          → Expresses 4 h e from mid → MaybeNot k.Between n mid low
-          → Expresses 5 i x low (Lexeme.Reserved k.And ∷ high) → Expresses 5 j y high after
-          → Expresses 4 (suc (max h (max i j))) (ExprTree.Between n e x y) from after
+          → Expresses equality_level h e from mid → MaybeNot k.Between n mid low
+          → Expresses comparison_level i x low (Lexeme.Reserved k.And ∷ high) → Expresses comparison_level j y high after
+          → Expresses equality_level (suc (max h (max i j))) (ExprTree.Between n e x y) from after
       -- eq [NOT] IN "(" ")"
       in_none : {h : ℕ} {n : Bool} {e : ExprTree} {from mid after : Tokens}
-          → Expresses 4 h e from mid
+          → Expresses equality_level h e from mid
           → MaybeNot k.In n mid (Lexeme.Punctuation s.Open ∷ Lexeme.Punctuation s.Close ∷ after)
-          → Expresses 4 (suc h) (ExprTree.In n e ExprTrees.No_more) from after
+          → Expresses equality_level (suc h) (ExprTree.In n e ExprTrees.No_more) from after
       -- eq [NOT] IN "(" expr {"," expr} ")"
       in_list : {h i : ℕ} {n : Bool} {e : ExprTree} {es : ExprTrees} {from mid members after : Tokens}
-          → Expresses 4 h e from mid → MaybeNot k.In n mid (Lexeme.Punctuation s.Open ∷ members)
+          → Expresses equality_level h e from mid → MaybeNot k.In n mid (Lexeme.Punctuation s.Open ∷ members)
           → ExpressesAll nowhere 0 i es members (Lexeme.Punctuation s.Close ∷ after)
-          → Expresses 4 (suc (max h i)) (ExprTree.In n e es) from after
+          → Expresses equality_level (suc (max h i)) (ExprTree.In n e es) from after
       -- eq [NOT] IN "(" query ")"
       in_query : {h i : ℕ} {n : Bool} {e : ExprTree} {query : QueryTree} {from mid inside after : Tokens}
-          → Expresses 4 h e from mid → MaybeNot k.In n mid (Lexeme.Punctuation s.Open ∷ inside)
+          → Expresses equality_level h e from mid → MaybeNot k.In n mid (Lexeme.Punctuation s.Open ∷ inside)
           → Queries i query inside (Lexeme.Punctuation s.Close ∷ after)
-          → Expresses 4 (suc (max h i)) (ExprTree.InQuery n e query) from after
+          → Expresses equality_level (suc (max h i)) (ExprTree.InQuery n e query) from after
       -- eq ISNULL | eq NOTNULL
       postfix : {h : ℕ} {op : PostfixOperator} {e : ExprTree} {word : Lexeme} {from after : Tokens}
-          → Expresses 4 h e from (word ∷ after) → Follows op word
-          → Expresses 4 (suc h) (ExprTree.Postfix op e) from after
+          → Expresses equality_level h e from (word ∷ after) → Follows op word
+          → Expresses equality_level (suc h) (ExprTree.Postfix op e) from after
       -- NOT not | ("-" | "+" | "~") unary
       prefix : {h : ℕ} {op : PrefixOperator} {e : ExprTree} {word : Lexeme} {from after : Tokens}
           → Precedes op word → Expresses (level_of_prefix op) h e from after
           → Expresses (level_of_prefix op) (suc h) (ExprTree.Prefix op e) (word ∷ from) after
       literal : {e : ExprTree} {word : Lexeme} {after : Tokens} → IsLiteral e word
-          → Expresses 11 0 e (word ∷ after) after
+          → Expresses primary_level 0 e (word ∷ after) after
       -- name
       column : {q : Quoting} {name : Name} {after : Tokens}
-          → Expresses 11 0 (ExprTree.Column None name) (Lexeme.Name q name ∷ after) after
+          → Expresses primary_level 0 (ExprTree.Column None name) (Lexeme.Name q name ∷ after) after
       -- name "." name
       column_of : {q r : Quoting} {table name : Name} {after : Tokens}
-          → Expresses 11 0 (ExprTree.Column (Some table) name)
+          → Expresses primary_level 0 (ExprTree.Column (Some table) name)
           (Lexeme.Name q table ∷ Lexeme.Punctuation s.Dot ∷ Lexeme.Name r name ∷ after) after
       -- "(" expr ")"
       parentheses : {h : ℕ} {e : ExprTree} {from after : Tokens}
-          → Expresses 1 h e from (Lexeme.Punctuation s.Close ∷ after)
-          → Expresses 11 (suc h) e (Lexeme.Punctuation s.Open ∷ from) after
+          → Expresses or_level h e from (Lexeme.Punctuation s.Close ∷ after)
+          → Expresses primary_level (suc h) e (Lexeme.Punctuation s.Open ∷ from) after
       -- EXISTS "(" query ")"
       exists : {h : ℕ} {query : QueryTree} {from after : Tokens}
           → Queries h query from (Lexeme.Punctuation s.Close ∷ after)
-          → Expresses 11 (suc h) (ExprTree.Exists query)
+          → Expresses primary_level (suc h) (ExprTree.Exists query)
           (Lexeme.Reserved k.Exists ∷ Lexeme.Punctuation s.Open ∷ from) after
       -- count "(" "*" ")"
       count_rows : {h : ℕ} {word : Name} {behind : BehindTree} {from after : Tokens} → function_of word ≡ Some f.Count
           → StandsBehind h behind from after
-          → Expresses 11 (suc h) (ExprTree.CountRows behind)
+          → Expresses primary_level (suc h) (ExprTree.CountRows behind)
           (Lexeme.Name q.Bare word ∷ Lexeme.Punctuation s.Open ∷ Lexeme.Punctuation s.Star ∷ Lexeme.Punctuation s.Close
           ∷ from) after
       -- function "(" ")"
       call_none : {h : ℕ} {word : Name} {function : Function} {behind : BehindTree} {from after : Tokens}
           → function_of word ≡ Some function → takes function 0 ≡ true → StandsBehind h behind from after
-          → Expresses 11 (suc h) (ExprTree.Call function ExprTrees.No_more behind)
+          → Expresses primary_level (suc h) (ExprTree.Call function ExprTrees.No_more behind)
           (Lexeme.Name q.Bare word ∷ Lexeme.Punctuation s.Open ∷ Lexeme.Punctuation s.Close ∷ from) after
       -- function "(" argument {"," argument} ")"
       call : {h i : ℕ} {word : Name} {function : Function} {es : ExprTrees} {behind : BehindTree}
           {from rest after : Tokens} → function_of word ≡ Some function
           → ExpressesAll (takes_number function) 0 h es from (Lexeme.Punctuation s.Close ∷ rest)
           → takes function (count es) ≡ true → StandsBehind i behind rest after
-          → Expresses 11 (suc (max h i)) (ExprTree.Call function es behind)
+          → Expresses primary_level (suc (max h i)) (ExprTree.Call function es behind)
           (Lexeme.Name q.Bare word ∷ Lexeme.Punctuation s.Open ∷ from) after
       -- CASE [expr] WHEN expr THEN expr {WHEN expr THEN expr} [ELSE expr] END
       choice : {h i j : ℕ} {base other : MaybeExpr} {arms : ArmTrees} {from whens rest after : Tokens}
           → ExpressesOperand h base from whens → ExpressesArms i arms whens rest
           → ExpressesElse j other rest after
-          → Expresses 11 (suc (max h (max i j))) (ExprTree.Case base arms other) (Lexeme.Reserved k.Case ∷ from)
+          → Expresses primary_level (suc (max h (max i j))) (ExprTree.Case base arms other) (Lexeme.Reserved k.Case ∷ from)
           after
 
     -- one or more with commas between them, of which the first has this place in its list; where the function says so,
@@ -144,23 +156,23 @@ module _ (source : ℕ → ℕ → List ℕ) where
 
     -- expr, or a number alone
     pub data ExpressesItem : Bool → ℕ → ExprTree → Tokens → Tokens → Type 0 where
-      expression : {h : ℕ} {e : ExprTree} {from after : Tokens} → Expresses 1 h e from after
+      expression : {h : ℕ} {e : ExprTree} {from after : Tokens} → Expresses or_level h e from after
           → ExpressesItem false h e from after
       number : {n : ℤ} {after : Tokens} → ExpressesItem true 0 (ExprTree.Number n) (Lexeme.Number n ∷ after) after
 
     -- [expr]
     pub data ExpressesOperand : ℕ → MaybeExpr → Tokens → Tokens → Type 0 where
       no_operand : {after : Tokens} → ExpressesOperand 0 MaybeExpr.Absent after after
-      operand : {h : ℕ} {e : ExprTree} {from after : Tokens} → Expresses 1 h e from after
+      operand : {h : ℕ} {e : ExprTree} {from after : Tokens} → Expresses or_level h e from after
           → ExpressesOperand h (MaybeExpr.Present e) from after
 
     -- WHEN expr THEN expr {WHEN expr THEN expr}
     pub data ExpressesArms : ℕ → ArmTrees → Tokens → Tokens → Type 0 where
       last_arm : {h i : ℕ} {x y : ExprTree} {from mid after : Tokens}
-          → Expresses 1 h x from (Lexeme.Reserved k.Then ∷ mid) → Expresses 1 i y mid after
+          → Expresses or_level h x from (Lexeme.Reserved k.Then ∷ mid) → Expresses or_level i y mid after
           → ExpressesArms (max h i) (ArmTrees.Arm x y ArmTrees.No_arm) (Lexeme.Reserved k.When ∷ from) after
       more_arms : {h i j : ℕ} {x y : ExprTree} {arms : ArmTrees} {from mid rest after : Tokens}
-          → Expresses 1 h x from (Lexeme.Reserved k.Then ∷ mid) → Expresses 1 i y mid rest
+          → Expresses or_level h x from (Lexeme.Reserved k.Then ∷ mid) → Expresses or_level i y mid rest
           → ExpressesArms j arms rest after
           → ExpressesArms (max (max h i) j) (ArmTrees.Arm x y arms) (Lexeme.Reserved k.When ∷ from) after
 
@@ -168,7 +180,7 @@ module _ (source : ℕ → ℕ → List ℕ) where
     pub data ExpressesElse : ℕ → MaybeExpr → Tokens → Tokens → Type 0 where
       no_else : {after : Tokens} → ExpressesElse 0 MaybeExpr.Absent (Lexeme.Reserved k.End ∷ after) after
       otherwise : {h : ℕ} {e : ExprTree} {from after : Tokens}
-          → Expresses 1 h e from (Lexeme.Reserved k.End ∷ after)
+          → Expresses or_level h e from (Lexeme.Reserved k.End ∷ after)
           → ExpressesElse h (MaybeExpr.Present e) (Lexeme.Reserved k.Else ∷ from) after
 
     -- Calls of aggregates and window functions
@@ -182,7 +194,7 @@ module _ (source : ℕ → ℕ → List ℕ) where
     -- [FILTER "(" WHERE expr ")"]
     pub data Filters : ℕ → MaybeExpr → Tokens → Tokens → Type 0 where
       no_filter : {after : Tokens} → Filters 0 MaybeExpr.Absent after after
-      filter : {h : ℕ} {e : ExprTree} {from after : Tokens} → Expresses 1 h e from (Lexeme.Punctuation s.Close ∷ after)
+      filter : {h : ℕ} {e : ExprTree} {from after : Tokens} → Expresses or_level h e from (Lexeme.Punctuation s.Close ∷ after)
           → Filters h (MaybeExpr.Present e)
           (Lexeme.Reserved k.Filter ∷ Lexeme.Punctuation s.Open ∷ Lexeme.Reserved k.Where ∷ from) after
 
@@ -215,10 +227,10 @@ module _ (source : ℕ → ℕ → List ℕ) where
     -- one or more `expr [ASC | DESC] [NULLS FIRST | NULLS LAST]`, with commas between them
     pub data Terms : ℕ → TermTrees → Tokens → Tokens → Type 0 where
       last_term : {h : ℕ} {e : ExprTree} {direction : Direction} {from mid after : Tokens}
-          → Expresses 1 h e from mid → Directs direction mid after
+          → Expresses or_level h e from mid → Directs direction mid after
           → Terms h (TermTrees.Term e direction TermTrees.No_term) from after
       more_terms : {h i : ℕ} {e : ExprTree} {direction : Direction} {terms : TermTrees} {from mid rest after : Tokens}
-          → Expresses 1 h e from mid → Directs direction mid (Lexeme.Punctuation s.Comma ∷ rest)
+          → Expresses or_level h e from mid → Directs direction mid (Lexeme.Punctuation s.Comma ∷ rest)
           → Terms i terms rest after → Terms (max h i) (TermTrees.Term e direction terms) from after
 
     -- Queries
@@ -255,7 +267,7 @@ module _ (source : ℕ → ℕ → List ℕ) where
       all_of : {q : Quoting} {table : Name} {after : Tokens}
           → IsResult 0 (ResultTree.AllOf table)
           (Lexeme.Name q table ∷ Lexeme.Punctuation s.Dot ∷ Lexeme.Punctuation s.Star ∷ after) after
-      value : {h : ℕ} {e : ExprTree} {title : NameTree} {from mid after : Tokens} → Expresses 1 h e from mid
+      value : {h : ℕ} {e : ExprTree} {title : NameTree} {from mid after : Tokens} → Expresses or_level h e from mid
           → Titles (source (length from) (length mid)) title mid after
           → IsResult h (ResultTree.Value e title) from after
 
@@ -287,7 +299,7 @@ module _ (source : ℕ → ℕ → List ℕ) where
     pub data Ons : Wants → ℕ → OnTree → Tokens → Tokens → Type 0 where
       always : {wants : Wants} {after : Tokens} → may_lack wants ≡ true → Ons wants 0 OnTree.Always after after
       on : {h : ℕ} {wants : Wants} {e : ExprTree} {from after : Tokens} → may_have wants ≡ true
-          → Expresses 1 h e from after → Ons wants h (OnTree.On e) (Lexeme.Reserved k.On ∷ from) after
+          → Expresses or_level h e from after → Ons wants h (OnTree.On e) (Lexeme.Reserved k.On ∷ from) after
       using : {wants : Wants} {names : List Name} {from after : Tokens} → may_have wants ≡ true
           → Listed Names names from (Lexeme.Punctuation s.Close ∷ after)
           → Ons wants 0 (OnTree.Using names) (Lexeme.Reserved k.Using ∷ Lexeme.Punctuation s.Open ∷ from) after
@@ -295,7 +307,7 @@ module _ (source : ℕ → ℕ → List ℕ) where
     -- [WHERE expr]
     pub data Wheres : ℕ → MaybeExpr → Tokens → Tokens → Type 0 where
       no_condition : {after : Tokens} → Wheres 0 MaybeExpr.Absent after after
-      condition : {h : ℕ} {e : ExprTree} {from after : Tokens} → Expresses 1 h e from after
+      condition : {h : ℕ} {e : ExprTree} {from after : Tokens} → Expresses or_level h e from after
           → Wheres h (MaybeExpr.Present e) (Lexeme.Reserved k.Where ∷ from) after
 
     -- [GROUP BY expr {"," expr} [HAVING expr]]
@@ -308,7 +320,7 @@ module _ (source : ℕ → ℕ → List ℕ) where
     -- [HAVING expr]
     pub data Havings : ℕ → MaybeExpr → Tokens → Tokens → Type 0 where
       no_having : {after : Tokens} → Havings 0 MaybeExpr.Absent after after
-      having : {h : ℕ} {e : ExprTree} {from after : Tokens} → Expresses 1 h e from after
+      having : {h : ℕ} {e : ExprTree} {from after : Tokens} → Expresses or_level h e from after
           → Havings h (MaybeExpr.Present e) (Lexeme.Reserved k.Having ∷ from) after
 
     -- [WINDOW name AS window {"," name AS window}]

@@ -85,13 +85,14 @@ use Rattle.grammar.specs.Fronts.{
   join_at,
   joint,
   membership,
+  no_level,
   nulls,
   opening,
   quantifier,
   turn,
   unit_at,
 }
-use Rattle.grammar.specs.Operators.{level_of, level_of_prefix}
+use Rattle.grammar.specs.Operators.{comparison_level, equality_level, level_of, level_of_prefix, or_level}
 use Rattle.grammar.specs.Queries.{nowhere}
 
 -- One after the other
@@ -190,13 +191,13 @@ offset ts = optional None some_whole ts (after_keyword k.Offset ts)
 abbrev pub limit : Rest → Outcome (Read (Option ℤ × Option ℤ))
 limit ts = optional (None, None) (λ rest. both (some_whole rest) offset) ts (after_keyword k.Limit ts)
 
--- behind a phrase of level 4 that has no right operand stands no operator that binds tighter
+-- behind a phrase of equality_level that has no right operand stands no operator that binds tighter
 abbrev pub loosely : Rest → Option Rest
-loosely ts = if nat_le (binds ts) 4 then Some ts else None
+loosely ts = if nat_le (binds ts) equality_level then Some ts else None
 
 -- a number that no operator follows
 abbrev pub alone : Rest → Outcome Rest
-alone (Lexeme.Number n ∷ ts) = kept_if (nat_le (binds ts) 0) (Lexeme.Number n ∷ ts)
+alone (Lexeme.Number n ∷ ts) = kept_if (nat_le (binds ts) no_level) (Lexeme.Number n ∷ ts)
 alone _ = Err Refusal.Syntax
 
 -- The trees of lists
@@ -229,7 +230,7 @@ module _ (source : ℕ → ℕ → List ℕ) (inner : Inner) (d : ℕ) where
   -- Parts of expressions
 
   abbrev pub one : Rest → Outcome (Read ExprTree)
-  one = inner.expr 1
+  one = inner.expr or_level
 
   -- an expression that may be absent
   abbrev pub present : Rest → Outcome (Read MaybeExpr)
@@ -373,7 +374,7 @@ module _ (source : ℕ → ℕ → List ℕ) (inner : Inner) (d : ℕ) where
   extended_at x (Joint.Between n ts) =
       joined x
       (made (λ (r : ExprTree × ExprTree). ExprTree.Between n x.tree r.0 r.1)
-      (both (closed (after_keyword k.And) (inner.expr 5 ts)) (inner.expr 5)))
+      (both (closed (after_keyword k.And) (inner.expr comparison_level ts)) (inner.expr comparison_level)))
   extended_at x (Joint.In n ts) =
       needed (after_open ts) >>= λ rest. joined x (closed loosely (members n x rest (membership rest)))
   extended_at x (Joint.Postfix op ts) =

@@ -1,6 +1,7 @@
 //! The cycle.
 ghost use Rattle.std.specs.Prelude.{◌<◌, ◌≤◌, IfOk};
 ghost use Rattle.clause_reader.specs.Seen.{seen};
+ghost use Rattle.grammar.specs.Operators.{or_level};
 ghost use Rattle.grammar.specs.Reading as spec;
 ghost use Rattle.nested_reader.specs.Phrases.{phrase_in, setting_of, tree_of};
 ghost use Rattle.phrases.specs.Outcomes.{Yields};
@@ -15,6 +16,7 @@ use crate::trees::{Asked, Tree, phrase_over};
 use crate::within::Within;
 use clause_reader::Read;
 use expr_reader::expr_by;
+use fronts::OR_LEVEL;
 use statement_reader::statement;
 use statement_trees::{Expr, Statement};
 use tokens::Token;
@@ -83,7 +85,7 @@ pub fn expression_within<'t>(
 ) -> Result<Read<'t, Expr>, Fault>
     requires { AreCut source.text.now source.tokens.now }
     ensures value { Yields (seen expr_of) result
-        (at spec.expr_by (setting_of source.entry levels) 1 (lexemes_of tokens.now)) }
+        (at spec.expr_by (setting_of source.entry levels) or_level (lexemes_of tokens.now)) }
     ensures within { IfOk result (λ r. r.levels ≤ levels) }
 {
     let read = |asked|
@@ -97,5 +99,5 @@ pub fn expression_within<'t>(
         depth: levels,
         read,
     };
-    expr_by(&within, 1, tokens)
+    expr_by(&within, OR_LEVEL, tokens)
 }

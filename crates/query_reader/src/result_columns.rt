@@ -11,7 +11,7 @@ ghost use Rattle.syntax.specs.SelectView.{name_of};
 
 use crate::trees::{all, all_of, value};
 use clause_reader::{Read, a_name};
-use fronts::{Beginning, beginning_at};
+use fronts::{Beginning, OR_LEVEL, beginning_at};
 use phrases::after_sign;
 use statement_trees::ResultColumn;
 use syntax::ResultName;
@@ -69,7 +69,7 @@ fn expression<'t, I: Inner<'t>>(
         (at spec.value (I.setting inner.now) (lexemes_of tokens.now)) }
     ensures within { IfOk result (λ r. r.levels ≤ (I.setting inner.now).depth) }
 {
-    let read = inner.expr(1, tokens)?;
+    let read = inner.expr(OR_LEVEL, tokens)?;
     let name = title(inner, tokens.len(), read.rest)?;
     Ok(Read {
         tree: value(read.tree, name.tree),

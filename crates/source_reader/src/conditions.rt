@@ -12,7 +12,7 @@ ghost use Rattle.window_reader.specs.Setting.{at};
 
 use crate::trees::{always, on_condition, using};
 use clause_reader::{Read, names};
-use fronts::Wants;
+use fronts::{OR_LEVEL, Wants};
 use phrases::{after_keyword, after_sign, needed, syntax_at};
 use statement_trees::JoinCondition;
 use tokens::{Keyword, Sign, Token};
@@ -86,7 +86,7 @@ pub(crate) fn on<'t, I: Inner<'t>>(
         let read = using_at(inner, wants, tokens)?;
         return Ok(read);
     };
-    let read = inner.expr(1, rest)?;
+    let read = inner.expr(OR_LEVEL, rest)?;
     Ok(Read {
         tree: on_condition(read.tree),
         levels: read.levels,

@@ -11,7 +11,7 @@ ghost use Rattle.statement_trees.specs.TreeView.{expr_of};
 
 use crate::Inner;
 use clause_reader::Read;
-use fronts::alone;
+use fronts::{OR_LEVEL, alone};
 use phrases::after_sign;
 use statement_trees::Expr;
 use syntax::Function;
@@ -27,7 +27,7 @@ pub fn present<'t, I: Inner<'t>>(
     ensures value { Yields (seen present_of) result (at spec.present (I.setting inner.now) (lexemes_of tokens.now)) }
     ensures within { IfOk result (λ r. r.levels ≤ (I.setting inner.now).depth) }
 {
-    let read = inner.expr(1, tokens)?;
+    let read = inner.expr(OR_LEVEL, tokens)?;
     Ok(Read {
         tree: Some(read.tree),
         levels: read.levels,
@@ -56,9 +56,9 @@ fn item<'t, I: Inner<'t>>(
     ensures within { IfOk result (λ r. r.levels ≤ (I.setting inner.now).depth) }
 {
     if number {
-        return inner.expr(1, alone(tokens, inner.end())?);
+        return inner.expr(OR_LEVEL, alone(tokens, inner.end())?);
     }
-    inner.expr(1, tokens)
+    inner.expr(OR_LEVEL, tokens)
 }
 
 /// One item or more, with commas between: the arguments of a function, or the members of a list.

@@ -12,7 +12,7 @@ use crate::Inner;
 use crate::lists::{list, present};
 use crate::trees::{directed, over_name, over_nothing, over_window, standing, windowed};
 use clause_reader::{Read, direction, frame};
-use fronts::{after_order_by, after_partition_by};
+use fronts::{OR_LEVEL, after_order_by, after_partition_by};
 use phrases::{after_keyword, after_sign, needed};
 use statement_trees::{Behind, Expr, Over, Term, Window};
 use tokens::{Keyword, Sign, Token, TokenKind, name_content};
@@ -25,7 +25,7 @@ fn term<'t, I: Inner<'t>>(inner: &I, tokens: &'t [Token<'t>]) -> Result<Read<'t,
         (at spec.term (I.setting inner.now) (lexemes_of tokens.now)) }
     ensures within { IfOk result (λ r. r.levels ≤ (I.setting inner.now).depth) }
 {
-    let value = inner.expr(1, tokens)?;
+    let value = inner.expr(OR_LEVEL, tokens)?;
     let way = direction(value.rest);
     Ok(Read {
         tree: directed(value.tree, way.tree),
