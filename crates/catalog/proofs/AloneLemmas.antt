@@ -13,7 +13,7 @@ use Rattle.catalog.proofs.ObjectLemmas.{one_name}
 use Rattle.catalog.specs.Objects.{ObjectData, object_row}
 use Rattle.catalog.specs.Picks.{Picks}
 use Rattle.catalog.specs.Says.{AreTablesOf, IsCatalog, IsNoIndex, IsOfKind, SaysAnyIndex}
-use Rattle.catalog.specs.Wanted.{Wants}
+use Rattle.catalog.specs.Wanted.{WantsIndex}
 use Rattle.table_keys.specs.Automatic.{AutomaticData}
 use Rattle.catalog.specs.declared.objects.Kind.TheVariants as k
 
@@ -52,7 +52,7 @@ module _ (pages : ℕ) where
       slice_get-map (λ (t : TableData). t.name) tables i ∙ ap (option_map (λ (t : TableData). t.name)) at
 
   pub only_tables : (rows : List Row) (tables : List TableData) → AreTables pages rows tables
-      → ((row : Row) (table : TableData) (automatic : AutomaticData) → Contains rows row → ¬ Wants pages row table automatic)
+      → ((row : Row) (table : TableData) (automatic : AutomaticData) → Contains rows row → ¬ WantsIndex pages row table automatic)
       → IsCatalog pages rows (record { tables = tables; indexes = [] })
   only_tables rows tables are none = record {
     tables_are = all_tables rows tables are.said;

@@ -9,7 +9,7 @@ use Rattle.schema.specs.Names.{IsSameName}
 use Rattle.syntax.specs.Tree.{Name}
 use Rattle.catalog.specs.Objects.{ObjectData, object_row}
 use Rattle.catalog.specs.Says.{Doubled, HasTree}
-use Rattle.catalog.specs.Taken.{HasName, Repeats, Takes}
+use Rattle.catalog.specs.Taken.{HasName, RepeatsName, TakesName}
 use Rattle.catalog.proofs.ObjectLemmas.{one_kind, one_name}
 
 pub no_name : (row : Row) (o : ObjectData) → row ≡ object_row o → ¬ HasTree o.kind → (name : Name) → ¬ HasName row name
@@ -17,10 +17,10 @@ no_name row o is none name h = none (subst HasTree (one_kind h.object o (sym h.r
 
 -- no table or index has the row, whatever its name
 module _ (row : Row) (none : (name : Name) → ¬ HasName row name) where
-  pub takes_none : (name : Name) → ¬ Takes name row
+  pub takes_none : (name : Name) → ¬ TakesName name row
   takes_none name t = none t.object.name (record { object = t.object; row_is = t.row_is; has_tree = t.has_tree; name_is = refl })
 
-  pub repeats_none : (before : List Row) → ¬ Repeats before row
+  pub repeats_none : (before : List Row) → ¬ RepeatsName before row
   repeats_none before r = none r.name r.named
 
 -- a row of a table or an index of this name
@@ -28,7 +28,7 @@ module _ (row : Row) (given : Name) (named : HasName row given) where
   same_given : (other : ObjectData) → row ≡ object_row other → given ≡ other.name
   same_given other is = named.name_is ∙ one_name named.object other (sym named.row_is ∙ is)
 
-  pub takes_tested : (name : Name) (found : Bool) → IsTrue found ↔ IsSameName given name → IsTrue found ↔ Takes name row
+  pub takes_tested : (name : Name) (found : Bool) → IsTrue found ↔ IsSameName given name → IsTrue found ↔ TakesName name row
   takes_tested name found tested = (
     (λ e. record {
       object = named.object;
@@ -39,10 +39,10 @@ module _ (row : Row) (given : Name) (named : HasName row given) where
     (λ t. tested.1 (subst (λ n. IsSameName n name) (sym (same_given t.object t.row_is)) t.same)),
   )
 
-  pub repeats_tested : (before : List Row) (found : Bool) → IsTrue found ↔ Any (Takes given) before → IsTrue found ↔ Repeats before row
+  pub repeats_tested : (before : List Row) (found : Bool) → IsTrue found ↔ Any (TakesName given) before → IsTrue found ↔ RepeatsName before row
   repeats_tested before found tested = (
     (λ e. record { name = given; named = named; taken = tested.0 e }),
-    (λ r. tested.1 (subst (λ n. Any (Takes n) before)
+    (λ r. tested.1 (subst (λ n. Any (TakesName n) before)
         (r.named.name_is ∙ sym (same_given r.named.object r.named.row_is)) r.taken)),
   )
 
@@ -55,13 +55,13 @@ none_at_end rows count all none d = none (subst Doubled (sym (take_all count row
 
 -- rows as far as one of them, where it was tested whether it repeats a name
 module _ (rows : List Row) (i : ℕ) (row : Row) (found : Bool) (within : i < length rows) (is : row ≡ get_or rows i row)
-    (tested : IsTrue found ↔ Repeats (take i rows) row) where
+    (tested : IsTrue found ↔ RepeatsName (take i rows) row) where
   pub doubled_here : found ≡ true → Doubled rows
   doubled_here e =
-      let r : Repeats (take i rows) row = tested.0 e in
+      let r : RepeatsName (take i rows) row = tested.0 e in
       let k = r.taken.0 in
       let y = r.taken.1 in
-      let t : Takes r.name y = r.taken.4 in
+      let t : TakesName r.name y = r.taken.4 in
       let less = r.taken.2 in
       let size = length-take-le i rows (omega (arith, within)) in
       let front : slice_get (take i rows) k ≡ Some y = slice_get-get_or (take i rows) k y less ∙ ap Some r.taken.3 in
@@ -82,7 +82,7 @@ module _ (rows : List Row) (i : ℕ) (row : Row) (found : Bool) (within : i < le
       }
 
   in_front : (d : Doubled (take i rows ++ row ∷ [])) → slice_get (take i rows) d.first ≡ Some (object_row d.one)
-      → row ≡ object_row d.other → Repeats (take i rows) row
+      → row ≡ object_row d.other → RepeatsName (take i rows) row
   in_front d p f = record {
     name = d.other.name;
     named = record { object = d.other; row_is = f; has_tree = d.other_has_tree; name_is = refl };

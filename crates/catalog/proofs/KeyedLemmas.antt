@@ -24,12 +24,12 @@ use Rattle.table_keys.proofs.AutomaticLemmas.{one_list}
 use Rattle.table_keys.specs.Automatic.{AutomaticData, WantIndexes}
 use Rattle.table_keys.specs.AutomaticView.{automatic_data}
 use Rattle.table_keys.specs.declared.automatic.AutomaticIndex.{AutomaticIndex}
-use Rattle.catalog.specs.Keyed.{AreKeyedOf, HasRows, KeyedData, LacksRow, SaysKeyed, tables_in}
+use Rattle.catalog.specs.Keyed.{AreKeyedOf, HasKeyRows, KeyedData, LacksRow, SaysKeyed, tables_in}
 use Rattle.catalog.specs.KeyedView.{keyed_data}
 use Rattle.catalog.specs.declared.keyed.KeyedTable.{KeyedTable}
 use Rattle.catalog.specs.Picks.{Picks}
 use Rattle.catalog.specs.Says.{AreKept, AreTablesOf, IsNoTable}
-use Rattle.catalog.specs.Wanted.{HasKeyRow, Wants}
+use Rattle.catalog.specs.Wanted.{HasKeyRow, WantsIndex}
 use Rattle.catalog.proofs.KindLemmas.{table_apart}
 use Rattle.catalog.proofs.PickLemmas.{picks_from, picks_has}
 
@@ -142,7 +142,7 @@ one_numbered tree number _ _ (WantIndexes.table {keys = keys} {indexes = indexes
 one_numbered tree number _ _ (WantIndexes.integer {keys = keys} {indexes = indexes} r rest) a b p q same =
     one_numbered tree number keys indexes rest a b p q same
 
-pub one_automatic : (pages : ℕ) (row : Row) (t u : TableData) (a b : AutomaticData) → Wants pages row t a → Wants pages row u b
+pub one_automatic : (pages : ℕ) (row : Row) (t u : TableData) (a b : AutomaticData) → WantsIndex pages row t a → WantsIndex pages row u b
     → a.number ≡ b.number → a ≡ b
 one_automatic pages row t u a b x y same =
     let one = one_wanted pages row t u x.says y.says x.wanted y.wanted x.want y.want in
@@ -150,7 +150,7 @@ one_automatic pages row t u a b x y same =
 
 -- each index that a key of a row's table wants is among those of the table that the row says
 pub wanted_at : (pages : ℕ) (row : Row) (k : KeyedData) (table : TableData) (a : AutomaticData) → SaysKeyed pages row k
-    → Wants pages row table a → (w : KeyIndexData) × Contains k.wanted w × IsKeyIndex k.table a w
+    → WantsIndex pages row table a → (w : KeyIndexData) × Contains k.wanted w × IsKeyIndex k.table a w
 wanted_at pages row k table a says wants =
     let one = one_wanted pages row table k.table wants.says says.says wants.wanted says.automatic wants.want says.want in
     zip_left (IsKeyIndex k.table) says.automatic k.wanted a says.are (subst (λ xs. Contains xs a) one wants.among)
@@ -167,7 +167,7 @@ module _ (pages : ℕ) where
   module _ (rows : List Row) (keyed : List KeyedData) (are : AreKeyedOf pages rows keyed) where
     -- a key wants each of the indexes
     pub wanted_by : (k : KeyedData) (w : KeyIndexData) → Contains keyed k → Contains k.wanted w
-        → (row : Row) × Contains rows row × ((a : AutomaticData) × Wants pages row k.table a × IsKeyIndex k.table a w)
+        → (row : Row) × Contains rows row × ((a : AutomaticData) × WantsIndex pages row k.table a × IsKeyIndex k.table a w)
     wanted_by k w at among =
         let from = picks_from (SaysKeyed pages) IsNoTable are k at in
         let says = from.2 in
@@ -178,7 +178,7 @@ module _ (pages : ℕ) where
         )
 
     -- and they are all that keys want
-    pub wanted_in : (row : Row) (table : TableData) (a : AutomaticData) → Contains rows row → Wants pages row table a
+    pub wanted_in : (row : Row) (table : TableData) (a : AutomaticData) → Contains rows row → WantsIndex pages row table a
         → (k : KeyedData) × Contains keyed k × (k.table ≡ table) × ((w : KeyIndexData) × Contains k.wanted w × IsKeyIndex k.table a w)
     wanted_in row table a at wants = go (picks_has (SaysKeyed pages) IsNoTable are row at)
       where
@@ -189,7 +189,7 @@ module _ (pages : ℕ) where
         go (inr none) = absurd (table_apart pages row table wants.says none)
 
     -- each of them has a row, where each was found
-    pub are_kept : All (HasRows rows) keyed → AreKept pages rows
+    pub are_kept : All (HasKeyRows rows) keyed → AreKept pages rows
     are_kept all row table a at wants =
         let found = wanted_in row table a at wants in
         let k = found.0 in
@@ -197,13 +197,13 @@ module _ (pages : ℕ) where
         let w = found.3.0 in
         let is = found.3.2 in
         let has : HasKeyRow rows k.table.name w.name =
-        all_at (λ (w : KeyIndexData). HasKeyRow rows k.table.name w.name) k.wanted w (all_at (HasRows rows) keyed k all found.1) found.3.1 in
+        all_at (λ (w : KeyIndexData). HasKeyRow rows k.table.name w.name) k.wanted w (all_at (HasKeyRows rows) keyed k all found.1) found.3.1 in
         subst (λ (t : TableData). HasKeyRow rows t.name (automatic_name t.name a.number)) same
         (subst (HasKeyRow rows k.table.name) is.name_is has)
 
     -- one has none, where one was missed
     pub one_lacks : Any (LacksRow rows) keyed
-        → (row : Row) × (table : TableData) × (a : AutomaticData) × Contains rows row × Wants pages row table a
+        → (row : Row) × (table : TableData) × (a : AutomaticData) × Contains rows row × WantsIndex pages row table a
         × (¬ HasKeyRow rows table.name (automatic_name table.name a.number))
     one_lacks (i, k, within, is, (j, w, inside, here, none)) =
         let found = wanted_by k w (i, within, is) (j, inside, here) in

@@ -9,7 +9,7 @@ use Rattle.create_reader.proofs.CreateTexts.{one_create}
 use Rattle.create_reader.proofs.IndexTexts as texts
 use Rattle.create_reader.specs.CreateGrammar.{SpellsCreate}
 use Rattle.create_reader.specs.IndexTexts.{IsTooMuch as IsIndexTooMuch, SpellsIndex, SpellsNoIndex}
-use Rattle.phrases.specs.Texts.{IsWithin, max_columns}
+use Rattle.phrases.specs.Texts.{AreWithinLimits, max_columns}
 use Rattle.create_trees.specs.CreateTrees.{ColumnTree, IndexTree, TableTree, columns_of_index, columns_of_table}
 use Rattle.create_trees.specs.declared.create.TableOption.{TableOption}
 use Rattle.declared_keys.specs.Keys.{KeyData, keys_of}
@@ -28,9 +28,9 @@ use Rattle.table_keys.specs.Automatic.{AutomaticData}
 use Rattle.catalog.specs.CatalogData.{CatalogData}
 use Rattle.catalog.specs.Objects.{ObjectData, object_row}
 use Rattle.catalog.specs.Picks.{Picks}
-use Rattle.catalog.specs.Refused.{HasObject, HasText, IsBadObject, IsBadSchema, IsBrokenSchema, IsLeftOut, IsTooMuch, IsUnread}
+use Rattle.catalog.specs.Refused.{HasObject, HasText, IsBadObject, IsBadSchema, IsBrokenSchema, IsLeftOut, IsTableTooMuch, IsUnread}
 use Rattle.catalog.specs.Says.{AreTablesOf, Doubled, HasTree, IsCatalog, IsNoIndex, IsNoTable, SaysAnyIndex, SaysIndex, SaysKeyIndex}
-use Rattle.catalog.specs.Wanted.{IsKeyRow, Wants}
+use Rattle.catalog.specs.Wanted.{IsKeyRow, WantsIndex}
 use Rattle.catalog.specs.declared.objects.Kind.{Kind}
 use Rattle.catalog.specs.declared.objects.Kind.TheVariants as k
 use Rattle.catalog.proofs.KeyedLemmas.{one_automatic}
@@ -46,13 +46,13 @@ same_index sql a b x y = texts.one_index sql x.levels y.levels a b x.spelt y.spe
 index_unread : (sql : List ℕ) (tree : IndexTree) → SpellsNoIndex sql → ¬ SpellsIndex sql tree
 index_unread sql tree none spelt = none spelt.levels tree spelt.spelt
 
-index_within : (sql : List ℕ) (tree : IndexTree) → SpellsIndex sql tree → IsWithin columns_of_index sql tree
+index_within : (sql : List ℕ) (tree : IndexTree) → SpellsIndex sql tree → AreWithinLimits columns_of_index sql tree
     → ¬ IsIndexTooMuch sql
 index_within sql tree spelt within much =
     let memory : f.Limit ≡ f.NoMemory = texts.only_memory sql tree f.Limit spelt within much in cc
 
-table_within : (sql : List ℕ) (tree : TableTree) → SpellsCreate sql tree → IsWithin columns_of_table sql tree
-    → ¬ IsTooMuch sql
+table_within : (sql : List ℕ) (tree : TableTree) → SpellsCreate sql tree → AreWithinLimits columns_of_table sql tree
+    → ¬ IsTableTooMuch sql
 table_within sql tree spelt within (inl long) = let short = within.0 in omega (arith, long, short)
 table_within sql tree spelt within (inr (other, there, wide)) =
     let few = within.1 in
@@ -107,7 +107,7 @@ module _ (pages : ℕ) (rows : List Row) (apart : ¬ Doubled rows) where
       (subst (λ (t : TableData). IsSameName (automatic_name x.table.name x.automatic.number) (automatic_name t.name y.automatic.number)) (sym table) names) in
       let automatic : x.automatic ≡ y.automatic =
       one_automatic pages x.table_row x.table y.table x.automatic y.automatic x.wants
-      (subst (λ r. Wants pages r y.table y.automatic) one y.wants) number in
+      (subst (λ r. WantsIndex pages r y.table y.automatic) one y.wants) number in
       let made : IsKeyIndex x.table x.automatic y.key_index =
       subst (λ t. IsKeyIndex t x.automatic y.key_index) (sym table) (subst (λ m. IsKeyIndex y.table m y.key_index) (sym automatic) y.made) in
       let key_index : x.key_index ≡ y.key_index =
@@ -341,7 +341,7 @@ module _ (pages : ℕ) (rows : List Row) (catalog : CatalogData) (is : IsCatalog
 
   -- an index without a text is one that a key wants
   no_unwanted : (o : ObjectData) → Contains rows (object_row o) → o.kind ≡ k.Index → o.sql ≡ None
-      → ((row : Row) (table : TableData) (automatic : AutomaticData) → Contains rows row → Wants pages row table automatic
+      → ((row : Row) (table : TableData) (automatic : AutomaticData) → Contains rows row → WantsIndex pages row table automatic
       → ¬ IsKeyRow table.name (automatic_name table.name automatic.number) (object_row o)) → ⊥
   no_unwanted o has kind none unwanted = go (any_index_at o has kind)
     where
@@ -389,13 +389,13 @@ module _ (pages : ℕ) (rows : List Row) (catalog : CatalogData) (is : IsCatalog
       let both : Some found.2.sql ≡ Some sql = sym (text_of o found.0 found.2) ∙ t.sql_is in
       let one : found.2.sql ≡ sql = cc in
       table_within sql found.2.tree (subst (λ s. SpellsCreate s found.2.tree) one found.2.spelt)
-      (subst (λ s. IsWithin columns_of_table s found.2.tree) one found.2.within) much
+      (subst (λ s. AreWithinLimits columns_of_table s found.2.tree) one found.2.within) much
   no_left_out o has (IsLeftOut.index_limit sql t much) =
       let found = index_at o sql has t in
       let both : Some found.2.sql ≡ Some sql = sym (index_text_of o found.0 found.2) ∙ t.sql_is in
       let one : found.2.sql ≡ sql = cc in
       index_within sql found.2.tree (subst (λ s. SpellsIndex s found.2.tree) one found.2.spelt)
-      (subst (λ s. IsWithin columns_of_index s found.2.tree) one found.2.within) much
+      (subst (λ s. AreWithinLimits columns_of_index s found.2.tree) one found.2.within) much
   no_left_out o has (IsLeftOut.table sql tree t spelt none) =
       let found = table_at o has t.kind_is in
       let same = tree_of o found.0 found.2 sql tree t.sql_is spelt in

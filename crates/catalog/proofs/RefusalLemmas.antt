@@ -8,24 +8,24 @@ use Rattle.values.specs.declared.fault.Fault.TheVariants as f
 use Rattle.create_reader.specs.CreateGrammar.{SpellsCreate}
 use Rattle.create_reader.specs.IndexTexts.{SpellsIndex, SpellsNoIndex}
 use Rattle.create_reader.specs.IndexTexts as index_texts
-use Rattle.phrases.specs.Texts.{IsWithin}
+use Rattle.phrases.specs.Texts.{AreWithinLimits}
 use Rattle.create_trees.specs.CreateTrees.{IndexTree, TableTree, columns_of_index, columns_of_table}
 use Rattle.indexes.specs.IndexData.{IndexData}
 use Rattle.indexes.specs.Indexed.{IsIndex}
 use Rattle.indexes.specs.KeyIndexes.{KeyIndexData, automatic_name, rooted}
-use Rattle.indexes.specs.Refused.{IsRefused as IsUnmade}
+use Rattle.indexes.specs.Refused.{IsUnmadeObject}
 use Rattle.schema.specs.Created.{IsTable}
 use Rattle.schema.specs.Names.{IsSameName}
-use Rattle.schema.specs.Refused.{IsRefused as IsRefusedTable}
+use Rattle.schema.specs.Refused.{IsUnmade}
 use Rattle.schema.specs.Rows.{SaysTable}
 use Rattle.tables.specs.TableData.{TableData}
 use Rattle.table_keys.specs.Automatic.{AutomaticData}
-use Rattle.catalog.specs.Keyed.{AreKeyedOf, IsMade, IsNotWanted, IsRootedAs, KeyedData, SaysKeyed, tables_in}
+use Rattle.catalog.specs.Keyed.{AreKeyedOf, IsMadeTable, IsNotWanted, IsRootedAs, KeyedData, SaysKeyed, tables_in}
 use Rattle.catalog.specs.Objects.{ObjectData, object_row}
-use Rattle.catalog.specs.Refused.{HasText, IsBadObject, IsBadSchema, IsLeftOut, IsRefused, IsTooMuch, IsUnread, SpellsNoTable}
+use Rattle.catalog.specs.Refused.{HasText, IsBadObject, IsBadSchema, IsLeftOut, IsRefusedSchema, IsTableTooMuch, IsUnread, SpellsNoTable}
 use Rattle.catalog.specs.Says.{AreTablesOf, Doubled, HasTree, IsNoTable, IsOfKind, SaysIndex, SaysKeyIndex}
 use Rattle.catalog.specs.TextRefused.{IsTextRefused}
-use Rattle.catalog.specs.Wanted.{IsKeyRow, Wants}
+use Rattle.catalog.specs.Wanted.{IsKeyRow, WantsIndex}
 use Rattle.catalog.specs.declared.objects.Kind.{Kind}
 use Rattle.catalog.specs.declared.objects.Kind.TheVariants as k
 use Rattle.catalog.proofs.KeyedLemmas.{all_at, tables_said, wanted_at, wanted_by}
@@ -54,12 +54,12 @@ some_told None true e t = absurd cc
 some_told (Some x) found e t = λ none. cc
 
 -- a fault that isn't want of memory says that nothing was made
-pub no_table : (tree : TableTree) (fault : Fault) → IsRefusedTable (IsTable tree) fault → (fault ≡ f.NoMemory → ⊥)
+pub no_table : (tree : TableTree) (fault : Fault) → IsUnmade (IsTable tree) fault → (fault ≡ f.NoMemory → ⊥)
     → (table : TableData) → ¬ IsTable tree table
 no_table tree fault (inl memory) other table = absurd (other memory)
 no_table tree fault (inr (not_yet, none)) other table = none table
 
-pub no_index : (tree : IndexTree) (table : TableData) (name : List ℕ) (fault : Fault) → IsUnmade (IsIndex tree table) name fault
+pub no_index : (tree : IndexTree) (table : TableData) (name : List ℕ) (fault : Fault) → IsUnmadeObject (IsIndex tree table) name fault
     → (fault ≡ f.NoMemory → ⊥) → (index : IndexData) → ¬ IsIndex tree table index
 no_index tree table name f.NoMemory h other index = absurd (other refl)
 no_index tree table name (f.UnsupportedObject told) h other index = h.1 index
@@ -75,7 +75,7 @@ module _ (pages : ℕ) (o : ObjectData) where
     textless none other = IsBadSchema.object o has (IsBadObject.textless none other)
 
     module _ (sql : List ℕ) (text : HasText k.Table sql o) where
-      pub table_text : (fault : Fault) → IsTextRefused (SpellsNoTable sql) (IsTooMuch sql) o.name fault → IsRefused pages rows fault
+      pub table_text : (fault : Fault) → IsTextRefused (SpellsNoTable sql) (IsTableTooMuch sql) o.name fault → IsRefusedSchema pages rows fault
       table_text f.NoMemory h = tt
       table_text (f.SchemaText told) h = record { object = o; stands = has; name_is = h.0; is = IsUnread.table sql text h.1 }
       table_text (f.UnsupportedObject told) h =
@@ -86,14 +86,14 @@ module _ (pages : ℕ) (o : ObjectData) where
         pub table_names : ¬ (IsSameName o.name tree.name × IsSameName o.owner tree.name) → IsBadSchema pages rows
         table_names other = IsBadSchema.object o has (IsBadObject.table_names sql tree text spelt other)
 
-        pub table_unmade : (fault : Fault) → IsUnmade (IsTable tree) o.name fault → IsRefused pages rows fault
+        pub table_unmade : (fault : Fault) → IsUnmadeObject (IsTable tree) o.name fault → IsRefusedSchema pages rows fault
         table_unmade f.NoMemory h = tt
         table_unmade (f.UnsupportedObject told) h =
             record { object = o; stands = has; name_is = h.0; is = IsLeftOut.table sql tree text spelt h.1 }
         table_unmade _ h = absurd h
 
     module _ (sql : List ℕ) (text : HasText k.Index sql o) where
-      pub index_text : (fault : Fault) → IsTextRefused (SpellsNoIndex sql) (index_texts.IsTooMuch sql) o.name fault → IsRefused pages rows fault
+      pub index_text : (fault : Fault) → IsTextRefused (SpellsNoIndex sql) (index_texts.IsTooMuch sql) o.name fault → IsRefusedSchema pages rows fault
       index_text f.NoMemory h = tt
       index_text (f.SchemaText told) h = record { object = o; stands = has; name_is = h.0; is = IsUnread.index sql text h.1 }
       index_text (f.UnsupportedObject told) h =
@@ -105,8 +105,8 @@ module _ (pages : ℕ) (o : ObjectData) where
         index_names other = IsBadSchema.object o has (IsBadObject.index_names sql tree text spelt other)
 
         pub index_unmade : (tables : List TableData) (table : TableData) → AreTablesOf pages rows tables → Contains tables table
-            → IsSameName tree.table table.name → (fault : Fault) → IsUnmade (IsIndex tree table) o.name fault
-            → IsRefused pages rows fault
+            → IsSameName tree.table table.name → (fault : Fault) → IsUnmadeObject (IsIndex tree table) o.name fault
+            → IsRefusedSchema pages rows fault
         index_unmade tables table are at same f.NoMemory h = tt
         index_unmade tables table are at same (f.UnsupportedObject told) h =
             let found = picks_from (SaysTable pages) IsNoTable are table at in
@@ -152,7 +152,7 @@ module _ (pages : ℕ) (o : ObjectData) where
         from : (row : Row) × Contains rows row × SaysKeyed pages row x
         from = picks_from (SaysKeyed pages) IsNoTable are x at
 
-        other : (row : Row) (table : TableData) (a : AutomaticData) → Contains rows row → Wants pages row table a
+        other : (row : Row) (table : TableData) (a : AutomaticData) → Contains rows row → WantsIndex pages row table a
             → ¬ IsKeyRow table.name (automatic_name table.name a.number) (object_row o)
         other row table a there wants key =
             let object = one_object key.object o (sym key.row_is) in
@@ -161,7 +161,7 @@ module _ (pages : ℕ) (o : ObjectData) where
             let one = same_row pages rows apart from.0 row x.table table from.1 there from.2.says wants.says owners in
             let table_is : x.table ≡ table =
             same_table pages rows apart from.0 row x.table table from.1 there from.2.says wants.says owners in
-            let w = wanted_at pages from.0 x table a from.2 (subst (λ r. Wants pages r table a) one wants) in
+            let w = wanted_at pages from.0 x table a from.2 (subst (λ r. WantsIndex pages r table a) one wants) in
             all_at (λ (w : KeyIndexData). ¬ IsSameName o.name w.name) x.wanted w.0 unlike w.1
             (ap (λ (o : ObjectData). map to_ascii_lowercase o.name) (sym object)
             ∙ (key.name_is
@@ -170,15 +170,15 @@ module _ (pages : ℕ) (o : ObjectData) where
 
     pub key_refused : (keyed : List KeyedData) (x : KeyedData) → o.kind ≡ k.Index → o.sql ≡ None → AreKeyedOf pages rows keyed
         → ¬ Doubled rows → Contains keyed x → IsSameName x.table.name o.owner → (fault : Fault) → IsNotWanted o.name x.wanted fault
-        → IsRefused pages rows fault
+        → IsRefusedSchema pages rows fault
     key_refused keyed x kind none are apart at owner f.NoMemory unlike = tt
     key_refused keyed x kind none are apart at owner f.SchemaRow unlike = unwanted keyed x kind none are apart at owner unlike
     key_refused keyed x kind none are apart at owner _ unlike = absurd unlike
 
   -- an object that says a table
   pub says_keyed : (sql : List ℕ) (tree : TableTree) (root : ℕ) (keyed : KeyedData) → HasText k.Table sql o
-      → (o.root ≡ Some (pos root)) × (2 ≤ root) × (root ≤ pages) → SpellsCreate sql tree → IsWithin columns_of_table sql tree
-      → IsSameName o.name tree.name → IsSameName o.owner tree.name → IsMade tree root keyed → SaysKeyed pages (object_row o) keyed
+      → (o.root ≡ Some (pos root)) × (2 ≤ root) × (root ≤ pages) → SpellsCreate sql tree → AreWithinLimits columns_of_table sql tree
+      → IsSameName o.name tree.name → IsSameName o.owner tree.name → IsMadeTable tree root keyed → SaysKeyed pages (object_row o) keyed
   says_keyed sql tree root keyed text at spelt within name owner made = record {
     says = record {
       name = o.name;
@@ -202,7 +202,7 @@ module _ (pages : ℕ) (o : ObjectData) where
   -- an object that says an index
   pub says_index : (tables : List TableData) (table : TableData) (sql : List ℕ) (tree : IndexTree) (root : ℕ) (index : IndexData)
       → HasText k.Index sql o → (o.root ≡ Some (pos root)) × (2 ≤ root) × (root ≤ pages) → SpellsIndex sql tree
-      → IsWithin columns_of_index sql tree → IsSameName o.name tree.name → IsSameName o.owner tree.table → Contains tables table
+      → AreWithinLimits columns_of_index sql tree → IsSameName o.name tree.name → IsSameName o.owner tree.table → Contains tables table
       → IsIndex tree table index × (index.root ≡ root) → SaysIndex pages tables (object_row o) index
   says_index tables table sql tree root index text at spelt within name owner of_table made = record {
     object = o;

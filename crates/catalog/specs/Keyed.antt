@@ -27,7 +27,7 @@ abbrev pub tables_in : List KeyedData → List TableData
 tables_in keyed = map (λ k. k.table) keyed
 
 -- the table of this text, whose tree has this root
-pub record IsMade (tree : TableTree) (root : ℕ) (keyed : KeyedData) : Type 0 where
+pub record IsMadeTable (tree : TableTree) (root : ℕ) (keyed : KeyedData) : Type 0 where
   pub made : IsTable tree keyed.table
   pub root_is : keyed.table.root ≡ root
   pub automatic : List AutomaticData
@@ -49,8 +49,8 @@ AreKeyedOf pages = Picks (SaysKeyed pages) IsNoTable
 abbrev pub LacksRow : List Row → KeyedData → Type 0
 LacksRow rows keyed = Any (λ w. ¬ HasKeyRow rows keyed.table.name w.name) keyed.wanted
 
-abbrev pub HasRows : List Row → KeyedData → Type 0
-HasRows rows keyed = All (λ w. HasKeyRow rows keyed.table.name w.name) keyed.wanted
+abbrev pub HasKeyRows : List Row → KeyedData → Type 0
+HasKeyRows rows keyed = All (λ w. HasKeyRow rows keyed.table.name w.name) keyed.wanted
 
 -- an index of this name that a key wants, on a table of that name, with this root
 abbrev pub IsRootedAs : Name → Name → ℕ → IndexData → KeyIndexData → Type 0

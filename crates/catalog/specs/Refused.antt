@@ -17,7 +17,7 @@ use Rattle.schema.specs.Rows.{SaysTable}
 use Rattle.tables.specs.TableData.{TableData}
 use Rattle.syntax.specs.Tree.{Name}
 use Rattle.table_keys.specs.Automatic.{AutomaticData}
-use Rattle.catalog.specs.Wanted.{HasKeyRow, IsKeyRow, Wants}
+use Rattle.catalog.specs.Wanted.{HasKeyRow, IsKeyRow, WantsIndex}
 use Rattle.catalog.specs.Objects.{ObjectData, object_row}
 use Rattle.catalog.specs.Says.{AreTablesOf, Doubled, HasTree}
 use Rattle.catalog.specs.declared.objects.Kind.{Kind}
@@ -45,8 +45,8 @@ pub data IsBadObject (pages : ℕ) (object : ObjectData) : Type 0 where
 abbrev pub SpellsNoTable : List ℕ → Type 0
 SpellsNoTable sql = (tree : TableTree) → ¬ SpellsCreate sql tree
 
-abbrev pub IsTooMuch : List ℕ → Type 0
-IsTooMuch sql = (max_text < length sql) ⊎ ((tree : TableTree) × SpellsCreate sql tree × (max_columns < columns_of_table tree))
+abbrev pub IsTableTooMuch : List ℕ → Type 0
+IsTableTooMuch sql = (max_text < length sql) ⊎ ((tree : TableTree) × SpellsCreate sql tree × (max_columns < columns_of_table tree))
 
 -- a table or an index whose text is none
 pub data IsUnread (object : ObjectData) : Type 0 where
@@ -57,7 +57,7 @@ pub data IsUnread (object : ObjectData) : Type 0 where
 -- table of the image
 pub data IsLeftOut (pages : ℕ) (rows : List Row) (object : ObjectData) : Type 0 where
   view : object.kind ≡ k.View → IsLeftOut pages rows object
-  table_limit : (sql : List ℕ) → HasText k.Table sql object → IsTooMuch sql
+  table_limit : (sql : List ℕ) → HasText k.Table sql object → IsTableTooMuch sql
       → IsLeftOut pages rows object
   index_limit : (sql : List ℕ) → HasText k.Index sql object → index_texts.IsTooMuch sql
       → IsLeftOut pages rows object
@@ -78,10 +78,10 @@ pub data IsBadSchema (pages : ℕ) (rows : List Row) : Type 0 where
   -- an index has no text, and no key of a table wants one of its name
   unwanted : (object : ObjectData) (tables : List TableData) → Contains rows (object_row object) → object.kind ≡ k.Index
       → object.sql ≡ None → AreTablesOf pages rows tables
-      → ((row : Row) (table : TableData) (automatic : AutomaticData) → Contains rows row → Wants pages row table automatic
+      → ((row : Row) (table : TableData) (automatic : AutomaticData) → Contains rows row → WantsIndex pages row table automatic
       → ¬ IsKeyRow table.name (automatic_name table.name automatic.number) (object_row object)) → IsBadSchema pages rows
   -- an index that a key of a table wants has no row
-  lacking : (row : Row) (table : TableData) (automatic : AutomaticData) → Contains rows row → Wants pages row table automatic
+  lacking : (row : Row) (table : TableData) (automatic : AutomaticData) → Contains rows row → WantsIndex pages row table automatic
       → ¬ HasKeyRow rows table.name (automatic_name table.name automatic.number) → IsBadSchema pages rows
   doubled : Doubled rows → IsBadSchema pages rows
 
@@ -100,6 +100,6 @@ IsBrokenSchema pages rows (f.UnsupportedObject name) = HasObject (IsLeftOut page
 IsBrokenSchema pages rows _ = ⊥
 
 -- why the rows of the schema were refused
-abbrev pub IsRefused : ℕ → List Row → Fault → Type 0
-IsRefused pages rows f.NoMemory = Unit {0}
-IsRefused pages rows fault = IsBrokenSchema pages rows fault
+abbrev pub IsRefusedSchema : ℕ → List Row → Fault → Type 0
+IsRefusedSchema pages rows f.NoMemory = Unit {0}
+IsRefusedSchema pages rows fault = IsBrokenSchema pages rows fault

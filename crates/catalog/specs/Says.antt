@@ -2,7 +2,7 @@
 use Rattle.std.specs.Prelude.{◌≡◌, ◌≤◌, ◌<◌, ◌⊎◌, ℕ, pos, Contains, List, None, slice_get, Some}
 use Rattle.values.specs.Row.{Row}
 use Rattle.create_reader.specs.IndexTexts.{SpellsIndex}
-use Rattle.phrases.specs.Texts.{IsWithin}
+use Rattle.phrases.specs.Texts.{AreWithinLimits}
 use Rattle.create_trees.specs.CreateTrees.{IndexTree, columns_of_index}
 use Rattle.indexes.specs.IndexData.{IndexData}
 use Rattle.indexes.specs.Indexed.{IsIndex}
@@ -12,7 +12,7 @@ use Rattle.schema.specs.Rows.{SaysTable}
 use Rattle.tables.specs.TableData.{TableData}
 use Rattle.table_keys.specs.Automatic.{AutomaticData}
 use Rattle.catalog.specs.CatalogData.{CatalogData}
-use Rattle.catalog.specs.Wanted.{HasKeyRow, IsKeyRow, Wants}
+use Rattle.catalog.specs.Wanted.{HasKeyRow, IsKeyRow, WantsIndex}
 use Rattle.catalog.specs.Objects.{ObjectData, object_row}
 use Rattle.catalog.specs.Picks.{Picks}
 use Rattle.catalog.specs.declared.objects.Kind.{Kind}
@@ -36,7 +36,7 @@ pub record SaysIndex (pages : ℕ) (tables : List TableData) (row : Row) (index 
   pub root_is : object.root ≡ Some (pos index.root)
   pub sql_is : object.sql ≡ Some sql
   pub spelt : SpellsIndex sql tree
-  pub within : IsWithin columns_of_index sql tree
+  pub within : AreWithinLimits columns_of_index sql tree
   pub name_is : IsSameName object.name tree.name
   pub owner_is : IsSameName object.owner tree.table
   pub of_table : Contains tables table
@@ -51,7 +51,7 @@ pub record SaysKeyIndex (pages : ℕ) (rows : List Row) (row : Row) (index : Ind
   pub stands : Contains rows table_row
   pub table : TableData
   pub automatic : AutomaticData
-  pub wants : Wants pages table_row table automatic
+  pub wants : WantsIndex pages table_row table automatic
   pub key_index : KeyIndexData
   pub made : IsKeyIndex table automatic key_index
   pub key_row : IsKeyRow table.name (automatic_name table.name automatic.number) row
@@ -108,7 +108,7 @@ pub record Doubled (rows : List Row) : Type 0 where
 
 -- each index that a key of a table wants has a row
 abbrev pub AreKept : ℕ → List Row → Type 0
-AreKept pages rows = (row : Row) (table : TableData) (automatic : AutomaticData) → Contains rows row → Wants pages row table automatic
+AreKept pages rows = (row : Row) (table : TableData) (automatic : AutomaticData) → Contains rows row → WantsIndex pages row table automatic
     → HasKeyRow rows table.name (automatic_name table.name automatic.number)
 
 -- The rows of the schema are those of these tables and indexes, each of its own name, and of triggers. Each index that a key

@@ -15,14 +15,14 @@ pub record HasName (row : Row) (name : Name) : Type 0 where
   pub name_is : name ≡ object.name
 
 -- the same of a name in letters of either case
-pub record Takes (name : Name) (row : Row) : Type 0 where
+pub record TakesName (name : Name) (row : Row) : Type 0 where
   pub object : ObjectData
   pub row_is : row ≡ object_row object
   pub has_tree : HasTree object.kind
   pub same : IsSameName object.name name
 
 -- a row is that of a table or an index whose name one of these rows has
-pub record Repeats (before : List Row) (row : Row) : Type 0 where
+pub record RepeatsName (before : List Row) (row : Row) : Type 0 where
   pub name : Name
   pub named : HasName row name
-  pub taken : Any (Takes name) before
+  pub taken : Any (TakesName name) before

@@ -12,7 +12,7 @@ use Rattle.catalog.specs.Objects.{ObjectData, object_row}
 use Rattle.catalog.specs.declared.objects.Kind.TheVariants as k
 
 -- a row is that of a table, one of whose keys wants this index
-pub record Wants (pages : ℕ) (row : Row) (table : TableData) (automatic : AutomaticData) : Type 0 where
+pub record WantsIndex (pages : ℕ) (row : Row) (table : TableData) (automatic : AutomaticData) : Type 0 where
   pub says : SaysTable pages row table
   pub wanted : List AutomaticData
   pub want : WantIndexes says.tree 1 (keys_of says.tree) wanted

@@ -2,7 +2,7 @@
 ghost use Rattle.std.specs.Prelude.{◌≡◌, ◌↔◌, IfNone, IfSome, IsTrue, List, ℕ};
 ghost use Rattle.std.specs.List.{Any};
 ghost use Rattle.catalog.specs.Says.{Doubled, HasTree};
-ghost use Rattle.catalog.specs.Taken.{HasName, Repeats, Takes};
+ghost use Rattle.catalog.specs.Taken.{HasName, RepeatsName, TakesName};
 
 use crate::objects::{Kind, object_of};
 use schema::is_same_name;
@@ -30,7 +30,7 @@ fn name_of(row: &Row) -> Option<&str>
 
 /// Whether a row is that of a table or an index of this name.
 fn takes(row: &Row, name: &str) -> bool
-    ensures { IsTrue result ↔ Takes name.now row.now }
+    ensures { IsTrue result ↔ TakesName name.now row.now }
 {
     match name_of(row) {
         Some(other) => is_same_name(other, name),
@@ -40,14 +40,14 @@ fn takes(row: &Row, name: &str) -> bool
 
 /// Whether one of the rows is.
 fn is_taken(rows: &[Row], name: &str) -> bool
-    ensures { IsTrue result ↔ Any (Takes name.now) rows.now }
+    ensures { IsTrue result ↔ Any (TakesName name.now) rows.now }
 {
     rows.iter().any(|row| takes(row, name))
 }
 
 /// Whether a row is that of a table or an index whose name one of these rows has.
 fn repeats(before: &[Row], row: &Row) -> bool
-    ensures { IsTrue result ↔ Repeats before.now row.now }
+    ensures { IsTrue result ↔ RepeatsName before.now row.now }
 {
     match name_of(row) {
         Some(name) => is_taken(before, name),

@@ -3,18 +3,18 @@ ghost use Rattle.std.specs.Prelude.{◌≡◌, All, Contains, IfErr, IfNone, IfO
 ghost use Rattle.std.specs.List.{Any};
 ghost use Rattle.values.specs.Row.{Row};
 ghost use Rattle.create_reader.specs.IndexTexts.{IsTooMuch, SpellsIndex, SpellsNoIndex};
-ghost use Rattle.phrases.specs.Texts.{IsWithin};
+ghost use Rattle.phrases.specs.Texts.{AreWithinLimits};
 ghost use Rattle.create_trees.specs.CreateTrees.{columns_of_index};
 ghost use Rattle.create_trees.specs.CreateView.{index_of};
 ghost use Rattle.indexes.specs.Indexed.{IsIndex};
 ghost use Rattle.indexes.specs.IndexView.{index_data};
-ghost use Rattle.indexes.specs.Refused.{IsRefused as IsUnmade};
+ghost use Rattle.indexes.specs.Refused.{IsUnmadeObject};
 ghost use Rattle.schema.specs.Names.{IsSameName};
 ghost use Rattle.catalog.specs.Keyed.{AreKeyedOf, IsNotWanted, IsRootedAs, tables_in};
 ghost use Rattle.catalog.specs.KeyedView.{keyed_data};
 ghost use Rattle.catalog.specs.Objects.{object_row};
 ghost use Rattle.catalog.specs.ObjectView.{object_data};
-ghost use Rattle.catalog.specs.Refused.{IsRefused};
+ghost use Rattle.catalog.specs.Refused.{IsRefusedSchema};
 ghost use Rattle.catalog.specs.Says.{Doubled, IsNoIndex, SaysAnyIndex};
 ghost use Rattle.catalog.specs.TextRefused.{IsTextRefused};
 
@@ -32,7 +32,7 @@ use values::{Fault, Row};
 /// `UnsupportedObject` where it is beyond the limits of `create_reader`, with that name; or `NoMemory`.
 fn created_by(alloc: Global, name: &str, sql: &str) -> Result<CreateIndex, Fault>
     ensures spelt { IfOk result (λ created. SpellsIndex sql.now (index_of created)) }
-    ensures within { IfOk result (λ created. IsWithin columns_of_index sql.now (index_of created)) }
+    ensures within { IfOk result (λ created. AreWithinLimits columns_of_index sql.now (index_of created)) }
     ensures refused { IfErr result (IsTextRefused (SpellsNoIndex sql.now) (IsTooMuch sql.now) name.now) }
 {
     match read_create_index(alloc, sql) {
@@ -54,7 +54,7 @@ fn made_by(
 ) -> Result<Index, Fault>
     requires { IsSameName (index_of created).table table.now.name }
     ensures made { IfOk result (λ index. IsIndex (index_of created) table.now (index_data index) × (index.root ≡ root)) }
-    ensures refused { IfErr result (IsUnmade (IsIndex (index_of created) table.now) name.now) }
+    ensures refused { IfErr result (IsUnmadeObject (IsIndex (index_of created) table.now) name.now) }
 {
     match index_from(alloc, created, table, root) {
         Ok(index) => Ok(index),
@@ -110,7 +110,7 @@ fn index_by(
     ensures said { IfOk result (λ index. (rows : List Row) → AreKeyedOf pages rows (map keyed_data tables.now)
         → SaysAnyIndex pages rows (tables_in (map keyed_data tables.now)) (object_row (object_data object.now)) (index_data index)) }
     ensures refused { IfErr result (λ fault. (rows : List Row) → Contains rows (object_row (object_data object.now))
-        → AreKeyedOf pages rows (map keyed_data tables.now) → ¬ Doubled rows → IsRefused pages rows fault) }
+        → AreKeyedOf pages rows (map keyed_data tables.now) → ¬ Doubled rows → IsRefusedSchema pages rows fault) }
 {
     let Some(root) = root_within(object.root, pages) else {
         return Err(Fault::SchemaRow);
@@ -142,7 +142,7 @@ pub(crate) fn index_said(
         → SaysAnyIndex pages rows (tables_in (map keyed_data tables.now)) row.now (index_data index))) }
     ensures other { IfOk result (λ found. IfNone found (IsNoIndex row.now)) }
     ensures refused { IfErr result (λ fault. (rows : List Row) → Contains rows row.now
-        → AreKeyedOf pages rows (map keyed_data tables.now) → ¬ Doubled rows → IsRefused pages rows fault) }
+        → AreKeyedOf pages rows (map keyed_data tables.now) → ¬ Doubled rows → IsRefusedSchema pages rows fault) }
 {
     let Some(object) = object_of(row) else {
         return Err(Fault::SchemaRow);

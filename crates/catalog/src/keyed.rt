@@ -5,7 +5,7 @@ ghost use Rattle.indexes.specs.KeyIndexes.{HasColumn, IsKeyIndex};
 ghost use Rattle.indexes.specs.KeyIndexView.{key_index_data};
 ghost use Rattle.schema.specs.Names.{IsSameName};
 ghost use Rattle.table_keys.specs.AutomaticView.{automatic_data};
-ghost use Rattle.catalog.specs.Keyed.{HasRows, LacksRow};
+ghost use Rattle.catalog.specs.Keyed.{HasKeyRows, LacksRow};
 ghost use Rattle.catalog.specs.KeyedView.{keyed_data};
 ghost use Rattle.catalog.specs.Wanted.{HasKeyRow, IsKeyRow};
 
@@ -76,7 +76,7 @@ fn has_key_row(rows: &[Row], table: &str, index: &KeyIndex) -> bool
 
 /// Whether an index that a key of this table wants has none of the rows.
 fn lacks_row(rows: &[Row], keyed: &KeyedTable) -> bool
-    ensures { MatchBool result (LacksRow rows.now (keyed_data keyed.now)) (HasRows rows.now (keyed_data keyed.now)) }
+    ensures { MatchBool result (LacksRow rows.now (keyed_data keyed.now)) (HasKeyRows rows.now (keyed_data keyed.now)) }
 {
     keyed
         .wanted
@@ -86,7 +86,7 @@ fn lacks_row(rows: &[Row], keyed: &KeyedTable) -> bool
 
 /// Whether one that a key of one of these tables wants has none.
 pub(crate) fn lack_row(rows: &[Row], tables: &[KeyedTable]) -> bool
-    ensures { MatchBool result (Any (LacksRow rows.now) (map keyed_data tables.now)) (All (HasRows rows.now) (map keyed_data tables.now)) }
+    ensures { MatchBool result (Any (LacksRow rows.now) (map keyed_data tables.now)) (All (HasKeyRows rows.now) (map keyed_data tables.now)) }
 {
     tables.iter().any(|keyed| lacks_row(rows, keyed))
 }

@@ -4,7 +4,7 @@ ghost use Rattle.values.specs.Row.{Row};
 ghost use Rattle.catalog.specs.CatalogData.{CatalogData};
 ghost use Rattle.catalog.specs.Refused.{HasObject, IsBadSchema, IsLeftOut, IsUnread};
 ghost use Rattle.catalog.specs.Says.{IsCatalog};
-ghost use Rattle.catalog.specs.Wanted.{Wants};
+ghost use Rattle.catalog.specs.Wanted.{WantsIndex};
 ghost use Rattle.schema.specs.Rows.{AreTables};
 ghost use Rattle.tables.specs.TableData.{TableData};
 ghost use Rattle.syntax.specs.Tree.{Name};
@@ -30,6 +30,6 @@ pub fn catalog_is_sound()
 /// Where each row is that of a table, no two have one name, and no key wants an index, the rows say these tables and no index.
 pub fn only_tables()
     ensures { (pages : ℕ) (rows : List Row) (tables : List TableData) → AreTables pages rows tables
-        → ((row : Row) (table : TableData) (automatic : AutomaticData) → Contains rows row → ¬ Wants pages row table automatic)
+        → ((row : Row) (table : TableData) (automatic : AutomaticData) → Contains rows row → ¬ WantsIndex pages row table automatic)
         → IsCatalog pages rows (record { tables = tables; indexes = [] }) }
 {}

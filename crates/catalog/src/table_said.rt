@@ -2,16 +2,16 @@
 ghost use Rattle.std.specs.Prelude.{◌≡◌, Contains, IfErr, IfNone, IfOk, IfSome, List};
 ghost use Rattle.values.specs.Row.{Row};
 ghost use Rattle.create_reader.specs.CreateGrammar.{SpellsCreate};
-ghost use Rattle.phrases.specs.Texts.{IsWithin};
+ghost use Rattle.phrases.specs.Texts.{AreWithinLimits};
 ghost use Rattle.create_trees.specs.CreateTrees.{columns_of_table};
 ghost use Rattle.create_trees.specs.CreateView.{table_of};
-ghost use Rattle.indexes.specs.Refused.{IsRefused as IsUnmade};
+ghost use Rattle.indexes.specs.Refused.{IsUnmadeObject};
 ghost use Rattle.schema.specs.Created.{IsTable};
-ghost use Rattle.catalog.specs.Keyed.{IsMade, SaysKeyed};
+ghost use Rattle.catalog.specs.Keyed.{IsMadeTable, SaysKeyed};
 ghost use Rattle.catalog.specs.KeyedView.{keyed_data};
 ghost use Rattle.catalog.specs.Objects.{object_row};
 ghost use Rattle.catalog.specs.ObjectView.{object_data};
-ghost use Rattle.catalog.specs.Refused.{IsRefused, IsTooMuch, SpellsNoTable};
+ghost use Rattle.catalog.specs.Refused.{IsRefusedSchema, IsTableTooMuch, SpellsNoTable};
 ghost use Rattle.catalog.specs.Says.{IsNoTable};
 ghost use Rattle.catalog.specs.TextRefused.{IsTextRefused};
 
@@ -29,8 +29,8 @@ use values::{Fault, Row};
 /// `UnsupportedObject` where it is beyond the limits of `create_reader`, with that name; or `NoMemory`.
 fn created_by(alloc: Global, name: &str, sql: &str) -> Result<CreateTable, Fault>
     ensures spelt { IfOk result (λ created. SpellsCreate sql.now (table_of created)) }
-    ensures within { IfOk result (λ created. IsWithin columns_of_table sql.now (table_of created)) }
-    ensures refused { IfErr result (IsTextRefused (SpellsNoTable sql.now) (IsTooMuch sql.now) name.now) }
+    ensures within { IfOk result (λ created. AreWithinLimits columns_of_table sql.now (table_of created)) }
+    ensures refused { IfErr result (IsTextRefused (SpellsNoTable sql.now) (IsTableTooMuch sql.now) name.now) }
 {
     match read_create(alloc, sql) {
         Ok(created) => Ok(created),
@@ -43,8 +43,8 @@ fn created_by(alloc: Global, name: &str, sql: &str) -> Result<CreateTable, Fault
 /// The table that the CREATE TABLE of an object of this name makes, whose tree has this root, with the indexes that its keys
 /// want. The fault is `UnsupportedObject`, with that name, where it makes none; or `NoMemory`.
 fn made_by(alloc: Global, name: &str, created: CreateTable, root: u32) -> Result<KeyedTable, Fault>
-    ensures made { IfOk result (λ keyed. IsMade (table_of created) root (keyed_data keyed)) }
-    ensures refused { IfErr result (IsUnmade (IsTable (table_of created)) name.now) }
+    ensures made { IfOk result (λ keyed. IsMadeTable (table_of created) root (keyed_data keyed)) }
+    ensures refused { IfErr result (IsUnmadeObject (IsTable (table_of created)) name.now) }
 {
     let keys = keys_of(alloc, &created)?;
     let automatic = automatic_indexes(alloc, &created, keys.as_slice())?;
@@ -67,7 +67,7 @@ fn table_by(alloc: Global, object: &Object<'_>, pages: u32) -> Result<KeyedTable
     requires { object.now.kind ≡ Kind.Table }
     ensures said { IfOk result (λ keyed. SaysKeyed pages (object_row (object_data object.now)) (keyed_data keyed)) }
     ensures refused { IfErr result (λ fault. (rows : List Row) → Contains rows (object_row (object_data object.now))
-        → IsRefused pages rows fault) }
+        → IsRefusedSchema pages rows fault) }
 {
     let Some(root) = root_within(object.root, pages) else {
         return Err(Fault::SchemaRow);
@@ -88,7 +88,7 @@ fn table_by(alloc: Global, object: &Object<'_>, pages: u32) -> Result<KeyedTable
 pub(crate) fn table_said(alloc: Global, row: &Row, pages: u32) -> Result<Option<KeyedTable>, Fault>
     ensures said { IfOk result (λ found. IfSome found (λ keyed. SaysKeyed pages row.now (keyed_data keyed))) }
     ensures other { IfOk result (λ found. IfNone found (IsNoTable row.now)) }
-    ensures refused { IfErr result (λ fault. (rows : List Row) → Contains rows row.now → IsRefused pages rows fault) }
+    ensures refused { IfErr result (λ fault. (rows : List Row) → Contains rows row.now → IsRefusedSchema pages rows fault) }
 {
     let Some(object) = object_of(row) else {
         return Err(Fault::SchemaRow);

@@ -4,7 +4,7 @@ ghost use Rattle.indexes.specs.IndexView.{index_data};
 ghost use Rattle.catalog.specs.CatalogView.{catalog_data};
 ghost use Rattle.catalog.specs.Keyed.{AreKeyedOf, tables_in};
 ghost use Rattle.catalog.specs.KeyedView.{keyed_data};
-ghost use Rattle.catalog.specs.Refused.{IsRefused};
+ghost use Rattle.catalog.specs.Refused.{IsRefusedSchema};
 ghost use Rattle.catalog.specs.Says.{AreIndexesOf, Doubled, IsCatalog};
 
 use crate::doubles::are_doubled;
@@ -19,7 +19,7 @@ use values::{Fault, Row};
 /// The tables that the rows say, in their order, with the indexes that their keys want.
 fn tables_of(alloc: Global, rows: &[Row], pages: u32) -> Result<Vec<KeyedTable>, Fault>
     ensures said { IfOk result (λ tables. AreKeyedOf pages rows.now (map keyed_data tables.items)) }
-    ensures refused { IfErr result (IsRefused pages rows.now) }
+    ensures refused { IfErr result (IsRefusedSchema pages rows.now) }
 {
     let mut tables = Vec::with_capacity(alloc, rows.len())?;
     for row in rows {
@@ -40,7 +40,7 @@ fn indexes_of(
     requires keyed { AreKeyedOf pages rows.now (map keyed_data tables.now) }
     requires distinct { ¬ Doubled rows.now }
     ensures said { IfOk result (λ indexes. AreIndexesOf pages (tables_in (map keyed_data tables.now)) rows.now (map index_data indexes.items)) }
-    ensures refused { IfErr result (IsRefused pages rows.now) }
+    ensures refused { IfErr result (IsRefusedSchema pages rows.now) }
 {
     let mut indexes = Vec::with_capacity(alloc, rows.len())?;
     for row in rows {
@@ -69,7 +69,7 @@ impl Catalog {
     pub fn read(alloc: Global, rows: &[Row], pages: u32) -> Result<Catalog, Fault>
         ensures said { IfOk result (λ catalog. IsCatalog pages rows.now (catalog_data catalog)) }
         ensures roots { IfOk result (λ catalog. All (λ t. (2 ≤ t.root) × (t.root ≤ pages)) (catalog_data catalog).tables) }
-        ensures refused { IfErr result (IsRefused pages rows.now) }
+        ensures refused { IfErr result (IsRefusedSchema pages rows.now) }
     {
         let keyed = tables_of(alloc, rows, pages)?;
         if are_doubled(rows) {

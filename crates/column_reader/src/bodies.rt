@@ -1,7 +1,7 @@
 //! Parentheses whose inside isn't kept.
 ghost use Rattle.std.specs.Prelude.{◌≡◌, ◌<◌, ◌≤◌, ◌+◌, ◌^◌, IfOk, IfSome, length};
 ghost use Rattle.column_reader.specs.ColumnReading as spec;
-ghost use Rattle.phrases.specs.Steps.{Gives};
+ghost use Rattle.phrases.specs.Steps.{HasFound};
 ghost use Rattle.phrases.specs.Texts.{lexemes_of};
 ghost use Rattle.tokens.specs.Content.{lexeme_of};
 
@@ -25,7 +25,7 @@ fn depth_after(depth: usize, token: &TokenKind<'_>) -> Option<usize>
 
 /// What is behind the parenthesis that closes the one before these tokens.
 pub(crate) fn balanced<'t>(tokens: &'t [Token<'t>], end: usize) -> Result<&'t [Token<'t>], Fault>
-    ensures value { Gives (λ r. lexemes_of r.now) result (spec.balanced 0 (lexemes_of tokens.now)) }
+    ensures value { HasFound (λ r. lexemes_of r.now) result (spec.balanced 0 (lexemes_of tokens.now)) }
     ensures shorter { IfOk result (λ r. length r.now < length tokens.now) }
 {
     let mut depth = 0;
@@ -45,7 +45,7 @@ pub(crate) fn balanced<'t>(tokens: &'t [Token<'t>], end: usize) -> Result<&'t [T
 
 /// What is behind the parenthesis at the front.
 pub fn body<'t>(tokens: &'t [Token<'t>], end: usize) -> Result<&'t [Token<'t>], Fault>
-    ensures value { Gives (λ r. lexemes_of r.now) result (spec.body (lexemes_of tokens.now)) }
+    ensures value { HasFound (λ r. lexemes_of r.now) result (spec.body (lexemes_of tokens.now)) }
     ensures shorter { IfOk result (λ r. length r.now < length tokens.now) }
 {
     match after_sign(tokens, Sign::Open) {

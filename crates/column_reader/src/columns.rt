@@ -1,7 +1,7 @@
 //! Columns.
 ghost use Rattle.std.specs.Prelude.{◌<◌, IfOk, length};
 ghost use Rattle.column_reader.specs.ColumnReading as spec;
-ghost use Rattle.phrases.specs.Steps.{Gives};
+ghost use Rattle.phrases.specs.Steps.{HasFound};
 ghost use Rattle.phrases.specs.Texts.{lexemes_of};
 ghost use Rattle.create_trees.specs.CreateView.{column_of};
 
@@ -19,7 +19,7 @@ pub fn column<'t>(
     tokens: &'t [Token<'t>],
     end: usize,
 ) -> Result<(Column, &'t [Token<'t>]), Fault>
-    ensures value { Gives (λ r. (column_of r.0, lexemes_of r.1.now)) result (spec.column (lexemes_of tokens.now)) }
+    ensures value { HasFound (λ r. (column_of r.0, lexemes_of r.1.now)) result (spec.column (lexemes_of tokens.now)) }
     ensures shorter { IfOk result (λ r. length r.1.now < length tokens.now) }
 {
     let (name, rest) = name(alloc, tokens, end)?;

@@ -1,7 +1,7 @@
 //! Constraints of columns.
 ghost use Rattle.std.specs.Prelude.{◌≡◌, ◌<◌, ◌≤◌, IfOk, length};
 ghost use Rattle.column_reader.specs.ColumnReading as spec;
-ghost use Rattle.phrases.specs.Steps.{Gives};
+ghost use Rattle.phrases.specs.Steps.{HasFound};
 ghost use Rattle.phrases.specs.Texts.{lexemes_of};
 ghost use Rattle.create_trees.specs.CreateTrees.{DefaultTree};
 ghost use Rattle.create_trees.specs.CreateView.{constraint_of, default_of};
@@ -69,7 +69,7 @@ fn primary_key<'t>(
     tokens: &'t [Token<'t>],
     end: usize,
 ) -> Result<(ColumnConstraint, &'t [Token<'t>]), Fault>
-    ensures value { Gives (λ r. (constraint_of r.0, lexemes_of r.1.now)) result
+    ensures value { HasFound (λ r. (constraint_of r.0, lexemes_of r.1.now)) result
         (spec.primary_key (lexemes_of tokens.now)) }
     ensures shorter { IfOk result (λ r. length r.1.now < length tokens.now) }
 {
@@ -83,9 +83,9 @@ fn primary_key<'t>(
 
 /// The number at the front, and what is behind it.
 fn number<'t>(tokens: &'t [Token<'t>], end: usize) -> Result<(i64, &'t [Token<'t>]), Fault>
-    ensures plus { Gives (λ r. (DefaultTree.Number r.0, lexemes_of r.1.now)) result
+    ensures plus { HasFound (λ r. (DefaultTree.Number r.0, lexemes_of r.1.now)) result
         (spec.signed (λ n. DefaultTree.Number n) (lexemes_of tokens.now)) }
-    ensures minus { Gives (λ r. (DefaultTree.Negative r.0, lexemes_of r.1.now)) result
+    ensures minus { HasFound (λ r. (DefaultTree.Negative r.0, lexemes_of r.1.now)) result
         (spec.signed (λ n. DefaultTree.Negative n) (lexemes_of tokens.now)) }
     ensures shorter { IfOk result (λ r. length r.1.now < length tokens.now) }
 {
@@ -104,7 +104,7 @@ fn default_value<'t>(
     tokens: &'t [Token<'t>],
     end: usize,
 ) -> Result<(DefaultValue, &'t [Token<'t>]), Fault>
-    ensures value { Gives (λ r. (default_of r.0, lexemes_of r.1.now)) result
+    ensures value { HasFound (λ r. (default_of r.0, lexemes_of r.1.now)) result
         (spec.default_value (lexemes_of tokens.now)) }
     ensures shorter { IfOk result (λ r. length r.1.now < length tokens.now) }
 {
@@ -140,7 +140,7 @@ fn default_value<'t>(
 
 /// What is behind CONSTRAINT and a name, if they stand at the front.
 pub fn after_title<'t>(tokens: &'t [Token<'t>], end: usize) -> Result<&'t [Token<'t>], Fault>
-    ensures value { Gives (λ r. lexemes_of r.now) result (spec.after_title (lexemes_of tokens.now)) }
+    ensures value { HasFound (λ r. lexemes_of r.now) result (spec.after_title (lexemes_of tokens.now)) }
     ensures no_longer { IfOk result (λ r. length r.now ≤ length tokens.now) }
 {
     let Some(title) = after_keyword(tokens, Keyword::Constraint) else {
@@ -157,7 +157,7 @@ fn not_null<'t>(
     tokens: &'t [Token<'t>],
     end: usize,
 ) -> Result<(ColumnConstraint, &'t [Token<'t>]), Fault>
-    ensures value { Gives (λ r. (constraint_of r.0, lexemes_of r.1.now)) result
+    ensures value { HasFound (λ r. (constraint_of r.0, lexemes_of r.1.now)) result
         (spec.not_null (lexemes_of tokens.now)) }
     ensures shorter { IfOk result (λ r. length r.1.now < length tokens.now) }
 {
@@ -173,7 +173,7 @@ fn demand<'t>(
     tokens: &'t [Token<'t>],
     end: usize,
 ) -> Result<(ColumnConstraint, &'t [Token<'t>]), Fault>
-    ensures value { Gives (λ r. (constraint_of r.0, lexemes_of r.1.now)) result (spec.demand (lexemes_of tokens.now)) }
+    ensures value { HasFound (λ r. (constraint_of r.0, lexemes_of r.1.now)) result (spec.demand (lexemes_of tokens.now)) }
     ensures shorter { IfOk result (λ r. length r.1.now < length tokens.now) }
 {
     let [first, rest @ ..] = tokens else {
@@ -209,7 +209,7 @@ pub(crate) fn constraint<'t>(
     tokens: &'t [Token<'t>],
     end: usize,
 ) -> Result<(ColumnConstraint, &'t [Token<'t>]), Fault>
-    ensures value { Gives (λ r. (constraint_of r.0, lexemes_of r.1.now)) result
+    ensures value { HasFound (λ r. (constraint_of r.0, lexemes_of r.1.now)) result
         (spec.constraint (lexemes_of tokens.now)) }
     ensures shorter { IfOk result (λ r. length r.1.now < length tokens.now) }
 {

@@ -3,7 +3,7 @@ ghost use Rattle.std.specs.Prelude.{◌≡◌, ◌<◌, ◌≤◌, IfOk, IfSome,
 ghost use Rattle.column_reader.specs.ColumnGrammar as grammar;
 ghost use Rattle.column_reader.specs.ColumnReading as spec;
 ghost use Rattle.phrases.specs.Steps as steps;
-ghost use Rattle.phrases.specs.Steps.{Gives};
+ghost use Rattle.phrases.specs.Steps.{HasFound};
 ghost use Rattle.phrases.specs.Texts.{lexemes_of};
 ghost use Rattle.tokens.specs.Content.{lexeme_of};
 
@@ -35,7 +35,7 @@ fn name_list<'t>(
     tokens: &'t [Token<'t>],
     end: usize,
 ) -> Result<(Vec<String>, &'t [Token<'t>]), Fault>
-    ensures value { Gives (λ r. (map (λ n. string_bytes n) r.0.items, lexemes_of r.1.now)) result
+    ensures value { HasFound (λ r. (map (λ n. string_bytes n) r.0.items, lexemes_of r.1.now)) result
         (steps.listed steps.name (lexemes_of tokens.now)) }
     ensures shorter { IfOk result (λ r. length r.1.now < length tokens.now) }
 {
@@ -56,7 +56,7 @@ pub fn names<'t>(
     tokens: &'t [Token<'t>],
     end: usize,
 ) -> Result<(Vec<String>, &'t [Token<'t>]), Fault>
-    ensures value { Gives (λ r. (map (λ n. string_bytes n) r.0.items, lexemes_of r.1.now)) result
+    ensures value { HasFound (λ r. (map (λ n. string_bytes n) r.0.items, lexemes_of r.1.now)) result
         (spec.names (lexemes_of tokens.now)) }
     ensures shorter { IfOk result (λ r. length r.1.now < length tokens.now) }
 {
@@ -73,7 +73,7 @@ fn after_columns<'t>(
     tokens: &'t [Token<'t>],
     end: usize,
 ) -> Result<&'t [Token<'t>], Fault>
-    ensures value { Gives (λ r. lexemes_of r.now) result (spec.maybe_columns (lexemes_of tokens.now)) }
+    ensures value { HasFound (λ r. lexemes_of r.now) result (spec.maybe_columns (lexemes_of tokens.now)) }
     ensures no_longer { IfOk result (λ r. length r.now ≤ length tokens.now) }
 {
     let Some(inside) = after_sign(tokens, Sign::Open) else {
@@ -99,7 +99,7 @@ fn is_reaction(word: &TokenKind<'_>) -> bool
 
 /// What is behind NULL or DEFAULT.
 fn after_set<'t>(tokens: &'t [Token<'t>], end: usize) -> Result<&'t [Token<'t>], Fault>
-    ensures value { Gives (λ r. lexemes_of r.now) result (spec.after_set (lexemes_of tokens.now)) }
+    ensures value { HasFound (λ r. lexemes_of r.now) result (spec.after_set (lexemes_of tokens.now)) }
     ensures shorter { IfOk result (λ r. length r.now < length tokens.now) }
 {
     match tokens {
@@ -116,7 +116,7 @@ fn after_set<'t>(tokens: &'t [Token<'t>], end: usize) -> Result<&'t [Token<'t>],
 
 /// What is behind the reaction to an event.
 fn after_reaction<'t>(tokens: &'t [Token<'t>], end: usize) -> Result<&'t [Token<'t>], Fault>
-    ensures value { Gives (λ r. lexemes_of r.now) result (spec.after_reaction (lexemes_of tokens.now)) }
+    ensures value { HasFound (λ r. lexemes_of r.now) result (spec.after_reaction (lexemes_of tokens.now)) }
     ensures shorter { IfOk result (λ r. length r.now < length tokens.now) }
 {
     let [first, rest @ ..] = tokens else {
@@ -139,7 +139,7 @@ fn after_reaction<'t>(tokens: &'t [Token<'t>], end: usize) -> Result<&'t [Token<
 
 /// What is behind an event and the reaction to it.
 fn after_act<'t>(tokens: &'t [Token<'t>], end: usize) -> Result<&'t [Token<'t>], Fault>
-    ensures value { Gives (λ r. (tt, lexemes_of r.now)) result (spec.act (lexemes_of tokens.now)) }
+    ensures value { HasFound (λ r. (tt, lexemes_of r.now)) result (spec.act (lexemes_of tokens.now)) }
     ensures shorter { IfOk result (λ r. length r.now < length tokens.now) }
 {
     match tokens {
@@ -154,7 +154,7 @@ pub fn after_reference<'t>(
     tokens: &'t [Token<'t>],
     end: usize,
 ) -> Result<&'t [Token<'t>], Fault>
-    ensures value { Gives (λ r. lexemes_of r.now) result (spec.refers (lexemes_of tokens.now)) }
+    ensures value { HasFound (λ r. lexemes_of r.now) result (spec.refers (lexemes_of tokens.now)) }
     ensures shorter { IfOk result (λ r. length r.now < length tokens.now) }
 {
     let Some(columns) = after_name(tokens) else {

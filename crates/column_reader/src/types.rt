@@ -1,7 +1,7 @@
 //! The types of columns.
 ghost use Rattle.std.specs.Prelude.{◌≡◌, ◌<◌, ◌≤◌, IfOk, length, map, string_bytes, true};
 ghost use Rattle.column_reader.specs.ColumnReading as spec;
-ghost use Rattle.phrases.specs.Steps.{Gives};
+ghost use Rattle.phrases.specs.Steps.{HasFound};
 ghost use Rattle.phrases.specs.Texts.{lexemes_of};
 ghost use Rattle.create_trees.specs.CreateView.{type_of};
 
@@ -34,7 +34,7 @@ fn type_words<'t>(
     end: usize,
 ) -> Result<(Vec<String>, &'t [Token<'t>]), Fault>
     requires { spec.begins_word (lexemes_of tokens.now) ≡ true }
-    ensures value { Gives (λ r. (map (λ n. string_bytes n) r.0.items, lexemes_of r.1.now)) result
+    ensures value { HasFound (λ r. (map (λ n. string_bytes n) r.0.items, lexemes_of r.1.now)) result
         (spec.words (lexemes_of tokens.now)) }
     ensures no_longer { IfOk result (λ r. length r.1.now ≤ length tokens.now) }
 {
@@ -51,7 +51,7 @@ fn type_words<'t>(
 
 /// What is behind the number at the front.
 fn after_number<'t>(tokens: &'t [Token<'t>], end: usize) -> Result<&'t [Token<'t>], Fault>
-    ensures value { Gives (λ r. lexemes_of r.now) result (spec.after_number (lexemes_of tokens.now)) }
+    ensures value { HasFound (λ r. lexemes_of r.now) result (spec.after_number (lexemes_of tokens.now)) }
     ensures shorter { IfOk result (λ r. length r.now < length tokens.now) }
 {
     match tokens {
@@ -68,7 +68,7 @@ fn after_number<'t>(tokens: &'t [Token<'t>], end: usize) -> Result<&'t [Token<'t
 
 /// What is behind a comma and a number, if a comma stands at the front.
 fn after_second<'t>(tokens: &'t [Token<'t>], end: usize) -> Result<&'t [Token<'t>], Fault>
-    ensures value { Gives (λ r. lexemes_of r.now) result (spec.after_second (lexemes_of tokens.now)) }
+    ensures value { HasFound (λ r. lexemes_of r.now) result (spec.after_second (lexemes_of tokens.now)) }
     ensures no_longer { IfOk result (λ r. length r.now ≤ length tokens.now) }
 {
     match after_sign(tokens, Sign::Comma) {
@@ -79,7 +79,7 @@ fn after_second<'t>(tokens: &'t [Token<'t>], end: usize) -> Result<&'t [Token<'t
 
 /// Whether a size stands at the front, and what is behind it.
 fn size<'t>(tokens: &'t [Token<'t>], end: usize) -> Result<(bool, &'t [Token<'t>]), Fault>
-    ensures value { Gives (λ r. (r.0, lexemes_of r.1.now)) result (spec.size (lexemes_of tokens.now)) }
+    ensures value { HasFound (λ r. (r.0, lexemes_of r.1.now)) result (spec.size (lexemes_of tokens.now)) }
     ensures no_longer { IfOk result (λ r. length r.1.now ≤ length tokens.now) }
 {
     let Some(inside) = after_sign(tokens, Sign::Open) else {
@@ -99,7 +99,7 @@ pub(crate) fn column_type<'t>(
     tokens: &'t [Token<'t>],
     end: usize,
 ) -> Result<(ColumnType, &'t [Token<'t>]), Fault>
-    ensures value { Gives (λ r. (type_of r.0, lexemes_of r.1.now)) result (spec.column_type (lexemes_of tokens.now)) }
+    ensures value { HasFound (λ r. (type_of r.0, lexemes_of r.1.now)) result (spec.column_type (lexemes_of tokens.now)) }
     ensures no_longer { IfOk result (λ r. length r.1.now ≤ length tokens.now) }
 {
     if !begins_word(tokens) {

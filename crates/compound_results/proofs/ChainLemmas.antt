@@ -17,7 +17,7 @@ use Rattle.plans.specs.Plan.{PlanData, work}
 use Rattle.plans.specs.PlanView.{plan_data}
 use Rattle.scan.specs.Coming.{Asks}
 use Rattle.scan.proofs.ComingLemmas.{Asks-then}
-use Rattle.operators.specs.Basis.{AreStored, Basis, Gives, GivesNext, GivesNone}
+use Rattle.operators.specs.Basis.{AreStored, Basis, GivesRowOrNone, GivesNext, GivesNone}
 use Rattle.operators.specs.Left.{plan_of, steps}
 use Rattle.operators.proofs.RowLemmas.{at_start}
 use Rattle.results.specs.declared.stream.Results.{Results}
@@ -176,7 +176,7 @@ StillComing start sources begun at_hand behind now =
 abbrev pub Called : List SourceData → Results → Results → Bool → Row → PagerState → PagerState → Pages → Type 0
 Called sources old new found row now then pages =
     (on : Basis) (rows : List Row) (more : ℕ) → AreStored pages sources on → IsComing pages sources on old rows more
-    → Gives found on.local now more then rows row (IsComing pages sources on new)
+    → GivesRowOrNone found on.local now more then rows row (IsComing pages sources on new)
 
 module _ (start now : PagerState) (image : SameImage start now) (sources : List SourceData) (begun : ArmsInTurn) (at_hand : Results) (behind : List Results)
     (keeps : StillComing start sources begun at_hand behind now)

@@ -15,7 +15,7 @@ use Rattle.plans.specs.Plan.{rows_of}
 use Rattle.results.specs.Coming.{result_rows}
 use Rattle.results.proofs.PermittedLemmas.{results_are}
 use Rattle.distinct_results.specs.Firsts.{firsts}
-use Rattle.distinct_results.specs.Permitted.{AreResults, IsResult}
+use Rattle.distinct_results.specs.Permitted.{AreResults, IsResultColumn}
 use Rattle.distinct_results.proofs.FirstLemmas.{firsts_are_once}
 use Rattle.distinct_results.proofs.PermittedLemmas.{in_order_is_permitted}
 use Rattle.compound_results.specs.Arms.{ArmData, ArmsData, ArmsHit, arm_rows, each_once_if, joined, one, rows_of_arms}
@@ -60,10 +60,10 @@ module _ (w : Datum) (db : Database) where
 results_no_terms : (order : List Key) → AreResults order → order_terms order ≡ []
 results_no_terms [] all = refl
 results_no_terms (key ∷ order) all =
-    ap (λ terms. terms ++ order_terms order) (of key.by (All-head (λ (k : Key). IsResult k.by) key order all))
-    ∙ results_no_terms order (All-tail (λ (k : Key). IsResult k.by) key order all)
+    ap (λ terms. terms ++ order_terms order) (of key.by (All-head (λ (k : Key). IsResultColumn k.by) key order all))
+    ∙ results_no_terms order (All-tail (λ (k : Key). IsResultColumn k.by) key order all)
   where
-    of : (by : KeyTerm) → IsResult by → key_terms by ≡ []
+    of : (by : KeyTerm) → IsResultColumn by → key_terms by ≡ []
     of (KeyTerm.result at) is = refl
     of (KeyTerm.term t) is = absurd is
 

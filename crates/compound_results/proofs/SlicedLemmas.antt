@@ -7,7 +7,7 @@ use Rattle.image.specs.Pages.{Pages, WhereSteady, pages_seen}
 use Rattle.sources.specs.SourceData.{SourceData}
 use Rattle.scan.specs.Coming.{Asks}
 use Rattle.scan.proofs.ComingLemmas.{Asks-then}
-use Rattle.operators.specs.Basis.{AreStored, Basis, Gives, GivesNext, GivesNone}
+use Rattle.operators.specs.Basis.{AreStored, Basis, GivesRowOrNone, GivesNext, GivesNone}
 use Rattle.operators.proofs.RowLemmas.{Asks-less, at_start}
 use Rattle.results.specs.declared.limits.Slice.{Slice}
 use Rattle.results.specs.Slices.{sliced}
@@ -41,7 +41,7 @@ StillSliced start sources begun arms slice now =
 abbrev pub CalledArms : List SourceData → ArmsInTurn → ArmsInTurn → Bool → Row → PagerState → PagerState → Pages → Type 0
 CalledArms sources old new found row now then pages =
     (on : Basis) (rows : List Row) (more : ℕ) → AreStored pages sources on → AreComing pages sources on old rows more
-    → Gives found on.local now more then rows row (AreComing pages sources on new)
+    → GivesRowOrNone found on.local now more then rows row (AreComing pages sources on new)
 
 module _ (start now : PagerState) (image : SameImage start now) (sources : List SourceData) (begun : ChainedResults) (arms : ArmsInTurn) (slice : Slice)
     (keeps : StillSliced start sources begun arms slice now)

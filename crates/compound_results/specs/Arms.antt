@@ -8,7 +8,7 @@ use Rattle.expr.specs.Term.{Term}
 use Rattle.expr.specs.View.{term}
 use Rattle.meaning.specs.Query.{Operator}
 use Rattle.naming.specs.Statement.{operator_of}
-use Rattle.plans.specs.Plan.{Hits, PlanData, Reaches, rows_of, work}
+use Rattle.plans.specs.Plan.{Hits, PlanData, ReachesOverflow, rows_of, work}
 use Rattle.plans.specs.PlanView.{plan_data}
 use Rattle.operators.specs.Left.{IsPlanOf}
 use Rattle.results.specs.Coming.{result_rows}
@@ -56,7 +56,7 @@ module _ (w : Datum) (db : Database) where
 
   -- the conditions of an arm's plan, or its result columns on one of its rows, reach an operation out of range
   abbrev pub ArmHits : ArmData → Type 0
-  ArmHits arm = Hits w db arm.plan ⊎ Any (Reaches arm.columns) (rows_of w db arm.plan)
+  ArmHits arm = Hits w db arm.plan ⊎ Any (ReachesOverflow arm.columns) (rows_of w db arm.plan)
 
   abbrev pub ArmsHit : ArmsData → Type 0
   ArmsHit (one arm) = ArmHits arm

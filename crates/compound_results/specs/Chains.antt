@@ -14,7 +14,7 @@ abbrev pub AreAll : ArmsData → Type 0
 AreAll (one arm) = arm.distinct ≡ false
 AreAll (joined left operator arm) = (arm.distinct ≡ false) × (operator ≡ union_all) × AreAll left
 
-pub record IsChain (compound : CompoundData) : Type 0 where
+pub record IsUnionChain (compound : CompoundData) : Type 0 where
   pub arms : AreAll compound.arms
   pub unordered : compound.order ≡ []
 
@@ -24,4 +24,4 @@ chain_answer w db compound = limited compound.limit (skipped compound.offset (ro
 
 -- they are an answer
 abbrev pub ChainIsAnswer : Type 0
-ChainIsAnswer = (w : Datum) (db : Database) (compound : CompoundData) → IsChain compound → IsCompoundAnswer w db compound (chain_answer w db compound)
+ChainIsAnswer = (w : Datum) (db : Database) (compound : CompoundData) → IsUnionChain compound → IsCompoundAnswer w db compound (chain_answer w db compound)

@@ -8,9 +8,9 @@ ghost use Rattle.image.specs.Pages.{Pages, WhereSteady};
 ghost use Rattle.sources.specs.SourceData.{SourceData};
 ghost use Rattle.meaning.specs.Query.{union_all};
 ghost use Rattle.naming.specs.Statement.{operator_of};
-ghost use Rattle.operators.specs.Basis.{AreStored, Basis, Gives, IsOperatorFault};
+ghost use Rattle.operators.specs.Basis.{AreStored, Basis, GivesRowOrNone, IsOperatorFault};
 ghost use Rattle.compound_results.specs.Arms.{ArePlannedOver, ArmsHit, arm_data, arms_data, work_of_arms};
-ghost use Rattle.compound_results.specs.Chains.{AreAll, IsChain, chain_answer};
+ghost use Rattle.compound_results.specs.Chains.{AreAll, IsUnionChain, chain_answer};
 ghost use Rattle.compound_results.specs.Compounds.{IsArmsCause, compound_data};
 ghost use Rattle.compound_results.specs.InTurn.{AreComing, AreWaiting, IsChainComing, IsWaiting, arm_of, arms_from, arms_of, turn_steps};
 
@@ -47,7 +47,7 @@ fn are_all(arms: &Arms) -> bool
 
 /// Whether `ChainedResults` gives its rows: UNION ALL joins SELECTs without DISTINCT, and there is no ORDER BY.
 pub fn is_chain(compound: &Compound) -> bool
-    ensures { IsTrue result ↔ IsChain (compound_data compound.now) }
+    ensures { IsTrue result ↔ IsUnionChain (compound_data compound.now) }
 {
     if !compound.order.is_empty() {
         return false;
@@ -124,7 +124,7 @@ impl ArmsInTurn {
         ensures rows { WhereSteady pager.old.state (λ pages. (on : Basis) (rest : List (List Datum)) (ahead : ℕ) → AreStored pages sources.now on
             → AreComing pages sources.now on self.old rest ahead
             → MatchResult result
-            (λ found. Gives found on.local pager.old.state ahead pager.new.state rest (map datum_of out.new.items) (AreComing pages sources.now on self.new))
+            (λ found. GivesRowOrNone found on.local pager.old.state ahead pager.new.state rest (map datum_of out.new.items) (AreComing pages sources.now on self.new))
             (IsArmsCause on (arms_of self.old))) }
         ensures over { ArePlannedOver sources.now (arms_of self.new) }
         ensures hits { (w : Datum) (db : Database) → ArmsHit w db (arms_of self.new) → ArmsHit w db (arms_of self.old) }
@@ -152,7 +152,7 @@ pub struct ChainedResults {
 impl ChainedResults {
     /// The rows before the first. It reads no page.
     pub fn open(alloc: Global, compound: &Compound) -> Result<ChainedResults, AllocError>
-        requires { IsChain (compound_data compound.now) }
+        requires { IsUnionChain (compound_data compound.now) }
         ensures arms { IfOk result (λ chained. arms_of chained.arms ≡ arms_data compound.now.arms) }
         ensures rows { IfOk result (λ chained. (pages : Pages) (sources : List SourceData) (on : Basis)
             → IsChainComing pages sources on chained (chain_answer on.w on.db (compound_data compound.now))
@@ -177,7 +177,7 @@ impl ChainedResults {
         ensures rows { WhereSteady pager.old.state (λ pages. (on : Basis) (rest : List (List Datum)) (ahead : ℕ) → AreStored pages sources.now on
             → IsChainComing pages sources.now on self.old rest ahead
             → MatchResult result
-            (λ found. Gives found on.local pager.old.state ahead pager.new.state rest (map datum_of out.new.items) (IsChainComing pages sources.now on self.new))
+            (λ found. GivesRowOrNone found on.local pager.old.state ahead pager.new.state rest (map datum_of out.new.items) (IsChainComing pages sources.now on self.new))
             (IsArmsCause on (arms_of self.old.arms))) }
         ensures done { self.old.slice.left ≡ Some 0 → pager.new.state ≡ pager.old.state }
         ensures over { ArePlannedOver sources.now (arms_of self.new.arms) }

@@ -8,7 +8,7 @@ use Rattle.tokens.specs.declared.keyword.Grammar.TheVariants as g
 use Rattle.tokens.specs.declared.token.Token.{Token}
 use Rattle.phrases.proofs.TextLemmas.{IsReader, one_tree, refused, spelt_by, tokens_refused}
 use Rattle.phrases.specs.Steps.{IsMissing}
-use Rattle.phrases.specs.Texts.{IsRefused, lexemes_of}
+use Rattle.phrases.specs.Texts.{IsRefusedText, lexemes_of}
 use Rattle.create_trees.specs.CreateTrees.{TableTree, columns_of_table}
 use Rattle.create_reader.proofs.CreateLemmas.{create_complete, create_sound}
 use Rattle.create_reader.specs.CreateGrammar.{Creates, SpellsCreate}
@@ -22,11 +22,11 @@ pub create_spelt : (text : List ℕ) (items : List Token) (tree : TableTree)
 create_spelt = spelt_by g.Create Creates create reads_create
 
 pub create_refused : (text : List ℕ) (items : List Token) (e : Fault) → Tokens g.Create text (map placed_of items)
-    → IsMissing e (create (lexemes_of items)) → IsRefused SpellsCreate columns_of_table text e
+    → IsMissing e (create (lexemes_of items)) → IsRefusedText SpellsCreate columns_of_table text e
 create_refused = refused g.Create Creates create columns_of_table reads_create
 
-pub create_tokens_refused : (text : List ℕ) (e : Fault) → tokens.IsRefused g.Create text e
-    → IsRefused SpellsCreate columns_of_table text e
+pub create_tokens_refused : (text : List ℕ) (e : Fault) → tokens.HasNoTokens g.Create text e
+    → IsRefusedText SpellsCreate columns_of_table text e
 create_tokens_refused = tokens_refused g.Create Creates columns_of_table
 
 pub one_create : (text : List ℕ) (a b : TableTree) → SpellsCreate text a → SpellsCreate text b → a ≡ b

@@ -16,7 +16,7 @@ use Rattle.create_reader.specs.CreateGrammar.{IndexesAll}
 use Rattle.create_reader.specs.CreateReading.{after_create, indexed_all}
 use Rattle.create_reader.specs.IndexGrammar.{CreatesIndex, MaybePartial, MaybeUnique}
 use Rattle.create_reader.specs.IndexReading.{after_index, after_unique, condition, create_index, index_from, index_heading, index_tree, index_with, last_columns, owned, unique_from, uniqueness}
-use Rattle.create_reader.specs.Told.{Says}
+use Rattle.create_reader.specs.Told.{SaysOfIndex}
 use Rattle.syntax.specs.ExprTree.{ExprTree}
 use Rattle.syntax.specs.Tree.{Name}
 use Rattle.create_trees.specs.CreateTrees.{IndexedColumnTree, IndexTree}
@@ -111,7 +111,7 @@ module _ (source : ℕ → ℕ → List ℕ) where
       )
 
   -- what an outcome says of the tokens
-  says_by : (d : ℕ) (ts : Rest) (r : Outcome IndexTree) → create_index source d ts ≡ r → Says source d ts r
+  says_by : (d : ℕ) (ts : Rest) (r : Outcome IndexTree) → create_index source d ts ≡ r → SaysOfIndex source d ts r
   says_by d ts (Ok tree) e = index_sound d ts tree e
   says_by d ts (Err Refusal.Syntax) e = λ h tree x. elim (cases_lt d h) [
     | inl l ↦ (let i = sym e ∙ (index_reads x d ∙ fits_out d h _ l) in absurd cc)
@@ -122,7 +122,7 @@ module _ (source : ℕ → ℕ → List ℕ) where
     | inr l ↦ (let i = sym e ∙ (index_reads x d ∙ fits_in d h _ l) in absurd cc)
   ]
 
-  pub says : (d : ℕ) (ts : Rest) → Says source d ts (create_index source d ts)
+  pub says : (d : ℕ) (ts : Rest) → SaysOfIndex source d ts (create_index source d ts)
   says d ts = says_by d ts (create_index source d ts) refl
 
   -- tokens spell at most one CREATE INDEX

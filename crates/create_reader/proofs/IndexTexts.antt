@@ -12,13 +12,13 @@ use Rattle.tokens.specs.declared.keyword.Grammar.TheVariants as g
 use Rattle.tokens.specs.declared.token.Token.{Token}
 use Rattle.phrases.proofs.TextLemmas.{same_lexemes}
 use Rattle.phrases.specs.Outcomes.{Yields}
-use Rattle.phrases.specs.Texts.{IsWithin, lexemes, lexemes_of, max_columns, max_levels}
+use Rattle.phrases.specs.Texts.{AreWithinLimits, lexemes, lexemes_of, max_columns, max_levels}
 use Rattle.source_texts.specs.Sources.{source_of, source_text}
 use Rattle.create_reader.proofs.IndexLemmas.{index_room, one_spelt, says}
 use Rattle.create_reader.specs.IndexGrammar.{CreatesIndex}
 use Rattle.create_reader.specs.IndexReading.{create_index}
 use Rattle.create_reader.specs.IndexTexts.{IsRefusedIndex, SpellsIndex, SpellsIndexAt}
-use Rattle.create_reader.specs.Told.{Says, Tells}
+use Rattle.create_reader.specs.Told.{SaysOfIndex, TellsOfIndex}
 use Rattle.create_trees.specs.CreateTrees.{IndexTree, columns_of_index}
 use Rattle.create_trees.specs.CreateView.{index_of}
 use Rattle.create_trees.specs.declared.create.CreateIndex.{CreateIndex}
@@ -30,27 +30,27 @@ count_lexemes items = length-map items (λ (t : Token). lexeme_of t.kind)
 
 pub told : (source : ℕ → ℕ → List ℕ) (items : List Token) (r : Result CreateIndex Fault)
     → Yields index_of r (create_index source max_levels (lexemes_of items)) → (r ≡ Err f.Limit → max_levels < length items)
-    → Tells source (lexemes_of items) r
-told source items (Ok s) h many = subst (Says source max_levels (lexemes_of items)) h (says source max_levels (lexemes_of items))
+    → TellsOfIndex source (lexemes_of items) r
+told source items (Ok s) h many = subst (SaysOfIndex source max_levels (lexemes_of items)) h (says source max_levels (lexemes_of items))
 told source items (Err (f.Syntax place)) h many =
-    subst (Says source max_levels (lexemes_of items)) h (says source max_levels (lexemes_of items))
+    subst (SaysOfIndex source max_levels (lexemes_of items)) h (says source max_levels (lexemes_of items))
 told source items (Err f.Limit) h many = (
   let m = many refl in omega (arith, m, count_lexemes items),
-  subst (Says source max_levels (lexemes_of items)) h (says source max_levels (lexemes_of items)),
+  subst (SaysOfIndex source max_levels (lexemes_of items)) h (says source max_levels (lexemes_of items)),
 )
 told source items (Err f.NoMemory) h many = tt
 told source items (Err _) h many = absurd h
 
 pub told_long : (source : ℕ → ℕ → List ℕ) (items : List Token) (r : Result CreateIndex Fault) (e : Fault)
     → Yields index_of r (create_index source max_levels (lexemes_of items)) → r ≡ Err e → max_levels < length items
-    → Tells source (lexemes_of items) (Err e)
-told_long source items r e h is many = subst (Tells source (lexemes_of items)) is (told source items r h (λ k. many))
+    → TellsOfIndex source (lexemes_of items) (Err e)
+told_long source items r e h is many = subst (TellsOfIndex source (lexemes_of items)) is (told source items r h (λ k. many))
 
 pub told_short : (source : ℕ → ℕ → List ℕ) (items : List Token) (r : Result CreateIndex Fault) (place : ℕ)
     → Yields index_of r (create_index source max_levels (lexemes_of items)) → r ≡ Err f.Limit → length items ≤ max_levels
-    → Tells source (lexemes_of items) (Err (f.Syntax place))
+    → TellsOfIndex source (lexemes_of items) (Err (f.Syntax place))
 told_short source items (Err f.Limit) place h e few = λ levels tree x.
-    let deep = subst (Says source max_levels (lexemes_of items)) h (says source max_levels (lexemes_of items)) in
+    let deep = subst (SaysOfIndex source max_levels (lexemes_of items)) h (says source max_levels (lexemes_of items)) in
     let k = deep levels tree x in let l = index_room source x in absurd (omega (arith, k, l, few, count_lexemes items))
 told_short source items (Ok s) place h e few = absurd cc
 told_short source items (Err _) place h e few = absurd cc
@@ -67,7 +67,7 @@ spelt_by_items text items levels tree t s =
     (subst (λ ts. CreatesIndex (source_text text ts) levels tree (lexemes ts)) i s.statement)
 
 pub index_spelt : (text : List ℕ) (items : List Token) (s : CreateIndex) → Tokens g.Create text (map placed_of items)
-    → Tells (source_of text items) (lexemes_of items) (Ok s) → SpellsIndex text (index_of s)
+    → TellsOfIndex (source_of text items) (lexemes_of items) (Ok s) → SpellsIndex text (index_of s)
 index_spelt text items s t told = record {
   levels = told.0;
   few = told.1;
@@ -79,7 +79,7 @@ index_spelt text items s t told = record {
 }
 
 pub index_refused : (text : List ℕ) (items : List Token) (e : Fault) → Tokens g.Create text (map placed_of items)
-    → Tells (source_of text items) (lexemes_of items) (Err e) → IsRefusedIndex text e
+    → TellsOfIndex (source_of text items) (lexemes_of items) (Err e) → IsRefusedIndex text e
 index_refused text items (f.Syntax place) t told = λ levels tree s.
     told levels tree (spelt_by_items text items levels tree t s)
 index_refused text items f.Limit t told =
@@ -92,7 +92,7 @@ index_refused text items f.Limit t told =
 index_refused text items f.NoMemory t told = tt
 index_refused text items _ t told = absurd told
 
-pub index_tokens_refused : (text : List ℕ) (e : Fault) → tokens.IsRefused g.Create text e → IsRefusedIndex text e
+pub index_tokens_refused : (text : List ℕ) (e : Fault) → tokens.HasNoTokens g.Create text e → IsRefusedIndex text e
 index_tokens_refused text (f.Syntax place) h = λ levels tree s. tokens_read.no_list h s.tokens s.are_tokens
 index_tokens_refused text f.NoMemory h = tt
 index_tokens_refused text _ h = absurd h
@@ -103,7 +103,7 @@ one_index text m n a b x y =
     one_spelt (source_text text x.tokens) m n a b (lexemes x.tokens) x.statement
     (subst (λ ts. CreatesIndex (source_text text ts) n b (lexemes ts)) i y.statement)
 
-pub only_memory : (text : List ℕ) (tree : IndexTree) (e : Fault) → SpellsIndex text tree → IsWithin columns_of_index text tree
+pub only_memory : (text : List ℕ) (tree : IndexTree) (e : Fault) → SpellsIndex text tree → AreWithinLimits columns_of_index text tree
     → IsRefusedIndex text e → e ≡ f.NoMemory
 only_memory text tree (f.Syntax place) s a h = absurd (h s.levels tree s.spelt)
 only_memory text tree f.Limit s a h = elim h [

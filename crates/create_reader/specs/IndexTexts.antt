@@ -26,7 +26,7 @@ abbrev pub SpellsNoIndex : List ℕ → Type 0
 SpellsNoIndex text = (levels : ℕ) (tree : IndexTree) → ¬ SpellsIndexAt levels text tree
 
 -- the text has more tokens than the limit of levels, and each CREATE INDEX that it spells has more levels
-pub record IsTooDeep (text : List ℕ) : Type 0 where
+pub record IsIndexTooDeep (text : List ℕ) : Type 0 where
   pub tokens : List Placed
   pub are_tokens : Tokens g.Create text tokens
   pub many : max_levels < length tokens
@@ -40,7 +40,7 @@ pub record IsTooWide (text : List ℕ) : Type 0 where
 
 -- it is longer than may be, too deep or too wide
 abbrev pub IsTooMuch : List ℕ → Type 0
-IsTooMuch text = (max_text < length text) ⊎ (IsTooDeep text ⊎ IsTooWide text)
+IsTooMuch text = (max_text < length text) ⊎ (IsIndexTooDeep text ⊎ IsTooWide text)
 
 -- why a text was refused: it spells no CREATE INDEX, or it passes a limit, or memory ran out
 abbrev pub IsRefusedIndex : List ℕ → Fault → Type 0

@@ -12,16 +12,16 @@ use Rattle.create_trees.specs.declared.create.CreateIndex.{CreateIndex}
 
 -- With d levels at most: a tree is what the tokens spell; a syntax error is met where they spell nothing, and the limit only
 -- where each CREATE INDEX that they spell has more levels.
-abbrev pub Says : (ℕ → ℕ → List ℕ) → ℕ → Rest → Outcome IndexTree → Type 0
-Says source d ts (Ok tree) = (h : ℕ) × (h ≤ d) × CreatesIndex source h tree ts
-Says source d ts (Err Refusal.Syntax) = (h : ℕ) (tree : IndexTree) → ¬ CreatesIndex source h tree ts
-Says source d ts (Err Refusal.Limit) = (h : ℕ) (tree : IndexTree) → CreatesIndex source h tree ts → d < h
+abbrev pub SaysOfIndex : (ℕ → ℕ → List ℕ) → ℕ → Rest → Outcome IndexTree → Type 0
+SaysOfIndex source d ts (Ok tree) = (h : ℕ) × (h ≤ d) × CreatesIndex source h tree ts
+SaysOfIndex source d ts (Err Refusal.Syntax) = (h : ℕ) (tree : IndexTree) → ¬ CreatesIndex source h tree ts
+SaysOfIndex source d ts (Err Refusal.Limit) = (h : ℕ) (tree : IndexTree) → CreatesIndex source h tree ts → d < h
 
 -- the same of what the program's reader answers, which meets the limit only where there are more tokens than levels
-abbrev pub Tells : (ℕ → ℕ → List ℕ) → Rest → Result CreateIndex Fault → Type 0
-Tells source ts (Ok index) = (h : ℕ) × (h ≤ max_levels) × CreatesIndex source h (index_of index) ts
-Tells source ts (Err (f.Syntax place)) = (h : ℕ) (tree : IndexTree) → ¬ CreatesIndex source h tree ts
-Tells source ts (Err f.Limit) =
+abbrev pub TellsOfIndex : (ℕ → ℕ → List ℕ) → Rest → Result CreateIndex Fault → Type 0
+TellsOfIndex source ts (Ok index) = (h : ℕ) × (h ≤ max_levels) × CreatesIndex source h (index_of index) ts
+TellsOfIndex source ts (Err (f.Syntax place)) = (h : ℕ) (tree : IndexTree) → ¬ CreatesIndex source h tree ts
+TellsOfIndex source ts (Err f.Limit) =
     (max_levels < length ts) × ((h : ℕ) (tree : IndexTree) → CreatesIndex source h tree ts → max_levels < h)
-Tells source ts (Err f.NoMemory) = Unit {0}
-Tells source ts (Err _) = ⊥
+TellsOfIndex source ts (Err f.NoMemory) = Unit {0}
+TellsOfIndex source ts (Err _) = ⊥

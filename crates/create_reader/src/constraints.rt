@@ -1,7 +1,7 @@
 //! Constraints of tables.
 ghost use Rattle.std.specs.Prelude.{◌≡◌, ◌<◌, ◌≤◌, IfOk, length};
 ghost use Rattle.create_reader.specs.CreateReading as spec;
-ghost use Rattle.phrases.specs.Steps.{Gives};
+ghost use Rattle.phrases.specs.Steps.{HasFound};
 ghost use Rattle.phrases.specs.Texts.{lexemes_of};
 ghost use Rattle.create_trees.specs.CreateView.{table_constraint_of};
 
@@ -19,7 +19,7 @@ fn primary_key<'t>(
     tokens: &'t [Token<'t>],
     end: usize,
 ) -> Result<(TableConstraint, &'t [Token<'t>]), Fault>
-    ensures value { Gives (λ r. (table_constraint_of r.0, lexemes_of r.1.now)) result
+    ensures value { HasFound (λ r. (table_constraint_of r.0, lexemes_of r.1.now)) result
         (spec.primary_key (lexemes_of tokens.now)) }
     ensures shorter { IfOk result (λ r. length r.1.now < length tokens.now) }
 {
@@ -36,7 +36,7 @@ fn foreign_key<'t>(
     tokens: &'t [Token<'t>],
     end: usize,
 ) -> Result<(TableConstraint, &'t [Token<'t>]), Fault>
-    ensures value { Gives (λ r. (table_constraint_of r.0, lexemes_of r.1.now)) result
+    ensures value { HasFound (λ r. (table_constraint_of r.0, lexemes_of r.1.now)) result
         (spec.foreign_key (lexemes_of tokens.now)) }
     ensures shorter { IfOk result (λ r. length r.1.now < length tokens.now) }
 {
@@ -60,7 +60,7 @@ fn demand<'t>(
     tokens: &'t [Token<'t>],
     end: usize,
 ) -> Result<(TableConstraint, &'t [Token<'t>]), Fault>
-    ensures value { Gives (λ r. (table_constraint_of r.0, lexemes_of r.1.now)) result
+    ensures value { HasFound (λ r. (table_constraint_of r.0, lexemes_of r.1.now)) result
         (spec.demand (lexemes_of tokens.now)) }
     ensures shorter { IfOk result (λ r. length r.1.now < length tokens.now) }
 {
@@ -88,7 +88,7 @@ pub(crate) fn constraint<'t>(
     tokens: &'t [Token<'t>],
     end: usize,
 ) -> Result<(TableConstraint, &'t [Token<'t>]), Fault>
-    ensures value { Gives (λ r. (table_constraint_of r.0, lexemes_of r.1.now)) result
+    ensures value { HasFound (λ r. (table_constraint_of r.0, lexemes_of r.1.now)) result
         (spec.constraint (lexemes_of tokens.now)) }
     ensures shorter { IfOk result (λ r. length r.1.now < length tokens.now) }
 {

@@ -2,8 +2,8 @@
 ghost use Rattle.std.specs.Prelude.{◌≡◌, ◌<◌, Err, IfErr, IfOk, length, string_bytes};
 ghost use Rattle.create_reader.specs.CreateGrammar.{SpellsCreate};
 ghost use Rattle.create_reader.specs.CreateReading as spec;
-ghost use Rattle.phrases.specs.Steps.{Gives};
-ghost use Rattle.phrases.specs.Texts.{IsRefused, IsWithin, lexemes_of, max_text};
+ghost use Rattle.phrases.specs.Steps.{HasFound};
+ghost use Rattle.phrases.specs.Texts.{IsRefusedText, AreWithinLimits, lexemes_of, max_text};
 ghost use Rattle.create_trees.specs.CreateTrees.{columns_of_table};
 ghost use Rattle.create_trees.specs.CreateView.{table_of};
 
@@ -21,7 +21,7 @@ fn heading<'t>(
     tokens: &'t [Token<'t>],
     end: usize,
 ) -> Result<(String, &'t [Token<'t>]), Fault>
-    ensures { Gives (λ r. (string_bytes r.0, lexemes_of r.1.now)) result (spec.heading (lexemes_of tokens.now)) }
+    ensures { HasFound (λ r. (string_bytes r.0, lexemes_of r.1.now)) result (spec.heading (lexemes_of tokens.now)) }
 {
     let Some(rest) = after_keyword(tokens, Keyword::Create) else {
         return Err(syntax_at(tokens, end));
@@ -38,7 +38,7 @@ fn heading<'t>(
 
 /// The end of a table, with its options, behind which nothing stands.
 fn closing(alloc: Global, tokens: &[Token<'_>], end: usize) -> Result<Vec<TableOption>, Fault>
-    ensures { Gives (λ r. r.items) result (spec.closing (lexemes_of tokens.now)) }
+    ensures { HasFound (λ r. r.items) result (spec.closing (lexemes_of tokens.now)) }
 {
     let Some(options) = after_sign(tokens, Sign::Close) else {
         return Err(syntax_at(tokens, end));
@@ -48,7 +48,7 @@ fn closing(alloc: Global, tokens: &[Token<'_>], end: usize) -> Result<Vec<TableO
 
 /// A table, which is all of the tokens.
 fn table(alloc: Global, tokens: &[Token<'_>], end: usize) -> Result<CreateTable, Fault>
-    ensures { Gives table_of result (spec.create (lexemes_of tokens.now)) }
+    ensures { HasFound table_of result (spec.create (lexemes_of tokens.now)) }
 {
     let (name, inside) = heading(alloc, tokens, end)?;
     let (columns, constraints, rest) = definitions(alloc, inside, end)?;
@@ -67,8 +67,8 @@ fn table(alloc: Global, tokens: &[Token<'_>], end: usize) -> Result<CreateTable,
 #[tactic(auto, using(crate::proofs::CreateTexts::create_spelt, crate::proofs::CreateTexts::create_refused, crate::proofs::CreateTexts::create_tokens_refused))]
 pub fn read_create(alloc: Global, text: &str) -> Result<CreateTable, Fault>
     ensures spelt { IfOk result (λ table. SpellsCreate text.now (table_of table)) }
-    ensures within { IfOk result (λ table. IsWithin columns_of_table text.now (table_of table)) }
-    ensures refused { IfErr result (λ fault. IsRefused SpellsCreate columns_of_table text.now fault) }
+    ensures within { IfOk result (λ table. AreWithinLimits columns_of_table text.now (table_of table)) }
+    ensures refused { IfErr result (λ fault. IsRefusedText SpellsCreate columns_of_table text.now fault) }
     ensures long { max_text < length text.now → result ≡ Err Fault.Limit }
 {
     if text.len() > MAX_TEXT {

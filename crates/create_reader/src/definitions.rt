@@ -1,7 +1,7 @@
 //! The columns and the constraints of a table.
 ghost use Rattle.std.specs.Prelude.{◌≡◌, ◌<◌, IfSome, length, map, option_map};
 ghost use Rattle.create_reader.specs.CreateReading as spec;
-ghost use Rattle.phrases.specs.Steps.{Gives};
+ghost use Rattle.phrases.specs.Steps.{HasFound};
 ghost use Rattle.phrases.specs.Texts.{lexemes_of};
 ghost use Rattle.create_trees.specs.CreateView.{column_of, table_constraint_of};
 
@@ -37,7 +37,7 @@ fn columns<'t>(
     tokens: &'t [Token<'t>],
     end: usize,
 ) -> Result<(Vec<Column>, &'t [Token<'t>]), Fault>
-    ensures { Gives (λ r. (map column_of r.0.items, lexemes_of r.1.now)) result
+    ensures { HasFound (λ r. (map column_of r.0.items, lexemes_of r.1.now)) result
         (spec.columns (lexemes_of tokens.now)) }
 {
     let mut columns = Vec::new(alloc);
@@ -57,7 +57,7 @@ pub(crate) fn definitions<'t>(
     tokens: &'t [Token<'t>],
     end: usize,
 ) -> Result<(Vec<Column>, Vec<TableConstraint>, &'t [Token<'t>]), Fault>
-    ensures { Gives (λ r. (map column_of r.0.items, map table_constraint_of r.1.items, lexemes_of r.2.now)) result
+    ensures { HasFound (λ r. (map column_of r.0.items, map table_constraint_of r.1.items, lexemes_of r.2.now)) result
         (spec.definitions (lexemes_of tokens.now)) }
 {
     let (columns, mut rest) = columns(alloc, tokens, end)?;

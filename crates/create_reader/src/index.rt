@@ -2,10 +2,10 @@
 ghost use Rattle.std.specs.Prelude.{◌≡◌, ◌<◌, Err, IfErr, IfOk, length, map, option_map, string_bytes};
 ghost use Rattle.create_reader.specs.IndexReading as spec;
 ghost use Rattle.create_reader.specs.IndexTexts.{IsRefusedIndex, SpellsIndex};
-ghost use Rattle.create_reader.specs.Told.{Tells};
+ghost use Rattle.create_reader.specs.Told.{TellsOfIndex};
 ghost use Rattle.phrases.specs.Outcomes.{Yields};
-ghost use Rattle.phrases.specs.Steps.{Gives};
-ghost use Rattle.phrases.specs.Texts.{IsWithin, lexemes_of, max_levels, max_text};
+ghost use Rattle.phrases.specs.Steps.{HasFound};
+ghost use Rattle.phrases.specs.Texts.{AreWithinLimits, lexemes_of, max_levels, max_text};
 ghost use Rattle.create_trees.specs.CreateTrees.{columns_of_index};
 ghost use Rattle.create_trees.specs.CreateView.{index_of, indexed_of};
 ghost use Rattle.source_texts.specs.Sources.{AreCut, source_of};
@@ -37,7 +37,7 @@ fn index_heading<'t>(
     tokens: &'t [Token<'t>],
     end: usize,
 ) -> Result<(String, String, &'t [Token<'t>]), Fault>
-    ensures { Gives (λ r. (string_bytes r.0, string_bytes r.1, lexemes_of r.2.now)) result
+    ensures { HasFound (λ r. (string_bytes r.0, string_bytes r.1, lexemes_of r.2.now)) result
         (spec.index_heading (lexemes_of tokens.now)) }
 {
     let Some(source) = after_keyword(tokens, Keyword::Index) else {
@@ -94,7 +94,7 @@ fn index(source: Source<'_>) -> Result<CreateIndex, Fault>
 #[tactic(auto, using(crate::proofs::IndexTexts::told))]
 fn settled<'t>(alloc: Global, text: &'t str, tokens: &'t [Token<'t>]) -> Result<CreateIndex, Fault>
     requires { AreCut text.now tokens.now }
-    ensures { Tells (source_of text.now tokens.now) (lexemes_of tokens.now) result }
+    ensures { TellsOfIndex (source_of text.now tokens.now) (lexemes_of tokens.now) result }
 {
     let source = Source {
         alloc,
@@ -114,7 +114,7 @@ fn settled<'t>(alloc: Global, text: &'t str, tokens: &'t [Token<'t>]) -> Result<
 #[tactic(auto, using(crate::proofs::IndexTexts::index_spelt, crate::proofs::IndexTexts::index_refused, crate::proofs::IndexTexts::index_tokens_refused))]
 pub fn read_create_index(alloc: Global, text: &str) -> Result<CreateIndex, Fault>
     ensures spelt { IfOk result (λ index. SpellsIndex text.now (index_of index)) }
-    ensures within { IfOk result (λ index. IsWithin columns_of_index text.now (index_of index)) }
+    ensures within { IfOk result (λ index. AreWithinLimits columns_of_index text.now (index_of index)) }
     ensures refused { IfErr result (IsRefusedIndex text.now) }
     ensures long { max_text < length text.now → result ≡ Err Fault.Limit }
 {

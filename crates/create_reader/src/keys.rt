@@ -2,7 +2,7 @@
 ghost use Rattle.std.specs.Prelude.{◌≡◌, ◌<◌, ◌≤◌, IfOk, length, map, option_map, string_bytes};
 ghost use Rattle.create_reader.specs.CreateReading as spec;
 ghost use Rattle.phrases.specs.Steps as steps;
-ghost use Rattle.phrases.specs.Steps.{Gives};
+ghost use Rattle.phrases.specs.Steps.{HasFound};
 ghost use Rattle.phrases.specs.Texts.{lexemes_of};
 ghost use Rattle.create_trees.specs.CreateView.{indexed_of};
 
@@ -19,7 +19,7 @@ fn collation<'t>(
     tokens: &'t [Token<'t>],
     end: usize,
 ) -> Result<(Option<String>, &'t [Token<'t>]), Fault>
-    ensures value { Gives (λ r. (option_map (λ n. string_bytes n) r.0, lexemes_of r.1.now)) result
+    ensures value { HasFound (λ r. (option_map (λ n. string_bytes n) r.0, lexemes_of r.1.now)) result
         (spec.collation (lexemes_of tokens.now)) }
     ensures no_longer { IfOk result (λ r. length r.1.now ≤ length tokens.now) }
 {
@@ -36,7 +36,7 @@ fn indexed_column<'t>(
     tokens: &'t [Token<'t>],
     end: usize,
 ) -> Result<(IndexedColumn, &'t [Token<'t>]), Fault>
-    ensures value { Gives (λ r. (indexed_of r.0, lexemes_of r.1.now)) result (spec.indexed (lexemes_of tokens.now)) }
+    ensures value { HasFound (λ r. (indexed_of r.0, lexemes_of r.1.now)) result (spec.indexed (lexemes_of tokens.now)) }
     ensures shorter { IfOk result (λ r. length r.1.now < length tokens.now) }
 {
     let (name, rest) = name(alloc, tokens, end)?;
@@ -56,7 +56,7 @@ fn indexed_list<'t>(
     tokens: &'t [Token<'t>],
     end: usize,
 ) -> Result<(Vec<IndexedColumn>, &'t [Token<'t>]), Fault>
-    ensures value { Gives (λ r. (map indexed_of r.0.items, lexemes_of r.1.now)) result
+    ensures value { HasFound (λ r. (map indexed_of r.0.items, lexemes_of r.1.now)) result
         (steps.listed spec.indexed (lexemes_of tokens.now)) }
     ensures shorter { IfOk result (λ r. length r.1.now < length tokens.now) }
 {
@@ -77,7 +77,7 @@ pub(crate) fn indexed_columns<'t>(
     tokens: &'t [Token<'t>],
     end: usize,
 ) -> Result<(Vec<IndexedColumn>, &'t [Token<'t>]), Fault>
-    ensures value { Gives (λ r. (map indexed_of r.0.items, lexemes_of r.1.now)) result
+    ensures value { HasFound (λ r. (map indexed_of r.0.items, lexemes_of r.1.now)) result
         (spec.indexed_all (lexemes_of tokens.now)) }
     ensures shorter { IfOk result (λ r. length r.1.now < length tokens.now) }
 {

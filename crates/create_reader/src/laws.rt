@@ -3,7 +3,7 @@ ghost use Rattle.std.specs.Prelude.{◌≡◌, List, ℕ};
 ghost use Rattle.create_reader.specs.CreateGrammar.{SpellsCreate};
 ghost use Rattle.create_reader.specs.IndexTexts.{IsRefusedIndex, SpellsIndex, SpellsIndexAt};
 ghost use Rattle.create_trees.specs.CreateTrees.{IndexTree, TableTree, columns_of_index};
-ghost use Rattle.phrases.specs.Texts.{IsWithin};
+ghost use Rattle.phrases.specs.Texts.{AreWithinLimits};
 ghost use Rattle.values.specs.declared.fault.Fault.{Fault};
 ghost use Rattle.values.specs.declared.fault.Fault.TheVariants.{NoMemory};
 
@@ -22,5 +22,5 @@ pub fn one_index()
 /// A text that spells a CREATE INDEX within the limits is refused by nothing but want of memory.
 pub fn allowed_index_is_taken()
     ensures { (text : List ℕ) (tree : IndexTree) (fault : Fault) → SpellsIndex text tree
-        → IsWithin columns_of_index text tree → IsRefusedIndex text fault → fault ≡ NoMemory }
+        → AreWithinLimits columns_of_index text tree → IsRefusedIndex text fault → fault ≡ NoMemory }
 {}

@@ -1,7 +1,7 @@
 //! What stands behind the columns of a table.
 ghost use Rattle.std.specs.Prelude.{◌≡◌, ◌<◌, IfOk, length};
 ghost use Rattle.create_reader.specs.CreateReading as spec;
-ghost use Rattle.phrases.specs.Steps.{Gives};
+ghost use Rattle.phrases.specs.Steps.{HasFound};
 ghost use Rattle.phrases.specs.Texts.{lexemes_of};
 
 use create_trees::TableOption;
@@ -15,7 +15,7 @@ fn table_option<'t>(
     tokens: &'t [Token<'t>],
     end: usize,
 ) -> Result<(TableOption, &'t [Token<'t>]), Fault>
-    ensures value { Gives (λ r. (r.0, lexemes_of r.1.now)) result (spec.table_option (lexemes_of tokens.now)) }
+    ensures value { HasFound (λ r. (r.0, lexemes_of r.1.now)) result (spec.table_option (lexemes_of tokens.now)) }
     ensures shorter { IfOk result (λ r. length r.1.now < length tokens.now) }
 {
     let [first, rest @ ..] = tokens else {
@@ -39,7 +39,7 @@ pub(crate) fn table_options(
     tokens: &[Token<'_>],
     end: usize,
 ) -> Result<Vec<TableOption>, Fault>
-    ensures { Gives (λ r. r.items) result (spec.table_options (lexemes_of tokens.now)) }
+    ensures { HasFound (λ r. r.items) result (spec.table_options (lexemes_of tokens.now)) }
 {
     let mut options = Vec::new(alloc);
     if tokens.is_empty() {

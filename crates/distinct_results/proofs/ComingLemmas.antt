@@ -7,7 +7,7 @@ use Rattle.image.specs.Pages.{Pages, WhereSteady, pages_seen}
 use Rattle.sources.specs.SourceData.{SourceData}
 use Rattle.scan.specs.Coming.{Asks}
 use Rattle.scan.proofs.ComingLemmas.{Asks-then}
-use Rattle.operators.specs.Basis.{AreStored, Basis, Gives, GivesNext, GivesNone}
+use Rattle.operators.specs.Basis.{AreStored, Basis, GivesRowOrNone, GivesNext, GivesNone}
 use Rattle.operators.proofs.RowLemmas.{Asks-less, at_start}
 use Rattle.results.specs.declared.stream.Results.{Results}
 use Rattle.results.specs.Coming.{IsComing}
@@ -27,7 +27,7 @@ StillComing start sources begun results first now =
 abbrev pub Called : List SourceData → Results → Results → Bool → Row → PagerState → PagerState → Pages → Type 0
 Called sources old new found row now then pages =
     (on : Basis) (rows : List Row) (more : ℕ) → AreStored pages sources on → IsComing pages sources on old rows more
-    → Gives found on.local now more then rows row (IsComing pages sources on new)
+    → GivesRowOrNone found on.local now more then rows row (IsComing pages sources on new)
 
 -- a row is the next, or passed over
 abbrev pub GivesRow : FirstRows → FirstRows → Row → Type 0

@@ -7,7 +7,7 @@ use Rattle.image.specs.Pages.{Pages, WhereSteady, pages_seen}
 use Rattle.sources.specs.SourceData.{SourceData}
 use Rattle.scan.specs.Coming.{Asks}
 use Rattle.scan.proofs.ComingLemmas.{Asks-none, Asks-then}
-use Rattle.operators.specs.Basis.{AreStored, Basis, Gives, GivesNext}
+use Rattle.operators.specs.Basis.{AreStored, Basis, GivesRowOrNone, GivesNext}
 use Rattle.operators.proofs.RowLemmas.{at_start}
 
 -- what gives rows one by one, and what is still to come of it
@@ -25,7 +25,7 @@ module _ {V : Type 0} (IsToCome : Pages → List SourceData → Basis → V → 
   abbrev pub CalledNext : List SourceData → V → V → Bool → Row → PagerState → PagerState → Pages → Type 0
   CalledNext sources old new found row now then pages =
       (on : Basis) (rest : List Row) (more : ℕ) → AreStored pages sources on → IsToCome pages sources on old rest more
-      → Gives found on.local now more then rest row (IsToCome pages sources on new)
+      → GivesRowOrNone found on.local now more then rest row (IsToCome pages sources on new)
 
   module _ (start now : PagerState) (image : SameImage start now) (sources : List SourceData) (begun stream : V) (given : List Row)
       (keeps : Gathering start sources begun stream given now)

@@ -20,7 +20,7 @@ use Rattle.results.specs.Permitted.{SeesRows, computed_rows}
 use Rattle.results.proofs.PermittedLemmas.{results_are}
 use Rattle.distinct_results.specs.Firsts.{firsts}
 use Rattle.distinct_results.specs.Sorted.{IsShownInOrder}
-use Rattle.distinct_results.specs.Permitted.{AreResults, DistinctIsPermitted, IsResult, SortedIsPermitted}
+use Rattle.distinct_results.specs.Permitted.{AreResults, DistinctIsPermitted, IsResultColumn, SortedIsPermitted}
 use Rattle.distinct_results.proofs.FirstLemmas.{firsts_are_once}
 
 module _ (w : Datum) (db : Database) (from : From) (s : Select) (once_each : s.distinct ≡ true) (plan : PlanData) (columns : List Term) (sees : SeesRows w db from s plan columns) where
@@ -50,10 +50,10 @@ keys_alike : (a b : Valuation) (shown first second : Row) (order : List Key) →
     → map (key_value a shown first) order ≡ map (key_value b shown second) order
 keys_alike a b shown first second [] all = refl
 keys_alike a b shown first second (key ∷ order) all =
-    (λ i. alike key.by (All-head (λ (k : Key). IsResult k.by) key order all) i
-    ∷ keys_alike a b shown first second order (All-tail (λ (k : Key). IsResult k.by) key order all) i)
+    (λ i. alike key.by (All-head (λ (k : Key). IsResultColumn k.by) key order all) i
+    ∷ keys_alike a b shown first second order (All-tail (λ (k : Key). IsResultColumn k.by) key order all) i)
   where
-    alike : (by : KeyTerm) → IsResult by
+    alike : (by : KeyTerm) → IsResultColumn by
         → key_value a shown first (record { by = by; direction = key.direction }) ≡ key_value b shown second (record { by = by; direction = key.direction })
     alike (KeyTerm.result at) is = refl
     alike (KeyTerm.term t) is = absurd is

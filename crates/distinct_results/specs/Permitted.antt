@@ -25,12 +25,12 @@ DistinctIsPermitted = (w : Datum) (db : Database) (query : QueryData) (from : Fr
 -- ---- in order
 
 -- behind DISTINCT there is no row to compute a term of ORDER BY on, which so is a result column
-abbrev pub IsResult : KeyTerm → Type 0
-IsResult (KeyTerm.result at) = ⊤
-IsResult (KeyTerm.term t) = ⊥
+abbrev pub IsResultColumn : KeyTerm → Type 0
+IsResultColumn (KeyTerm.result at) = ⊤
+IsResultColumn (KeyTerm.term t) = ⊥
 
 abbrev pub AreResults : List Key → Type 0
-AreResults order = All (λ key. IsResult key.by) order
+AreResults order = All (λ key. IsResultColumn key.by) order
 
 -- a selection over such a plan, with the query's ORDER BY, LIMIT and OFFSET
 pub record IsSortedOver (w : Datum) (db : Database) (query : QueryData) (from : From) (s : Select) (selection : SortedData) : Type 0 where

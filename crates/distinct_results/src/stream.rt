@@ -8,7 +8,7 @@ ghost use Rattle.sources.specs.SourceData.{SourceData};
 ghost use Rattle.expr.specs.View.{term};
 ghost use Rattle.plans.specs.Plan.{rows_of, work};
 ghost use Rattle.plans.specs.PlanView.{plan_data};
-ghost use Rattle.operators.specs.Basis.{AreStored, Basis, Gives, IsOperatorFault};
+ghost use Rattle.operators.specs.Basis.{AreStored, Basis, GivesRowOrNone, IsOperatorFault};
 ghost use Rattle.operators.specs.Left.{IsPlanOf, plan_of, steps};
 ghost use Rattle.results.specs.Coming.{IsResultCause, result_rows, selection_data};
 ghost use Rattle.results.specs.Slices.{sliced};
@@ -78,7 +78,7 @@ impl DistinctResults {
         ensures rows { WhereSteady pager.old.state (λ pages. (on : Basis) (rest : List (List Datum)) (ahead : ℕ) → AreStored pages sources.now on
             → IsDistinctComing pages sources.now on self.old rest ahead
             → MatchResult result
-            (λ found. Gives found on.local pager.old.state ahead pager.new.state rest (map datum_of out.new.items)
+            (λ found. GivesRowOrNone found on.local pager.old.state ahead pager.new.state rest (map datum_of out.new.items)
             (IsDistinctComing pages sources.now on self.new))
             (IsResultCause on (map term self.old.results.columns.items))) }
         ensures done { self.old.first.slice.left ≡ Some 0 → pager.new.state ≡ pager.old.state }

@@ -11,13 +11,13 @@ use Rattle.expr.specs.Meaning.{exact}
 use Rattle.expr.specs.View.{term, terms, arms, arm_terms}
 
 -- the value exactly where there is one, and a stop for overflow exactly where there is none
-abbrev pub Answers : {A B : Type 0} → (A → B) → Result A Stop → Option B → Type 0
-Answers f (Ok a) m = m ≡ Some (f a)
-Answers f (Err Overflow) m = m ≡ None
-Answers f (Err NoMemory) m = Unit {0}
+abbrev pub ComputesAs : {A B : Type 0} → (A → B) → Result A Stop → Option B → Type 0
+ComputesAs f (Ok a) m = m ≡ Some (f a)
+ComputesAs f (Err Overflow) m = m ≡ None
+ComputesAs f (Err NoMemory) m = Unit {0}
 
-abbrev pub Gives : Result Value Stop → Option Datum → Type 0
-Gives = Answers datum_of
+abbrev pub Computes : Result Value Stop → Option Datum → Type 0
+Computes = ComputesAs datum_of
 
 abbrev pub trees : List Expr → Terms
 trees es = terms (map term es)

@@ -8,7 +8,7 @@ ghost use Rattle.expr.specs.Like.{like_of};
 ghost use Rattle.expr.specs.Operations.{any_equal, arithmetic_of, comparison, concat_of, condition, null_if_equal, same, truth};
 ghost use Rattle.expr.specs.View.{term};
 ghost use Rattle.expr.specs.Meaning.{eval, Overflows, and_then, both, compared, or_else, or_otherwise, run_all, run_first, run_arms};
-ghost use Rattle.expr.specs.Contract.{Answers, Gives, trees, arm_trees, value_on};
+ghost use Rattle.expr.specs.Contract.{ComputesAs, Computes, trees, arm_trees, value_on};
 
 use crate::like_operator::like;
 use crate::operations::{
@@ -45,7 +45,7 @@ impl<'a> Evaluator<'a> {
     // Each form has a function of its own: a function pays at its entry for all that it may have to hold.
     #[cycle(eval)]
     fn compute(&self, e: &'a Expr) -> Result<Value, Stop>
-        ensures { Gives result (value_on self.now.row.now e.now) }
+        ensures { Computes result (value_on self.now.row.now e.now) }
     {
         match e {
             Expr::Literal(v) => self.literal(v),
@@ -69,14 +69,14 @@ impl<'a> Evaluator<'a> {
 
     // A literal.
     fn literal(&self, v: &Value) -> Result<Value, Stop>
-        ensures { Gives result (Some (datum_of v.now)) }
+        ensures { Computes result (Some (datum_of v.now)) }
     {
         Ok(v.as_ref().to_value(self.alloc)?)
     }
 
     // The value of a column; NULL where the row is shorter.
     fn column(&self, i: usize) -> Result<Value, Stop>
-        ensures { Gives result (Some (slice_index_or (map datum_of self.now.row.now) i null)) }
+        ensures { Computes result (Some (slice_index_or (map datum_of self.now.row.now) i null)) }
     {
         match self.row.get(i) {
             Some(v) => Ok(v.as_ref().to_value(self.alloc)?),
@@ -87,7 +87,7 @@ impl<'a> Evaluator<'a> {
     // A function of a value.
     #[cycle(eval)]
     fn function_of(&self, f: Function, a: &'a Expr) -> Result<Value, Stop>
-        ensures { Gives result (option_and_then (call_of None f) (value_on self.now.row.now a.now)) }
+        ensures { Computes result (option_and_then (call_of None f) (value_on self.now.row.now a.now)) }
     {
         functions::call(self.alloc, f, &*self.operand(a)?)
     }
@@ -95,7 +95,7 @@ impl<'a> Evaluator<'a> {
     // An operation on two values, most of which stand in the tree or in the row.
     #[cycle(eval)]
     fn operation(&self, op: Arithmetic, a: &'a Expr, b: &'a Expr) -> Result<Value, Stop>
-        ensures { Gives result (both (arithmetic_of None op) (value_on self.now.row.now a.now) (value_on self.now.row.now b.now)) }
+        ensures { Computes result (both (arithmetic_of None op) (value_on self.now.row.now a.now) (value_on self.now.row.now b.now)) }
     {
         match (self.held(a), self.held(b)) {
             (Some(x), Some(y)) => arithmetic(op, x, y),
@@ -106,7 +106,7 @@ impl<'a> Evaluator<'a> {
     // An operation on two values.
     #[cycle(eval)]
     fn operation_of_any(&self, op: Arithmetic, a: &'a Expr, b: &'a Expr) -> Result<Value, Stop>
-        ensures { Gives result (both (arithmetic_of None op) (value_on self.now.row.now a.now) (value_on self.now.row.now b.now)) }
+        ensures { Computes result (both (arithmetic_of None op) (value_on self.now.row.now a.now) (value_on self.now.row.now b.now)) }
     {
         arithmetic(op, &*self.operand(a)?, &*self.operand(b)?)
     }
@@ -114,7 +114,7 @@ impl<'a> Evaluator<'a> {
     // One text behind another.
     #[cycle(eval)]
     fn joined(&self, a: &'a Expr, b: &'a Expr) -> Result<Value, Stop>
-        ensures { Gives result (both (λ x y. Some (concat_of x y)) (value_on self.now.row.now a.now) (value_on self.now.row.now b.now)) }
+        ensures { Computes result (both (λ x y. Some (concat_of x y)) (value_on self.now.row.now a.now) (value_on self.now.row.now b.now)) }
     {
         Ok(concat(self.compute(a)?, &*self.operand(b)?)?)
     }
@@ -122,7 +122,7 @@ impl<'a> Evaluator<'a> {
     // A comparison, also of two values that stand in the tree or in the row.
     #[cycle(eval)]
     fn comparison_of(&self, op: Comparison, a: &'a Expr, b: &'a Expr) -> Result<Value, Stop>
-        ensures { Gives result (option_map condition (compared op (value_on self.now.row.now a.now) (value_on self.now.row.now b.now))) }
+        ensures { Computes result (option_map condition (compared op (value_on self.now.row.now a.now) (value_on self.now.row.now b.now))) }
     {
         match (self.held(a), self.held(b)) {
             (Some(x), Some(y)) => Ok(from_condition(comparison(op, x, y))),
@@ -133,7 +133,7 @@ impl<'a> Evaluator<'a> {
     // A comparison.
     #[cycle(eval)]
     fn comparison_of_any(&self, op: Comparison, a: &'a Expr, b: &'a Expr) -> Result<Value, Stop>
-        ensures { Gives result (option_map condition (compared op (value_on self.now.row.now a.now) (value_on self.now.row.now b.now))) }
+        ensures { Computes result (option_map condition (compared op (value_on self.now.row.now a.now) (value_on self.now.row.now b.now))) }
     {
         Ok(from_condition(comparison(op, &*self.operand(a)?, &*self.operand(b)?)))
     }
@@ -141,7 +141,7 @@ impl<'a> Evaluator<'a> {
     // IS.
     #[cycle(eval)]
     fn is_one(&self, a: &'a Expr, b: &'a Expr) -> Result<Value, Stop>
-        ensures { Gives result (both (λ x y. Some (condition (Some (same x y)))) (value_on self.now.row.now a.now) (value_on self.now.row.now b.now)) }
+        ensures { Computes result (both (λ x y. Some (condition (Some (same x y)))) (value_on self.now.row.now a.now) (value_on self.now.row.now b.now)) }
     {
         Ok(from_condition(Some(is_same(&*self.operand(a)?, &*self.operand(b)?))))
     }
@@ -149,7 +149,7 @@ impl<'a> Evaluator<'a> {
     // AND.
     #[cycle(eval)]
     fn conjunction(&self, a: &'a Expr, b: &'a Expr) -> Result<Value, Stop>
-        ensures { Gives result (and_then (option_map truth (value_on self.now.row.now a.now)) (option_map truth (value_on self.now.row.now b.now))) }
+        ensures { Computes result (and_then (option_map truth (value_on self.now.row.now a.now)) (option_map truth (value_on self.now.row.now b.now))) }
     {
         self.and_then(truth(&*self.operand(a)?), b)
     }
@@ -157,7 +157,7 @@ impl<'a> Evaluator<'a> {
     // OR.
     #[cycle(eval)]
     fn disjunction(&self, a: &'a Expr, b: &'a Expr) -> Result<Value, Stop>
-        ensures { Gives result (or_else (option_map truth (value_on self.now.row.now a.now)) (option_map truth (value_on self.now.row.now b.now))) }
+        ensures { Computes result (or_else (option_map truth (value_on self.now.row.now a.now)) (option_map truth (value_on self.now.row.now b.now))) }
     {
         self.or_else(truth(&*self.operand(a)?), b)
     }
@@ -165,7 +165,7 @@ impl<'a> Evaluator<'a> {
     // BETWEEN.
     #[cycle(eval)]
     fn between(&self, x: &'a Expr, a: &'a Expr, b: &'a Expr) -> Result<Value, Stop>
-        ensures { Gives result (and_then (compared Comparison.Ge (value_on self.now.row.now x.now) (value_on self.now.row.now a.now))
+        ensures { Computes result (and_then (compared Comparison.Ge (value_on self.now.row.now x.now) (value_on self.now.row.now a.now))
             (compared Comparison.Le (value_on self.now.row.now x.now) (value_on self.now.row.now b.now))) }
     {
         let x = self.operand(x)?;
@@ -176,7 +176,7 @@ impl<'a> Evaluator<'a> {
     // IN.
     #[cycle(eval)]
     fn among(&self, x: &'a Expr, items: &'a [Expr]) -> Result<Value, Stop>
-        ensures { Gives result (both (λ v vs. Some (condition (any_equal v vs))) (value_on self.now.row.now x.now)
+        ensures { Computes result (both (λ v vs. Some (condition (any_equal v vs))) (value_on self.now.row.now x.now)
             (run_all None (map datum_of self.now.row.now) (trees items.now))) }
     {
         let x = self.operand(x)?;
@@ -186,7 +186,7 @@ impl<'a> Evaluator<'a> {
     // A CASE without an operand.
     #[cycle(eval)]
     fn choice(&self, arms: &'a [Arm], otherwise: &'a Expr) -> Result<Value, Stop>
-        ensures { Gives result (or_otherwise (run_arms None (map datum_of self.now.row.now) None (arm_trees arms.now)) (value_on self.now.row.now otherwise.now)) }
+        ensures { Computes result (or_otherwise (run_arms None (map datum_of self.now.row.now) None (arm_trees arms.now)) (value_on self.now.row.now otherwise.now)) }
     {
         match self.choose(None, arms)? {
             Some(v) => Ok(v),
@@ -197,7 +197,7 @@ impl<'a> Evaluator<'a> {
     // A CASE with one.
     #[cycle(eval)]
     fn choice_of(&self, x: &'a Expr, arms: &'a [Arm], otherwise: &'a Expr) -> Result<Value, Stop>
-        ensures { Gives result (option_and_then (λ v. or_otherwise (run_arms None (map datum_of self.now.row.now) (Some v) (arm_trees arms.now))
+        ensures { Computes result (option_and_then (λ v. or_otherwise (run_arms None (map datum_of self.now.row.now) (Some v) (arm_trees arms.now))
             (value_on self.now.row.now otherwise.now)) (value_on self.now.row.now x.now)) }
     {
         let x = self.operand(x)?;
@@ -210,7 +210,7 @@ impl<'a> Evaluator<'a> {
     // NULLIF.
     #[cycle(eval)]
     fn null_if(&self, a: &'a Expr, b: &'a Expr) -> Result<Value, Stop>
-        ensures { Gives result (both (λ x y. Some (null_if_equal x y)) (value_on self.now.row.now a.now) (value_on self.now.row.now b.now)) }
+        ensures { Computes result (both (λ x y. Some (null_if_equal x y)) (value_on self.now.row.now a.now) (value_on self.now.row.now b.now)) }
     {
         Ok(null_if_equal(self.compute(a)?, &*self.operand(b)?))
     }
@@ -218,7 +218,7 @@ impl<'a> Evaluator<'a> {
     // LIKE.
     #[cycle(eval)]
     fn likeness(&self, a: &'a Expr, b: &'a Expr) -> Result<Value, Stop>
-        ensures { Gives result (both (λ x y. Some (like_of x y)) (value_on self.now.row.now a.now) (value_on self.now.row.now b.now)) }
+        ensures { Computes result (both (λ x y. Some (like_of x y)) (value_on self.now.row.now a.now) (value_on self.now.row.now b.now)) }
     {
         Ok(like(self.alloc, &*self.operand(a)?, &*self.operand(b)?)?)
     }
@@ -238,7 +238,7 @@ impl<'a> Evaluator<'a> {
     // The value of an operand, which is read and not kept: borrowed where it stands in the tree or in the row.
     #[cycle(eval)]
     fn operand(&self, e: &'a Expr) -> Result<Cow<'a, Value>, Stop>
-        ensures { Answers (λ v. datum_of (cow_value v)) result (value_on self.now.row.now e.now) }
+        ensures { ComputesAs (λ v. datum_of (cow_value v)) result (value_on self.now.row.now e.now) }
     {
         match e {
             Expr::Literal(v) => Ok(Cow::Borrowed(v)),
@@ -253,7 +253,7 @@ impl<'a> Evaluator<'a> {
     // A value against that of an expression.
     #[cycle(eval)]
     fn compare_with(&self, op: Comparison, x: &Value, e: &'a Expr) -> Result<Option<bool>, Stop>
-        ensures { Answers (λ b. b) result (option_map (comparison op (datum_of x.now)) (value_on self.now.row.now e.now)) }
+        ensures { ComputesAs (λ b. b) result (option_map (comparison op (datum_of x.now)) (value_on self.now.row.now e.now)) }
     {
         Ok(comparison(op, x, &*self.operand(e)?))
     }
@@ -261,7 +261,7 @@ impl<'a> Evaluator<'a> {
     // AND, past its left side.
     #[cycle(eval)]
     fn and_then(&self, left: Option<bool>, right: &'a Expr) -> Result<Value, Stop>
-        ensures { Gives result (and_then (Some left) (option_map truth (value_on self.now.row.now right.now))) }
+        ensures { Computes result (and_then (Some left) (option_map truth (value_on self.now.row.now right.now))) }
     {
         if left == Some(false) {
             return Ok(from_condition(left));
@@ -273,7 +273,7 @@ impl<'a> Evaluator<'a> {
     // OR, past its left side.
     #[cycle(eval)]
     fn or_else(&self, left: Option<bool>, right: &'a Expr) -> Result<Value, Stop>
-        ensures { Gives result (or_else (Some left) (option_map truth (value_on self.now.row.now right.now))) }
+        ensures { Computes result (or_else (Some left) (option_map truth (value_on self.now.row.now right.now))) }
     {
         if left == Some(true) {
             return Ok(from_condition(left));
@@ -285,7 +285,7 @@ impl<'a> Evaluator<'a> {
     // BETWEEN, past its lower bound.
     #[cycle(eval)]
     fn and_at_most(&self, above: Option<bool>, x: &Value, high: &'a Expr) -> Result<Value, Stop>
-        ensures { Gives result (and_then (Some above) (option_map (comparison Comparison.Le (datum_of x.now)) (value_on self.now.row.now high.now))) }
+        ensures { Computes result (and_then (Some above) (option_map (comparison Comparison.Le (datum_of x.now)) (value_on self.now.row.now high.now))) }
     {
         if above == Some(false) {
             return Ok(from_condition(above));
@@ -297,7 +297,7 @@ impl<'a> Evaluator<'a> {
     // Whether a value equals one of a list, all of which are computed.
     #[cycle(eval)]
     fn any_equal(&self, x: &Value, items: &'a [Expr]) -> Result<Option<bool>, Stop>
-        ensures { Answers (λ b. b) result (option_map (any_equal (datum_of x.now)) (run_all None (map datum_of self.now.row.now) (trees items.now))) }
+        ensures { ComputesAs (λ b. b) result (option_map (any_equal (datum_of x.now)) (run_all None (map datum_of self.now.row.now) (trees items.now))) }
     {
         let mut found = Some(false);
         for item in items {
@@ -310,7 +310,7 @@ impl<'a> Evaluator<'a> {
     // The first value that is not NULL.
     #[cycle(eval)]
     fn first_value(&self, items: &'a [Expr]) -> Result<Value, Stop>
-        ensures { Gives result (run_first None (map datum_of self.now.row.now) (trees items.now)) }
+        ensures { Computes result (run_first None (map datum_of self.now.row.now) (trees items.now)) }
     {
         for item in items {
             let v = self.compute(item)?;
@@ -324,7 +324,7 @@ impl<'a> Evaluator<'a> {
     // What the first arm of a CASE that holds gives.
     #[cycle(eval)]
     fn choose(&self, operand: Option<&Value>, arms: &'a [Arm]) -> Result<Option<Value>, Stop>
-        ensures { Answers (option_map datum_of) result (run_arms None (map datum_of self.now.row.now) (option_map datum_of (option_copied operand.entry)) (arm_trees arms.now)) }
+        ensures { ComputesAs (option_map datum_of) result (run_arms None (map datum_of self.now.row.now) (option_map datum_of (option_copied operand.entry)) (arm_trees arms.now)) }
     {
         for arm in arms {
             let c = self.operand(&arm.when)?;

@@ -3,7 +3,7 @@ ghost use Rattle.std.specs.Prelude.{◌≡◌, pos, ◌-ℤ◌, neg_ℤ, unsigne
 ghost use Rattle.values.specs.Datum.{datum_of, text};
 ghost use Rattle.expr.specs.Operations.{settle};
 ghost use Rattle.expr.specs.Functions.{text_length, length_of, hex_of, type_name, call_of};
-ghost use Rattle.expr.specs.Contract.{Gives};
+ghost use Rattle.expr.specs.Contract.{Computes};
 
 use crate::Function;
 use crate::operations::{Stop, from_condition, truth};
@@ -12,7 +12,7 @@ use values::Value;
 
 #[tactic(auto, unfolding(crate::specs::Operations::settle))]
 fn negate(x: i64) -> Result<Value, Stop>
-    ensures { Gives result (settle None (neg_ℤ x)) }
+    ensures { Computes result (settle None (neg_ℤ x)) }
 {
     match x.checked_neg() {
         Some(z) => Ok(Value::Int(z)),
@@ -22,7 +22,7 @@ fn negate(x: i64) -> Result<Value, Stop>
 
 #[tactic(auto, unfolding(crate::specs::Operations::settle))]
 fn absolute(x: i64) -> Result<Value, Stop>
-    ensures { Gives result (settle None (pos (unsigned_abs x))) }
+    ensures { Computes result (settle None (pos (unsigned_abs x))) }
 {
     match x.checked_abs() {
         Some(z) => Ok(Value::Int(z)),
@@ -32,14 +32,14 @@ fn absolute(x: i64) -> Result<Value, Stop>
 
 #[tactic(auto, unfolding(crate::specs::Operations::settle))]
 fn complement(x: i64) -> Result<Value, Stop>
-    ensures { Gives result (settle None (neg_ℤ x -ℤ pos 1)) }
+    ensures { Computes result (settle None (neg_ℤ x -ℤ pos 1)) }
 {
     Ok(Value::Int(-1 - x))
 }
 
 #[tactic(auto, unfolding(crate::specs::Operations::settle))]
 fn count(n: usize) -> Result<Value, Stop>
-    ensures { Gives result (settle None (pos n)) }
+    ensures { Computes result (settle None (pos n)) }
 {
     if n <= i64::MAX as usize {
         Ok(Value::Int(n as i64))
@@ -57,7 +57,7 @@ fn text_length(s: &str) -> usize
 
 #[tactic(auto, unfolding(crate::specs::Functions::length_of))]
 fn length(x: &Value) -> Result<Value, Stop>
-    ensures { Gives result (length_of None (datum_of x.now)) }
+    ensures { Computes result (length_of None (datum_of x.now)) }
 {
     match x {
         Value::Text(s) => count(text_length(s.as_str())),
@@ -101,7 +101,7 @@ fn not3(t: Option<bool>) -> Option<bool>
 /// The value of a function.
 #[tactic(auto, unfolding(crate::specs::Functions::call_of))]
 pub fn call(alloc: Global, f: Function, x: &Value) -> Result<Value, Stop>
-    ensures { Gives result (call_of None f (datum_of x.now)) }
+    ensures { Computes result (call_of None f (datum_of x.now)) }
 {
     match (f, x) {
         (Function::Neg, Value::Int(n)) => negate(*n),

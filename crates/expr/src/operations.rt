@@ -3,7 +3,7 @@ ghost use Rattle.std.specs.Prelude.{◌≡◌, ◌≢◌, Some, None, IfOk};
 ghost use Rattle.values.specs.Datum.{datum_of, int};
 ghost use Rattle.values.specs.Order.{datum_cmp};
 ghost use Rattle.expr.specs.Operations.{settle, of_integers, arithmetic_of, comparison, test_of, and3, or3, concat_of, same, is_null, truth, condition, null_if_equal};
-ghost use Rattle.expr.specs.Contract.{Gives};
+ghost use Rattle.expr.specs.Contract.{Computes};
 
 use crate::{Arithmetic, Comparison};
 use std::alloc::AllocError;
@@ -76,7 +76,7 @@ pub fn from_condition(truth: Option<bool>) -> Value
 // Of two whole numbers: truncating division, a remainder with the left side's sign, NULL where the divisor is 0.
 #[tactic(auto, unfolding(crate::specs::Operations::settle, crate::specs::Operations::of_integers))]
 fn of_integers(op: Arithmetic, x: i64, y: i64) -> Result<Value, Stop>
-    ensures { Gives result (of_integers None op x y) }
+    ensures { Computes result (of_integers None op x y) }
 {
     match op {
         Arithmetic::Add => match x.checked_add(y) {
@@ -114,7 +114,7 @@ fn of_integers(op: Arithmetic, x: i64, y: i64) -> Result<Value, Stop>
 /// An operation on two numbers; NULL where a side is none.
 #[tactic(auto, unfolding(crate::specs::Operations::arithmetic_of))]
 pub fn arithmetic(op: Arithmetic, a: &Value, b: &Value) -> Result<Value, Stop>
-    ensures { Gives result (arithmetic_of None op (datum_of a.now) (datum_of b.now)) }
+    ensures { Computes result (arithmetic_of None op (datum_of a.now) (datum_of b.now)) }
 {
     match (a, b) {
         (Value::Int(x), Value::Int(y)) => of_integers(op, *x, *y),

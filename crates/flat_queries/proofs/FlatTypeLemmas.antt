@@ -12,7 +12,7 @@ use Rattle.expr.specs.Types.{HasType, IsOfType}
 use Rattle.expr.proofs.FilledLemmas.{filled_has_type}
 use Rattle.meaning.specs.Body.{answers_in, source_rows}
 use Rattle.meaning.specs.Query.{AggregateFunction, Body, Edge, FrameUnit, From, Grouping, Select, SortTerm, Source, Window, WindowFunction, compound, derived, joined, nothing, schema, select, table, with_inner}
-use Rattle.meaning.specs.Typed.{AggregateGives, AggregateHasType, AnswersHaveTypes, BodyHasTypes, CallHasType, ComputedHasTypes, FitTypes, Fits, FromHasTypes, FunctionHasType, GroupedHasTypes, IsOneNumber, IsTerm, IsWindow, SelectHasTypes, SourceHasTypes, UnitFits}
+use Rattle.meaning.specs.Typed.{AggregateGives, AggregateHasType, AnswersHaveTypes, BodyHasTypes, CallHasType, ComputedHasTypes, FitTypes, FitsCatalog, FromHasTypes, FunctionHasType, GroupedHasTypes, IsOneNumber, IsTerm, IsWindow, SelectHasTypes, SourceHasTypes, UnitFits}
 use Rattle.meaning.proofs.ElementLemmas.{length_all_zip}
 use Rattle.meaning.proofs.TypedLemmas.{answers_typed, body_width-is, source_typed}
 use Rattle.settled_sources.specs.Mapped.{mapped_aggregate, mapped_call, mapped_function, mapped_grouping, mapped_select, mapped_sort, mapped_window}
@@ -212,7 +212,7 @@ module _ (catalog : List (List Ty)) where
 
     -- ---- the query
 
-    module _ (w : Datum) (stand_in : IsOfType Int w) (db : Database) (fits : Fits catalog db) where
+    module _ (w : Datum) (stand_in : IsOfType Int w) (db : Database) (fits : FitsCatalog catalog db) where
       still_answered : (from : From) (answers : List Ty) → AnswersHaveTypes catalog from answers → (columns : List Ty) (t : Term) (ty : Ty) → HasType columns answers t ty
           → HasType columns [] (answered w db from t) ty
       still_answered from answers has columns t ty is =
@@ -244,7 +244,7 @@ module _ (catalog : List (List Ty)) where
             ),
           )
 
-  pub rows_typed : (w : Datum) (stand_in : IsOfType Int w) (db : Database) (fits : Fits catalog db) (sources : List Source) (kinds : List (List Ty))
+  pub rows_typed : (w : Datum) (stand_in : IsOfType Int w) (db : Database) (fits : FitsCatalog catalog db) (sources : List Source) (kinds : List (List Ty))
       → AllZip (SourceHasTypes catalog) sources kinds → AllZip FitTypes kinds (map (source_rows w db) sources)
   rows_typed w stand_in db fits [] [] all = tt
   rows_typed w stand_in db fits [] (types ∷ kinds) all = absurd all
@@ -252,7 +252,7 @@ module _ (catalog : List (List Ty)) where
   rows_typed w stand_in db fits (source ∷ sources) (types ∷ kinds) all =
       (source_typed w stand_in db catalog fits source types all.0, rows_typed w stand_in db fits sources kinds all.1)
 
-  pub flat_typed : (w : Datum) (db : Database) (of : Body) (types : List Ty) → IsOfType Int w → Fits catalog db → BodyHasTypes catalog of types
+  pub flat_typed : (w : Datum) (db : Database) (of : Body) (types : List Ty) → IsOfType Int w → FitsCatalog catalog db → BodyHasTypes catalog of types
       → IsFlatTyped w db catalog of types
   flat_typed w db of types stand_in fits has =
       let kinds = kinds_of of types has in

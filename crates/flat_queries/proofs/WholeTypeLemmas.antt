@@ -16,7 +16,7 @@ use Rattle.meaning.proofs.ElementLemmas.{length_all_zip}
 use Rattle.meaning.proofs.TypedLemmas.{answers_typed, body_width-is}
 use Rattle.meaning.specs.Body.{SameTables, answer_of, answers_in, source_rows}
 use Rattle.meaning.specs.Query.{Body, From, Key, KeyTerm, QueryData, Select, Source, compound, derived, joined, nothing, schema, select, table, with_inner}
-use Rattle.meaning.specs.Typed.{BodyHasTypes, AnswersHaveTypes, FitTypes, Fits, FromHasTypes, HasTypes, IsKeyTerm, IsOrderTerm, SourceHasTypes, schema_types}
+use Rattle.meaning.specs.Typed.{BodyHasTypes, AnswersHaveTypes, FitTypes, FitsCatalog, FromHasTypes, HasTypes, IsKeyTerm, IsOrderTerm, SourceHasTypes, schema_types}
 use Rattle.settled_sources.specs.Mapped.{mapped_key, mapped_key_term, mapped_select}
 use Rattle.flat_queries.proofs.AnswerLemmas.{as_answers, zip_back, zip_front, zip_turned}
 use Rattle.flat_queries.proofs.FinerLemmas.{Finer, finer_chain, finer_left, finer_right, finer_self, finer_term, meets}
@@ -97,7 +97,7 @@ module _ (catalog all : List (List Ty)) (front : (at : ℕ) (types : List Ty) �
       )
   from_finer answers f still place (with_inner from query) types has kinds finer are = from_finer answers f still place from types has kinds finer are
 
-  module _ (w : Datum) (stand_in : IsOfType Int w) (db : Database) (fits : Fits catalog db) where
+  module _ (w : Datum) (stand_in : IsOfType Int w) (db : Database) (fits : FitsCatalog catalog db) where
     still_given : (from : From) (own : List Ty) → AnswersHaveTypes catalog from own → (answers : List (List Datum)) → AllZip IsPermutation (answers_in w db from) answers
         → (columns : List Ty) (t : Term) (ty : Ty) → HasType columns own t ty → HasType columns [] (filled answers t) ty
     still_given from own has answers alike columns t ty is =
@@ -158,7 +158,7 @@ module _ (catalog all : List (List Ty)) (front : (at : ℕ) (types : List Ty) �
 
 -- ---- ORDER BY
 
-module _ (catalog : List (List Ty)) (w : Datum) (stand_in : IsOfType Int w) (db : Database) (fits : Fits catalog db) where
+module _ (catalog : List (List Ty)) (w : Datum) (stand_in : IsOfType Int w) (db : Database) (fits : FitsCatalog catalog db) where
   -- one typing of the sources that may stand for two
   both_kinds : (sources : List Source) (first second : List (List Ty)) → AllZip (SourceHasTypes catalog) sources first → AllZip (SourceHasTypes catalog) sources second
       → (kinds : List (List Ty)) × AllZip (SourceHasTypes catalog) sources kinds × AllZip Coarser first kinds × AllZip Coarser second kinds
@@ -209,7 +209,7 @@ module _ (catalog : List (List Ty)) (w : Datum) (stand_in : IsOfType Int w) (db 
       )
 
   fits_permuted : (kinds : List (List Ty)) (sources : List Source) → AllZip (SourceHasTypes catalog) sources kinds → (other : Database)
-      → SameTables other (with_kept w db sources) → Fits (catalog ++ kinds) other
+      → SameTables other (with_kept w db sources) → FitsCatalog (catalog ++ kinds) other
   fits_permuted kinds sources typed other same =
       let behind = map (source_rows w db) sources in
       let tables = zip_append FitTypes catalog db.tables kinds behind fits.tables (rows_typed catalog w stand_in db fits sources kinds typed) in

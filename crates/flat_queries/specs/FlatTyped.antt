@@ -6,7 +6,7 @@ use Rattle.values.specs.Datum.{Datum}
 use Rattle.values.specs.declared.value.Ty.{Ty}
 use Rattle.meaning.specs.Body.{SameTables}
 use Rattle.meaning.specs.Query.{Body, QueryData}
-use Rattle.meaning.specs.Typed.{BodyHasTypes, Fits, HasTypes, SourceHasTypes}
+use Rattle.meaning.specs.Typed.{BodyHasTypes, FitsCatalog, HasTypes, SourceHasTypes}
 use Rattle.flat_queries.specs.Flat.{flat_body, kept_of, with_kept}
 use Rattle.flat_queries.specs.FlatWith.{AreAnswers, flat_with}
 
@@ -16,7 +16,7 @@ pub record IsFlatTyped (w : Datum) (db : Database) (catalog : List (List Ty)) (o
   pub kinds : List (List Ty)
   pub sources : AllZip (SourceHasTypes catalog) (kept_of of) kinds
   pub typed : BodyHasTypes (catalog ++ kinds) (flat_body w db (length catalog) of) types
-  pub fits : Fits (catalog ++ kinds) (with_kept w db (kept_of of))
+  pub fits : FitsCatalog (catalog ++ kinds) (with_kept w db (kept_of of))
 
 -- The same of a whole query with its ORDER BY, with the values of its inner queries in whichever order, over rows in whichever order.
 -- Where a column of these sources is NULL alone, expressions may take it for one type here and for another there.
@@ -24,4 +24,4 @@ pub record IsFlatQueryTyped (w : Datum) (db : Database) (catalog : List (List Ty
   pub kinds : List (List Ty)
   pub sources : AllZip (SourceHasTypes catalog) (kept_of query.body) kinds
   pub typed : (answers : List (List Datum)) → AreAnswers w db query.body answers → HasTypes (catalog ++ kinds) (flat_with answers (length catalog) query) types
-  pub fits : (other : Database) → SameTables other (with_kept w db (kept_of query.body)) → Fits (catalog ++ kinds) other
+  pub fits : (other : Database) → SameTables other (with_kept w db (kept_of query.body)) → FitsCatalog (catalog ++ kinds) other

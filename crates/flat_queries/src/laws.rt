@@ -10,7 +10,7 @@ ghost use Rattle.meaning.specs.Answer.{Permits};
 ghost use Rattle.meaning.specs.Body.{SameTables, answer_of, body, body_rows};
 ghost use Rattle.meaning.specs.Hits.{BodyHits, Hits, SourceHits};
 ghost use Rattle.meaning.specs.Query.{Body, InnerQuery, QueryData};
-ghost use Rattle.meaning.specs.Typed.{BodyHasTypes, Fits, HasTypes, SourceHasTypes};
+ghost use Rattle.meaning.specs.Typed.{BodyHasTypes, FitsCatalog, HasTypes, SourceHasTypes};
 ghost use Rattle.settled_sources.specs.Within.{IsBodyWithin, IsSourceWithin};
 ghost use Rattle.flat_queries.specs.Examples.{Show, ShowOtherwise, examples};
 ghost use Rattle.flat_queries.specs.Flat.{flat, kept_of, with_kept};
@@ -74,9 +74,9 @@ pub fn parts_come_first()
 /// It is typed as the query is, with its ORDER BY too, over the catalog with the types of those sources' columns behind the tables, over
 /// whose rows their values have these types too.
 pub fn flat_is_typed()
-    ensures body { (w : Datum) (db : Database) (catalog : List (List Ty)) (of : Body) (types : List Ty) → IsOfType Int w → Fits catalog db
+    ensures body { (w : Datum) (db : Database) (catalog : List (List Ty)) (of : Body) (types : List Ty) → IsOfType Int w → FitsCatalog catalog db
         → BodyHasTypes catalog of types → IsFlatTyped w db catalog of types }
-    ensures ordered { (w : Datum) (db : Database) (catalog : List (List Ty)) (query : QueryData) (types : List Ty) → IsOfType Int w → Fits catalog db
+    ensures ordered { (w : Datum) (db : Database) (catalog : List (List Ty)) (query : QueryData) (types : List Ty) → IsOfType Int w → FitsCatalog catalog db
         → HasTypes catalog query types → IsFlatQueryTyped w db catalog query types }
 {}
 

@@ -12,14 +12,14 @@ use Rattle.meaning.specs.Sequence.{keys_cmp}
 use Rattle.meaning.specs.Windows.{edge_key, moved, peer_group, row_at}
 use Rattle.meaning.proofs.KeyLemmas.{keys_cmp_total}
 use Rattle.window_order.specs.declared.peers.PeerGroups.{PeerGroups}
-use Rattle.window_order.specs.Entries.{IsInOrder}
+use Rattle.window_order.specs.Entries.{IsInWindowOrder}
 use Rattle.window_order.specs.Groups.{AreGroups}
 use Rattle.window_order.proofs.GroupLemmas.{keys-as_numbers}
 use Rattle.frames.specs.declared.cuts.Side.{Side}
 use Rattle.frames.specs.declared.cuts.Side.TheVariants.{Start, End}
-use Rattle.frames.specs.Cuts.{IsCut, ahead, is_end}
+use Rattle.frames.specs.Cuts.{CutsPlaces, ahead, is_end}
 
-pub same_cut : (P Q : ℕ → Bool) (n cut : ℕ) → ((k : ℕ) → k < n → Q k ≡ P k) → IsCut P n cut → IsCut Q n cut
+pub same_cut : (P Q : ℕ → Bool) (n cut : ℕ) → ((k : ℕ) → k < n → Q k ≡ P k) → CutsPlaces P n cut → CutsPlaces Q n cut
 same_cut P Q n cut same is = record {
   within = is.within;
   ahead = λ k h. let inside : k < n = omega (arith, h, is.within) in same k inside ∙ is.ahead k h;
@@ -48,7 +48,7 @@ lt_no a b h = grind (arith, nat_tests)
 
 -- the places of the groups before one that there is
 pub cut_at : (ds : List Direction) (keys : List Row) (groups : PeerGroups) → AreGroups ds keys groups → (group : ℤ) (n s : ℕ) → group ≡ pos n → n < length groups.starts.items → get_or groups.starts.items n 0 ≡ s
-    → IsCut (λ k. not (int_le group (pos (peer_group ds keys k)))) (length keys) s
+    → CutsPlaces (λ k. not (int_le group (pos (peer_group ds keys k)))) (length keys) s
 cut_at ds keys groups are group n s is inside start =
     let within : s ≤ length keys = subst (λ t. t ≤ length keys) start (are.within n inside) in
     record {
@@ -104,7 +104,7 @@ le_not_back Greater = refl
 pub up_to_edge : (ds : List Direction) (key edge : Row) → is_le (keys_cmp ds key edge) ≡ not (is_lt (keys_cmp ds edge key))
 up_to_edge ds key edge = le_not_back (keys_cmp ds key edge) ∙ ap (λ c. not (is_lt c)) (sym ((keys_cmp_total ds).antisymm edge key))
 
-module _ (ds : List Direction) (keys : List Row) (up : IsInOrder ds keys) (here : ℕ) (by : ℤ) where
+module _ (ds : List Direction) (keys : List Row) (up : IsInWindowOrder ds keys) (here : ℕ) (by : ℤ) where
   -- what stands before a place that is ahead of an edge is ahead of it
   pub ahead_back : (side : Side) (j k : ℕ) → j ≤ k → k < length keys → ahead side ds FrameUnit.range keys here by k ≡ true → ahead side ds FrameUnit.range keys here by j ≡ true
   ahead_back Start j k low high h = before_too (keys_cmp ds) (keys_cmp_total ds) _ (row_at keys j) (row_at keys k) _ refl (up.rises j k low high) h
@@ -126,13 +126,13 @@ counted : Side → ℤ → ℤ
 counted side z = if is_end side then z +ℤ pos 1 else z
 
 module _ (ds : List Direction) (keys : List Row) (here : ℕ) (by t : ℤ) where
-  pub rows_cut : (side : Side) (cut : ℕ) → t ≡ (if is_end side then (pos here +ℤ by) +ℤ pos 1 else (pos here +ℤ by)) → IsCut (λ k. not (int_le t (pos k))) (length keys) cut
-      → IsCut (ahead side ds FrameUnit.rows keys here by) (length keys) cut
+  pub rows_cut : (side : Side) (cut : ℕ) → t ≡ (if is_end side then (pos here +ℤ by) +ℤ pos 1 else (pos here +ℤ by)) → CutsPlaces (λ k. not (int_le t (pos k))) (length keys) cut
+      → CutsPlaces (ahead side ds FrameUnit.rows keys here by) (length keys) cut
   rows_cut Start cut is h = same_cut _ _ (length keys) cut (λ k inside. ap (λ z. not (int_le z (pos k))) (sym is)) h
   rows_cut End cut is h = same_cut _ _ (length keys) cut (λ k inside. past_number (pos here +ℤ by) k ∙ ap (λ z. not (int_le z (pos k))) (sym is)) h
 
   pub groups_cut : (side : Side) (cut : ℕ) → t ≡ (if is_end side then (pos (peer_group ds keys here) +ℤ by) +ℤ pos 1 else (pos (peer_group ds keys here) +ℤ by))
-      → IsCut (λ k. not (int_le t (pos (peer_group ds keys k)))) (length keys) cut → IsCut (ahead side ds FrameUnit.groups keys here by) (length keys) cut
+      → CutsPlaces (λ k. not (int_le t (pos (peer_group ds keys k)))) (length keys) cut → CutsPlaces (ahead side ds FrameUnit.groups keys here by) (length keys) cut
   groups_cut Start cut is h = same_cut _ _ (length keys) cut (λ k inside. ap (λ z. not (int_le z (pos (peer_group ds keys k)))) (sym is)) h
   groups_cut End cut is h = same_cut _ _ (length keys) cut
       (λ k inside. past_number (pos (peer_group ds keys here) +ℤ by) (peer_group ds keys k) ∙ ap (λ z. not (int_le z (pos (peer_group ds keys k)))) (sym is)) h
@@ -163,9 +163,9 @@ less_numbers a b by is = grind (arith, ints, nat_tests, is)
 not_more_numbers : (a b : ℕ) (by : ℤ) → by ≡ pos 0 → not (is_lt (nat_cmp b a)) ≡ not (int_le ((pos b +ℤ by) +ℤ pos 1) (pos a))
 not_more_numbers a b by is = grind (arith, ints, nat_tests, is)
 
-module _ (ds : List Direction) (keys : List Row) (up : IsInOrder ds keys) (here : ℕ) (inside : here < length keys) (by t : ℤ) (none : by ≡ pos 0) where
+module _ (ds : List Direction) (keys : List Row) (up : IsInWindowOrder ds keys) (here : ℕ) (inside : here < length keys) (by t : ℤ) (none : by ≡ pos 0) where
   pub peers_cut : (side : Side) (cut : ℕ) → t ≡ (if is_end side then (pos (peer_group ds keys here) +ℤ by) +ℤ pos 1 else (pos (peer_group ds keys here) +ℤ by))
-      → IsCut (λ k. not (int_le t (pos (peer_group ds keys k)))) (length keys) cut → IsCut (ahead side ds FrameUnit.range keys here by) (length keys) cut
+      → CutsPlaces (λ k. not (int_le t (pos (peer_group ds keys k)))) (length keys) cut → CutsPlaces (ahead side ds FrameUnit.range keys here by) (length keys) cut
   peers_cut Start cut is h = same_cut _ _ (length keys) cut
       (λ k within. ap (λ e. is_lt (keys_cmp ds (row_at keys k) e)) (edge_here ds by (row_at keys here) none)
       ∙ ap is_lt (keys-as_numbers ds keys up k here within inside) ∙ less_numbers (peer_group ds keys k) (peer_group ds keys here) by none

@@ -7,11 +7,11 @@ use Rattle.std.specs.Ordering.{is_eq, nat_cmp}
 use Rattle.values.specs.Row.{Row}
 use Rattle.meaning.specs.Query.{Direction}
 use Rattle.meaning.specs.Windows.{are_peers, peer_group, unless}
-use Rattle.window_order.specs.Entries.{IsInOrder}
+use Rattle.window_order.specs.Entries.{IsInWindowOrder}
 use Rattle.window_order.proofs.GroupLemmas.{keys-as_numbers}
 use Rattle.frames.specs.declared.excluded.Gap.{Gap}
-use Rattle.frames.specs.Cuts.{IsCut}
-use Rattle.frames.specs.Ranges.{IsTaken, IsUnion, IsWithin}
+use Rattle.frames.specs.Cuts.{CutsPlaces}
+use Rattle.frames.specs.Ranges.{IsTaken, IsUnion, IsRangeOf}
 use Rattle.frames.proofs.CutLemmas.{same_cut}
 
 -- ---- edges
@@ -21,20 +21,20 @@ not_not true = refl
 not_not false = refl
 
 module _ (f : ℕ → ℤ → Bool) (edge : Option ℤ) (n cut : ℕ) where
-  pub start_some : (by : ℤ) → edge ≡ Some by → IsCut (λ k. f k by) n cut → IsCut (λ k. not (unless (λ b. f k b) edge)) n cut
+  pub start_some : (by : ℤ) → edge ≡ Some by → CutsPlaces (λ k. f k by) n cut → CutsPlaces (λ k. not (unless (λ b. f k b) edge)) n cut
   start_some by is h = same_cut _ _ n cut (λ k inside. ap (λ o. not (unless (λ b. f k b) o)) is ∙ not_not (f k by)) h
 
-  pub end_some : (by : ℤ) → edge ≡ Some by → IsCut (λ k. not (f k by)) n cut → IsCut (λ k. unless (λ b. f k b) edge) n cut
+  pub end_some : (by : ℤ) → edge ≡ Some by → CutsPlaces (λ k. not (f k by)) n cut → CutsPlaces (λ k. unless (λ b. f k b) edge) n cut
   end_some by is h = same_cut _ _ n cut (λ k inside. ap (λ o. unless (λ b. f k b) o) is) h
 
-pub start_none : (f : ℕ → ℤ → Bool) (edge : Option ℤ) (n : ℕ) → edge ≡ None → IsCut (λ k. not (unless (λ b. f k b) edge)) n 0
+pub start_none : (f : ℕ → ℤ → Bool) (edge : Option ℤ) (n : ℕ) → edge ≡ None → CutsPlaces (λ k. not (unless (λ b. f k b) edge)) n 0
 start_none f edge n is = record {
   within = omega arith;
   ahead = λ k h. absurd (omega (arith, h));
   behind = λ k low high. ap (λ o. not (unless (λ b. f k b) o)) is;
 }
 
-pub end_none : (f : ℕ → ℤ → Bool) (edge : Option ℤ) (n : ℕ) → edge ≡ None → IsCut (λ k. unless (λ b. f k b) edge) n n
+pub end_none : (f : ℕ → ℤ → Bool) (edge : Option ℤ) (n : ℕ) → edge ≡ None → CutsPlaces (λ k. unless (λ b. f k b) edge) n n
 end_none f edge n is = record {
   within = omega arith;
   ahead = λ k h. ap (λ o. unless (λ b. f k b) o) is;
@@ -63,9 +63,9 @@ order a zero = inr (omega arith)
 order zero (suc b) = inl (omega arith)
 order (suc a) (suc b) = elim (order a b) [ inl h ↦ inl (omega (arith, h)) | inr h ↦ inr (omega (arith, h)) ]
 
-module _ (ds : List Direction) (keys : List Row) (up : IsInOrder ds keys) (here : ℕ) (inside : here < length keys) (t u : ℤ) (first past : ℕ)
+module _ (ds : List Direction) (keys : List Row) (up : IsInWindowOrder ds keys) (here : ℕ) (inside : here < length keys) (t u : ℤ) (first past : ℕ)
     (is : t ≡ pos (peer_group ds keys here)) (next : u ≡ pos (peer_group ds keys here) +ℤ pos 1)
-    (low : IsCut (λ k. not (int_le t (pos (peer_group ds keys k)))) (length keys) first) (high : IsCut (λ k. not (int_le u (pos (peer_group ds keys k)))) (length keys) past) where
+    (low : CutsPlaces (λ k. not (int_le t (pos (peer_group ds keys k)))) (length keys) first) (high : CutsPlaces (λ k. not (int_le u (pos (peer_group ds keys k)))) (length keys) past) where
   peer : (k : ℕ) → k < length keys → (b : Bool) → is_eq (nat_cmp (peer_group ds keys here) (peer_group ds keys k)) ≡ b → are_peers ds keys here k ≡ b
   peer k within b h = ap is_eq (keys-as_numbers ds keys up here k inside within) ∙ h
 
@@ -81,7 +81,7 @@ module _ (ds : List Direction) (keys : List Row) (up : IsInOrder ds keys) (here 
     | inr h ↦ absurd (in_itself (peer_group ds keys here) u next (high.behind here h inside))
   ]
 
-  pub peers_between : IsWithin (are_peers ds keys here) first past (length keys)
+  pub peers_between : IsRangeOf (are_peers ds keys here) first past (length keys)
   peers_between = record {
     ordered = let a = first_is in let b = past_is in omega (arith, a, b);
     within = high.within;
@@ -118,7 +118,7 @@ taken_out true true false p = absurd (false≢true p)
 abbrev pub within_bounds : ℕ → ℕ → ℕ → ℕ
 within_bounds start end x = min (max x start) end
 
-module _ (F T O : ℕ → Bool) (start over size : ℕ) (gap : Gap) (from : IsCut (λ k. not (F k)) size start) (to : IsCut T size over) (out : IsTaken O gap size) where
+module _ (F T O : ℕ → Bool) (start over size : ℕ) (gap : Gap) (from : CutsPlaces (λ k. not (F k)) size start) (to : CutsPlaces T size over) (out : IsTaken O gap size) where
   pub union : IsUnion (λ k. F k && (T k && not (O k)))
       (record { start = start; from = within_bounds start (max over start) gap.first; middle = within_bounds start (max over start) gap.middle; after = within_bounds start (max over start) gap.after; to = within_bounds start (max over start) gap.past; end = max over start })
       size

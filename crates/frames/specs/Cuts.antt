@@ -12,7 +12,7 @@ pub record IsSpan (z : ℤ) : Type 0 where
   pub high : z ≤ℤ pos (2 ^ 64)
 
 -- of so many places those before a cut are such, and no other
-pub record IsCut (P : ℕ → Bool) (size cut : ℕ) : Type 0 where
+pub record CutsPlaces (P : ℕ → Bool) (size cut : ℕ) : Type 0 where
   pub within : cut ≤ size
   pub ahead : (k : ℕ) → k < cut → P k ≡ true
   pub behind : (k : ℕ) → cut ≤ k → k < size → P k ≡ false

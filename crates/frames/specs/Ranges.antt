@@ -4,7 +4,7 @@ use Rattle.frames.specs.declared.excluded.Gap.{Gap}
 use Rattle.frames.specs.declared.ranges.Ranges.{Ranges}
 
 -- of so many places those in a range are in the set, and no other
-pub record IsWithin (S : ℕ → Bool) (first past size : ℕ) : Type 0 where
+pub record IsRangeOf (S : ℕ → Bool) (first past size : ℕ) : Type 0 where
   pub ordered : first ≤ past
   pub within : past ≤ size
   pub before : (k : ℕ) → k < first → S k ≡ false

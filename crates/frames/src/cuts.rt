@@ -5,7 +5,7 @@ ghost use Rattle.meaning.specs.Sequence.{keys_cmp};
 ghost use Rattle.meaning.specs.Query as query;
 ghost use Rattle.query_trees.specs.SelectView.{unit_of};
 ghost use Rattle.window_order.specs.Placed.{keys_in, ways_in};
-ghost use Rattle.frames.specs.Cuts.{IsCut, IsSpan, ahead, is_end};
+ghost use Rattle.frames.specs.Cuts.{CutsPlaces, IsSpan, ahead, is_end};
 
 use crate::edges::compare_to_edge;
 use query_trees::FrameUnit;
@@ -21,14 +21,14 @@ pub(crate) enum Side {
 
 /// The places before a number.
 fn place_cut(count: usize, place: i128) -> usize
-    ensures { IsCut (λ k. not (int_le place (pos k))) count result }
+    ensures { CutsPlaces (λ k. not (int_le place (pos k))) count result }
 {
     place.clamp(0, count as i128) as usize
 }
 
 /// The places of the groups before a number.
 pub(crate) fn group_cut(sequence: &Sequence, group: i128) -> usize
-    ensures { IsCut (λ k. not (int_le group (pos (peer_group (ways_in sequence.now) (keys_in sequence.now) k)))) (length (keys_in sequence.now)) result }
+    ensures { CutsPlaces (λ k. not (int_le group (pos (peer_group (ways_in sequence.now) (keys_in sequence.now) k)))) (length (keys_in sequence.now)) result }
 {
     if group <= 0 {
         return 0;
@@ -72,7 +72,7 @@ fn is_ahead(sequence: &Sequence, side: Side, here: usize, by: i128, at: usize) -
 fn key_cut(sequence: &Sequence, side: Side, here: usize, by: i128) -> usize
     requires here { here < length (keys_in sequence.now) }
     requires span { IsSpan by }
-    ensures { IsCut (ahead side (ways_in sequence.now) query.FrameUnit.range (keys_in sequence.now) here by) (length (keys_in sequence.now)) result }
+    ensures { CutsPlaces (ahead side (ways_in sequence.now) query.FrameUnit.range (keys_in sequence.now) here by) (length (keys_in sequence.now)) result }
 {
     let mut low = 0;
     let mut high = sequence.entries.len();
@@ -102,8 +102,8 @@ fn counted(side: Side, here: usize, by: i128) -> i128
 fn peer_cut(sequence: &Sequence, side: Side, here: usize, by: i128) -> usize
     requires here { here < length (keys_in sequence.now) }
     requires span { IsSpan by }
-    ensures groups { IsCut (ahead side (ways_in sequence.now) query.FrameUnit.groups (keys_in sequence.now) here by) (length (keys_in sequence.now)) result }
-    ensures none { by ≡ pos 0 → IsCut (ahead side (ways_in sequence.now) query.FrameUnit.range (keys_in sequence.now) here by) (length (keys_in sequence.now)) result }
+    ensures groups { CutsPlaces (ahead side (ways_in sequence.now) query.FrameUnit.groups (keys_in sequence.now) here by) (length (keys_in sequence.now)) result }
+    ensures none { by ≡ pos 0 → CutsPlaces (ahead side (ways_in sequence.now) query.FrameUnit.range (keys_in sequence.now) here by) (length (keys_in sequence.now)) result }
 {
     group_cut(sequence, counted(side, sequence.groups.numbers[here], by))
 }
@@ -112,7 +112,7 @@ fn peer_cut(sequence: &Sequence, side: Side, here: usize, by: i128) -> usize
 fn range_cut(sequence: &Sequence, side: Side, here: usize, by: i128) -> usize
     requires here { here < length (keys_in sequence.now) }
     requires span { IsSpan by }
-    ensures { IsCut (ahead side (ways_in sequence.now) query.FrameUnit.range (keys_in sequence.now) here by) (length (keys_in sequence.now)) result }
+    ensures { CutsPlaces (ahead side (ways_in sequence.now) query.FrameUnit.range (keys_in sequence.now) here by) (length (keys_in sequence.now)) result }
 {
     if by == 0 {
         peer_cut(sequence, side, here, by)
@@ -125,7 +125,7 @@ fn range_cut(sequence: &Sequence, side: Side, here: usize, by: i128) -> usize
 fn row_cut(sequence: &Sequence, side: Side, here: usize, by: i128) -> usize
     requires here { here < length (keys_in sequence.now) }
     requires span { IsSpan by }
-    ensures { IsCut (ahead side (ways_in sequence.now) query.FrameUnit.rows (keys_in sequence.now) here by) (length (keys_in sequence.now)) result }
+    ensures { CutsPlaces (ahead side (ways_in sequence.now) query.FrameUnit.rows (keys_in sequence.now) here by) (length (keys_in sequence.now)) result }
 {
     place_cut(sequence.entries.len(), counted(side, here, by))
 }
@@ -134,7 +134,7 @@ fn row_cut(sequence: &Sequence, side: Side, here: usize, by: i128) -> usize
 pub(crate) fn cut(sequence: &Sequence, unit: FrameUnit, side: Side, here: usize, by: i128) -> usize
     requires here { here < length (keys_in sequence.now) }
     requires span { IsSpan by }
-    ensures { IsCut (ahead side (ways_in sequence.now) (unit_of unit) (keys_in sequence.now) here by) (length (keys_in sequence.now)) result }
+    ensures { CutsPlaces (ahead side (ways_in sequence.now) (unit_of unit) (keys_in sequence.now) here by) (length (keys_in sequence.now)) result }
 {
     match unit {
         FrameUnit::Rows => row_cut(sequence, side, here, by),

@@ -3,7 +3,7 @@ ghost use Rattle.std.specs.Prelude.{◌≡◌, ◌<◌, ◌≤◌, ◌==◌, len
 ghost use Rattle.meaning.specs.Windows.{are_peers, excludes};
 ghost use Rattle.query_trees.specs.SelectView.{exclusion_of};
 ghost use Rattle.window_order.specs.Placed.{keys_in, ways_in};
-ghost use Rattle.frames.specs.Ranges.{IsTaken, IsWithin};
+ghost use Rattle.frames.specs.Ranges.{IsTaken, IsRangeOf};
 
 use crate::cuts::group_cut;
 use query_trees::Exclusion;
@@ -21,7 +21,7 @@ pub(crate) struct Gap {
 /// The peers of a row, from the first on and up to the place behind the last.
 fn peers_of(sequence: &Sequence, here: usize) -> (usize, usize)
     requires { here < length (keys_in sequence.now) }
-    ensures peers { IsWithin (are_peers (ways_in sequence.now) (keys_in sequence.now) here) result.0 result.1 (length (keys_in sequence.now)) }
+    ensures peers { IsRangeOf (are_peers (ways_in sequence.now) (keys_in sequence.now) here) result.0 result.1 (length (keys_in sequence.now)) }
     ensures first { result.0 ≤ here }
     ensures last { here < result.1 }
 {

@@ -4,7 +4,7 @@ ghost use Rattle.meaning.specs.Windows.{after_edge, before_edge, in_frame, unles
 ghost use Rattle.meaning.specs.Windows as windows;
 ghost use Rattle.query_trees.specs.SelectView.{edge_of, frame_of, unit_of};
 ghost use Rattle.window_order.specs.Placed.{keys_in, ways_in};
-ghost use Rattle.frames.specs.Cuts.{IsCut};
+ghost use Rattle.frames.specs.Cuts.{CutsPlaces};
 ghost use Rattle.frames.specs.Ranges.{IsUnion};
 
 use crate::cuts::{Side, cut};
@@ -28,7 +28,7 @@ pub struct Ranges {
 /// The first place that an edge leaves in the frame.
 fn start_of(sequence: &Sequence, unit: FrameUnit, edge: Edge, here: usize) -> usize
     requires { here < length (keys_in sequence.now) }
-    ensures { IsCut (λ k. not (unless (λ by. before_edge (ways_in sequence.now) (unit_of unit) (keys_in sequence.now) here by k) (windows.distance (edge_of edge)))) (length (keys_in sequence.now)) result }
+    ensures { CutsPlaces (λ k. not (unless (λ by. before_edge (ways_in sequence.now) (unit_of unit) (keys_in sequence.now) here by k) (windows.distance (edge_of edge)))) (length (keys_in sequence.now)) result }
 {
     match distance(edge) {
         Some(by) => cut(sequence, unit, Side::Start, here, by),
@@ -39,7 +39,7 @@ fn start_of(sequence: &Sequence, unit: FrameUnit, edge: Edge, here: usize) -> us
 /// The place from which on an edge ends the frame.
 fn end_of(sequence: &Sequence, unit: FrameUnit, edge: Edge, here: usize) -> usize
     requires { here < length (keys_in sequence.now) }
-    ensures { IsCut (λ k. unless (λ by. after_edge (ways_in sequence.now) (unit_of unit) (keys_in sequence.now) here by k) (windows.distance (edge_of edge))) (length (keys_in sequence.now)) result }
+    ensures { CutsPlaces (λ k. unless (λ by. after_edge (ways_in sequence.now) (unit_of unit) (keys_in sequence.now) here by k) (windows.distance (edge_of edge))) (length (keys_in sequence.now)) result }
 {
     match distance(edge) {
         Some(by) => cut(sequence, unit, Side::End, here, by),

@@ -18,7 +18,7 @@ use Rattle.syntax.specs.declared.query.Join.TheVariants as j
 use Rattle.grammar.specs.Clauses.{Ends, Joins, Limits, Names, Offsets, Outer, Wants, Whole}
 use Rattle.grammar.specs.Fronts.{Joining, explained, join_at, outer}
 use Rattle.grammar.specs.Queries.{Froms, IsSource, Ons, Orders, Queries, Selects, Sources}
-use Rattle.grammar.specs.Read.{Says}
+use Rattle.grammar.specs.Read.{SaysOfStatement}
 use Rattle.grammar.specs.Reading.{
   Inner,
   a_name,
@@ -339,7 +339,7 @@ module _ (source : ℕ → ℕ → List ℕ) where
       )
 
   -- what an outcome says of the tokens
-  says_by : (d : ℕ) (ts : Rest) (r : Outcome StatementTree) → statement source d ts ≡ r → Says source d ts r
+  says_by : (d : ℕ) (ts : Rest) (r : Outcome StatementTree) → statement source d ts ≡ r → SaysOfStatement source d ts r
   says_by d ts (Ok tree) e = statement_sound d ts tree e
   says_by d ts (Err Refusal.Syntax) e = λ h tree x. elim (cases_lt d h) [
     | inl l ↦ (let i = sym e ∙ (statement_reads source x d ∙ fits_out d h _ l) in absurd cc)
@@ -350,5 +350,5 @@ module _ (source : ℕ → ℕ → List ℕ) where
     | inr l ↦ (let i = sym e ∙ (statement_reads source x d ∙ fits_in d h _ l) in absurd cc)
   ]
 
-  pub says : (d : ℕ) (ts : Rest) → Says source d ts (statement source d ts)
+  pub says : (d : ℕ) (ts : Rest) → SaysOfStatement source d ts (statement source d ts)
   says d ts = says_by d ts (statement source d ts) refl

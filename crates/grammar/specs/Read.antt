@@ -7,7 +7,7 @@ use Rattle.grammar.specs.Statements.{States}
 
 -- With d levels at most: a tree is what the tokens spell; a syntax error is met where they spell nothing, and the limit only
 -- where each statement that they spell has more levels.
-abbrev pub Says : (ℕ → ℕ → List ℕ) → ℕ → Tokens → Outcome StatementTree → Type 0
-Says source d ts (Ok tree) = (h : ℕ) × (h ≤ d) × States source h tree ts
-Says source d ts (Err Refusal.Syntax) = (h : ℕ) (tree : StatementTree) → ¬ States source h tree ts
-Says source d ts (Err Refusal.Limit) = (h : ℕ) (tree : StatementTree) → States source h tree ts → d < h
+abbrev pub SaysOfStatement : (ℕ → ℕ → List ℕ) → ℕ → Tokens → Outcome StatementTree → Type 0
+SaysOfStatement source d ts (Ok tree) = (h : ℕ) × (h ≤ d) × States source h tree ts
+SaysOfStatement source d ts (Err Refusal.Syntax) = (h : ℕ) (tree : StatementTree) → ¬ States source h tree ts
+SaysOfStatement source d ts (Err Refusal.Limit) = (h : ℕ) (tree : StatementTree) → States source h tree ts → d < h

@@ -2,7 +2,7 @@
 ghost use Rattle.std.specs.Prelude.{◌≡◌, List, ℕ};
 ghost use Rattle.grammar.specs.Clauses.{Tokens};
 ghost use Rattle.grammar.specs.Examples.{Examples};
-ghost use Rattle.grammar.specs.Read.{Says};
+ghost use Rattle.grammar.specs.Read.{SaysOfStatement};
 ghost use Rattle.grammar.specs.Reading.{statement};
 ghost use Rattle.grammar.specs.Statements.{States};
 ghost use Rattle.syntax.specs.StatementTree.{StatementTree};
@@ -16,7 +16,7 @@ pub fn one_statement()
 /// The reader on lists is exact: it reads what is spelt, and refuses nothing that is spelt within so many levels.
 pub fn reader_says()
     ensures { (source : ℕ → ℕ → List ℕ) (levels : ℕ) (tokens : Tokens)
-        → Says source levels tokens (statement source levels tokens) }
+        → SaysOfStatement source levels tokens (statement source levels tokens) }
 {}
 
 /// Worked statements.

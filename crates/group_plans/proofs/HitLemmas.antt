@@ -22,7 +22,7 @@ use Rattle.meaning.proofs.HitLemmas.{aggregate_is_hit, column_is_hit, group_is_h
 use Rattle.meaning.proofs.ScanLemmas.{windowed-none}
 use Rattle.expr.proofs.BagLemmas.{IsPermutation-filter}
 use Rattle.plan_terms.specs.Over.{StandsOver}
-use Rattle.plans.specs.Plan.{Hits, PlanData, Reaches, grouped as grouped_plan, kept, rows_of}
+use Rattle.plans.specs.Plan.{Hits, PlanData, ReachesOverflow, grouped as grouped_plan, kept, rows_of}
 use Rattle.plans.proofs.HitLemmas.{any_held}
 use Rattle.row_groups.specs.Gathered.{IsLeaving, ReachesIn, gathered_rows, groups_in_order}
 use Rattle.row_groups.proofs.LawLemmas.{gathered_leave_as_groups}
@@ -33,7 +33,7 @@ use Rattle.group_plans.proofs.SeenLemmas.{from_map, held_map, partner}
 use Rattle.group_plans.proofs.WidthLemmas.{grouped_say, wide_says}
 
 -- where an expression reaches an operation out of range, its term does
-reach_term : (one other : Row) (answers : List (List Datum)) (es ts : List Term) → AllZip (λ e t. exact e one ≡ exact (filled answers t) other) es ts → Reaches es one
+reach_term : (one other : Row) (answers : List (List Datum)) (es ts : List Term) → AllZip (λ e t. exact e one ≡ exact (filled answers t) other) es ts → ReachesOverflow es one
     → (t : Term) × Contains ts t × (exact (filled answers t) other ≡ None)
 reach_term one other answers es ts all reach =
     let held = any_held (λ e. Overflows e one) es reach in
@@ -56,7 +56,7 @@ arguments_stand read inner (e ∷ es) [] all = absurd all
 arguments_stand read inner (e ∷ es) (t ∷ ts) all = (all.0.argument, arguments_stand read inner es ts all.1)
 
 -- a condition alone
-alone_reached : (t : Term) (row : Row) → Reaches (t ∷ []) row → exact t row ≡ None
+alone_reached : (t : Term) (row : Row) → ReachesOverflow (t ∷ []) row → exact t row ≡ None
 alone_reached t row (zero, x, within, is, overflows) = ap (λ e. exact e row) is ∙ overflows
 alone_reached t row (suc k, x, within, is, overflows) = absurd (omega (arith, within))
 
@@ -104,10 +104,10 @@ module _ (w : Datum) (db : Database) (from : From) (s : Select) (g : Grouping) (
       (held_map (group_of value g.by whole) (group_keys value g.by whole) key.0 key_held) one.1
       (sym (result_seen w db from s g read inner below sees over.terms over.by_are over.aggregates_are None key.0 a.0 one.0 one.2) ∙ same ∙ a.2)
 
-  having_hit : Any (Reaches (over.test ∷ [])) (gathered_rows w over.terms (rows_of w db below)) → SelectHits w db from s terms
+  having_hit : Any (ReachesOverflow (over.test ∷ [])) (gathered_rows w over.terms (rows_of w db below)) → SelectHits w db from s terms
   having_hit any =
       let value = values_over w db from in
-      let held = any_held (Reaches (over.test ∷ [])) (gathered_rows w over.terms (rows_of w db below)) any in
+      let held = any_held (ReachesOverflow (over.test ∷ [])) (gathered_rows w over.terms (rows_of w db below)) any in
       let row : Contains (group_rows value w g whole) held.0 =
       Contains-permutation (gathered_rows w over.terms (rows_of w db below)) (group_rows value w g whole) held.0
       (IsPermutation-sym (group_rows value w g whole) (gathered_rows w over.terms (rows_of w db below))
@@ -140,7 +140,7 @@ computed w db from s g is windowless =
 pub grouped_columns_are_hit : GroupedColumnsAreHit
 grouped_columns_are_hit w db from s g terms es read inner below plan is windowless sees over stand any =
     let answers = answers_in w db from in
-    let held = any_held (Reaches es) (rows_of w db plan) any in
+    let held = any_held (ReachesOverflow es) (rows_of w db plan) any in
     let row : Contains (group_rows_kept w db from s g) held.0 =
     Contains-permutation (rows_of w db plan) (group_rows_kept w db from s g) held.0
     (IsPermutation-sym (group_rows_kept w db from s g) (rows_of w db plan) (grouped_has_rows w db from s g read inner below plan sees over)) held.1 in

@@ -12,7 +12,7 @@ use Rattle.meaning.specs.Groups.{kept_groups}
 use Rattle.meaning.specs.Hits.{FromHits, SelectHits, where_rows}
 use Rattle.meaning.specs.Query.{From, Grouping, Select}
 use Rattle.plan_terms.specs.Over.{StandsOver}
-use Rattle.plans.specs.Plan.{Hits, PlanData, Reaches, rows_of}
+use Rattle.plans.specs.Plan.{Hits, PlanData, ReachesOverflow, rows_of}
 use Rattle.group_plans.specs.Grouped.{IsGroupedOver, group_columns}
 
 -- A plan's rows are, in some order, what is seen of those of FROM that WHERE keeps, and an expression over the columns that are
@@ -51,4 +51,4 @@ GroupedIsHit = (w : Datum) (db : Database) (from : From) (s : Select) (g : Group
 abbrev pub GroupedColumnsAreHit : Type 0
 GroupedColumnsAreHit = (w : Datum) (db : Database) (from : From) (s : Select) (g : Grouping) (terms es : List Term) (read : List ℕ) (inner : ℕ) (below plan : PlanData)
     → s.grouping ≡ Some g → s.windows ≡ [] → SeesWhere w db from s read inner below → IsGroupedOver read inner g below plan
-    → AllZip (StandsOver (group_columns g) inner) es (s.columns ++ terms) → Any (Reaches es) (rows_of w db plan) → SelectHits w db from s terms
+    → AllZip (StandsOver (group_columns g) inner) es (s.columns ++ terms) → Any (ReachesOverflow es) (rows_of w db plan) → SelectHits w db from s terms

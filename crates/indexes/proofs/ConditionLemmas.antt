@@ -11,7 +11,7 @@ use Rattle.expr.specs.TermType.{Finds, type_of_term}
 use Rattle.expr.specs.Types.{HasType}
 use Rattle.expr.specs.View.{term}
 use Rattle.expr.specs.declared.tree.Expr.{Expr}
-use Rattle.indexes.specs.Condition.{IsCondition, IsConditionOf, place_from, term_of, terms_of}
+use Rattle.indexes.specs.Condition.{IsIndexCondition, IsConditionOf, place_from, term_of, terms_of}
 use Rattle.naming.specs.Outcome.{also, both}
 use Rattle.schema.proofs.NameLemmas.{tested_name}
 use Rattle.tables.specs.ColumnTypes.{types_of}
@@ -118,10 +118,10 @@ module _ (table : TableData) (e : ExprTree) (t : Term) (types : List Ty) (of : O
 -- what stands behind WHERE can't be one
 pub no_condition_behind : (table : TableData) (e : ExprTree) (fault : Fault)
     → (fault ≡ NoMemory) ⊎ ((condition : Term) → ¬ IsConditionOf table e condition)
-    → (fault ≡ NoMemory) ⊎ ((condition : Option Term) → ¬ IsCondition table (Some e) condition)
+    → (fault ≡ NoMemory) ⊎ ((condition : Option Term) → ¬ IsIndexCondition table (Some e) condition)
 no_condition_behind table e fault (inl none) = inl none
 no_condition_behind table e fault (inr none) = inr other
   where
-    other : (condition : Option Term) → ¬ IsCondition table (Some e) condition
+    other : (condition : Option Term) → ¬ IsIndexCondition table (Some e) condition
     other None is = is
     other (Some condition) is = none condition is

@@ -8,14 +8,14 @@ use Rattle.create_trees.specs.CreateTrees.{IndexedColumnTree, IndexTree}
 use Rattle.create_trees.specs.CreateView.{indexed_of}
 use Rattle.create_trees.specs.declared.create.IndexedColumn.{IndexedColumn}
 use Rattle.expr.specs.Term.{Term}
-use Rattle.indexes.specs.Condition.{IsCondition}
+use Rattle.indexes.specs.Condition.{IsIndexCondition}
 use Rattle.indexes.specs.IndexData.{IndexData, IndexedData}
 use Rattle.indexes.specs.Indexed.{AreIndexed, IsIndex, IsIndexed}
 use Rattle.indexes.specs.Others.{others_of}
 use Rattle.schema.proofs.ListLemmas.{all_zip_push, map_next}
 use Rattle.schema.proofs.NameLemmas.{one_place}
 use Rattle.tables.proofs.ZipLemmas.{zip_same}
-use Rattle.schema.specs.Names.{AreDistinct, IsPlaceOf, IsSameName}
+use Rattle.schema.specs.Names.{AreDistinct, IsNameAt, IsSameName}
 use Rattle.tables.specs.TableData.{ColumnData, TableData}
 use Rattle.syntax.specs.ExprTree.{ExprTree}
 use Rattle.syntax.specs.Tree.{Name}
@@ -28,17 +28,17 @@ module _ (columns : List ColumnData) (name : Name) (i : ℕ) (x : ColumnData) (g
       slice_get-map (λ (c : ColumnData). c.name) columns i
       ∙ ap (option_map (λ (c : ColumnData). c.name)) (slice_get-get_or columns i x within ∙ ap Some (sym is))
 
-  pub place_here : found ≡ true → IsPlaceOf (map (λ c. c.name) columns) name i
+  pub place_here : found ≡ true → IsNameAt (map (λ c. c.name) columns) name i
   place_here some = record { other = x.name; stands = stands; named = subst (λ n. IsSameName n name) e (tested.0 some) }
 
-  pub place_not_here : found ≡ false → ¬ IsPlaceOf (map (λ c. c.name) columns) name i
+  pub place_not_here : found ≡ false → ¬ IsNameAt (map (λ c. c.name) columns) name i
   place_not_here none place =
       let same : place.other ≡ x.name = let p = place.stands in let q = stands in cc in
       let h : found ≡ true = tested.1 (subst (λ n. IsSameName n name) (same ∙ sym e) place.named) in
       cc
 
 pub no_place : (columns : List ColumnData) (name : Name) (count : ℕ) → length columns ≤ count
-    → ((k : ℕ) → k < count → ¬ IsPlaceOf (map (λ c. c.name) columns) name k) → (place : ℕ) → ¬ IsPlaceOf (map (λ c. c.name) columns) name place
+    → ((k : ℕ) → k < count → ¬ IsNameAt (map (λ c. c.name) columns) name k) → (place : ℕ) → ¬ IsNameAt (map (λ c. c.name) columns) name place
 no_place columns name count all none place is =
     let within = slice_get_within (map (λ (c : ColumnData). c.name) columns) place is.other is.stands in
     let long = length-map columns (λ (c : ColumnData). c.name) in
@@ -53,7 +53,7 @@ one_indexed columns distinct tree a b p q =
     let order : a.order ≡ b.order = p.order_is ∙ sym q.order_is in
     λ i. record { place = place i; order = order i }
 
-one_condition : (table : TableData) (tree : Option ExprTree) (a b : Option Term) → IsCondition table tree a → IsCondition table tree b
+one_condition : (table : TableData) (tree : Option ExprTree) (a b : Option Term) → IsIndexCondition table tree a → IsIndexCondition table tree b
     → a ≡ b
 one_condition table None None None p q = refl
 one_condition table None None (Some b) p q = absurd q

@@ -6,7 +6,7 @@ use Rattle.std.specs.List.{AllZip}
 use Rattle.schema.proofs.ListLemmas.{all_from_map, all_zip_push, map_next}
 use Rattle.tables.proofs.ZipLemmas.{zip_same}
 use Rattle.schema.proofs.NameLemmas.{one_place}
-use Rattle.schema.specs.Names.{AreDistinct, IsPlaceOf}
+use Rattle.schema.specs.Names.{AreDistinct, IsNameAt}
 use Rattle.tables.specs.TableData.{ColumnData, TableData}
 use Rattle.syntax.specs.Tree.{Name}
 use Rattle.table_keys.specs.Automatic.{AutomaticData}
@@ -15,7 +15,7 @@ use Rattle.indexes.specs.KeyIndexes.{HasColumn, IsKeyColumn, IsKeyIndex, KeyInde
 use Rattle.indexes.specs.Others.{others_of}
 
 -- a column that is there has a place
-pub some_place : (columns : List ColumnData) (name : Name) (place : Option ℕ) → IfNone place ((k : ℕ) → ¬ IsPlaceOf (map (λ c. c.name) columns) name k)
+pub some_place : (columns : List ColumnData) (name : Name) (place : Option ℕ) → IfNone place ((k : ℕ) → ¬ IsNameAt (map (λ c. c.name) columns) name k)
     → HasColumn columns name → IsSome place
 some_place columns name (Some k) none has = cc
 some_place columns name None none (k, x, within, is, same) =

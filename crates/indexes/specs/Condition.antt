@@ -86,7 +86,7 @@ pub record IsConditionOf (table : TableData) (e : ExprTree) (condition : Term) :
   pub typed : HasType (types_of table) [] condition Int
 
 -- the same of what may stand behind WHERE
-abbrev pub IsCondition : TableData → Option ExprTree → Option Term → Type 0
-IsCondition table None None = Unit {0}
-IsCondition table (Some e) (Some condition) = IsConditionOf table e condition
-IsCondition table _ _ = ⊥
+abbrev pub IsIndexCondition : TableData → Option ExprTree → Option Term → Type 0
+IsIndexCondition table None None = Unit {0}
+IsIndexCondition table (Some e) (Some condition) = IsConditionOf table e condition
+IsIndexCondition table _ _ = ⊥

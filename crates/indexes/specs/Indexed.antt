@@ -2,16 +2,16 @@
 use Rattle.std.specs.Prelude.{◌≡◌, List, map}
 use Rattle.std.specs.List.{AllZip}
 use Rattle.create_trees.specs.CreateTrees.{IndexedColumnTree, IndexTree}
-use Rattle.indexes.specs.Condition.{IsCondition}
+use Rattle.indexes.specs.Condition.{IsIndexCondition}
 use Rattle.indexes.specs.IndexData.{IndexData, IndexedData}
 use Rattle.schema.specs.Created.{IsBinary}
 use Rattle.indexes.specs.Others.{others_of}
-use Rattle.schema.specs.Names.{AreDistinct, IsPlaceOf, IsSameName}
+use Rattle.schema.specs.Names.{AreDistinct, IsNameAt, IsSameName}
 use Rattle.tables.specs.TableData.{ColumnData, TableData}
 
 -- a column of the table, whose texts are compared by their bytes (Indexed column)
 pub record IsIndexed (columns : List ColumnData) (tree : IndexedColumnTree) (indexed : IndexedData) : Type 0 where
-  pub place_is : IsPlaceOf (map (λ c. c.name) columns) tree.name indexed.place
+  pub place_is : IsNameAt (map (λ c. c.name) columns) tree.name indexed.place
   pub order_is : indexed.order ≡ tree.order
   pub binary : IsBinary tree.collation
 
@@ -28,4 +28,4 @@ pub record IsIndex (tree : IndexTree) (table : TableData) (index : IndexData) : 
   pub columns_are : AreIndexed table.columns tree.columns index.columns
   pub others_are : index.others ≡ others_of table.key index.columns
   pub unique_is : index.is_unique ≡ tree.is_unique
-  pub condition_is : IsCondition table tree.condition index.condition
+  pub condition_is : IsIndexCondition table tree.condition index.condition

@@ -5,7 +5,7 @@ use Rattle.std.specs.List.{AllZip, Any}
 use Rattle.create_trees.specs.declared.create.KeyOrder.TheVariants.{Ascending}
 use Rattle.indexes.specs.IndexData.{IndexData, IndexedData}
 use Rattle.indexes.specs.Others.{others_of}
-use Rattle.schema.specs.Names.{IsPlaceOf, IsSameName}
+use Rattle.schema.specs.Names.{IsNameAt, IsSameName}
 use Rattle.tables.specs.TableData.{ColumnData, TableData}
 use Rattle.syntax.specs.Tree.{Name}
 use Rattle.table_keys.specs.Automatic.{AutomaticData}
@@ -26,7 +26,7 @@ HasColumn columns name = Any (λ c. IsSameName c.name name) columns
 
 -- a column of a key, in the order of its values
 pub record IsKeyColumn (columns : List ColumnData) (name : Name) (indexed : IndexedData) : Type 0 where
-  pub place_is : IsPlaceOf (map (λ c. c.name) columns) name indexed.place
+  pub place_is : IsNameAt (map (λ c. c.name) columns) name indexed.place
   pub order_is : indexed.order ≡ Ascending
 
 -- the index for a key of this table, whose number is one of 64 bits

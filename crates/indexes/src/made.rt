@@ -4,11 +4,11 @@ ghost use Rattle.values.specs.declared.fault.Fault.TheVariants.{NoMemory};
 ghost use Rattle.create_trees.specs.CreateView.{index_of, indexed_of};
 ghost use Rattle.expr.specs.Term.{Term};
 ghost use Rattle.expr.specs.View.{term};
-ghost use Rattle.indexes.specs.Condition.{IsCondition};
+ghost use Rattle.indexes.specs.Condition.{IsIndexCondition};
 ghost use Rattle.indexes.specs.IndexData.{IndexedData};
 ghost use Rattle.indexes.specs.Indexed.{AreIndexed, IsIndex};
 ghost use Rattle.indexes.specs.IndexView.{index_data};
-ghost use Rattle.indexes.specs.Refused.{IsRefused};
+ghost use Rattle.indexes.specs.Refused.{IsUnmadeObject};
 ghost use Rattle.schema.specs.Names.{IsSameName};
 ghost use Rattle.statement_trees.specs.TreeView.{expr_of};
 
@@ -49,9 +49,9 @@ fn all_indexed(
 
 /// The condition behind WHERE, if one stands there. Any fault but `NoMemory` says that what stands there is none.
 fn condition(alloc: Global, table: &Table, tree: Option<Tree>) -> Result<Option<Expr>, Fault>
-    ensures made { IfOk result (λ e. IsCondition table.now (option_map expr_of tree) (option_map term e)) }
+    ensures made { IfOk result (λ e. IsIndexCondition table.now (option_map expr_of tree) (option_map term e)) }
     ensures refused { IfErr result (λ fault. (fault ≡ NoMemory)
-        ⊎ ((condition : Option Term) → ¬ IsCondition table.now (option_map expr_of tree) condition)) }
+        ⊎ ((condition : Option Term) → ¬ IsIndexCondition table.now (option_map expr_of tree) condition)) }
 {
     match tree {
         Some(tree) => Ok(Some(conditions::condition(alloc, table, &tree)?)),
@@ -72,7 +72,7 @@ pub fn index_from(
     requires { IsSameName (index_of created).table table.now.name }
     ensures made { IfOk result (λ index. IsIndex (index_of created) table.now (index_data index)) }
     ensures root { IfOk result (λ index. index.root ≡ root) }
-    ensures refused { IfErr result (IsRefused (IsIndex (index_of created) table.now) (index_of created).name) }
+    ensures refused { IfErr result (IsUnmadeObject (IsIndex (index_of created) table.now) (index_of created).name) }
 {
     let CreateIndex {
         name,

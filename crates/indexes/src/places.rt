@@ -5,7 +5,7 @@ ghost use Rattle.create_trees.specs.CreateView.{indexed_of};
 ghost use Rattle.indexes.specs.Condition.{place_from};
 ghost use Rattle.indexes.specs.IndexData.{IndexedData};
 ghost use Rattle.indexes.specs.Indexed.{IsIndexed};
-ghost use Rattle.schema.specs.Names.{AreDistinct, IsPlaceOf, IsSameName};
+ghost use Rattle.schema.specs.Names.{AreDistinct, IsNameAt, IsSameName};
 
 use crate::IndexedColumn;
 use create_trees::IndexedColumn as NamedColumn;
@@ -35,8 +35,8 @@ pub(crate) fn are_distinct(columns: &[NamedColumn]) -> bool
 
 /// The place of the first column of this name.
 pub(crate) fn place_of(columns: &[Column], name: &str) -> Option<usize>
-    ensures found { IfSome result (IsPlaceOf (map (λ c. c.name) columns.now) name.now) }
-    ensures none { IfNone result ((place : ℕ) → ¬ IsPlaceOf (map (λ c. c.name) columns.now) name.now place) }
+    ensures found { IfSome result (IsNameAt (map (λ c. c.name) columns.now) name.now) }
+    ensures none { IfNone result ((place : ℕ) → ¬ IsNameAt (map (λ c. c.name) columns.now) name.now place) }
     ensures first { result ≡ place_from 0 columns.now name.now }
 {
     for (place, column) in columns.iter().enumerate() {

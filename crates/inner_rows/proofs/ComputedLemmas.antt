@@ -16,7 +16,7 @@ use Rattle.meaning.specs.Body.{answer_of, body_rows, source_rows}
 use Rattle.meaning.specs.Hits.{BodyHits, HitsOrdered, SourceHits}
 use Rattle.meaning.specs.Query.{Body, InnerQuery, Key, QueryData, Source, derived}
 use Rattle.operators.specs.Basis.{Basis}
-use Rattle.inner_rows.specs.Computed.{AddsAsMany, AddsRows, AreRowsOf}
+use Rattle.inner_rows.specs.Computed.{AddsAsMany, AddsRows, AreComputedRows}
 use Rattle.inner_rows.specs.InnerView.{InnerData}
 use Rattle.inner_rows.specs.Over.{IsBodyCause, IsInnerCause, IsQueryCause, SomeHits}
 
@@ -54,7 +54,7 @@ module _ (w : Datum) (db : Database) where
   zip_both g xs ys us vs p q =
       subst (λ front. AllZip IsPermutation front (us ++ vs)) (sym (map-append g xs ys)) (AllZip-both IsPermutation (map g xs) (map g ys) us vs p q)
 
-  pub rows_none : AreRowsOf w db [] [] (record { kept = []; answers = [] })
+  pub rows_none : AreComputedRows w db [] [] (record { kept = []; answers = [] })
   rows_none = record { kept = tt; answers = tt }
 
   pub adds_none : (old : InnerData) → AddsRows w db [] [] old old
@@ -67,8 +67,8 @@ module _ (w : Datum) (db : Database) where
       → AddsRows w db others more mid new → AddsRows w db (sources ++ others) (queries ++ more) old new
   adds_then sources others queries more old mid new first then before asked are =
       let all = then (before ++ sources) (asked ++ queries) (first before asked are) in
-      subst (λ (ss : List Source). AreRowsOf w db ss (asked ++ (queries ++ more)) new) (append_assoc before sources others)
-      (subst (λ (qs : List InnerQuery). AreRowsOf w db ((before ++ sources) ++ others) qs new) (append_assoc asked queries more) all)
+      subst (λ (ss : List Source). AreComputedRows w db ss (asked ++ (queries ++ more)) new) (append_assoc before sources others)
+      (subst (λ (qs : List InnerQuery). AreComputedRows w db ((before ++ sources) ++ others) qs new) (append_assoc asked queries more) all)
 
   pub adds_source : (source : Source) (kept : List (List Row)) (rows : List Row) (answers : List (List Datum)) → IsPermutation (source_rows w db source) rows
       → AddsRows w db (source ∷ []) [] (record { kept = kept; answers = answers }) (record { kept = kept ++ rows ∷ []; answers = answers })

@@ -43,9 +43,9 @@ use Rattle.select_plans.specs.Columns.{HaveColumns}
 use Rattle.settled_sources.proofs.TypeLemmas.{typed_within}
 use Rattle.settled_sources.specs.Within.{IsBodyWithin}
 use Rattle.sources.specs.SourceData.{rows_data, sources_of}
-use Rattle.inner_rows.specs.Computed.{AreRowsOf}
+use Rattle.inner_rows.specs.Computed.{AreComputedRows}
 use Rattle.inner_rows.specs.InnerView.{InnerData, kept_rows}
-use Rattle.inner_rows.specs.Over.{AreSaid, IsBodyCause, IsPlanOver, IsQueryCause, basis_over, over_kept}
+use Rattle.inner_rows.specs.Over.{AreSaid, IsBodyCause, IsPlanOverKept, IsQueryCause, basis_over, over_kept}
 use Rattle.inner_rows.specs.Runnable.{IsComputableBody, IsRunnableBody}
 use Rattle.inner_rows.proofs.KeptLemmas.{Lists, kept_are_stored, kept_have_columns, tables_count}
 use Rattle.inner_rows.proofs.RunnableLemmas.{flat_is_served}
@@ -67,7 +67,7 @@ alike [] = tt
 alike (x ∷ xs) = (IsPermutation-refl x, alike xs)
 
 module _ (pages : Pages) (tables : List TableData) (on : Basis) (said : AreSaid pages tables on) (query : QueryData) (inner : InnerData)
-    (are : AreRowsOf on.w on.db (kept_of query.body) (queries_of query.body) inner) (typed : IsTyped (column_types tables) query) where
+    (are : AreComputedRows on.w on.db (kept_of query.body) (queries_of query.body) inner) (typed : IsTyped (column_types tables) query) where
   abbrev flat : QueryData
   flat = flat_with inner.answers (length tables) query
 
@@ -106,7 +106,7 @@ module _ (pages : Pages) (tables : List TableData) (on : Basis) (said : AreSaid 
   wide : AreWideFor db' flat.body
   wide = typed_wide catalog db' (types_of_flat.fits db' same) flat flat_typed
 
-  pub plan_is_over : (planned : PlannedData) → IsPlanFor flat planned → IsPlanOver on query inner.kept planned
+  pub plan_is_over : (planned : PlannedData) → IsPlanFor flat planned → IsPlanOverKept on query inner.kept planned
   plan_is_over planned is = record {
     permits = λ answer answers. flat_with_permits on.w on.db query within db' inner.answers answer same are.answers
         (subst (λ q. Permits on.w db' q answer) (sym flat_at) (is.permits on.w db' answer wide answers));
@@ -135,18 +135,18 @@ module _ (pages : Pages) (tables : List TableData) (on : Basis) (of : Body) wher
   pub plain_typed : IsComputableBody (column_types tables) of → IsTyped (column_types tables) (plain of)
   plain_typed (runs, (types, has)) = (types, record { body = has; order = All-nil _ })
 
-  pub rows_are : (kept : List (List Row)) (planned : PlannedData) → IsPlanOver on (plain of) kept planned → (rows : List Row)
+  pub rows_are : (kept : List (List Row)) (planned : PlannedData) → IsPlanOverKept on (plain of) kept planned → (rows : List Row)
       → IsAnswerOf on.w (over_kept on.db kept) planned rows → IsPermutation (body_rows on.w on.db of) rows
   rows_are kept planned is rows answer = plain_rows on.w on.db of rows (is.permits rows answer)
 
-  pub cause_is : (kept : List (List Row)) (planned : PlannedData) → IsPlanOver on (plain of) kept planned → (plan : PlanData) (e : Fault)
+  pub cause_is : (kept : List (List Row)) (planned : PlannedData) → IsPlanOverKept on (plain of) kept planned → (plan : PlanData) (e : Fault)
       → IsRowCause (basis_over tables on kept plan) planned e → IsBodyCause on of e
   cause_is kept planned is plan e (inl read) = inl read
   cause_is kept planned is plan e (inr (overflows, hits)) = inr (overflows, plain_hits on.w on.db of (is.hits hits))
 
 module _ (pages : Pages) (tables : List TableData) (on : Basis) (said : AreSaid pages tables on) (of : Body) (runs : IsComputableBody (column_types tables) of)
     (kept : Lists) (answers : List (List Datum))
-    (are : AreRowsOf on.w on.db (kept_of of) (queries_of of) (record { kept = kept_rows kept; answers = answers })) where
+    (are : AreComputedRows on.w on.db (kept_of of) (queries_of of) (record { kept = kept_rows kept; answers = answers })) where
   abbrev inner : InnerData
   inner = record { kept = kept_rows kept; answers = answers }
 
@@ -176,7 +176,7 @@ module _ (pages : Pages) (tables : List TableData) (on : Basis) (said : AreSaid 
 
 module _ (pages : Pages) (tables : List TableData) (on : Basis) (said : AreSaid pages tables on) (query : QueryData) (typed : IsTyped (column_types tables) query)
     (runs : IsRunnableBody query.body) (kept : Lists) (answers : List (List Datum))
-    (are : AreRowsOf on.w on.db (kept_of query.body) (queries_of query.body) (record { kept = kept_rows kept; answers = answers })) where
+    (are : AreComputedRows on.w on.db (kept_of query.body) (queries_of query.body) (record { kept = kept_rows kept; answers = answers })) where
   pub whole_found : (e : Fault) → ((catalog : List (List Ty)) → HaveColumns catalog (sources_of tables kept) → IsTyped catalog (flat_with answers (length tables) query)
       → HaveServedForm (flat_with answers (length tables) query).body → e ≡ NoMemory) → IsQueryCause on query e
   whole_found e only =

@@ -20,7 +20,7 @@ use Rattle.meaning.specs.Body.{body_rows}
 use Rattle.meaning.specs.Query.{Body, InnerQuery, derived}
 use Rattle.operators.specs.Basis.{Basis}
 use Rattle.sources.specs.SourceData.{rows_data}
-use Rattle.inner_rows.specs.Computed.{AddsAsMany, AddsRows, AreRowsOf}
+use Rattle.inner_rows.specs.Computed.{AddsAsMany, AddsRows, AreComputedRows}
 use Rattle.inner_rows.specs.InnerView.{InnerData, kept_rows}
 use Rattle.inner_rows.specs.Over.{AreSaid, IsBodyCause}
 use Rattle.inner_rows.specs.Runnable.{AreComputable, IsComputable, IsComputableBody}
@@ -107,20 +107,20 @@ module _ (tables : List TableData) (start : PagerState) where
 -- ---- a body
 
 pub rows_held : (w : Datum) (db : Database) (kept : Lists) (answers : List (Vec Value Global)) → kept ≡ [] → answers ≡ []
-    → AreRowsOf w db [] [] (held kept answers)
+    → AreComputedRows w db [] [] (held kept answers)
 rows_held w db kept answers none nothing =
-    subst (λ (all : Lists). AreRowsOf w db [] [] (held all answers)) (sym none)
-    (subst (λ (all : List (Vec Value Global)). AreRowsOf w db [] [] (held [] all)) (sym nothing) (rows_none w db))
+    subst (λ (all : Lists). AreComputedRows w db [] [] (held all answers)) (sym none)
+    (subst (λ (all : List (Vec Value Global)). AreComputedRows w db [] [] (held [] all)) (sym nothing) (rows_none w db))
 
 module _ (tables : List TableData) (start now : PagerState) (stays : SameImage start now) (of : Body) where
   pub body_gives : (kept : Lists) (answers : List (Vec Value Global)) (new : InnerData) (result : Result (Vec (Vec Value Global) Global) Fault) → kept ≡ [] → answers ≡ []
       → AddsWhere tables start (kept_of of) (queries_of of) (held kept answers) new
-      → GivesWhere tables now of (λ on. AreRowsOf on.w on.db (kept_of of) (queries_of of) new
+      → GivesWhere tables now of (λ on. AreComputedRows on.w on.db (kept_of of) (queries_of of) new
       → MatchResult result (λ rows. IsPermutation (body_rows on.w on.db of) (rows_data rows.items)) (IsBodyCause on of))
       → GivesWhere tables start of (λ on. MatchResult result (λ rows. IsPermutation (body_rows on.w on.db of) (rows_data rows.items)) (IsBodyCause on of))
   body_gives kept answers new result none nothing adds gives = λ steady on said runs.
       at_first start now stays
-      (λ pages. (on : Basis) → AreSaid pages tables on → IsComputableBody (column_types tables) of → AreRowsOf on.w on.db (kept_of of) (queries_of of) new
+      (λ pages. (on : Basis) → AreSaid pages tables on → IsComputableBody (column_types tables) of → AreComputedRows on.w on.db (kept_of of) (queries_of of) new
       → MatchResult result (λ rows. IsPermutation (body_rows on.w on.db of) (rows_data rows.items)) (IsBodyCause on of)) gives
       steady on said runs
       (adds steady on said (computable_parts (column_types tables) of runs) [] [] (rows_held on.w on.db kept answers none nothing))

@@ -15,11 +15,11 @@ pub record AddsAsMany (sources : List Source) (queries : List InnerQuery) (old n
 
 module _ (w : Datum) (db : Database) where
   -- the rows of each of these sources, and the values of each of these queries, of each in whichever order
-  pub record AreRowsOf (sources : List Source) (queries : List InnerQuery) (inner : InnerData) : Type 0 where
+  pub record AreComputedRows (sources : List Source) (queries : List InnerQuery) (inner : InnerData) : Type 0 where
     pub kept : AllZip IsPermutation (map (source_rows w db) sources) inner.kept
     pub answers : AllZip IsPermutation (map (answer_of w db) queries) inner.answers
 
   -- those of these were put behind those of any others
   abbrev pub AddsRows : List Source → List InnerQuery → InnerData → InnerData → Type 0
-  AddsRows sources queries old new = (before : List Source) (asked : List InnerQuery) → AreRowsOf before asked old
-      → AreRowsOf (before ++ sources) (asked ++ queries) new
+  AddsRows sources queries old new = (before : List Source) (asked : List InnerQuery) → AreComputedRows before asked old
+      → AreComputedRows (before ++ sources) (asked ++ queries) new

@@ -14,7 +14,7 @@ use Rattle.tables.specs.TableData.{TableData}
 use Rattle.meaning.specs.Answer.{IsStandIn, Permits}
 use Rattle.meaning.specs.Hits.{BodyHits, Hits, SourceHits}
 use Rattle.meaning.specs.Query.{Body, InnerQuery, QueryData, Source}
-use Rattle.meaning.specs.Typed.{Fits}
+use Rattle.meaning.specs.Typed.{FitsCatalog}
 use Rattle.flat_queries.specs.FlatWith.{body_in}
 use Rattle.plans.specs.Plan.{PlanData}
 use Rattle.sources.specs.SourceData.{sources_of}
@@ -25,7 +25,7 @@ use Rattle.query_plans.specs.Answers.{HitsOf, IsAnswerOf, PlannedData}
 -- tables alone are stored as is said of them, their rows fit their columns, and what stands for results out of range may
 pub record AreSaid (pages : Pages) (tables : List TableData) (on : Basis) : Type 0 where
   pub stored : AreStored pages (sources_of tables []) on
-  pub fits : Fits (column_types tables) on.db
+  pub fits : FitsCatalog (column_types tables) on.db
   pub stand_in : IsStandIn on.w
 
 -- lists of rows stand behind those of the tables
@@ -49,7 +49,7 @@ KeptAreStored = (pages : Pages) (tables : List TableData) (kept : List (Vec (Vec
 
 -- Over the tables and these rows behind them each answer of a plan is one that the query permits, and what the plan reaches the query
 -- can reach.
-pub record IsPlanOver (on : Basis) (query : QueryData) (kept : List (List Row)) (planned : PlannedData) : Type 0 where
+pub record IsPlanOverKept (on : Basis) (query : QueryData) (kept : List (List Row)) (planned : PlannedData) : Type 0 where
   pub permits : (answer : List Row) → IsAnswerOf on.w (over_kept on.db kept) planned answer → Permits on.w on.db query answer
   pub hits : HitsOf on.w (over_kept on.db kept) planned → Hits on.w on.db query
 

@@ -6,7 +6,7 @@ ghost use Rattle.body_trees.specs.BodyView.{body_of, inner_of, joined_of, source
 ghost use Rattle.flat_bodies.specs.FlatView.{kept_among};
 ghost use Rattle.flat_queries.specs.Flat.{kept_in, kept_of, kept_source};
 ghost use Rattle.flat_queries.specs.FlatWith.{body_in, queries_in, queries_of};
-ghost use Rattle.inner_rows.specs.Computed.{AddsAsMany, AddsRows, AreRowsOf};
+ghost use Rattle.inner_rows.specs.Computed.{AddsAsMany, AddsRows, AreComputedRows};
 ghost use Rattle.inner_rows.specs.InnerView.{inner_data};
 ghost use Rattle.inner_rows.specs.Over.{AreSaid, IsBodyCause, IsInnerCause};
 ghost use Rattle.inner_rows.specs.Runnable.{AreComputable, IsComputableBody};
@@ -41,7 +41,7 @@ fn flat_rows<S: pager::Source>(
     requires answers { length inner.now.answers.items ≡ length (queries_of (body_of body.now)) }
     ensures rows { WhereSteady pager.old.state (λ pages. (on : Basis) → AreSaid pages tables.now on
         → IsComputableBody (column_types tables.now) (body_of body.now)
-        → AreRowsOf on.w on.db (kept_of (body_of body.now)) (queries_of (body_of body.now)) (inner_data inner.now)
+        → AreComputedRows on.w on.db (kept_of (body_of body.now)) (queries_of (body_of body.now)) (inner_data inner.now)
         → MatchResult result (λ rows. IsPermutation (body_rows on.w on.db (body_of body.now)) (rows_data rows.items))
         (IsBodyCause on (body_of body.now))) }
     ensures only { IfErr result IsOperatorFault }

@@ -3,7 +3,7 @@ ghost use Rattle.std.specs.Prelude.{◌⊎◌, [], All, IfErr, IfOk, MatchResult
 ghost use Rattle.pager.specs.Calls.{ReadsPages};
 ghost use Rattle.image.specs.Pages.{WhereSteady};
 ghost use Rattle.inner_rows.specs.InnerView.{kept_rows};
-ghost use Rattle.inner_rows.specs.Over.{AreSaid, IsPlanOver, IsQueryCause};
+ghost use Rattle.inner_rows.specs.Over.{AreSaid, IsPlanOverKept, IsQueryCause};
 ghost use Rattle.inner_rows.specs.Runnable.{IsRunnableBody};
 ghost use Rattle.meaning.specs.Typed.{IsTyped};
 ghost use Rattle.operators.specs.Basis.{Basis, IsOperatorFault};
@@ -42,7 +42,7 @@ pub fn kept_plan<S: Source>(
     requires { All (IsRooted pager.old.state.header) (sources_of tables.now []) }
     ensures plan { WhereSteady pager.old.state (λ pages. (on : Basis) → AreSaid pages tables.now on
         → IsTyped (column_types tables.now) (query_data query.now) → IsRunnableBody (query_data query.now).body
-        → MatchResult result (λ p. IsPlanOver on (query_data query.now) (kept_rows p.kept.items) (planned_data p.planned))
+        → MatchResult result (λ p. IsPlanOverKept on (query_data query.now) (kept_rows p.kept.items) (planned_data p.planned))
         (IsQueryCause on (query_data query.now))) }
     ensures over { IfOk result (λ p. IsPlannedOver (sources_of tables.now p.kept.items) (planned_data p.planned)) }
     ensures only { IfErr result IsOperatorFault }

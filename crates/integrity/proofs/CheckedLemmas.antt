@@ -13,7 +13,7 @@ use Rattle.tables.specs.TableData.{IsKeyWithin, RowKeyData, TableData, schema_ta
 use Rattle.tree_walk.specs.declared.counts.TreeCounts.{TreeCounts}
 use Rattle.catalog.proofs.LawLemmas.{row_of_table}
 use Rattle.catalog.specs.CatalogData.{CatalogData}
-use Rattle.catalog.specs.Refused.{IsRefused}
+use Rattle.catalog.specs.Refused.{IsRefusedSchema}
 use Rattle.integrity.specs.Checked.{HasCause, IsCheckFault, IsTableOf, said}
 use Rattle.integrity.specs.Denotes.{HasCatalog, HasTables}
 use Rattle.stored_tables.specs.Tables.{IsAnyStored, IsStoredBy}
@@ -111,21 +111,21 @@ module _ (pages : Pages) where
     broken_table table fault among broken = inr (inl (table, table_of table among, broken))
 
   -- rows that were refused have the condition that a fault says
-  pub refused_rows : (rows : List Row) → HoldsRows pages schema_table rows → (fault : Fault) → IsRefused pages.count rows fault
+  pub refused_rows : (rows : List Row) → HoldsRows pages schema_table rows → (fault : Fault) → IsRefusedSchema pages.count rows fault
       → HasCause pages fault
   refused_rows rows stored NoMemory is = inl (inr refl)
   refused_rows rows stored fault is = inr (inr (inr (inl (rows, stored, is))))
 
-pub refused_here : (n m : ℕ) (rows others : List Row) (fault : Fault) → n ≡ m → rows ≡ others → IsRefused n rows fault
-    → IsRefused m others fault
+pub refused_here : (n m : ℕ) (rows others : List Row) (fault : Fault) → n ≡ m → rows ≡ others → IsRefusedSchema n rows fault
+    → IsRefusedSchema m others fault
 refused_here n m rows others fault same_count same refused =
-    subst (λ (k : ℕ). IsRefused k others fault) same_count (subst (λ (r : List Row). IsRefused n r fault) same refused)
+    subst (λ (k : ℕ). IsRefusedSchema k others fault) same_count (subst (λ (r : List Row). IsRefusedSchema n r fault) same refused)
 
 -- the faults of a check
 pub only_memory : (fault : Fault) → fault ≡ NoMemory → IsCheckFault fault
 only_memory fault is = subst (λ (x : Fault). IsCheckFault x) (sym is) tt
 
-pub refused_only : (n : ℕ) (rows : List Row) (fault : Fault) → IsRefused n rows fault → IsCheckFault fault
+pub refused_only : (n : ℕ) (rows : List Row) (fault : Fault) → IsRefusedSchema n rows fault → IsCheckFault fault
 refused_only n rows NoMemory h = tt
 refused_only n rows SchemaRow h = tt
 refused_only n rows (SchemaText name) h = tt

@@ -28,7 +28,7 @@ use Rattle.meaning.specs.Times.{same_row, times}
 use Rattle.meaning.specs.Windows.{call_result, call_value, frame_rows, numbered, numbered_after, partition_of, row_at, sequence, sequence_cmp, window_result}
 use Rattle.meaning.specs.Body.{Output, answer_of, answers_in, body, body_rows, from_rows, one_if_some, results, rows_of, select_rows, source_rows, values_over}
 use Rattle.meaning.specs.Answer.{IsStandIn, Permits, slice}
-use Rattle.meaning.specs.Typed.{AggregateGives, AggregateHasType, AnswersHaveTypes, BodyHasTypes, CallHasType, ComputedHasTypes, FitTypes, Fits, FromHasTypes, FunctionHasType, GroupedHasTypes, GroupingHasTypes, HasTypes, InnerHasType, SelectHasTypes, SourceHasTypes}
+use Rattle.meaning.specs.Typed.{AggregateGives, AggregateHasType, AnswersHaveTypes, BodyHasTypes, CallHasType, ComputedHasTypes, FitTypes, FitsCatalog, FromHasTypes, FunctionHasType, GroupedHasTypes, GroupingHasTypes, HasTypes, InnerHasType, SelectHasTypes, SourceHasTypes}
 use Rattle.meaning.proofs.AnswerLemmas.{limited-map, skipped-map}
 use Rattle.meaning.proofs.BodyLemmas.{AllZip-append}
 use Rattle.meaning.proofs.ElementLemmas.{All-combined, All-distinct, All-everywhere, All-join, All-limited, All-once, All-skipped, AllZip-both, length_all_zip}
@@ -242,7 +242,7 @@ stand_in_typed (int z) is = refl
 stand_in_typed (text s) is = absurd is
 stand_in_typed (blob b) is = absurd is
 
-module _ (w : Datum) (stand_in : IsOfType Int w) (db : Database) (catalog : List (List Ty)) (fits : Fits catalog db) where
+module _ (w : Datum) (stand_in : IsOfType Int w) (db : Database) (catalog : List (List Ty)) (fits : FitsCatalog catalog db) where
   answered_typed : (types : List Ty) (answers : List (List Datum)) → AllZip AnswerHasType types answers
       → (columns : List Ty) (row : Row) (t : Term) (ty : Ty) → ColumnsFit columns row → HasType columns types t ty → IsOfType ty (with_answers w answers t row)
   answered_typed types answers all columns row t ty fit has =
@@ -313,7 +313,7 @@ Permits-all P w db query rows all p =
     slice-map : (query : QueryData) (ordered : List Output) → slice query (map (λ o. o.row) ordered) ≡ map (λ o. o.row) (slice query ordered)
     slice-map query ordered = rw (skipped-map (λ (o : Output). o.row) query.offset ordered) (limited-map (λ (o : Output). o.row) query.limit _)
 
-pub Permits-typed : (w : Datum) (db : Database) (catalog : List (List Ty)) (query : QueryData) (types : List Ty) (rows : List Row) → IsStandIn w → Fits catalog db
+pub Permits-typed : (w : Datum) (db : Database) (catalog : List (List Ty)) (query : QueryData) (types : List Ty) (rows : List Row) → IsStandIn w → FitsCatalog catalog db
     → HasTypes catalog query types → Permits w db query rows → FitTypes types rows
 Permits-typed w db catalog query types rows stand_in fits has permitted =
     Permits-all (IsRowOf types) w db query rows (body_typed w (stand_in_typed w stand_in) db catalog fits query.body types has.body) permitted

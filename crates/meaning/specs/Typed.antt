@@ -175,6 +175,6 @@ abbrev pub FitTypes : List Ty → List Row → Type 0
 FitTypes types rows = All (λ row. AllZip IsOfType types row) rows
 
 -- the rows of the tables have values of the types of their columns, or NULL
-pub record Fits (catalog : List (List Ty)) (db : Database) : Type 0 where
+pub record FitsCatalog (catalog : List (List Ty)) (db : Database) : Type 0 where
   pub schema : FitTypes schema_types db.schema
   pub tables : AllZip FitTypes catalog db.tables

@@ -15,7 +15,7 @@ ghost use Rattle.meaning.specs.Times.{BagsAreTimes, RulesAreTimes};
 ghost use Rattle.meaning.specs.Windows.{SequenceIsOne};
 ghost use Rattle.meaning.specs.Body.{SameTables, answers_in, body, body_rows, from_rows, source_rows};
 ghost use Rattle.meaning.specs.Answer.{Begins, IsStandIn, Permits, slice};
-ghost use Rattle.meaning.specs.Typed.{AnswersHaveTypes, BodyHasTypes, FitTypes, Fits, FromHasTypes, HasTypes};
+ghost use Rattle.meaning.specs.Typed.{AnswersHaveTypes, BodyHasTypes, FitTypes, FitsCatalog, FromHasTypes, HasTypes};
 ghost use Rattle.meaning.specs.Runs.{JoinedInAnyOrder, RunIsFilter};
 ghost use Rattle.meaning.specs.OneTable.{ScanBegins, ScanIsPermitted, ScanIsTyped, ScanNamesColumns};
 ghost use Rattle.meaning.specs.Hits.{IsChoice};
@@ -62,14 +62,14 @@ pub fn permitted_size()
 /// FROM, which are as wide as its sources together, and the answers of inner queries.
 pub fn values_have_types()
     ensures permitted { (w : Datum) (db : Database) (catalog : List (List Ty)) (query : QueryData) (types : List Ty) (rows : List Row) → IsStandIn w
-        → Fits catalog db → HasTypes catalog query types → Permits w db query rows → FitTypes types rows }
+        → FitsCatalog catalog db → HasTypes catalog query types → Permits w db query rows → FitTypes types rows }
     ensures body { (w : Datum) (db : Database) (catalog : List (List Ty)) (body : Body) (types : List Ty) → IsOfType Int w
-        → Fits catalog db → BodyHasTypes catalog body types → FitTypes types (body_rows w db body) }
+        → FitsCatalog catalog db → BodyHasTypes catalog body types → FitTypes types (body_rows w db body) }
     ensures from { (w : Datum) (db : Database) (catalog : List (List Ty)) (value : Valuation) (answers : List Ty) (from : From) (types : List Ty)
-        → IsOfType Int w → Fits catalog db → FromHasTypes catalog answers from types
+        → IsOfType Int w → FitsCatalog catalog db → FromHasTypes catalog answers from types
         → (from_width from ≡ length types) × FitTypes types (from_rows w db value from) }
     ensures answers { (w : Datum) (db : Database) (catalog : List (List Ty)) (from : From) (types : List Ty) → IsOfType Int w
-        → Fits catalog db → AnswersHaveTypes catalog from types → AllZip (λ of answer. All (IsOfType of) answer) types (answers_in w db from) }
+        → FitsCatalog catalog db → AnswersHaveTypes catalog from types → AllZip (λ of answer. All (IsOfType of) answer) types (answers_in w db from) }
 {}
 
 /// Without ORDER BY every order of the result rows is permitted.

@@ -14,7 +14,7 @@ use Rattle.syntax.specs.ExprTree.{CoreTree, DefinitionTrees, ExprTree, ExprTrees
 use Rattle.syntax.specs.StatementTree.{ItemTree, StatementTree}
 use Rattle.syntax.specs.Tree.{Name}
 use Rattle.naming.specs.Expression.{Answers, Says}
-use Rattle.naming.specs.Laws.{AreDistinct, AreSameSources, DistinctIsSaid, IsSameName, IsWithinLimits, SourcesAreDistinct, TakenIsWithin}
+use Rattle.naming.specs.Laws.{AreDistinctInAnyCase, AreSameSources, DistinctIsSaid, IsSameInAnyCase, IsWithinLimits, SourcesAreDistinct, TakenIsWithin}
 use Rattle.naming.specs.Outcome.{also, each}
 use Rattle.naming.specs.Parts.{inner_trees, parts_behind_groups}
 use Rattle.naming.specs.Places.{Defined, aggregate_of, call_of, columns_say, windows_say}
@@ -161,20 +161,20 @@ pairs_tail R x xs pairs = λ i j d before within. pairs (suc i) (suc j) d (omega
 pairs_none : {X : Type 0} (R : X → X → Type 0) → AllPairs R []
 pairs_none R = λ i j d before within. absurd (omega arith)
 
-apart : (names : List Name) → are_distinct names ≡ true → AreDistinct names
-apart [] e = pairs_none (λ a b. IsSameName b a → ⊥)
+apart : (names : List Name) → are_distinct names ≡ true → AreDistinctInAnyCase names
+apart [] e = pairs_none (λ a b. IsSameInAnyCase b a → ⊥)
 apart (n ∷ ns) e = by (is_among n ns) refl e (apart ns)
   where
-    by : (b : Bool) → is_among n ns ≡ b → (if b then false else are_distinct ns) ≡ true → (are_distinct ns ≡ true → AreDistinct ns) → AreDistinct (n ∷ ns)
+    by : (b : Bool) → is_among n ns ≡ b → (if b then false else are_distinct ns) ≡ true → (are_distinct ns ≡ true → AreDistinctInAnyCase ns) → AreDistinctInAnyCase (n ∷ ns)
     by true is e more = absurd cc
-    by false is e more = AllPairs-cons (λ a b. IsSameName b a → ⊥) n ns (none_pass (λ other. str_eq_ignore_ascii_case other n) ns is) (more e)
+    by false is e more = AllPairs-cons (λ a b. IsSameInAnyCase b a → ⊥) n ns (none_pass (λ other. str_eq_ignore_ascii_case other n) ns is) (more e)
 
-apart_is : (names : List Name) → AreDistinct names → are_distinct names ≡ true
+apart_is : (names : List Name) → AreDistinctInAnyCase names → are_distinct names ≡ true
 apart_is [] pairs = refl
-apart_is (n ∷ ns) pairs = by (is_among n ns) is_none (apart_is ns (pairs_tail (λ a b. IsSameName b a → ⊥) n ns pairs))
+apart_is (n ∷ ns) pairs = by (is_among n ns) is_none (apart_is ns (pairs_tail (λ a b. IsSameInAnyCase b a → ⊥) n ns pairs))
   where
     is_none : is_among n ns ≡ false
-    is_none = pass_none (λ other. str_eq_ignore_ascii_case other n) ns (pairs_head (λ a b. IsSameName b a → ⊥) n ns pairs)
+    is_none = pass_none (λ other. str_eq_ignore_ascii_case other n) ns (pairs_head (λ a b. IsSameInAnyCase b a → ⊥) n ns pairs)
 
     by : (b : Bool) → b ≡ false → are_distinct ns ≡ true → (if b then false else are_distinct ns) ≡ true
     by true e more = absurd cc

@@ -4,7 +4,7 @@ use Rattle.std.specs.Str.{str_eq_ignore_ascii_case}
 use Rattle.values.specs.declared.fault.Fault.TheVariants.{Ambiguous, UnknownColumn}
 use Rattle.expr.specs.Term.{Term}
 use Rattle.syntax.specs.Tree.{Name}
-use Rattle.naming.specs.Laws.{AmbiguousIsTwo, IsCalled, IsCalledAt, IsColumn, NameIsColumn, UnknownIsNone}
+use Rattle.naming.specs.Laws.{AmbiguousIsTwo, IsCalled, IsCalledAt, IsOnlyColumn, NameIsColumn, UnknownIsNone}
 use Rattle.naming.specs.Outcome.{also}
 use Rattle.naming.specs.Scope.{Scope, Shown, bare_term, called, is_bare, is_called, is_source, only, shown_places}
 
@@ -46,7 +46,7 @@ so_is_called (Some table) name shown (source, is, alike, same) = both_and (is_so
 -- what the columns that are called so tell, where the first of the scope has this place
 Tells : Option Name → Name → ℕ → Scope → List (List ℕ) → Type 0
 Tells table name from scope [] = (at : ℕ) → IsCalledAt scope table name at → ⊥
-Tells table name from scope (places ∷ []) = (at : ℕ) × (shown : Shown) × (place : ℕ) × IsColumn scope table name at shown × (place ≡ from + at) × (places ≡ shown_places table place shown)
+Tells table name from scope (places ∷ []) = (at : ℕ) × (shown : Shown) × (place : ℕ) × IsOnlyColumn scope table name at shown × (place ≡ from + at) × (places ≡ shown_places table place shown)
 Tells table name from scope (places ∷ others ∷ rest) = (first second : ℕ) × (first < second) × IsCalledAt scope table name first × IsCalledAt scope table name second
 
 module _ (table : Option Name) (name : Name) where
@@ -115,7 +115,7 @@ module _ (table : Option Name) (name : Name) where
     same_place at one other e d = let both : Some one ≡ Some other = sym e ∙ d in cc
 
     is_column : (t : Term) (found : List (List ℕ)) → Tells table name 0 scope found → also bare_term (only found) ≡ Ok t
-        → (at : ℕ) × (shown : Shown) × IsColumn scope table name at shown × (t ≡ bare_term (shown_places table at shown))
+        → (at : ℕ) × (shown : Shown) × IsOnlyColumn scope table name at shown × (t ≡ bare_term (shown_places table at shown))
     unfolding Tells
     is_column t [] none e = absurd cc
     is_column t (places ∷ []) (at, shown, place, is, sum, same) e =
@@ -125,7 +125,7 @@ module _ (table : Option Name) (name : Name) where
     is_column t (places ∷ others ∷ rest) two e = absurd cc
 
     column_is : (t : Term) (found : List (List ℕ)) → Tells table name 0 scope found
-        → (at : ℕ) × (shown : Shown) × IsColumn scope table name at shown × (t ≡ bare_term (shown_places table at shown)) → also bare_term (only found) ≡ Ok t
+        → (at : ℕ) × (shown : Shown) × IsOnlyColumn scope table name at shown × (t ≡ bare_term (shown_places table at shown)) → also bare_term (only found) ≡ Ok t
     unfolding Tells
     column_is t [] none (at, shown, is, e) = absurd (none at (shown, is.there, is.called))
     column_is t (places ∷ []) (place, column, there, one, sum, same) (at, shown, is, e) =

@@ -3,14 +3,14 @@ use Rattle.std.proofs.Common.{◌≡◌, ◌<◌, Bool, true, false, if◌then�
 use Rattle.std.specs.Str.{str_eq_ignore_ascii_case}
 use Rattle.values.specs.declared.fault.Fault.TheVariants.{UnknownTable}
 use Rattle.syntax.specs.Tree.{Name}
-use Rattle.naming.specs.Laws.{IsFirst, IsNamedAt, IsSameName, NameIsSource, UnknownSourceIsNone}
+use Rattle.naming.specs.Laws.{IsFirst, IsNamedAt, IsSameInAnyCase, NameIsSource, UnknownSourceIsNone}
 use Rattle.naming.specs.Sources.{Known, known_as}
 
 module _ (name : Name) where
   none_here : (known : Known) (rest : List Known) → str_eq_ignore_ascii_case known.name name ≡ false → IsNamedAt (known ∷ rest) name 0 → ⊥
   none_here known rest e (k, there, is) =
       let same : known ≡ k = cc in
-      let differ : true ≡ false = sym (subst (λ k. IsSameName k.name name) (sym same) is) ∙ e in absurd cc
+      let differ : true ≡ false = sym (subst (λ k. IsSameInAnyCase k.name name) (sym same) is) ∙ e in absurd cc
 
   found_first : (known : List Known) (k : Known) → known_as known name ≡ Ok k → (at : ℕ) × IsFirst known name at k
   found_first [] k e = absurd cc
@@ -24,7 +24,7 @@ module _ (name : Name) where
           → (known_as rest name ≡ Ok k → (at : ℕ) × IsFirst rest name at k) → (at : ℕ) × IsFirst (known ∷ rest) name at k
       by true is e more =
           let same : known ≡ k = cc in
-          (0, record { there = cc; named = subst (λ k. IsSameName k.name name) same is; first = λ other below. absurd (omega arith) })
+          (0, record { there = cc; named = subst (λ k. IsSameInAnyCase k.name name) same is; first = λ other below. absurd (omega arith) })
       by false is e more =
           let (at, later) = more e in
           (suc at, record { there = later.there; named = later.named; first = first is at later })

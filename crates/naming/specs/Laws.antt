@@ -24,22 +24,22 @@ use Rattle.naming.specs.Typed.{Table, Types, column_types, known_tables}
 use Rattle.naming.specs.Types.{term_type}
 
 -- two names are the same where they differ in ASCII case alone
-abbrev pub IsSameName : Name → Name → Type 0
-IsSameName a b = str_eq_ignore_ascii_case a b ≡ true
+abbrev pub IsSameInAnyCase : Name → Name → Type 0
+IsSameInAnyCase a b = str_eq_ignore_ascii_case a b ≡ true
 
 -- ---- columns
 
 -- a column is called so by its bare name, where it has one, or behind the name of its source
 abbrev pub IsCalled : Option Name → Name → Shown → Type 0
-IsCalled None name shown = (shown.places ≢ []) × IsSameName shown.name name
-IsCalled (Some table) name shown = (source : Name) × (shown.source ≡ Some source) × IsSameName source table × IsSameName shown.name name
+IsCalled None name shown = (shown.places ≢ []) × IsSameInAnyCase shown.name name
+IsCalled (Some table) name shown = (source : Name) × (shown.source ≡ Some source) × IsSameInAnyCase source table × IsSameInAnyCase shown.name name
 
 -- the column at a place of the row is
 abbrev pub IsCalledAt : Scope → Option Name → Name → ℕ → Type 0
 IsCalledAt scope table name at = (shown : Shown) × (slice_get scope at ≡ Some shown) × IsCalled table name shown
 
 -- the name stands for the column at this place: no other one is called so
-pub record IsColumn (scope : Scope) (table : Option Name) (name : Name) (at : ℕ) (shown : Shown) : Type 0 where
+pub record IsOnlyColumn (scope : Scope) (table : Option Name) (name : Name) (at : ℕ) (shown : Shown) : Type 0 where
   pub there : slice_get scope at ≡ Some shown
   pub called : IsCalled table name shown
   pub alone : (other : ℕ) → IsCalledAt scope table name other → other ≡ at
@@ -49,7 +49,7 @@ pub record IsColumn (scope : Scope) (table : Option Name) (name : Name) (at : �
 abbrev pub NameIsColumn : Type 0
 NameIsColumn = (scope : Scope) (table : Option Name) (name : Name) (t : Term)
     → (column_of scope table name ≡ Ok t)
-    ↔ ((at : ℕ) × (shown : Shown) × IsColumn scope table name at shown × (t ≡ bare_term (shown_places table at shown)))
+    ↔ ((at : ℕ) × (shown : Shown) × IsOnlyColumn scope table name at shown × (t ≡ bare_term (shown_places table at shown)))
 
 -- it is unknown exactly where no column is called so
 abbrev pub UnknownIsNone : Type 0
@@ -65,12 +65,12 @@ AmbiguousIsTwo = (scope : Scope) (table : Option Name) (name : Name)
 -- ---- sources
 
 abbrev pub IsNamedAt : List Known → Name → ℕ → Type 0
-IsNamedAt known name at = (k : Known) × (slice_get known at ≡ Some k) × IsSameName k.name name
+IsNamedAt known name at = (k : Known) × (slice_get known at ≡ Some k) × IsSameInAnyCase k.name name
 
 -- the first that is named so, so that an item of WITH hides a table
 pub record IsFirst (known : List Known) (name : Name) (at : ℕ) (k : Known) : Type 0 where
   pub there : slice_get known at ≡ Some k
-  pub named : IsSameName k.name name
+  pub named : IsSameInAnyCase k.name name
   pub first : (other : ℕ) → other < at → ¬ IsNamedAt known name other
 
 abbrev pub NameIsSource : Type 0
@@ -120,16 +120,16 @@ abbrev pub TakenIsWithin : Type 0
 TakenIsWithin = (tables : List Table) (tree : StatementTree) (n : Named) → Types tables tree n → IsWithinLimits n
 
 -- no two of the names are the same
-abbrev pub AreDistinct : List Name → Type 0
-AreDistinct = AllPairs (λ a b. ¬ IsSameName b a)
+abbrev pub AreDistinctInAnyCase : List Name → Type 0
+AreDistinctInAnyCase = AllPairs (λ a b. ¬ IsSameInAnyCase b a)
 
 -- the items of WITH, the columns of an item and the windows of a SELECT pass exactly where no two have one name
 abbrev pub DistinctIsSaid : Type 0
-DistinctIsSaid = (names : List Name) → (are_distinct names ≡ true) ↔ AreDistinct names
+DistinctIsSaid = (names : List Name) → (are_distinct names ≡ true) ↔ AreDistinctInAnyCase names
 
 -- two sources are called the same, where both have names
 abbrev pub AreSameSources : Option Name → Option Name → Type 0
-AreSameSources (Some a) (Some b) = IsSameName b a
+AreSameSources (Some a) (Some b) = IsSameInAnyCase b a
 AreSameSources a b = ⊥
 
 -- no two sources of a FROM that is taken are called the same

@@ -54,5 +54,5 @@ abbrev pub Types : List Table → StatementTree → Named → Type 0
 Types tables tree query = typed_query tables tree ≡ Ok query
 
 -- why it is none
-abbrev pub IsRefused : List Table → StatementTree → Fault → Type 0
-IsRefused tables tree fault = (fault ≡ NoMemory) ⊎ (typed_query tables tree ≡ Err fault)
+abbrev pub IsNoQuery : List Table → StatementTree → Fault → Type 0
+IsNoQuery tables tree fault = (fault ≡ NoMemory) ⊎ (typed_query tables tree ≡ Err fault)

@@ -9,7 +9,7 @@ ghost use Rattle.naming.specs.Laws.{DistinctIsSaid, MismatchIsUntyped, SameIsEqu
 ghost use Rattle.naming.specs.RefusedExamples.{RefusedFrames, RefusedNames, RefusedPlaces, RefusedTypes};
 ghost use Rattle.naming.specs.Statement.{Named};
 ghost use Rattle.naming.specs.TakenExamples.{TakenStatements};
-ghost use Rattle.naming.specs.Typed.{IsRefused, Table, Types, column_types};
+ghost use Rattle.naming.specs.Typed.{IsNoQuery, Table, Types, column_types};
 
 /// Statements over two tables that are refused, each by its fault.
 pub fn refused_statements()
@@ -33,7 +33,7 @@ pub fn one_query()
 /// A statement that is refused for another reason than want of memory is no query.
 pub fn refused_is_no_query()
     ensures { (tables : List Table) (tree : StatementTree) (fault : Fault) (query : Named)
-        → IsRefused tables tree fault → fault ≢ NoMemory → ¬ Types tables tree query }
+        → IsNoQuery tables tree fault → fault ≢ NoMemory → ¬ Types tables tree query }
 {}
 
 /// The query of a statement is typed as the meaning of queries says, over the types of the tables' columns.

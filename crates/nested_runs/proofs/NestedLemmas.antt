@@ -10,7 +10,7 @@ use Rattle.values.proofs.SinkLemmas.{Appends-none}
 use Rattle.image.specs.Pages.{Pages}
 use Rattle.inner_rows.proofs.KeptLemmas.{kept_are_stored}
 use Rattle.inner_rows.specs.InnerView.{kept_rows}
-use Rattle.inner_rows.specs.Over.{AreSaid, IsPlanOver, IsQueryCause, basis_over}
+use Rattle.inner_rows.specs.Over.{AreSaid, IsPlanOverKept, IsQueryCause, basis_over}
 use Rattle.meaning.proofs.AnswerLemmas.{Begins-empty}
 use Rattle.meaning.specs.Query.{QueryData}
 use Rattle.nested_runs.specs.Writes.{IsNestedCause, WritesBeginning, WritesPermitted}
@@ -22,20 +22,20 @@ use Rattle.runs.specs.Runs.{WritesAnswer}
 use Rattle.runs.specs.Runs as runs
 use Rattle.runs.proofs.GivenLemmas.{not_operators}
 use Rattle.sources.proofs.StepLemmas.{tables_alone}
-use Rattle.sources.specs.Coming.{IsStored}
+use Rattle.sources.specs.Coming.{IsStoredSource}
 use Rattle.sources.specs.SourceData.{of_rows, of_table, rows_data, sources_of}
 use Rattle.tables.specs.TableData.{TableData}
 
 -- kept rows are there
-kept_stored : (pages : Pages) (kept : List (Vec (Vec Value Global) Global)) → All (IsStored pages) (map (λ rows. of_rows (rows_data rows.items)) kept)
-kept_stored pages [] = All-nil (IsStored pages)
-kept_stored pages (rows ∷ kept) = All-cons (IsStored pages) (of_rows (rows_data rows.items)) (map (λ rows. of_rows (rows_data rows.items)) kept) tt (kept_stored pages kept)
+kept_stored : (pages : Pages) (kept : List (Vec (Vec Value Global) Global)) → All (IsStoredSource pages) (map (λ rows. of_rows (rows_data rows.items)) kept)
+kept_stored pages [] = All-nil (IsStoredSource pages)
+kept_stored pages (rows ∷ kept) = All-cons (IsStoredSource pages) (of_rows (rows_data rows.items)) (map (λ rows. of_rows (rows_data rows.items)) kept) tt (kept_stored pages kept)
 
 -- where tables are stored, so are they with rows behind them
-pub stored_behind : (pages : Pages) (tables : List TableData) (kept : List (Vec (Vec Value Global) Global)) → All (IsStored pages) (sources_of tables [])
-    → All (IsStored pages) (sources_of tables kept)
+pub stored_behind : (pages : Pages) (tables : List TableData) (kept : List (Vec (Vec Value Global) Global)) → All (IsStoredSource pages) (sources_of tables [])
+    → All (IsStoredSource pages) (sources_of tables kept)
 stored_behind pages tables kept all =
-    All-append (IsStored pages) (map of_table tables) (map (λ rows. of_rows (rows_data rows.items)) kept) (subst (All (IsStored pages)) (tables_alone tables) all)
+    All-append (IsStoredSource pages) (map of_table tables) (map (λ rows. of_rows (rows_data rows.items)) kept) (subst (All (IsStoredSource pages)) (tables_alone tables) all)
     (kept_stored pages kept)
 
 -- nothing was written, as a query in it stopped
@@ -53,7 +53,7 @@ stopped_before pages tables query state fault only cause = record {
     as_nested on (inr hits) = inr hits
 
 module _ (pages : Pages) (tables : List TableData) (query : QueryData) (kept : List (Vec (Vec Value Global) Global)) (planned : PlannedData)
-    (plan : (on : Basis) → AreSaid pages tables on → IsPlanOver on query (kept_rows kept) planned) where
+    (plan : (on : Basis) → AreSaid pages tables on → IsPlanOverKept on query (kept_rows kept) planned) where
   over : Basis → Basis
   over on = basis_over tables on (kept_rows kept) once
 
@@ -93,7 +93,7 @@ WritesOver pages tables kept planned old new result =
     MatchResult result (WritesAnswer pages (sources_of tables kept) planned old new) (runs.WritesBeginning pages (sources_of tables kept) planned old new)
 
 pub wrote_over : (pages : Pages) (tables : List TableData) (query : QueryData) (kept : List (Vec (Vec Value Global) Global)) (planned : PlannedData)
-    → ((on : Basis) → AreSaid pages tables on → IsPlanOver on query (kept_rows kept) planned) → (old new : SinkFacts) (result : Result ℕ Fault)
+    → ((on : Basis) → AreSaid pages tables on → IsPlanOverKept on query (kept_rows kept) planned) → (old new : SinkFacts) (result : Result ℕ Fault)
     → WritesOver pages tables kept planned old new result
     → MatchResult result (WritesPermitted pages tables query old new) (WritesBeginning pages tables query old new)
 wrote_over pages tables query kept planned plan old new (Ok counted) wrote = wrote_whole pages tables query kept planned plan old new counted wrote

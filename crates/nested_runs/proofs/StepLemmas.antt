@@ -9,12 +9,12 @@ use Rattle.values.specs.declared.value.Value.{Value}
 use Rattle.image.specs.Pages.{Pages}
 use Rattle.inner_rows.proofs.KeptLemmas.{kept_are_stored}
 use Rattle.inner_rows.specs.InnerView.{kept_rows}
-use Rattle.inner_rows.specs.Over.{AreSaid, IsPlanOver, IsQueryCause, basis_over}
+use Rattle.inner_rows.specs.Over.{AreSaid, IsPlanOverKept, IsQueryCause, basis_over}
 use Rattle.inner_rows.specs.Runnable.{IsRunnableBody}
 use Rattle.meaning.specs.Answer.{Begins, Permits}
 use Rattle.meaning.specs.Query.{QueryData}
 use Rattle.meaning.specs.Typed.{IsTyped}
-use Rattle.nested_runs.specs.Steps.{HasGivenOf, HasStepped, IsPermitted, TakesFirst}
+use Rattle.nested_runs.specs.Steps.{HasGivenOf, HasSteppedRows, IsPermitted, TakesFirst}
 use Rattle.nested_runs.specs.declared.steps.NestedRun.{NestedRun}
 use Rattle.nested_runs.specs.declared.steps.NestedRun.TheVariants.{Giving, Waiting}
 use Rattle.operators.specs.Basis.{AreStored, Basis}
@@ -28,7 +28,7 @@ use Rattle.tables.specs.TableData.{TableData}
 module _ (pages : Pages) (tables : List TableData) (query : QueryData) where
   -- of the rows that were gathered the next is given, or there is none
   pub giving : (given : List Row) (old new : IntoIter (Vec Value) Global) (found : Option Row) → TakesFirst found (rows_left old) (rows_left new)
-      → IsPermitted pages tables query (given ++ rows_left old) → HasStepped pages tables query (Giving new) given found
+      → IsPermitted pages tables query (given ++ rows_left old) → HasSteppedRows pages tables query (Giving new) given found
   giving given old new None none all = λ on said.
       subst (Permits on.w on.db query) (ap (λ (rest : List Row). given ++ rest) none ∙ append-nil given) (all on said)
   giving given old new (Some row) first all = λ on said.
@@ -52,7 +52,7 @@ module _ (pages : Pages) (tables : List TableData) (query : QueryData) where
 
     -- the rows are gathered, and the first of them is given
     pub gathered : (rows : Vec (Vec Value)) (given : List Row) (old new : IntoIter (Vec Value) Global) (found : Option Row) → into_iter_items old ≡ rows.items
-        → Gathers of (Ok rows) → given ≡ [] → TakesFirst found (rows_left old) (rows_left new) → HasStepped pages tables query (Giving new) given found
+        → Gathers of (Ok rows) → given ≡ [] → TakesFirst found (rows_left old) (rows_left new) → HasSteppedRows pages tables query (Giving new) given found
     gathered rows given old new found items says none first =
         giving given old new found first (λ on said.
         subst (Permits on.w on.db query) (ap rows_data (sym items) ∙ ap (λ (before : List Row). before ++ rows_left old) (sym none))
@@ -63,7 +63,7 @@ module _ (pages : Pages) (tables : List TableData) (query : QueryData) where
 
 -- what a plan over tables and kept rows answers, the query permits; and why it stops, that does
 pub rows_of_plan : (pages : Pages) (tables : List TableData) (query : QueryData) (kept : List (Vec (Vec Value))) (planned : PlannedData) (on : Basis)
-    → AreSaid pages tables on → IsPlanOver on query (kept_rows kept) planned → (result : Result (Vec (Vec Value)) Fault)
+    → AreSaid pages tables on → IsPlanOverKept on query (kept_rows kept) planned → (result : Result (Vec (Vec Value)) Fault)
     → ((on : Basis) → AreStored pages (sources_of tables kept) on
     → MatchResult result (λ rows. IsAnswerOf on.w on.db planned (rows_data rows.items)) (IsRowCause on planned))
     → MatchResult result (λ rows. Permits on.w on.db query (rows_data rows.items)) (IsQueryCause on query)

@@ -28,9 +28,9 @@ TakesFirst None old new = old ≡ []
 TakesFirst (Some row) old new = old ≡ row ∷ new
 
 -- a row more was given, or those that were are permitted
-abbrev pub HasStepped : Pages → List TableData → QueryData → NestedRun → List Row → Option Row → Type 0
-HasStepped pages tables query run given None = IsPermitted pages tables query given
-HasStepped pages tables query run given (Some row) = HasGivenOf pages tables query run (given ++ row ∷ [])
+abbrev pub HasSteppedRows : Pages → List TableData → QueryData → NestedRun → List Row → Option Row → Type 0
+HasSteppedRows pages tables query run given None = IsPermitted pages tables query given
+HasSteppedRows pages tables query run given (Some row) = HasGivenOf pages tables query run (given ++ row ∷ [])
 
 -- a measure that falls with each row; no more rows are gathered than there are addresses
 abbrev pub rows_ahead : NestedRun → ℕ

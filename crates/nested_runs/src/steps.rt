@@ -6,7 +6,7 @@ ghost use Rattle.inner_rows.specs.Over.{AreSaid, IsQueryCause};
 ghost use Rattle.inner_rows.specs.Runnable.{IsRunnableBody};
 ghost use Rattle.meaning.specs.Query.{QueryData};
 ghost use Rattle.meaning.specs.Typed.{IsTyped};
-ghost use Rattle.nested_runs.specs.Steps.{HasGivenOf, HasStepped, TakesFirst, rows_ahead};
+ghost use Rattle.nested_runs.specs.Steps.{HasGivenOf, HasSteppedRows, TakesFirst, rows_ahead};
 ghost use Rattle.operators.specs.Basis.{Basis, IsOperatorFault};
 ghost use Rattle.pager.specs.Calls.{ReadsPages};
 ghost use Rattle.running.specs.Given.{rows_left};
@@ -56,7 +56,7 @@ impl NestedRun {
         requires { All (IsRooted pager.old.state.header) (sources_of tables.now []) }
         ensures rows { WhereSteady pager.old.state (λ pages. (query : QueryData) (given : List RowData) → IsTyped (column_types tables.now) query
             → IsRunnableBody query.body → HasGivenOf pages tables.now query self.old given → MatchResult result
-            (HasStepped pages tables.now query self.new given)
+            (HasSteppedRows pages tables.now query self.new given)
             (λ e. (on : Basis) → AreSaid pages tables.now on → IsQueryCause on query e)) }
         ensures left { IfOk result (λ found. OnSome found (rows_ahead self.new < rows_ahead self.old)) }
         ensures only { IfErr result IsOperatorFault }

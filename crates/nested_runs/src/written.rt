@@ -6,7 +6,7 @@ ghost use Rattle.meaning.specs.Typed.{IsTyped};
 ghost use Rattle.nested_runs.specs.Writes.{WritesBeginning, WritesPermitted};
 ghost use Rattle.pager.specs.Calls.{ReadsPages};
 ghost use Rattle.runs.specs.Faults.{IsRunFault};
-ghost use Rattle.sources.specs.Coming.{IsRooted, IsStored};
+ghost use Rattle.sources.specs.Coming.{IsRooted, IsStoredSource};
 ghost use Rattle.sources.specs.SourceData.{sources_of};
 ghost use Rattle.statement_names.specs.NamedView.{query_data};
 ghost use Rattle.tables.specs.ColumnTypes.{column_types};
@@ -32,7 +32,7 @@ pub fn write_nested<S: Source, W: Sink>(
 ) -> Result<u64, Fault>
     requires { All (IsRooted pager.old.state.header) (sources_of tables.now []) }
     ensures rows { WhereSteady pager.old.state (λ pages. IsTyped (column_types tables.now) (query_data query.now)
-        → IsRunnableBody (query_data query.now).body → All (IsStored pages) (sources_of tables.now [])
+        → IsRunnableBody (query_data query.now).body → All (IsStoredSource pages) (sources_of tables.now [])
         → MatchResult result
         (WritesPermitted pages tables.now (query_data query.now) (W.facts out.old) (W.facts out.new))
         (WritesBeginning pages tables.now (query_data query.now) (W.facts out.old) (W.facts out.new))) }

@@ -5,7 +5,7 @@ use mathlib.Core.Logic.{inl, inr}
 use Rattle.values.specs.declared.fault.Fault.{Fault}
 use Rattle.values.specs.declared.fault.Fault.TheVariants as f
 use Rattle.phrases.specs.Outcomes.{Fails, Refusal, Outcome, Yields, ◌>>=◌, needed}
-use Rattle.phrases.specs.Steps.{Gives}
+use Rattle.phrases.specs.Steps.{HasFound}
 
 pub some_inj : {A : Type 0} (x y : A) → Some x ≡ Some y → x ≡ y
 some_inj x y h = cc
@@ -85,7 +85,7 @@ fails_along e r s i h = subst (Fails e) i h
 
 -- What was to be found
 
-pub gives_yields : {A B : Type 0} (view : A → B) (r : Result A Fault) (o : Option B) → Gives view r o
+pub gives_yields : {A B : Type 0} (view : A → B) (r : Result A Fault) (o : Option B) → HasFound view r o
     → Yields view r (needed o)
 gives_yields view (Ok x) o h = ap needed h
 gives_yields view (Err (f.Syntax place)) o h = ap needed h

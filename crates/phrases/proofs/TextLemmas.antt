@@ -9,7 +9,7 @@ use Rattle.tokens.specs.Tokens.{Placed, Tokens}
 use Rattle.tokens.specs.declared.keyword.Grammar.{Grammar}
 use Rattle.tokens.specs.declared.token.Token.{Token}
 use Rattle.phrases.specs.Steps.{Rest, IsMissing}
-use Rattle.phrases.specs.Texts.{Spells, IsRefused, lexemes, lexemes_of}
+use Rattle.phrases.specs.Texts.{Spells, IsRefusedText, lexemes, lexemes_of}
 
 pub same_lexemes : (items : List Token) → lexemes (map placed_of items) ≡ lexemes_of items
 same_lexemes [] = refl
@@ -41,14 +41,14 @@ nothing_spelt grammar Statement find r text items t h tree s =
 pub refused : {T : Type 0} (grammar : Grammar) (Statement : T → Rest → Type 0) (find : Rest → Option T) (columns : T → ℕ)
     → IsReader Statement find → (text : List ℕ) (items : List Token) (e : Fault)
     → Tokens grammar text (map placed_of items) → IsMissing e (find (lexemes_of items))
-    → IsRefused (Spells grammar Statement) columns text e
+    → IsRefusedText (Spells grammar Statement) columns text e
 refused grammar Statement find columns r text items (f.Syntax place) t h =
     nothing_spelt grammar Statement find r text items t h
 refused grammar Statement find columns r text items f.NoMemory t h = tt
 refused grammar Statement find columns r text items _ t h = absurd h
 
 pub tokens_refused : {T : Type 0} (grammar : Grammar) (Statement : T → Rest → Type 0) (columns : T → ℕ) (text : List ℕ)
-    (e : Fault) → tokens.IsRefused grammar text e → IsRefused (Spells grammar Statement) columns text e
+    (e : Fault) → tokens.HasNoTokens grammar text e → IsRefusedText (Spells grammar Statement) columns text e
 tokens_refused grammar Statement columns text (f.Syntax place) h = λ tree s. read.no_list h s.tokens s.are_tokens
 tokens_refused grammar Statement columns text f.NoMemory h = tt
 tokens_refused grammar Statement columns text _ h = absurd h

@@ -37,9 +37,9 @@ IsMissing (f.Syntax place) found = found ≡ None
 IsMissing f.NoMemory found = Unit {0}
 IsMissing _ found = ⊥
 
-abbrev pub Gives : {A B : Type 0} → (A → B) → Result A Fault → Option B → Type 0
-Gives view (Ok a) found = found ≡ Some (view a)
-Gives view (Err e) found = IsMissing e found
+abbrev pub HasFound : {A B : Type 0} → (A → B) → Result A Fault → Option B → Type 0
+HasFound view (Ok a) found = found ≡ Some (view a)
+HasFound view (Err e) found = IsMissing e found
 
 abbrev pub IsSyntax : Fault → Type 0
 IsSyntax (f.Syntax place) = Unit {0}

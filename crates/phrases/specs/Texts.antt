@@ -40,13 +40,13 @@ abbrev pub max_levels : ℕ
 max_levels = 100
 
 -- the text and its tree, which has so many columns, are within the limits
-abbrev pub IsWithin : {T : Type 0} → (T → ℕ) → List ℕ → T → Type 0
-IsWithin columns text tree = (length text ≤ max_text) × (columns tree ≤ max_columns)
+abbrev pub AreWithinLimits : {T : Type 0} → (T → ℕ) → List ℕ → T → Type 0
+AreWithinLimits columns text tree = (length text ≤ max_text) × (columns tree ≤ max_columns)
 
 -- why a text was refused: it spells nothing, or it is too long or spells too much, or memory ran out
-abbrev pub IsRefused : {T : Type 0} → (List ℕ → T → Type 0) → (T → ℕ) → List ℕ → Fault → Type 0
-IsRefused {T = T} Spelt columns text (f.Syntax place) = (tree : T) → ¬ (Spelt text tree)
-IsRefused {T = T} Spelt columns text f.Limit =
+abbrev pub IsRefusedText : {T : Type 0} → (List ℕ → T → Type 0) → (T → ℕ) → List ℕ → Fault → Type 0
+IsRefusedText {T = T} Spelt columns text (f.Syntax place) = (tree : T) → ¬ (Spelt text tree)
+IsRefusedText {T = T} Spelt columns text f.Limit =
     (max_text < length text) ⊎ ((tree : T) × Spelt text tree × (max_columns < columns tree))
-IsRefused Spelt columns text f.NoMemory = Unit {0}
-IsRefused Spelt columns text _ = ⊥
+IsRefusedText Spelt columns text f.NoMemory = Unit {0}
+IsRefusedText Spelt columns text _ = ⊥

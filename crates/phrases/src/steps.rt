@@ -3,7 +3,7 @@ ghost use Rattle.std.specs.Prelude.{◌≡◌, ◌<◌, length, option_map, stri
 ghost use Rattle.phrases.specs.Outcomes as outcomes;
 ghost use Rattle.phrases.specs.Outcomes.{Yields};
 ghost use Rattle.phrases.specs.Steps as spec;
-ghost use Rattle.phrases.specs.Steps.{Gives, IsSyntax};
+ghost use Rattle.phrases.specs.Steps.{HasFound, IsSyntax};
 ghost use Rattle.phrases.specs.Texts.{first_place, lexemes_of};
 
 use std::alloc::Global;
@@ -115,7 +115,7 @@ pub fn name<'t>(
     tokens: &'t [Token<'t>],
     end: usize,
 ) -> Result<(String, &'t [Token<'t>]), Fault>
-    ensures value { Gives (λ r. (string_bytes r.0, lexemes_of r.1.now)) result (spec.name (lexemes_of tokens.now)) }
+    ensures value { HasFound (λ r. (string_bytes r.0, lexemes_of r.1.now)) result (spec.name (lexemes_of tokens.now)) }
     ensures shorter { IfOk result (λ r. length r.1.now < length tokens.now) }
 {
     let [first, rest @ ..] = tokens else {

@@ -17,8 +17,8 @@ use Rattle.meaning.specs.Joins.{nulls}
 use Rattle.meaning.specs.OneTable.{shown}
 use Rattle.meaning.specs.Query.{Select, only, table}
 use Rattle.meaning.proofs.HitLemmas.{term_reaches}
-use Rattle.plans.specs.Plan.{Hits, Reaches, are_true, rows_of, table_rows}
-use Rattle.plans.specs.Stands.{AreTestsOf, IsSplit, OneTableHits, condition_of, one_table, tested_once}
+use Rattle.plans.specs.Plan.{Hits, ReachesOverflow, are_true, rows_of, table_rows}
+use Rattle.plans.specs.Stands.{AreTestsOf, IsSplitCondition, OneTableHits, condition_of, one_table, tested_once}
 
 -- some element, by what holds of each place
 pub any_held : {X : Type 0} (P : X → Type 0) (xs : List X) → Any P xs → (x : X) × Contains xs x × P x
@@ -36,7 +36,7 @@ from_map f (x ∷ xs) y (suc k, within, is) =
 
 -- where a test reaches an operation out of range, a condition does
 pub stands_reach : (columns : List ℕ) (tests conditions : List Term) (row : Row) → AreTestsOf columns tests conditions
-    → Reaches tests (shown columns row) → Reaches conditions row
+    → ReachesOverflow tests (shown columns row) → ReachesOverflow conditions row
 stands_reach columns [] conditions row all reach = absurd (let none = reach.2 in omega (arith, none))
 stands_reach columns (test ∷ tests) [] row all reach = absurd all
 stands_reach columns (test ∷ tests) (t ∷ conditions) row all (zero, x, within, is, e) =
@@ -45,13 +45,13 @@ stands_reach columns (test ∷ tests) (t ∷ conditions) row all (suc k, x, with
     let rest = stands_reach columns tests conditions row all.1 (k, x, omega (arith, within), is, e) in
     (suc rest.0, rest.1, (let w = rest.2 in omega (arith, w)), rest.3, rest.4)
 
-pub reach_among : (row : Row) (some all : List Term) → ((t : Term) → Contains some t → Contains all t) → Reaches some row → Reaches all row
+pub reach_among : (row : Row) (some all : List Term) → ((t : Term) → Contains some t → Contains all t) → ReachesOverflow some row → ReachesOverflow all row
 reach_among row some all among reach =
     let held = any_held (λ t. Overflows t row) some reach in
     any_here (λ t. Overflows t row) all held.0 (among held.0 held.1) held.2
 
 -- a conjunct in which inner queries have been answered is one of the condition's
-pub conjunct_reached : (w : Datum) (answers : List (List Datum)) (t : Term) (row : Row) → Reaches (conjuncts (filled answers t)) row
+pub conjunct_reached : (w : Datum) (answers : List (List Datum)) (t : Term) (row : Row) → ReachesOverflow (conjuncts (filled answers t)) row
     → SomeReaches w answers row (conjuncts t)
 conjunct_reached w answers t row reach =
     let held = any_held (λ c. Overflows c row) (conjuncts (filled answers t)) reach in
@@ -60,12 +60,12 @@ conjunct_reached w answers t row reach =
     (term_reaches w (filled answers from.0) row (ap (λ c. exact c row) from.2 ∙ held.2))
 
 module _ (w : Datum) (db : Database) (s : Select) (terms : List Term) (at width : ℕ) (columns : List ℕ) (constants tests : List Term)
-    (split : IsSplit columns (condition_of w db (only (table at width)) s) constants tests) where
+    (split : IsSplitCondition columns (condition_of w db (only (table at width)) s) constants tests) where
   abbrev IsOne : Row → Type 0
   IsOne row = IsChoice w db false (only (table at width)) row
 
   -- a condition reaches one on a row that FROM may choose
-  hit_on : (row : Row) → IsOne row → Reaches (split.bare ++ split.others) row → SelectHits w db (only (table at width)) s terms
+  hit_on : (row : Row) → IsOne row → ReachesOverflow (split.bare ++ split.others) row → SelectHits w db (only (table at width)) s terms
   hit_on row chosen reach =
       let whole = condition_of w db (only (table at width)) s in
       in_where row chosen
@@ -81,23 +81,23 @@ module _ (w : Datum) (db : Database) (s : Select) (terms : List Term) (at width 
   some_choice [] is = (nulls width, ([], nulls width, refl, refl, inr (inr is, refl)))
   some_choice (row ∷ rows) is = (row, of_table row (subst (λ rows. Contains rows row) (sym is) (0, omega arith, refl)))
 
-  of_constants : Reaches constants [] → SelectHits w db (only (table at width)) s terms
+  of_constants : ReachesOverflow constants [] → SelectHits w db (only (table at width)) s terms
   of_constants reach =
       let choice = some_choice (table_rows db at) refl in
       hit_on choice.0 choice.1
       (reach_among choice.0 split.bare (split.bare ++ split.others) (λ t held. Contains-append_left split.bare split.others t held)
       (stands_reach [] constants split.bare choice.0 split.constants_are reach))
 
-  of_tests : (row : Row) → Contains (table_rows db at) row → Reaches tests (shown columns row) → SelectHits w db (only (table at width)) s terms
+  of_tests : (row : Row) → Contains (table_rows db at) row → ReachesOverflow tests (shown columns row) → SelectHits w db (only (table at width)) s terms
   of_tests row held reach =
       hit_on row (of_table row held)
       (reach_among row split.others (split.bare ++ split.others) (λ t among. Contains-append_right split.bare split.others t among)
       (stands_reach columns tests split.others row split.tests_are reach))
 
-  once_hits : (conditions : List Term) → Hits w db (tested_once conditions) → Reaches conditions []
+  once_hits : (conditions : List Term) → Hits w db (tested_once conditions) → ReachesOverflow conditions []
   once_hits [] hits = absurd hits
   once_hits (test ∷ conditions) (inl none) = absurd none
-  once_hits (test ∷ conditions) (inr (zero, row, within, is, reach)) = subst (Reaches (test ∷ conditions)) (sym is) reach
+  once_hits (test ∷ conditions) (inr (zero, row, within, is, reach)) = subst (ReachesOverflow (test ∷ conditions)) (sym is) reach
   once_hits (test ∷ conditions) (inr (suc k, row, within, is, reach)) = absurd (omega (arith, within))
 
   only_empty : (conditions : List Term) (l : Row) → Contains (rows_of w db (tested_once conditions)) l → l ≡ []
@@ -112,11 +112,11 @@ module _ (w : Datum) (db : Database) (s : Select) (terms : List Term) (at width 
   hits_are : Hits w db (one_table at columns constants tests) → SelectHits w db (only (table at width)) s terms
   hits_are (inl before) = of_constants (once_hits constants before)
   hits_are (inr here) =
-      let l = any_held (λ l. Any (λ r. Reaches tests (l ++ r)) (map (shown columns) (table_rows db at))) (rows_of w db (tested_once constants)) here in
-      let r = any_held (λ r. Reaches tests (l.0 ++ r)) (map (shown columns) (table_rows db at)) l.2 in
+      let l = any_held (λ l. Any (λ r. ReachesOverflow tests (l ++ r)) (map (shown columns) (table_rows db at))) (rows_of w db (tested_once constants)) here in
+      let r = any_held (λ r. ReachesOverflow tests (l.0 ++ r)) (map (shown columns) (table_rows db at)) l.2 in
       let row = from_map (shown columns) (table_rows db at) r.0 r.1 in
       of_tests row.0 row.1
-      (subst (Reaches tests) (ap (λ l. l ++ r.0) (only_empty constants l.0 l.1) ∙ sym row.2) r.2)
+      (subst (ReachesOverflow tests) (ap (λ l. l ++ r.0) (only_empty constants l.0 l.1) ∙ sym row.2) r.2)
 
 pub one_table_hits : OneTableHits
 one_table_hits = hits_are

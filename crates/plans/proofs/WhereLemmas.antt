@@ -16,7 +16,7 @@ use Rattle.meaning.specs.Query.{From, Select, only, table}
 use Rattle.meaning.specs.Valuation.{holds_on}
 use Rattle.meaning.proofs.ScanLemmas.{from_one, map-identity}
 use Rattle.plans.specs.Plan.{are_true, beside, rows_of, table_rows, table_size, work}
-use Rattle.plans.specs.Stands.{IsSplit, KeptIsWhere, NothingIsWhere, OneTableIsWhere, OneTableWorks, condition_of, one_table, tested_once}
+use Rattle.plans.specs.Stands.{IsSplitCondition, KeptIsWhere, NothingIsWhere, OneTableIsWhere, OneTableWorks, condition_of, one_table, tested_once}
 use Rattle.plans.proofs.RowLemmas.{filter-map, filter-none}
 use Rattle.plans.proofs.StandLemmas.{conjuncts_are_true, list_all-IsPermutation, tests_agree}
 
@@ -46,7 +46,7 @@ nothing_is_where w db s tests stands =
     (tests_agree w [] tests (conjuncts (condition_of w db From.nothing s)) [] stands ∙ conjuncts_are_true w (condition_of w db From.nothing s) [])
 
 module _ (w : Datum) (db : Database) (s : Select) (at width : ℕ) (columns : List ℕ) (constants tests : List Term)
-    (split : IsSplit columns (condition_of w db (only (table at width)) s) constants tests) where
+    (split : IsSplitCondition columns (condition_of w db (only (table at width)) s) constants tests) where
   abbrev whole : Term
   whole = condition_of w db (only (table at width)) s
 

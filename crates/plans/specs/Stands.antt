@@ -30,7 +30,7 @@ abbrev pub AreTestsOf : List ℕ → List Term → List Term → Type 0
 AreTestsOf columns tests conditions = AllZip (StandsFor columns) tests conditions
 
 -- The conjuncts of a condition, split into tests that need no column and tests over the columns that are read.
-pub record IsSplit (columns : List ℕ) (condition : Term) (constants tests : List Term) : Type 0 where
+pub record IsSplitCondition (columns : List ℕ) (condition : Term) (constants tests : List Term) : Type 0 where
   pub bare : List Term
   pub others : List Term
   pub same : IsPermutation (conjuncts condition) (bare ++ others)
@@ -70,13 +70,13 @@ NothingIsWhere = (w : Datum) (db : Database) (s : Select) (tests : List Term)
 -- the plan of one table has the rows of FROM that WHERE keeps, in the table's order
 abbrev pub OneTableIsWhere : Type 0
 OneTableIsWhere = (w : Datum) (db : Database) (s : Select) (at width : ℕ) (columns : List ℕ) (constants tests : List Term)
-    → IsSplit columns (condition_of w db (only (table at width)) s) constants tests
+    → IsSplitCondition columns (condition_of w db (only (table at width)) s) constants tests
     → rows_of w db (one_table at columns constants tests) ≡ map (shown columns) (where_rows w db (only (table at width)) s)
 
 -- what it hits, the SELECT hits
 abbrev pub OneTableHits : Type 0
 OneTableHits = (w : Datum) (db : Database) (s : Select) (terms : List Term) (at width : ℕ) (columns : List ℕ) (constants tests : List Term)
-    → IsSplit columns (condition_of w db (only (table at width)) s) constants tests
+    → IsSplitCondition columns (condition_of w db (only (table at width)) s) constants tests
     → Hits w db (one_table at columns constants tests) → SelectHits w db (only (table at width)) s terms
 
 -- its work is the pages of the table's tree, and nothing where what needs no column isn't true

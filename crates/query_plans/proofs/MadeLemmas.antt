@@ -14,7 +14,7 @@ use Rattle.meaning.specs.Query.{From, Key, KeyTerm, QueryData, Select, columns_o
 use Rattle.meaning.proofs.OneTableLemmas.{scan_is_permitted}
 use Rattle.plan_terms.specs.Over.{StandsOver}
 use Rattle.plans.specs.Plan.{PlanData}
-use Rattle.distinct_results.specs.Permitted.{AreResults, IsResult}
+use Rattle.distinct_results.specs.Permitted.{AreResults, IsResultColumn}
 use Rattle.distinct_results.proofs.PermittedLemmas as once
 use Rattle.query_plans.specs.Answers.{IsAnswerOf, IsPlanFor, PlannedData, columns, compound, distinct, rows, sorted, sorted_distinct}
 use Rattle.query_plans.specs.Made.{IsBare, IsMade, KeyStandsOver, KeyTermStandsOver}
@@ -49,10 +49,10 @@ order_stands read (k ∷ keys) (q ∷ order) all =
 no_terms : (order : List Key) → AreResults order → order_terms order ≡ []
 no_terms [] all = refl
 no_terms (key ∷ order) all =
-    ap (λ terms. terms ++ order_terms order) (none key.by (All-head (λ (k : Key). IsResult k.by) key order all))
-    ∙ no_terms order (All-tail (λ (k : Key). IsResult k.by) key order all)
+    ap (λ terms. terms ++ order_terms order) (none key.by (All-head (λ (k : Key). IsResultColumn k.by) key order all))
+    ∙ no_terms order (All-tail (λ (k : Key). IsResultColumn k.by) key order all)
   where
-    none : (by : KeyTerm) → IsResult by → meaning.key_terms by ≡ []
+    none : (by : KeyTerm) → IsResultColumn by → meaning.key_terms by ≡ []
     none (KeyTerm.result at) is = refl
     none (KeyTerm.term t) is = absurd is
 

@@ -3,7 +3,7 @@ use Rattle.std.proofs.Common.{◌≡◌, ◌∙◌, All, pos, true, List, [], No
 use Rattle.std.proofs.lemmas.List.Elements.{All-nil, All-weaker}
 use Rattle.values.specs.declared.value.Ty.{Ty}
 use Rattle.compound_plans.specs.Arms.{AreServed, IsServedArm}
-use Rattle.distinct_results.specs.Permitted.{IsResult}
+use Rattle.distinct_results.specs.Permitted.{IsResultColumn}
 use Rattle.meaning.specs.Query.{Body, From, Key, KeyTerm, Operator, Select, compound, select}
 use Rattle.meaning.specs.Typed.{BodyHasTypes, IsKeyTerm}
 use Rattle.query_plans.specs.Laws.{TypedIsServed}
@@ -13,13 +13,13 @@ use Rattle.select_plans.proofs.LawLemmas.{typed_is_of_rows}
 
 module _ (catalog : List (List Ty)) where
   -- behind DISTINCT a typed ORDER BY names result columns alone
-  results_named : (from : From) (s : Select) → s.distinct ≡ true → (types : List Ty) (by : KeyTerm) → IsKeyTerm catalog (select from s) types by → IsResult by
+  results_named : (from : From) (s : Select) → s.distinct ≡ true → (types : List Ty) (by : KeyTerm) → IsKeyTerm catalog (select from s) types by → IsResultColumn by
   results_named from s distinct types (KeyTerm.result at) typed = tt
   results_named from s distinct types (KeyTerm.term t) typed = absurd (let e = sym typed.0 ∙ distinct in cc)
 
   -- and so it does behind SELECTs that are joined
   results_behind : (left : Body) (operator : Operator) (from : From) (s : Select) (types : List Ty) (by : KeyTerm)
-      → IsKeyTerm catalog (compound left operator from s) types by → IsResult by
+      → IsKeyTerm catalog (compound left operator from s) types by → IsResultColumn by
   results_behind left operator from s types (KeyTerm.result at) typed = tt
   results_behind left operator from s types (KeyTerm.term t) typed = absurd typed
 
@@ -41,13 +41,13 @@ module _ (catalog : List (List Ty)) where
   body_served order (select from s) types typed keys form = record {
     served = record { source = form; named = typed_is_of_rows catalog from s order None (pos 0) types form (record { body = typed; order = keys }) };
     ordered = λ distinct.
-        All-weaker (λ (key : Key). IsKeyTerm catalog (select from s) types key.by) (λ (key : Key). IsResult key.by)
+        All-weaker (λ (key : Key). IsKeyTerm catalog (select from s) types key.by) (λ (key : Key). IsResultColumn key.by)
         (λ key. results_named from s distinct types key.by) order keys;
   }
   body_served order (compound left operator from s) types typed keys form = record {
     each = each_served (compound left operator from s) types typed form;
     ordered =
-        All-weaker (λ (key : Key). IsKeyTerm catalog (compound left operator from s) types key.by) (λ (key : Key). IsResult key.by)
+        All-weaker (λ (key : Key). IsKeyTerm catalog (compound left operator from s) types key.by) (λ (key : Key). IsResultColumn key.by)
         (λ key. results_behind left operator from s types key.by) order keys;
   }
 

@@ -7,7 +7,7 @@ use Rattle.values.specs.Row.{Row}
 use Rattle.values.specs.declared.value.Ty.{Ty}
 use Rattle.expr.specs.Types.{IsOfType}
 use Rattle.meaning.specs.Query.{Body, From, QueryData, Source, compound, derived, joined, nothing, schema, select, table, with_inner}
-use Rattle.meaning.specs.Typed.{BodyHasTypes, FitTypes, Fits, FromHasTypes, IsTyped, SourceHasTypes}
+use Rattle.meaning.specs.Typed.{BodyHasTypes, FitTypes, FitsCatalog, FromHasTypes, IsTyped, SourceHasTypes}
 use Rattle.meaning.proofs.ElementLemmas.{length_all_zip}
 use Rattle.plans.specs.JoinPlan.{AreWide, IsWideSource}
 use Rattle.plans.proofs.JoinLemmas.{wide_before}
@@ -24,7 +24,7 @@ rows_at (first ∷ catalog) [] fit at types found = absurd fit
 rows_at (first ∷ catalog) (rows ∷ tables) fit zero types found = subst (λ types. FitTypes types rows) (some_types first types found) fit.0
 rows_at (first ∷ catalog) (rows ∷ tables) fit (suc at) types found = rows_at catalog tables fit.1 at types found
 
-module _ (catalog : List (List Ty)) (db : Database) (fits : Fits catalog db) where
+module _ (catalog : List (List Ty)) (db : Database) (fits : FitsCatalog catalog db) where
   source_wide : (source : Source) (types : List Ty) → SourceHasTypes catalog source types → IsWideSource db source
   source_wide (table at width) types typed =
       All-weaker (λ row. AllZip IsOfType types row) (λ row. length row ≡ width)

@@ -1,6 +1,6 @@
 //! SELECT DISTINCT.
 ghost use Rattle.std.specs.Prelude.{◌≡◌, IfOk, MatchOption, map, true};
-ghost use Rattle.distinct_results.specs.Permitted.{AreResults, IsResult};
+ghost use Rattle.distinct_results.specs.Permitted.{AreResults, IsResultColumn};
 ghost use Rattle.distinct_results.specs.Sorted.{result_key};
 ghost use Rattle.meaning.specs.Hits.{order_terms};
 ghost use Rattle.meaning.specs.Query as query;
@@ -23,7 +23,7 @@ use table_plans::Input;
 
 /// The result column that a term of ORDER BY is, if it is one.
 fn result_at(by: &KeyTerm) -> Option<usize>
-    ensures { MatchOption result (¬ IsResult (key_term_of by.now)) (λ at. key_term_of by.now ≡ query.KeyTerm.result at) }
+    ensures { MatchOption result (¬ IsResultColumn (key_term_of by.now)) (λ at. key_term_of by.now ≡ query.KeyTerm.result at) }
 {
     match by {
         KeyTerm::Result(at) => Some(*at),

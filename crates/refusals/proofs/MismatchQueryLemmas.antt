@@ -9,7 +9,7 @@ use Rattle.expr.specs.TermType.{one_type, type_of_term, wanted}
 use Rattle.meaning.specs.Query.{Body, From, InnerQuery, JoinKind, Operator, Select, Source, from_width, source_width}
 use Rattle.naming.specs.Outcome.{also, followed, found_or}
 use Rattle.naming.specs.Types.{answer_types, body_types, condition_type, from_types, inner_type, of_width, one_types, select_types, single_type, source_types, typed}
-use Rattle.refusals.specs.Mismatches.{AnswersMisfit, AreApart, BodyMisfits, FromMisfits, InnerMisfits, SingleMisfits, SourceMisfits}
+use Rattle.refusals.specs.Mismatches.{AnswersMisfit, AreMismatched, BodyMisfits, FromMisfits, InnerMisfits, SingleMisfits, SourceMisfits}
 use Rattle.refusals.proofs.ClashLemmas.{IsWithin, misfits_of, one_none}
 use Rattle.refusals.proofs.LengthLemmas.{answers_length, from_length, source_length}
 use Rattle.refusals.proofs.MismatchLemmas.{select_err}
@@ -19,14 +19,14 @@ use Rattle.refusals.proofs.WithinLemmas.{BodyIsWithin, FromIsWithin, InnerIsWith
 
 -- ---- columns of two types
 
-apart_err : (first second : List Ty) → one_types first second ≡ Err TypeMismatch → AreApart first second
+apart_err : (first second : List Ty) → one_types first second ≡ Err TypeMismatch → AreMismatched first second
 apart_err [] [] e = absurd cc
 apart_err [] (y ∷ ys) e = absurd cc
 apart_err (x ∷ xs) [] e = absurd cc
 apart_err (x ∷ xs) (y ∷ ys) e = by (both-err ◌∷◌ (typed (one_type x y)) (one_types xs ys) TypeMismatch e) (apart_err xs ys)
   where
     by : (typed (one_type x y) ≡ Err TypeMismatch) ⊎ ((ty : Ty) × (typed (one_type x y) ≡ Ok ty) × (one_types xs ys ≡ Err TypeMismatch))
-        → (one_types xs ys ≡ Err TypeMismatch → AreApart xs ys) → AreApart (x ∷ xs) (y ∷ ys)
+        → (one_types xs ys ≡ Err TypeMismatch → AreMismatched xs ys) → AreMismatched (x ∷ xs) (y ∷ ys)
     by (inl d) more = record {
       at = 0;
       one = x;

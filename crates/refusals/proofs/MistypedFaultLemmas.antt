@@ -8,7 +8,7 @@ use Rattle.meaning.specs.Query.{Body, Key, KeyTerm}
 use Rattle.naming.specs.Laws.{TypedIsTaken}
 use Rattle.naming.specs.Outcome.{each, followed}
 use Rattle.naming.specs.Statement.{Named, named}
-use Rattle.naming.specs.Typed.{IsRefused, Table, column_types, known_tables, typed_query, with_types}
+use Rattle.naming.specs.Typed.{IsNoQuery, Table, column_types, known_tables, typed_query, with_types}
 use Rattle.naming.specs.Types.{body_types, key_type, query_types}
 use Rattle.refusals.specs.Mismatches.{MistypedIsMismatch}
 use Rattle.refusals.proofs.EvenLemmas.{IsEvenBody, named_even, tables_even}
@@ -60,10 +60,10 @@ pub mistyped_is_mismatch : TypedIsTaken → MistypedIsMismatch
 mistyped_is_mismatch taken tables tree m = by (typed_query tables tree) refl
   where
     faults : (fault : Fault) → typed_query tables tree ≡ Err fault → IsTypeFault fault
-        → IsRefused tables tree TypeMismatch ⊎ IsRefused tables tree BadFrame
+        → IsNoQuery tables tree TypeMismatch ⊎ IsNoQuery tables tree BadFrame
     faults fault e (inl same) = inl (inr (e ∙ ap Err same))
     faults fault e (inr same) = inr (inr (e ∙ ap Err same))
 
-    by : (r : Result Named Fault) → typed_query tables tree ≡ r → IsRefused tables tree TypeMismatch ⊎ IsRefused tables tree BadFrame
+    by : (r : Result Named Fault) → typed_query tables tree ≡ r → IsNoQuery tables tree TypeMismatch ⊎ IsNoQuery tables tree BadFrame
     by (Ok n) e = absurd (mistyped_is_refused taken tables tree n m e)
     by (Err fault) e = faults fault e (fault_is (typed_query tables tree) fault (statement_only tables tree m.0 m.1) e)

@@ -11,7 +11,7 @@ use Rattle.naming.specs.Laws.{IsTypedBody, TypedIsTaken}
 use Rattle.naming.specs.Statement.{Named}
 use Rattle.naming.specs.Typed.{column_types}
 use Rattle.naming.proofs.FoundLemmas.{fits-append, fits_itself, term_fits}
-use Rattle.refusals.specs.Mismatches.{AnswersMisfit, AreApart, BodyMisfits, FromMisfits, HasMismatch, InnerMisfits, KeyMisfits, MistypedIsRefused, SingleMisfits, SourceMisfits}
+use Rattle.refusals.specs.Mismatches.{AnswersMisfit, AreMismatched, BodyMisfits, FromMisfits, HasMismatch, InnerMisfits, KeyMisfits, MistypedIsRefused, SingleMisfits, SourceMisfits}
 use Rattle.refusals.proofs.MistypedLemmas.{computed_fit, select_refuted}
 use Rattle.refusals.proofs.OddsLemmas.{clash_refuted, misfit_refuted}
 
@@ -24,7 +24,7 @@ fit_at (f ∷ first) [] at ty fit e = absurd fit
 fit_at (f ∷ first) (t ∷ types) zero ty fit e = let same : f ≡ ty = cc in (t, refl, subst (λ f. FitsType f t) same fit.0)
 fit_at (f ∷ first) (t ∷ types) (suc at) ty fit e = fit_at first types at ty fit.1 e
 
-apart_refuted : (first second types : List Ty) → AreApart first second → AllZip FitsType first types → AllZip FitsType second types → ⊥
+apart_refuted : (first second types : List Ty) → AreMismatched first second → AllZip FitsType first types → AllZip FitsType second types → ⊥
 apart_refuted first second types a f g =
     let (one, is, fits) = fit_at first types a.at a.one f a.there in
     let (other, of, suits) = fit_at second types a.at a.other g a.beside in

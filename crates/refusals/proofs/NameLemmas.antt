@@ -18,7 +18,7 @@ use Rattle.naming.specs.Scope.{Scope, places_of}
 use Rattle.naming.specs.Sources.{Condition, Given, Known, Sources, Using, hidden, is_same_source, joined, joined_on, kind_of, known_as, merged, no_sources, shown_from, used}
 use Rattle.naming.specs.Statement.{CoreData, Input, Queried, ResultColumn, Single, all_results, alias_or, are_distinct, as_input, behind_groups, by_of, compounded, condition_of, core_of, defined_of, finished, firsts, from_of, from_tree, given_known, given_query, input_of, keys_of, max_columns, no_row, on_row, operator_of, queried, query_of, result, results_of, select_of, shown, simple, single_of, some_of, source_of, starred, starred_of, window_names}
 use Rattle.naming.proofs.OutcomeLemmas.{also-ok, both-ok, checked-ok, followed-ok}
-use Rattle.refusals.specs.Columns.{HasNames, IsListed, Joins, Listed, Merges, Offers, Shows, names_of_result, names_of_results, results_in}
+use Rattle.refusals.specs.Columns.{HasNames, IsListed, JoinsScopes, ListedTable, Merges, Offers, Shows, names_of_result, names_of_results, results_in}
 use Rattle.refusals.proofs.TakenLemmas.{answers_with, from_taken}
 
 -- ---- result columns
@@ -96,7 +96,7 @@ core_names answers scope (CoreTree.Select distinct results from condition by hav
 
 -- ---- sources
 
-abbrev pub listed_of : List Known → List Listed
+abbrev pub listed_of : List Known → List ListedTable
 listed_of known = map (λ (k : Known). record { name = k.name; columns = k.columns }) known
 
 pub name_listed : (known : List Known) (name : Name) (k : Known) → known_as known name ≡ Ok k → IsListed name (listed_of known) k.columns
@@ -121,23 +121,23 @@ merges theirs (name ∷ names) left right u e =
     subst (λ (u : Using). Merges theirs (name ∷ names) left right u.left u.right) same
     (Merges.both are (merges theirs names (merged name places left) (hidden name right) more merging))
 
-on_joins : (answers : Answers) (on : OnTree) (left right : Scope) (c : Condition) → joined_on answers on left right ≡ Ok c → Joins on left right c.scope
+on_joins : (answers : Answers) (on : OnTree) (left right : Scope) (c : Condition) → joined_on answers on left right ≡ Ok c → JoinsScopes on left right c.scope
 on_joins answers OnTree.Always left right c e =
     let same : left ++ right ≡ c.scope = ap (λ (r : Result Condition Fault). scope_or (left ++ right) r) e in
-    subst (Joins OnTree.Always left right) same Joins.always
+    subst (JoinsScopes OnTree.Always left right) same JoinsScopes.always
   where
     scope_or : Scope → Result Condition Fault → Scope
     scope_or otherwise (Ok c) = c.scope
     scope_or otherwise (Err fault) = otherwise
 on_joins answers (OnTree.On e) left right c is =
     let (t, of, same) = also-ok _ (term_of answers (columns_say (left ++ right)) e) c is in
-    subst (λ (c : Condition). Joins (OnTree.On e) left right c.scope) same Joins.on
+    subst (λ (c : Condition). JoinsScopes (OnTree.On e) left right c.scope) same JoinsScopes.on
 on_joins answers (OnTree.Using names) left right c is =
     let (u, merging, same) = also-ok _ (used right left right names) c is in
-    subst (λ (c : Condition). Joins (OnTree.Using names) left right c.scope) same (Joins.by_names (merges right names left right u merging))
+    subst (λ (c : Condition). JoinsScopes (OnTree.Using names) left right c.scope) same (JoinsScopes.by_names (merges right names left right u merging))
 
 joined_shows : (answers : Answers) (left : Sources) (kind : JoinKind) (on : OnTree) (given : Given) (f : Sources) → joined answers left kind on given ≡ Ok f
-    → Joins on left.scope (shown_from given.name (length left.scope) given.columns) f.scope
+    → JoinsScopes on left.scope (shown_from given.name (length left.scope) given.columns) f.scope
 joined_shows answers left kind on given f e = by (list_any (is_same_source given.name) left.names) e
   where
     by : (b : Bool) → (if b then Err DuplicateName else also (λ (c : Condition). record {
@@ -146,11 +146,11 @@ joined_shows answers left kind on given f e = by (list_any (is_same_source given
       scope = c.scope;
       beside = left.beside ++ given.beside;
     }) (joined_on answers on left.scope (shown_from given.name (length left.scope) given.columns))) ≡ Ok f
-        → Joins on left.scope (shown_from given.name (length left.scope) given.columns) f.scope
+        → JoinsScopes on left.scope (shown_from given.name (length left.scope) given.columns) f.scope
     by true is = absurd cc
     by false is =
         let (c, of, same) = also-ok _ (joined_on answers on left.scope (shown_from given.name (length left.scope) given.columns)) f is in
-        subst (λ (f : Sources). Joins on left.scope (shown_from given.name (length left.scope) given.columns) f.scope) same
+        subst (λ (f : Sources). JoinsScopes on left.scope (shown_from given.name (length left.scope) given.columns) f.scope) same
         (on_joins answers on left.scope (shown_from given.name (length left.scope) given.columns) c of)
 
 module _ (known : List Known) (queries : QueryTree → Result Queried Fault) (inside : (tree : QueryTree) (q : Queried) → queries tree ≡ Ok q
@@ -172,8 +172,8 @@ module _ (known : List Known) (queries : QueryTree → Result Queried Fault) (in
       alone source g (source_offers source g is) f.scope (joined_shows answers no_sources JoinKind.inner OnTree.Always g f more)
     where
       alone : (source : SourceTree) (g : Given) → Offers (listed_of known) source g.name g.columns → (scope : Scope)
-          → Joins OnTree.Always [] (shown_from g.name 0 g.columns) scope → Shows (listed_of known) (FromTree.First source) scope
-      alone source g offers _ Joins.always = Shows.first offers
+          → JoinsScopes OnTree.Always [] (shown_from g.name 0 g.columns) scope → Shows (listed_of known) (FromTree.First source) scope
+      alone source g offers _ JoinsScopes.always = Shows.first offers
   from_shows answers (FromTree.Joined from join source on) f e =
       let (left, first, more) = followed-ok (from_of known queries answers from) _ f e in
       let (g, is, rest) = followed-ok (source_of known queries source) (joined answers left (kind_of join) on) f more in

@@ -17,7 +17,7 @@ use Rattle.naming.specs.Sources.{Known}
 use Rattle.naming.specs.Statement.{Inner, Queried, Single, answers_of, are_distinct, compounded, core_of, exists_inner, from_of, from_tree, inner_of, keys_of, no_row, queried, query_of, simple, single, single_of, values_inner, window_names, with_inners}
 use Rattle.refusals.specs.Columns.{HasNames, Offers, Shows, names_of_results, results_in}
 use Rattle.refusals.specs.UnknownColumns.{IsNamedAt}
-use Rattle.refusals.specs.Written.{Begins, BeginsQuery, HasQuery, IsDerived, IsOperand, IsSelect, StandsIn, names_of_sources, sources_in, spoken_in, stars_in, terms_in, windows_in}
+use Rattle.refusals.specs.Written.{BeginsFrom, BeginsQuery, HasQuery, IsDerived, IsOperand, IsSelect, StandsIn, names_of_sources, sources_in, spoken_in, stars_in, terms_in, windows_in}
 use Rattle.refusals.proofs.CoreLemmas.{IsFineOrder, IsFineStar, IsFineTerm, core_only, keys_only, no_row_only}
 use Rattle.refusals.proofs.NameLemmas.{from_shows, listed_of, queried_names, query_names}
 use Rattle.refusals.proofs.OutcomeLemmas.{Only, Takes, also_only, checked_only, each_only, followed_only, known_only, ok, refused}
@@ -29,7 +29,7 @@ use Rattle.refusals.proofs.TermLemmas.{Sound}
 -- what has to hold of a SELECT, so that of its fault this holds
 pub record IsFineSelect (F : Fault → Type 0) (known : List Known) (core : CoreTree) (by : TermTrees) : Type 0 where
   pub sources : Each (IsFineSource F known) (sources_in (from_tree core))
-  pub joins : (left : FromTree) (join : Join) (source : SourceTree) (on : OnTree) → Begins (FromTree.Joined left join source on) (from_tree core)
+  pub joins : (left : FromTree) (join : Join) (source : SourceTree) (on : OnTree) → BeginsFrom (FromTree.Joined left join source on) (from_tree core)
       → (scope : Scope) (called : Option Name) (columns : List Name) → Shows (listed_of known) left scope → Offers (listed_of known) source called columns
       → IsFineJoin F scope (names_of_sources left) on called columns
   pub columns : (scope : Scope) → Shows (listed_of known) (from_tree core) scope → Each (IsFineColumn F scope) (spoken_in core)

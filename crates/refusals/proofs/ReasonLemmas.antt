@@ -9,18 +9,18 @@ use Rattle.syntax.specs.StatementTree.{ItemTree, StatementTree}
 use Rattle.syntax.specs.Tree.{Name}
 use Rattle.syntax.specs.declared.query.Join.{Join}
 use Rattle.naming.specs.Expression.{InnerTree}
-use Rattle.naming.specs.Laws.{AreDistinct, AreSameSources, IsSameName}
+use Rattle.naming.specs.Laws.{AreDistinctInAnyCase, AreSameSources, IsSameInAnyCase}
 use Rattle.naming.specs.Parts.{core_parts, inner_tree, on_parts, parts}
 use Rattle.naming.specs.Scope.{Scope, column_of}
 use Rattle.naming.specs.Sources.{is_same_source, shown_from, used}
 use Rattle.naming.specs.Statement.{With, are_distinct, from_tree, item_columns, named, named_at, window_names, with_items}
 use Rattle.naming.specs.Typed.{Table, known_tables, typed_query}
-use Rattle.refusals.specs.Columns.{AreListed, HasNames, Joins, Listed, Offers, Shows, names_of_results, results_in}
+use Rattle.refusals.specs.Columns.{AreListed, HasNames, JoinsScopes, ListedTable, Offers, Shows, names_of_results, results_in}
 use Rattle.refusals.specs.RepeatedNames.{HasRepeatedName, Repeats}
 use Rattle.refusals.specs.UnevenColumns.{HasUnevenColumns, HasWideMembers, IsUneven}
 use Rattle.refusals.specs.UnknownColumns.{HasAmbiguousColumn, HasUnknownColumn, InSelect, IsAmbiguous, IsNamedAt, IsNoResult, IsTwofold, IsUnknown, NamesColumn, NamesUnknownColumn}
 use Rattle.refusals.specs.UnknownSources.{HasUnknownSource, IsNoSource, NamesNoSource}
-use Rattle.refusals.specs.Written.{Begins, HasQuery, HasQueryWith, HasSelect, IsQueryOf, IsSelect, called_so, names_of_sources, sources_in, spoken_in, stars_in, terms_in, windows_in}
+use Rattle.refusals.specs.Written.{BeginsFrom, HasQuery, HasQueryWith, HasSelect, IsQueryOf, IsSelect, called_so, names_of_sources, sources_in, spoken_in, stars_in, terms_in, windows_in}
 use Rattle.refusals.proofs.CoreLemmas.{IsFineOrder, IsFineStar, IsFineTerm}
 use Rattle.refusals.proofs.NameLemmas.{listed_of}
 use Rattle.refusals.proofs.OutcomeLemmas.{Only, Takes, checked_only, ok}
@@ -41,7 +41,7 @@ pub record HasReasons (F : Fault → Type 0) (tables : List Table) (tree : State
   pub duplicate : HasRepeatedName tree → F DuplicateName
   pub column_count : HasUnevenColumns tables tree → F ColumnCount
 
-offers_called : {listed : List Listed} {source : SourceTree} {called : Option Name} {columns : List Name} → Offers listed source called columns
+offers_called : {listed : List ListedTable} {source : SourceTree} {called : Option Name} {columns : List Name} → Offers listed source called columns
     → called ≡ called_so source
 offers_called (Offers.named is) = refl
 offers_called (Offers.derived is) = refl
@@ -71,14 +71,14 @@ module _ (F : Fault → Type 0) (tables : List Table) (tree : StatementTree) (sa
 
     no_source : (name : Name) → All (IsOther name) w.known → IsNoSource tables items name
     no_source name none =
-        let (apart, others) = items_back (λ other. ¬ IsSameName other name) items (no_items (known_tables tables)) w begun none in
-        record { no_item = apart; no_table = tables_back (λ other. ¬ IsSameName other name) tables others }
+        let (apart, others) = items_back (λ other. ¬ IsSameInAnyCase other name) items (no_items (known_tables tables)) w begun none in
+        record { no_item = apart; no_table = tables_back (λ other. ¬ IsSameInAnyCase other name) tables others }
 
     module _ (core : CoreTree) (by : TermTrees) (select : IsSelect query order core by) where
       abbrev at_select : (Is : List ItemTree → CoreTree → TermTrees → Type 0) → Is items core by → HasQueryWith tree (HasSelect Is)
       at_select Is is = here (HasSelect Is) (record { core = core; by = by; select = select; is = is })
 
-      abbrev in_select : (Is : List Listed → CoreTree → TermTrees → Type 0) → Is (listed_of w.known) core by → InSelect tables Is items query order
+      abbrev in_select : (Is : List ListedTable → CoreTree → TermTrees → Type 0) → Is (listed_of w.known) core by → InSelect tables Is items query order
       in_select Is is = record { listed = listed_of w.known; are = are; core = core; by = by; select = select; is = is }
 
       unknown : NamesUnknownColumn (listed_of w.known) core by → F UnknownColumn
@@ -152,7 +152,7 @@ module _ (F : Fault → Type 0) (tables : List Table) (tree : StatementTree) (sa
       fine_windows e =
           says.repeated (window_names (windows_in core)) e (λ apart. reasons.duplicate (HasRepeatedName.select (at_select Repeats (Repeats.window apart))))
 
-      module _ (left : FromTree) (join : Join) (source : SourceTree) (on : OnTree) (begins : Begins (FromTree.Joined left join source on) (from_tree core))
+      module _ (left : FromTree) (join : Join) (source : SourceTree) (on : OnTree) (begins : BeginsFrom (FromTree.Joined left join source on) (from_tree core))
           (scope : Scope) (called : Option Name) (columns : List Name) (shows : Shows (listed_of w.known) left scope)
           (offers : Offers (listed_of w.known) source called columns) where
         fine_twice : list_any (is_same_source called) (names_of_sources left) ≡ true → F DuplicateName
@@ -168,14 +168,14 @@ module _ (F : Fault → Type 0) (tables : List Table) (tree : StatementTree) (sa
                   let (e, is, stands) = on_parts_of on part table name (subst (Contains (on_parts on)) same there) in
                   named_here (scope ++ shown_from called (length scope) columns) table name (λ Is so.
                   NamesColumn.in_on left join source e (scope ++ shown_from called (length scope) columns) table name
-                  (subst (λ on. Begins (FromTree.Joined left join source on) (from_tree core)) is begins) (Shows.joined shows offers Joins.on) stands so);
+                  (subst (λ on. BeginsFrom (FromTree.Joined left join source on) (from_tree core)) is begins) (Shows.joined shows offers JoinsScopes.on) stands so);
             })
             (each_itself (on_parts on))
 
         fine_using : (using : List Name) → on ≡ OnTree.Using using
             → Only F (used (shown_from called (length scope) columns) scope (shown_from called (length scope) columns) using)
         fine_using using is =
-            let begun = subst (λ on. Begins (FromTree.Joined left join source on) (from_tree core)) is begins in
+            let begun = subst (λ on. BeginsFrom (FromTree.Joined left join source on) (from_tree core)) is begins in
             let theirs = shown_from called (length scope) columns in
             used_only F says theirs scope theirs using
             (λ name there. record {
@@ -253,7 +253,7 @@ module _ (F : Fault → Type 0) (tables : List Table) (tree : StatementTree) (sa
       (λ none. some n ns (sym same ∙ none)) (λ alike. eqb-false (length (n ∷ ns)) (length names) e (ap length (sym same) ∙ alike))))
       (checked_only (are_distinct (n ∷ ns)) DuplicateName _
       (λ e. says.repeated (n ∷ ns) e (λ apart.
-      reasons.duplicate (HasRepeatedName.columns before i after stand (subst (λ names. ¬ AreDistinct names) (sym same) apart)))) (ok (n ∷ ns)))
+      reasons.duplicate (HasRepeatedName.columns before i after stand (subst (λ names. ¬ AreDistinctInAnyCase names) (sym same) apart)))) (ok (n ∷ ns)))
     where
       some : (n : Name) (ns : List Name) → n ∷ ns ≡ [] → ⊥
       some n ns e = absurd cc

@@ -4,7 +4,7 @@ use Rattle.values.specs.declared.fault.Fault.{Fault}
 use Rattle.values.specs.declared.fault.Fault.TheVariants.{TypeMismatch}
 use Rattle.syntax.specs.StatementTree.{StatementTree}
 use Rattle.syntax.specs.Tree.{Name}
-use Rattle.naming.specs.Laws.{AmbiguousIsTwo, AreDistinct, DistinctIsSaid, UnknownIsNone}
+use Rattle.naming.specs.Laws.{AmbiguousIsTwo, AreDistinctInAnyCase, DistinctIsSaid, UnknownIsNone}
 use Rattle.naming.specs.Statement.{are_distinct}
 use Rattle.naming.specs.Typed.{Table, typed_query}
 use Rattle.refusals.specs.Reasons.{IsReason, RefusalsHaveReasons}
@@ -51,7 +51,7 @@ refusals_are_numbered tables tree fault (inr is) =
 abbrev pub NameLaws : Type 0
 NameLaws = UnknownIsNone × AmbiguousIsTwo × DistinctIsSaid
 
-apart_or : (said : DistinctIsSaid) (names : List Name) → are_distinct names ≡ false → ¬ AreDistinct names
+apart_or : (said : DistinctIsSaid) (names : List Name) → are_distinct names ≡ false → ¬ AreDistinctInAnyCase names
 apart_or said names e apart = absurd (true≢false (sym ((said names).1 apart) ∙ e))
 
 by_laws : (F : Fault → Type 0) → NameLaws → Says F

@@ -10,7 +10,7 @@ use Rattle.syntax.specs.StatementTree.{ItemTree}
 use Rattle.syntax.specs.Tree.{Name}
 use Rattle.syntax.specs.declared.query.Join.{Join}
 use Rattle.naming.specs.Expression.{Answers}
-use Rattle.naming.specs.Laws.{AreDistinct, AreSameSources, DistinctIsSaid}
+use Rattle.naming.specs.Laws.{AreDistinctInAnyCase, AreSameSources, DistinctIsSaid}
 use Rattle.naming.specs.Outcome.{also}
 use Rattle.naming.specs.Sources.{Condition, Given, Known, Sources, is_same_source, joined, joined_on, kind_of, shown_from}
 use Rattle.naming.specs.Statement.{Named, Queried, are_distinct, from_of, item_columns, named, source_of, window_names}
@@ -22,7 +22,7 @@ use Rattle.refusals.proofs.SourceLemmas.{from_called, source_called}
 use Rattle.refusals.proofs.SelectLemmas.{TakenSelect, begins_taken, core_apart, item_at, part_taken, select_taken}
 use Rattle.refusals.proofs.TakenLemmas.{answers_with, inside}
 
-distinct_none : (said : DistinctIsSaid) (names : List Name) → ¬ AreDistinct names → are_distinct names ≡ true → ⊥
+distinct_none : (said : DistinctIsSaid) (names : List Name) → ¬ AreDistinctInAnyCase names → are_distinct names ≡ true → ⊥
 distinct_none said names twice e = twice ((said names).0 e)
 
 -- no source before it is called the same
@@ -78,7 +78,7 @@ select_apart said known items core by taken (Repeats.window twice) =
     distinct_none said (window_names (windows_in core)) twice
     (core_apart (answers_with known (inside taken.deep known) taken.inners) taken.sources.scope core by taken.made taken.is)
 
-columns_apart : (said : DistinctIsSaid) (written names columns : List Name) → item_columns written names ≡ Ok columns → AreDistinct written
+columns_apart : (said : DistinctIsSaid) (written names columns : List Name) → item_columns written names ≡ Ok columns → AreDistinctInAnyCase written
 columns_apart said [] names columns e = (said []).0 refl
 columns_apart said (n ∷ ns) names columns e =
     let (even, rest) = checked-ok (nat_eq (length (n ∷ ns)) (length names)) ColumnCount _ columns e in

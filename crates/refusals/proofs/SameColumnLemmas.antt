@@ -18,7 +18,7 @@ use Rattle.naming.specs.Statement.{Queried, Single, With, alias_or, compounded, 
 use Rattle.naming.specs.Typed.{Table, known_tables}
 use Rattle.naming.proofs.OneLemmas.{one_ok}
 use Rattle.naming.proofs.OutcomeLemmas.{also-ok, checked-ok, followed-ok}
-use Rattle.refusals.specs.Columns.{AreListed, HasNames, IsListed, Joins, Listed, Merges, Offers, Shows, columns_or, names_of_results, results_in}
+use Rattle.refusals.specs.Columns.{AreListed, HasNames, IsListed, JoinsScopes, ListedTable, Merges, Offers, Shows, columns_or, names_of_results, results_in}
 use Rattle.refusals.proofs.NameLemmas.{core_names, listed_of}
 use Rattle.refusals.proofs.StatementLemmas.{all_tables_are, columns_are, with_more}
 use Rattle.refusals.proofs.TakenLemmas.{answers_with, from_taken, inside}
@@ -28,7 +28,7 @@ abbrev scope_or : Scope → Result Condition Fault → Scope
 scope_or otherwise (Ok c) = c.scope
 scope_or otherwise (Err fault) = otherwise
 
-abbrev item_listed : ItemTree → List Name → Listed
+abbrev item_listed : ItemTree → List Name → ListedTable
 item_listed i columns = record { name = i.name; columns = columns }
 
 compounded_names : (order : TermTrees) (l : Queried) (operator : CompoundOperator) (s : Single) (q : Queried) → compounded order l operator s ≡ Ok q
@@ -73,12 +73,12 @@ merges_one {theirs = theirs} (Merges.both {name = name} {names = names} {left = 
     let (lefts, rights) = merges_one merges m (subst (λ p. used theirs (merged name p left) (hidden name right) names ≡ Ok m) one merging) in
     (lefts ∙ ap (λ (u : Using). u.left) same, rights ∙ ap (λ (u : Using). u.right) same)
 
-joins_one : {on : OnTree} {left right scope : Scope} → Joins on left right scope → (answers : Answers) (c : Condition) → joined_on answers on left right ≡ Ok c
+joins_one : {on : OnTree} {left right scope : Scope} → JoinsScopes on left right scope → (answers : Answers) (c : Condition) → joined_on answers on left right ≡ Ok c
     → scope ≡ c.scope
-joins_one (Joins.always {left = left} {right = right}) answers c e = ap (λ (r : Result Condition Fault). scope_or (left ++ right) r) e
-joins_one (Joins.on {e = x} {left = left} {right = right}) answers c e =
+joins_one (JoinsScopes.always {left = left} {right = right}) answers c e = ap (λ (r : Result Condition Fault). scope_or (left ++ right) r) e
+joins_one (JoinsScopes.on {e = x} {left = left} {right = right}) answers c e =
     let (t, of, same) = also-ok _ (term_of answers (columns_say (left ++ right)) x) c e in ap (λ (c : Condition). c.scope) same
-joins_one (Joins.by_names {names = names} {left = left} {right = right} merges) answers c e =
+joins_one (JoinsScopes.by_names {names = names} {left = left} {right = right} merges) answers c e =
     let (u, merging, same) = also-ok _ (used right left right names) c e in
     let (lefts, rights) = merges_one merges u merging in
     ap₂ ◌++◌ lefts rights ∙ ap (λ (c : Condition). c.scope) same
@@ -120,7 +120,7 @@ module _ (known : List Known) (queries : QueryTree → Result Queried Fault)
       let (names, lists) = offers_one offers g is in
       let (c, of, same) = joined_is answers no_sources JoinKind.inner OnTree.Always g f more in
       ap₂ (λ called columns. shown_from called 0 columns) names lists
-      ∙ joins_one (Joins.always {left = []} {right = shown_from g.name 0 g.columns}) answers c of ∙ same
+      ∙ joins_one (JoinsScopes.always {left = []} {right = shown_from g.name 0 g.columns}) answers c of ∙ same
   shows_one answers (Shows.joined {from = from} {join = join} {source = source} {on = on} {left = left} {scope = scope} {called = called} {columns = columns}
       shows offers joins) f e =
       let (l, first, more) = followed-ok (from_of known queries answers from) _ f e in
@@ -128,10 +128,10 @@ module _ (known : List Known) (queries : QueryTree → Result Queried Fault)
       let scopes : left ≡ l.scope = shows_one answers shows l first in
       let (names, lists) = offers_one offers g is in
       let (c, of, same) = joined_is answers l (kind_of join) on g f last in
-      let there : Joins on l.scope (shown_from g.name (length l.scope) g.columns) scope =
-      subst (λ left. Joins on left (shown_from g.name (length left) g.columns) scope) scopes
-      (subst (λ called. Joins on left (shown_from called (length left) g.columns) scope) names
-      (subst (λ columns. Joins on left (shown_from called (length left) columns) scope) lists joins)) in
+      let there : JoinsScopes on l.scope (shown_from g.name (length l.scope) g.columns) scope =
+      subst (λ left. JoinsScopes on left (shown_from g.name (length left) g.columns) scope) scopes
+      (subst (λ called. JoinsScopes on left (shown_from called (length left) g.columns) scope) names
+      (subst (λ columns. JoinsScopes on left (shown_from called (length left) columns) scope) lists joins)) in
       joins_one there answers c of ∙ same
 
   pub names_one : {tree : QueryTree} {names : List Name} → HasNames (listed_of known) tree names → (order : TermTrees) (q : Queried)
@@ -160,7 +160,7 @@ same_inside known deep tree q e names has = same_names deep known tree TermTrees
 
 -- ---- the statement
 
-pub listed_same : (tables : List Table) {items : List ItemTree} {listed : List Listed} → AreListed tables items listed → (w : With)
+pub listed_same : (tables : List Table) {items : List ItemTree} {listed : List ListedTable} → AreListed tables items listed → (w : With)
     → with_items (no_items (known_tables tables)) items ≡ Ok w → listed ≡ listed_of w.known
 listed_same tables AreListed.no_item w e =
     let same : no_items (known_tables tables) ≡ w = cc in sym (all_tables_are tables) ∙ ap (λ (w : With). listed_of w.known) same

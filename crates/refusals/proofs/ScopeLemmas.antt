@@ -7,7 +7,7 @@ use Rattle.values.specs.declared.fault.Fault.{Fault}
 use Rattle.values.specs.declared.fault.Fault.TheVariants.{Ambiguous, DuplicateName, UnknownColumn}
 use Rattle.expr.specs.Term.{column}
 use Rattle.syntax.specs.Tree.{Name}
-use Rattle.naming.specs.Laws.{AreDistinct, AreSameSources, IsCalled, IsCalledAt, IsSameName}
+use Rattle.naming.specs.Laws.{AreDistinctInAnyCase, AreSameSources, IsCalled, IsCalledAt, IsSameInAnyCase}
 use Rattle.naming.specs.Outcome.{also}
 use Rattle.naming.specs.Scope.{Scope, Shown, bare_term, called, column_of, is_bare, is_called, is_source, only, places_of}
 use Rattle.naming.specs.Sources.{hidden, is_same_source, merged, used}
@@ -21,7 +21,7 @@ pub record Says (F : Fault → Type 0) : Type 0 where
       → (IsUnknown scope table name → F UnknownColumn) → F UnknownColumn
   pub twice : (scope : Scope) (table : Option Name) (name : Name) → column_of scope table name ≡ Err Ambiguous
       → (IsAmbiguous scope table name → F Ambiguous) → F Ambiguous
-  pub repeated : (names : List Name) → are_distinct names ≡ false → (¬ AreDistinct names → F DuplicateName) → F DuplicateName
+  pub repeated : (names : List Name) → are_distinct names ≡ false → (¬ AreDistinctInAnyCase names → F DuplicateName) → F DuplicateName
 
 module _ (F : Fault → Type 0) (says : Says F) where
   places_by : (found : List (List ℕ)) → (also bare_term (only found) ≡ Err UnknownColumn → F UnknownColumn)
@@ -117,7 +117,7 @@ star_of_none table at (s ∷ ss) e =
     let (apart, more) = by (is_source table s.source) refl e in
     All-cons (λ shown. ¬ IsOf table shown) s ss apart (star_of_none table (suc at) ss more)
   where
-    no_source : (o : Option Name) → is_source table o ≡ false → (source : Name) → o ≡ Some source → ¬ IsSameName source table
+    no_source : (o : Option Name) → is_source table o ≡ false → (source : Name) → o ≡ Some source → ¬ IsSameInAnyCase source table
     no_source None e source is same = absurd cc
     no_source (Some name) e source is same =
         let named : name ≡ source = cc in absurd (true≢false (sym (subst (λ n. str_eq_ignore_ascii_case n table ≡ true) (sym named) same) ∙ e))

@@ -15,7 +15,7 @@ use Rattle.naming.specs.Sources.{Known, Sources}
 use Rattle.naming.specs.Statement.{CoreData, Inner, Named, Queried, With, are_distinct, behind_groups, by_of, condition_of, core_of, firsts, from_of, from_tree, input_of, item_columns, max_levels, named, queried, window_names, with_items}
 use Rattle.naming.specs.Typed.{Table, known_tables}
 use Rattle.naming.proofs.OutcomeLemmas.{checked-ok, followed-ok}
-use Rattle.refusals.specs.Written.{Begins, HasQueryWith, IsSelect, windows_in}
+use Rattle.refusals.specs.Written.{BeginsFrom, HasQueryWith, IsSelect, windows_in}
 use Rattle.refusals.proofs.OkLemmas.{IsGiven}
 use Rattle.refusals.proofs.TakenLemmas.{IsTakenQuery, all_taken, answers_with, from_taken, inside, single_in}
 use Rattle.refusals.proofs.WithLemmas.{no_items, query_taken, split_items}
@@ -45,10 +45,10 @@ select_taken known query order core by (deep, (q, taken)) select =
     record { deep = deep; inners = inners; sources = f; from = from; made = c; is = is }
 
 -- so is the beginning of a FROM
-pub begins_taken : (known : List Known) (queries : QueryTree → Result Queried Fault) (answers : Answers) {begin from : FromTree} → Begins begin from
+pub begins_taken : (known : List Known) (queries : QueryTree → Result Queried Fault) (answers : Answers) {begin from : FromTree} → BeginsFrom begin from
     → (f : Sources) → from_of known queries answers from ≡ Ok f → IsGiven (from_of known queries answers begin)
-begins_taken known queries answers Begins.whole f e = (f, e)
-begins_taken known queries answers (Begins.more {from = from} begins) f e =
+begins_taken known queries answers BeginsFrom.whole f e = (f, e)
+begins_taken known queries answers (BeginsFrom.more {from = from} begins) f e =
     let (left, first, more) = followed-ok (from_of known queries answers from) _ f e in
     begins_taken known queries answers begins left first
 

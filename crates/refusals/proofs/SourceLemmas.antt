@@ -18,7 +18,7 @@ use Rattle.naming.specs.Sources.{Condition, Given, Known, Sources, is_same_sourc
 use Rattle.naming.specs.Statement.{Queried, alias_or, from_of, given_known, given_query, source_of}
 use Rattle.naming.proofs.OutcomeLemmas.{also-ok, followed-ok}
 use Rattle.refusals.specs.Columns.{HasNames, Offers, Shows}
-use Rattle.refusals.specs.Written.{Begins, IsDerived, called_so, names_of_sources, sources_in}
+use Rattle.refusals.specs.Written.{BeginsFrom, IsDerived, called_so, names_of_sources, sources_in}
 use Rattle.refusals.proofs.NameLemmas.{from_shows, listed_of, source_offers}
 use Rattle.refusals.proofs.OutcomeLemmas.{Gives, Only, Takes, also_only, followed_gives, followed_only, if_only, known_only, ok, refused}
 use Rattle.refusals.proofs.PartLemmas.{Each, back, first, front, more, none, rest}
@@ -130,7 +130,7 @@ module _ (F : Fault → Type 0) (takes : Takes F) (answers : Answers) where
     module _ (names : (tree : QueryTree) (q : Queried) → queries tree ≡ Ok q → HasNames (listed_of known) tree q.names) where
       pub from_only : (from : FromTree) → Each (IsFineSource F known) (sources_in from)
           → ((source : SourceTree) (query : QueryTree) → Contains (sources_in from) source → IsDerived source query → Only F (queries query))
-          → ((left : FromTree) (join : Join) (source : SourceTree) (on : OnTree) → Begins (FromTree.Joined left join source on) from
+          → ((left : FromTree) (join : Join) (source : SourceTree) (on : OnTree) → BeginsFrom (FromTree.Joined left join source on) from
           → (scope : Scope) (called : Option Name) (columns : List Name) → Shows (listed_of known) left scope → Offers (listed_of known) source called columns
           → IsFineJoin F scope (names_of_sources left) on called columns)
           → Each (IsFineAnswer F answers) (from_parts from) → Only F (from_of known queries answers from)
@@ -142,11 +142,11 @@ module _ (F : Fault → Type 0) (takes : Takes F) (answers : Answers) where
           known_only (from_of known queries answers from) _
           (from_only from (front (sources_in from) (source ∷ []) sources)
           (λ other query there is. inside other query (Contains-append_left (sources_in from) (source ∷ []) other there) is)
-          (λ left kind other condition begins. joins left kind other condition (Begins.more begins)) (front (from_parts from) (on_parts on) all))
+          (λ left kind other condition begins. joins left kind other condition (BeginsFrom.more begins)) (front (from_parts from) (on_parts on) all))
           (λ left taken. known_only (source_of known queries source) (joined answers left (kind_of join) on)
           (source_only source (first (back (sources_in from) (source ∷ []) sources))
           (λ query is. inside source query (Contains-push (sources_in from) source) is))
           (λ given is. joined_only left (kind_of join) on given
           (subst (λ all. IsFineJoin F left.scope all on given.name given.columns) (sym (from_called known queries answers from left taken))
-          (joins from join source on Begins.whole left.scope given.name given.columns (from_shows known queries names answers from left taken)
+          (joins from join source on BeginsFrom.whole left.scope given.name given.columns (from_shows known queries names answers from left taken)
           (source_offers known queries names source given is))) (back (from_parts from) (on_parts on) all)))

@@ -11,7 +11,7 @@ use Rattle.expr.specs.declared.tree.Function.TheVariants.{Length}
 use Rattle.meaning.specs.Query.{of_columns}
 use Rattle.meaning.specs.Typed.{BodyHasTypes, IsTerm}
 use Rattle.refusals.specs.Clashes.{AreAtOdds, HasClash, IsAmong, IsClash, Misfits}
-use Rattle.refusals.specs.Mismatches.{AreApart, SelectMisfits}
+use Rattle.refusals.specs.Mismatches.{AreMismatched, SelectMisfits}
 use Rattle.refusals.specs.TypeExamples.{ClashesAreFound, OwnTypesAreLeast, PlacesMisfit, null_alone, text_and_one, text_or_null}
 use Rattle.refusals.proofs.OddsLemmas.{clash_refuted, misfit_refuted, odds_refuted}
 use Rattle.refusals.proofs.OwnLemmas.{own_body, own_computed}
@@ -74,7 +74,7 @@ apart_number ty (inr e) (inl d) = absurd cc
 apart_number ty (inr e) (inr d) = absurd cc
 
 -- at each place both may be of one type
-not_apart : AreApart (Int ∷ Null ∷ []) (Null ∷ Text ∷ []) → ⊥
+not_apart : AreMismatched (Int ∷ Null ∷ []) (Null ∷ Text ∷ []) → ⊥
 not_apart a = by a.at a.there a.beside
   where
     by : (at : ℕ) → slice_get (Int ∷ Null ∷ []) at ≡ Some a.one → slice_get (Null ∷ Text ∷ []) at ≡ Some a.other → ⊥

@@ -11,7 +11,7 @@ use Rattle.syntax.specs.ExprTree.{CoreTree, ExprTree, OnTree, QueryTree, TermTre
 use Rattle.syntax.specs.StatementTree.{StatementTree}
 use Rattle.syntax.specs.Tree.{Name}
 use Rattle.naming.specs.Expression.{Answers, term_of}
-use Rattle.naming.specs.Laws.{AmbiguousIsTwo, IsCalledAt, IsSameName, UnknownIsNone}
+use Rattle.naming.specs.Laws.{AmbiguousIsTwo, IsCalledAt, IsSameInAnyCase, UnknownIsNone}
 use Rattle.naming.specs.Outcome.{also}
 use Rattle.naming.specs.Parts.{parts_behind_groups}
 use Rattle.naming.specs.Places.{aggregate_of, call_of, columns_say, windows_say}
@@ -21,7 +21,7 @@ use Rattle.naming.specs.Sources.{Condition, Known, Using, hidden, joined, kind_o
 use Rattle.naming.specs.Statement.{CoreData, Named, Queried, Single, all_results, are_distinct, behind_groups, by_of, compounded, condition_of, core_of, defined_of, finished, firsts, from_of, from_tree, input_of, keys_of, max_columns, named, named_at, no_row, on_row, one_or, operator_of, query_of, result, simple, single, single_of, source_of, starred_of, window_names}
 use Rattle.naming.specs.Typed.{Table, column_types, known_tables, with_types}
 use Rattle.naming.proofs.OutcomeLemmas.{also-ok, checked-ok, followed-ok}
-use Rattle.refusals.specs.Columns.{Listed, Shows, names_of_results, results_in}
+use Rattle.refusals.specs.Columns.{ListedTable, Shows, names_of_results, results_in}
 use Rattle.refusals.specs.UnknownColumns.{AmbiguousColumnIsRefused, HasLooseHaving, InSelect, IsAmbiguous, IsNamedAt, IsNoResult, IsOf, IsTwofold, IsUnknown, NamesColumn, NamesUnknownColumn, SortsByTwo, UnknownColumnIsRefused, columns_behind}
 use Rattle.refusals.specs.Written.{HasQueryWith, IsLooseHaving, stars_in}
 use Rattle.refusals.proofs.CoreToldLemmas.{core_told, keys_given}
@@ -58,7 +58,7 @@ none_of_star table at [] all = refl
 none_of_star table at (s ∷ ss) all =
     by (is_source table s.source) refl (none_of_star table (suc at) ss (All-tail (λ shown. ¬ IsOf table shown) s ss all))
   where
-    sourced : (o : Option Name) → is_source table o ≡ true → (source : Name) × (o ≡ Some source) × IsSameName source table
+    sourced : (o : Option Name) → is_source table o ≡ true → (source : Name) × (o ≡ Some source) × IsSameInAnyCase source table
     sourced None e = absurd cc
     sourced (Some name) e = (name, refl, e)
 
@@ -250,7 +250,7 @@ sorts_refuted known query order (deep, (q, taken)) two =
 
 -- ---- the statement
 
-in_select_refuted : (tables : List Table) (tree : StatementTree) (n : Named) (Is : List Listed → CoreTree → TermTrees → Type 0)
+in_select_refuted : (tables : List Table) (tree : StatementTree) (n : Named) (Is : List ListedTable → CoreTree → TermTrees → Type 0)
     → ((known : List Known) (core : CoreTree) (by : TermTrees) → TakenSelect known core by → ¬ IsLooseHaving core → Is (listed_of known) core by → ⊥)
     → HasQueryWith tree (InSelect tables Is) → ¬ HasLooseHaving tree → named (known_tables tables) tree ≡ Ok n → ⊥
 in_select_refuted tables tree n Is refuted has tight e =

@@ -5,7 +5,7 @@ use Rattle.values.specs.declared.fault.Fault.{Fault}
 use Rattle.syntax.specs.ExprTree.{CoreTree, QueryTree, SourceTree, TermTrees}
 use Rattle.syntax.specs.StatementTree.{ItemTree}
 use Rattle.syntax.specs.Tree.{Name}
-use Rattle.naming.specs.Laws.{IsSameName}
+use Rattle.naming.specs.Laws.{IsSameInAnyCase}
 use Rattle.naming.specs.Sources.{Known, known_as}
 use Rattle.naming.specs.Statement.{Queried, With, alias_or, from_tree, given_known, named, source_of, with_items}
 use Rattle.naming.specs.Typed.{Table, column_types, known_tables, with_types}
@@ -20,8 +20,8 @@ use Rattle.refusals.proofs.WithLemmas.{IsOther, items_there, no_items, none_know
 none_there : (tables : List Table) (items : List ItemTree) (name : Name) (w : With) → with_items (no_items (known_tables tables)) items ≡ Ok w
     → IsNoSource tables items name → All (IsOther name) w.known
 none_there tables items name w e none =
-    items_there (λ other. ¬ IsSameName other name) items (no_items (known_tables tables)) w e none.no_item
-    (tables_there (λ other. ¬ IsSameName other name) tables none.no_table)
+    items_there (λ other. ¬ IsSameInAnyCase other name) items (no_items (known_tables tables)) w e none.no_item
+    (tables_there (λ other. ¬ IsSameInAnyCase other name) tables none.no_table)
 
 select_refused : (known : List Known) (core : CoreTree) (by : TermTrees) (name : Name) (alias : Option Name) → TakenSelect known core by
     → Contains (sources_in (from_tree core)) (SourceTree.Named name alias) → All (IsOther name) known → ⊥

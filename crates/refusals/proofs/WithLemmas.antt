@@ -7,7 +7,7 @@ use Rattle.values.specs.declared.fault.Fault.TheVariants.{DuplicateName, Unknown
 use Rattle.syntax.specs.ExprTree.{QueryTree, TermTrees}
 use Rattle.syntax.specs.StatementTree.{ItemTree, StatementTree}
 use Rattle.syntax.specs.Tree.{Name}
-use Rattle.naming.specs.Laws.{IsSameName}
+use Rattle.naming.specs.Laws.{IsSameInAnyCase}
 use Rattle.naming.specs.Outcome.{followed}
 use Rattle.naming.specs.Sources.{Known, known_as}
 use Rattle.naming.specs.Statement.{Named, Queried, With, are_distinct, ended, item_columns, item_of, max_levels, named, queried, with_item, with_items}
@@ -123,7 +123,7 @@ module _ (P : Name → Type 0) where
 -- ---- what a name stands for
 
 abbrev pub IsOther : Name → Known → Type 0
-IsOther name k = ¬ IsSameName k.name name
+IsOther name k = ¬ IsSameInAnyCase k.name name
 
 -- where no name is the same, nothing is found, and the other way round
 pub none_known : (known : List Known) (name : Name) (k : Known) → All (IsOther name) known → known_as known name ≡ Ok k → ⊥

@@ -10,7 +10,7 @@ use Rattle.syntax.specs.StatementTree.{StatementTree}
 use Rattle.meaning.specs.Query.{Aggregate, AggregateFunction, Body, From, Grouping, InnerQuery, JoinKind, Key, KeyTerm, Operator, Select, SortTerm, Source, WindowCall, WindowFunction}
 use Rattle.meaning.specs.Typed.{AggregateHasType, AnswersHaveTypes, BodyHasTypes, ComputedHasTypes, FromHasTypes, GroupedHasTypes, IsTermOf, SourceHasTypes}
 use Rattle.naming.specs.Statement.{Named, named}
-use Rattle.naming.specs.Typed.{IsRefused, Table, Types, column_types, known_tables}
+use Rattle.naming.specs.Typed.{IsNoQuery, Table, Types, column_types, known_tables}
 use Rattle.refusals.specs.Clashes.{AreAtOdds, HasClash, Misfits}
 
 -- Its own types, where NULL fits any: it has them, and they may stand for all others that it has, so that what is NULL alone
@@ -69,7 +69,7 @@ pub data SelectMisfits (answers row : List Ty) (s : Select) : Type 0 where
 -- ---- queries, over tables whose columns have these types
 
 -- at one place stand types that are no one type
-pub record AreApart (first second : List Ty) : Type 0 where
+pub record AreMismatched (first second : List Ty) : Type 0 where
   pub at : ℕ
   pub one : Ty
   pub other : Ty
@@ -117,7 +117,7 @@ module _ (tables : List (List Ty)) where
       before : {left : Body} {operator : Operator} {from : From} {s : Select} → BodyMisfits left → BodyMisfits (Body.compound left operator from s)
       last : {left : Body} {operator : Operator} {from : From} {s : Select} → SingleMisfits from s → BodyMisfits (Body.compound left operator from s)
       columns : {left : Body} {operator : Operator} {from : From} {s : Select} (first second : List Ty) → AreOwn (BodyHasTypes tables left) first
-          → AreOwn (BodyHasTypes tables (Body.select from s)) second → AreApart first second → BodyMisfits (Body.compound left operator from s)
+          → AreOwn (BodyHasTypes tables (Body.select from s)) second → AreMismatched first second → BodyMisfits (Body.compound left operator from s)
 
   -- in a term of ORDER BY, which speaks of the row that the result columns speak of
   pub data KeyMisfits : Body → KeyTerm → Type 0 where
@@ -142,4 +142,4 @@ MistypedIsRefused = (tables : List Table) (tree : StatementTree) (n : Named) →
 -- it is refused because types don't agree, unless because a window's frame is none
 abbrev pub MistypedIsMismatch : Type 0
 MistypedIsMismatch =
-    (tables : List Table) (tree : StatementTree) → IsMistyped tables tree → IsRefused tables tree TypeMismatch ⊎ IsRefused tables tree BadFrame
+    (tables : List Table) (tree : StatementTree) → IsMistyped tables tree → IsNoQuery tables tree TypeMismatch ⊎ IsNoQuery tables tree BadFrame

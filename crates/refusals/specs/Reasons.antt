@@ -3,7 +3,7 @@ use Rattle.std.specs.Prelude.{List}
 use Rattle.values.specs.declared.fault.Fault.{Fault}
 use Rattle.values.specs.declared.fault.Fault.TheVariants as f
 use Rattle.syntax.specs.StatementTree.{StatementTree}
-use Rattle.naming.specs.Typed.{IsRefused, Table}
+use Rattle.naming.specs.Typed.{IsNoQuery, Table}
 use Rattle.refusals.specs.Mismatches.{IsMistyped}
 use Rattle.refusals.specs.RepeatedNames.{HasRepeatedName}
 use Rattle.refusals.specs.UnevenColumns.{HasUnevenColumns}
@@ -22,4 +22,4 @@ IsReason tables tree _ = Unit {0}
 
 -- a statement that is refused by a fault has what the fault says
 abbrev pub RefusalsHaveReasons : Type 0
-RefusalsHaveReasons = (tables : List Table) (tree : StatementTree) (fault : Fault) → IsRefused tables tree fault → IsReason tables tree fault
+RefusalsHaveReasons = (tables : List Table) (tree : StatementTree) (fault : Fault) → IsNoQuery tables tree fault → IsReason tables tree fault

@@ -4,7 +4,7 @@ use Rattle.values.specs.Fault.{number_of}
 use Rattle.values.specs.declared.fault.Fault.{Fault}
 use Rattle.values.specs.declared.fault.Fault.TheVariants.{NoMemory}
 use Rattle.syntax.specs.StatementTree.{StatementTree}
-use Rattle.naming.specs.Typed.{IsRefused, Table}
+use Rattle.naming.specs.Typed.{IsNoQuery, Table}
 
 -- a fault of names or types, as docs/FAULTS.md numbers them
 abbrev pub IsNameFault : Fault → Type 0
@@ -12,4 +12,4 @@ IsNameFault fault = (31 ≤ number_of fault) × (number_of fault ≤ 40)
 
 -- a statement that is refused is so by one of them, or memory ran out
 abbrev pub RefusalsAreNumbered : Type 0
-RefusalsAreNumbered = (tables : List Table) (tree : StatementTree) (fault : Fault) → IsRefused tables tree fault → (fault ≡ NoMemory) ⊎ IsNameFault fault
+RefusalsAreNumbered = (tables : List Table) (tree : StatementTree) (fault : Fault) → IsNoQuery tables tree fault → (fault ≡ NoMemory) ⊎ IsNameFault fault

@@ -4,22 +4,22 @@ use Rattle.syntax.specs.ExprTree.{CoreTree, FromTree, OnTree, SourceTree, TermTr
 use Rattle.syntax.specs.StatementTree.{ItemTree, StatementTree}
 use Rattle.syntax.specs.Tree.{Name}
 use Rattle.syntax.specs.declared.query.Join.{Join}
-use Rattle.naming.specs.Laws.{AreDistinct, AreSameSources}
+use Rattle.naming.specs.Laws.{AreDistinctInAnyCase, AreSameSources}
 use Rattle.naming.specs.Statement.{Named, from_tree, window_names}
 use Rattle.naming.specs.Typed.{Table, Types}
-use Rattle.refusals.specs.Written.{Begins, HasSelectWith, called_so, names_of_sources, windows_in}
+use Rattle.refusals.specs.Written.{BeginsFrom, HasSelectWith, called_so, names_of_sources, windows_in}
 
 -- a SELECT has two sources that are called the same, or defines two windows of one name
 pub data Repeats (items : List ItemTree) (core : CoreTree) (by : TermTrees) : Type 0 where
   source : (left : FromTree) (join : Join) (source : SourceTree) (on : OnTree) (other : Option Name)
-      → Begins (FromTree.Joined left join source on) (from_tree core) → Contains (names_of_sources left) other → AreSameSources other (called_so source)
+      → BeginsFrom (FromTree.Joined left join source on) (from_tree core) → Contains (names_of_sources left) other → AreSameSources other (called_so source)
       → Repeats items core by
-  window : ¬ AreDistinct (window_names (windows_in core)) → Repeats items core by
+  window : ¬ AreDistinctInAnyCase (window_names (windows_in core)) → Repeats items core by
 
 -- Two items of WITH have one name, or two of the columns behind an item's; or so it is in a SELECT, somewhere in the statement.
 pub data HasRepeatedName (tree : StatementTree) : Type 0 where
-  items : ¬ AreDistinct (map (λ i. i.name) tree.items) → HasRepeatedName tree
-  columns : (before : List ItemTree) (i : ItemTree) (after : List ItemTree) → tree.items ≡ before ++ i ∷ after → ¬ AreDistinct i.columns
+  items : ¬ AreDistinctInAnyCase (map (λ i. i.name) tree.items) → HasRepeatedName tree
+  columns : (before : List ItemTree) (i : ItemTree) (after : List ItemTree) → tree.items ≡ before ++ i ∷ after → ¬ AreDistinctInAnyCase i.columns
       → HasRepeatedName tree
   select : HasSelectWith tree Repeats → HasRepeatedName tree
 

@@ -8,7 +8,7 @@ use Rattle.expr.specs.declared.tree.Function.TheVariants.{Length}
 use Rattle.meaning.specs.Query.{Body, From, of_columns}
 use Rattle.meaning.specs.Typed.{BodyHasTypes}
 use Rattle.refusals.specs.Clashes.{AreAtOdds, HasClash, IsClash, Misfits}
-use Rattle.refusals.specs.Mismatches.{AreApart, AreOwn, SelectMisfits}
+use Rattle.refusals.specs.Mismatches.{AreMismatched, AreOwn, SelectMisfits}
 
 -- c1 + 1
 abbrev pub text_and_one : Term
@@ -42,7 +42,7 @@ abbrev pub PlacesMisfit : Type 0
 PlacesMisfit =
     Misfits [] (Int ∷ Text ∷ []) Int (column 1) × (¬ Misfits [] (Int ∷ Text ∷ []) Int (literal null))
     × AreAtOdds [] (Int ∷ Text ∷ []) (column 0) (column 1) × (¬ AreAtOdds [] (Int ∷ Text ∷ []) (column 0) (literal null))
-    × AreApart (Int ∷ Text ∷ []) (Int ∷ Int ∷ []) × (¬ AreApart (Int ∷ Null ∷ []) (Null ∷ Text ∷ []))
+    × AreMismatched (Int ∷ Text ∷ []) (Int ∷ Int ∷ []) × (¬ AreMismatched (Int ∷ Null ∷ []) (Null ∷ Text ∷ []))
     × SelectMisfits [] (Int ∷ Text ∷ []) (of_columns (text_and_one ∷ []))
 
 -- the column of SELECT NULL may be of whole numbers, and of its own it is NULL alone

@@ -8,12 +8,12 @@ use Rattle.syntax.specs.declared.query.CompoundOperator.{CompoundOperator}
 use Rattle.naming.specs.Parts.{core_parts}
 use Rattle.naming.specs.Statement.{Named}
 use Rattle.naming.specs.Typed.{Table, Types}
-use Rattle.refusals.specs.Columns.{AreListed, HasNames, Listed}
+use Rattle.refusals.specs.Columns.{AreListed, HasNames, ListedTable}
 use Rattle.refusals.specs.UnknownColumns.{InSelect}
 use Rattle.refusals.specs.Written.{BeginsQuery, HasQueryWith}
 
 -- an expression of a SELECT has an IN with a query that hasn't one column
-pub record HasWideMembers (listed : List Listed) (core : CoreTree) (by : TermTrees) : Type 0 where
+pub record HasWideMembers (listed : List ListedTable) (core : CoreTree) (by : TermTrees) : Type 0 where
   pub not : Bool
   pub x : ExprTree
   pub query : QueryTree
@@ -25,14 +25,14 @@ pub record HasWideMembers (listed : List Listed) (core : CoreTree) (by : TermTre
 -- it is so in a query, or a SELECT that is joined to those before it hasn't as many columns as they
 pub data IsUneven (tables : List Table) (items : List ItemTree) (query : QueryTree) (order : TermTrees) : Type 0 where
   members : InSelect tables HasWideMembers items query order → IsUneven tables items query order
-  compound : (listed : List Listed) (left : QueryTree) (operator : CompoundOperator) (core : CoreTree) (names others : List Name)
+  compound : (listed : List ListedTable) (left : QueryTree) (operator : CompoundOperator) (core : CoreTree) (names others : List Name)
       → AreListed tables items listed → BeginsQuery (QueryTree.Compound left operator core) query → HasNames listed left names
       → HasNames listed (QueryTree.Core core) others → length names ≢ length others → IsUneven tables items query order
 
 -- Somewhere in a statement it is so, or the names behind an item of WITH aren't as many as the columns of its query.
 pub data HasUnevenColumns (tables : List Table) (tree : StatementTree) : Type 0 where
   query : HasQueryWith tree (IsUneven tables) → HasUnevenColumns tables tree
-  item : (before : List ItemTree) (i : ItemTree) (after : List ItemTree) (listed : List Listed) (names : List Name)
+  item : (before : List ItemTree) (i : ItemTree) (after : List ItemTree) (listed : List ListedTable) (names : List Name)
       → tree.items ≡ before ++ i ∷ after → AreListed tables before listed → HasNames listed i.query names → i.columns ≢ []
       → length i.columns ≢ length names → HasUnevenColumns tables tree
 

@@ -3,7 +3,7 @@ use Rattle.std.specs.Prelude.{All, Contains, List, [], ◌∷◌, ◌++◌, code
 use Rattle.syntax.specs.ExprTree.{CoreTree, SourceTree, TermTrees}
 use Rattle.syntax.specs.StatementTree.{ItemTree, StatementTree}
 use Rattle.syntax.specs.Tree.{Name}
-use Rattle.naming.specs.Laws.{IsSameName}
+use Rattle.naming.specs.Laws.{IsSameInAnyCase}
 use Rattle.naming.specs.Statement.{Named, from_tree}
 use Rattle.naming.specs.Typed.{Table, Types}
 use Rattle.refusals.specs.Written.{HasSelectWith, sources_in}
@@ -14,8 +14,8 @@ table_names tables = map (λ t. t.name) tables ++ codes "sqlite_schema" ∷ code
 
 -- the name is neither one of these items of WITH nor a table
 pub record IsNoSource (tables : List Table) (items : List ItemTree) (name : Name) : Type 0 where
-  pub no_item : All (λ i. ¬ IsSameName i.name name) items
-  pub no_table : All (λ other. ¬ IsSameName other name) (table_names tables)
+  pub no_item : All (λ i. ¬ IsSameInAnyCase i.name name) items
+  pub no_table : All (λ other. ¬ IsSameInAnyCase other name) (table_names tables)
 
 -- a source of the FROM of a SELECT is written by a name that is none
 pub record NamesNoSource (tables : List Table) (items : List ItemTree) (core : CoreTree) (by : TermTrees) : Type 0 where

@@ -23,10 +23,10 @@ abbrev pub names_of_sources : FromTree → List (Option Name)
 names_of_sources from = map called_so (sources_in from)
 
 -- how a FROM begins
-pub data Begins : FromTree → FromTree → Type 0 where
-  whole : {from : FromTree} → Begins from from
-  more : {begin from : FromTree} {join : Join} {source : SourceTree} {on : OnTree} → Begins begin from
-      → Begins begin (FromTree.Joined from join source on)
+pub data BeginsFrom : FromTree → FromTree → Type 0 where
+  whole : {from : FromTree} → BeginsFrom from from
+  more : {begin from : FromTree} {join : Join} {source : SourceTree} {on : OnTree} → BeginsFrom begin from
+      → BeginsFrom begin (FromTree.Joined from join source on)
 
 -- the sources whose columns are results, as `t.*`
 abbrev pub stars_in : ResultTrees → List Name

@@ -21,5 +21,5 @@ abbrev pub Resolves : List TableData → StatementTree → Named → Type 0
 Resolves tables tree named = naming.Types (tables_of tables) tree named
 
 -- its names or its types give this fault, or memory ran out
-abbrev pub IsRefused : List TableData → StatementTree → Fault → Type 0
-IsRefused tables tree fault = naming.IsRefused (tables_of tables) tree fault
+abbrev pub IsNoQueryOver : List TableData → StatementTree → Fault → Type 0
+IsNoQueryOver tables tree fault = naming.IsNoQuery (tables_of tables) tree fault

@@ -8,7 +8,7 @@ ghost use Rattle.tables.specs.ColumnTypes.{column_types};
 ghost use Rattle.tables.specs.TableData.{TableData};
 ghost use Rattle.syntax.specs.StatementTree.{StatementTree};
 ghost use Rattle.resolver.specs.Refusals.{CompoundWidths, InnerWidth, ItemWidths, RepeatedSource, UsingAmbiguous, UsingUnknown};
-ghost use Rattle.resolver.specs.Resolved.{IsRefused, Resolves};
+ghost use Rattle.resolver.specs.Resolved.{IsNoQueryOver, Resolves};
 
 use naming::laws::{names_are_columns, typed_as_meaning};
 
@@ -29,7 +29,7 @@ pub fn resolved_is_typed()
 /// A statement that is refused for another reason than want of memory is no query.
 pub fn refused_is_unresolved()
     ensures { (tables : List TableData) (tree : StatementTree) (fault : Fault) (named : Named)
-        → IsRefused tables tree fault → fault ≢ NoMemory → ¬ Resolves tables tree named }
+        → IsNoQueryOver tables tree fault → fault ≢ NoMemory → ¬ Resolves tables tree named }
 {}
 
 /// Numbers of columns are told to differ exactly where they do: those of an item of WITH and the names behind its own, those of

@@ -6,7 +6,7 @@ ghost use Rattle.query_trees.specs.Outcome.{Gives};
 ghost use Rattle.tables.specs.ColumnTypes.{column_types};
 ghost use Rattle.statement_names.specs.NamedView.{named_data, query_data};
 ghost use Rattle.statement_trees.specs.StatementView.{statement_of};
-ghost use Rattle.resolver.specs.Resolved.{IsRefused, Resolves, tables_of};
+ghost use Rattle.resolver.specs.Resolved.{IsNoQueryOver, Resolves, tables_of};
 
 use crate::known::{column_types, known_tables};
 use naming::laws::typed_as_meaning;
@@ -55,7 +55,7 @@ pub fn resolve(
 ) -> Result<NamedStatement, Fault>
     ensures means { IfOk result (λ named. Resolves tables.now (statement_of statement.now) (named_data named)) }
     ensures typed { IfOk result (λ named. IsTyped (column_types tables.now) (query_data named.query)) }
-    ensures refused { IfErr result (IsRefused tables.now (statement_of statement.now)) }
+    ensures refused { IfErr result (IsNoQueryOver tables.now (statement_of statement.now)) }
 {
     typed_as_meaning();
     typed_statement(alloc, tables, statement)

@@ -11,7 +11,7 @@ use Rattle.sources.specs.SourceData.{SourceData}
 use Rattle.expr.specs.Meaning.{eval}
 use Rattle.expr.specs.Term.{Term}
 use Rattle.meaning.specs.Valuation.{term_values}
-use Rattle.plans.specs.Plan.{Reaches, rows_of}
+use Rattle.plans.specs.Plan.{ReachesOverflow, rows_of}
 use Rattle.plans.proofs.HitLemmas.{any_here}
 use Rattle.scan.specs.Coming.{Asks}
 use Rattle.scan.proofs.ComingLemmas.{Asks-then}
@@ -101,9 +101,9 @@ module _ (start now : PagerState) (image : SameImage start now) (sources : List 
       rest_split = here.1.rest_is ∙ ap (λ rows. sliced slice (result_rows on.w columns rows)) given.rest_is
 
       -- a result column on the row has no value
-      pub column_cause : (e : Fault) → (e ≡ Overflow) ⊎ (e ≡ NoMemory) → (e ≡ Overflow → Reaches columns after) → IsResultCause on columns e
+      pub column_cause : (e : Fault) → (e ≡ Overflow) ⊎ (e ≡ NoMemory) → (e ≡ Overflow → ReachesOverflow columns after) → IsResultCause on columns e
       column_cause e (inl is) reaches =
-          inr (is, inr (any_here (Reaches columns) (rows_of on.w on.db on.plan) after (All-head (Contains (rows_of on.w on.db on.plan)) after given.later all_among) (reaches is)))
+          inr (is, inr (any_here (ReachesOverflow columns) (rows_of on.w on.db on.plan) after (All-head (Contains (rows_of on.w on.db on.plan)) after given.later all_among) (reaches is)))
       column_cause e (inr is) reaches = inl (inr is)
 
       -- the row is given

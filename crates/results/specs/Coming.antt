@@ -13,7 +13,7 @@ use Rattle.expr.specs.Term.{Term}
 use Rattle.expr.specs.View.{term}
 use Rattle.meaning.specs.Answer.{limited, skipped}
 use Rattle.meaning.specs.Valuation.{term_values}
-use Rattle.plans.specs.Plan.{Hits, PlanData, Reaches, rows_of}
+use Rattle.plans.specs.Plan.{Hits, PlanData, ReachesOverflow, rows_of}
 use Rattle.plans.specs.PlanView.{plan_data}
 use Rattle.operators.specs.declared.tree.Op.{Op}
 use Rattle.operators.specs.Basis.{Basis}
@@ -50,7 +50,7 @@ answer_of w db selection = limited selection.limit (skipped selection.offset (re
 -- operation out of range.
 abbrev pub IsResultCause : Basis → List Term → Fault → Type 0
 IsResultCause on columns fault =
-    IsReadFault fault ⊎ ((fault ≡ Overflow) × (Hits on.w on.db on.plan ⊎ Any (Reaches columns) (rows_of on.w on.db on.plan)))
+    IsReadFault fault ⊎ ((fault ≡ Overflow) × (Hits on.w on.db on.plan ⊎ Any (ReachesOverflow columns) (rows_of on.w on.db on.plan)))
 
 -- Of an operator whose row buffer holds this row: these rows are to come, and so many pages may still be asked for. They are
 -- those that LIMIT and OFFSET leave of the result rows of what the operator has to give, which are rows of the plan.

@@ -12,7 +12,7 @@ use Rattle.meaning.specs.Body.{answers_in, select_rows, values_over}
 use Rattle.meaning.specs.Body as body
 use Rattle.meaning.specs.Query.{From, QueryData, Select, only, select, table}
 use Rattle.plans.specs.Plan.{PlanData, rows_of}
-use Rattle.plans.specs.Stands.{AreTestsOf, IsSplit, condition_of, one_table}
+use Rattle.plans.specs.Stands.{AreTestsOf, IsSplitCondition, condition_of, one_table}
 use Rattle.results.specs.Coming.{SelectionData, answer_of}
 
 -- ---- over any plan of the rows that result columns are computed on
@@ -63,7 +63,7 @@ pub record ReadsTable (w : Datum) (db : Database) (at width : ℕ) (s : Select) 
   pub constants : List Term
   pub tests : List Term
   pub plan_is : plan ≡ one_table at read constants tests
-  pub split : IsSplit read (condition_of w db (only (table at width)) s) constants tests
+  pub split : IsSplitCondition read (condition_of w db (only (table at width)) s) constants tests
   pub columns_are : AreTestsOf read columns (map (filled (answers_in w db (only (table at width)))) s.columns)
 
 -- a selection of this table, with the query's LIMIT and OFFSET

@@ -4,7 +4,7 @@ ghost use Rattle.values.specs.Datum.{Datum, datum_of};
 ghost use Rattle.expr.specs.Meaning.{eval};
 ghost use Rattle.expr.specs.View.{term};
 ghost use Rattle.meaning.specs.Valuation.{term_values};
-ghost use Rattle.plans.specs.Plan.{Reaches};
+ghost use Rattle.plans.specs.Plan.{ReachesOverflow};
 
 use expr::{Expr, eval};
 use std::alloc::Global;
@@ -20,7 +20,7 @@ pub fn push_results(
 ) -> Result<(), Fault>
     ensures values { IfOk result (λ _. (w : Datum)
         → map datum_of out.new.items ≡ map datum_of out.old.items ++ term_values (eval w) (map term columns.now) (map datum_of row.now)) }
-    ensures overflow { result ≡ Err Fault.Overflow → Reaches (map term columns.now) (map datum_of row.now) }
+    ensures overflow { result ≡ Err Fault.Overflow → ReachesOverflow (map term columns.now) (map datum_of row.now) }
     ensures only { IfErr result (λ e. (e ≡ Fault.Overflow) ⊎ (e ≡ Fault.NoMemory)) }
 {
     for column in columns {

@@ -12,7 +12,7 @@ use Rattle.meaning.specs.OneTable.{shown}
 use Rattle.meaning.specs.Sequence.{value_at}
 use Rattle.meaning.specs.Valuation.{term_values}
 use Rattle.plans.proofs.HitLemmas.{any_held, from_map}
-use Rattle.plans.specs.Plan.{Reaches, rows_of, table_rows}
+use Rattle.plans.specs.Plan.{ReachesOverflow, rows_of, table_rows}
 use Rattle.select_plans.specs.Laws.{PlanReaches}
 use Rattle.results.specs.Coming.{answer_of, result_rows}
 use Rattle.running.specs.Columns.{columns_plan, columns_selection}
@@ -57,7 +57,7 @@ module _ (w : Datum) (db : Database) (at : ℕ) (places : List ℕ) where
   pub columns_answer : answer_of w db (columns_selection at places) ≡ map (shown places) (table_rows db at)
   columns_answer = ap (result_rows w (map column (range_with_len 0 (length places)))) plan_rows ∙ each_whole (table_rows db at)
 
-  none_reached : (columns : List ℕ) (row : Row) → Reaches (map column columns) row → ⊥
+  none_reached : (columns : List ℕ) (row : Row) → ReachesOverflow (map column columns) row → ⊥
   none_reached columns row reaches =
       let held = any_held (λ t. Overflows t row) (map column columns) reaches in
       let from = from_map column columns held.0 held.1 in

@@ -16,7 +16,7 @@ use Rattle.expr.specs.View.{term}
 use Rattle.meaning.specs.Hits.{order_terms}
 use Rattle.plans.specs.Plan.{PlanData, work}
 use Rattle.scan.specs.Coming.{Asks}
-use Rattle.operators.specs.Basis.{AreStored, Basis, Gives, GivesNext, GivesNone}
+use Rattle.operators.specs.Basis.{AreStored, Basis, GivesRowOrNone, GivesNext, GivesNone}
 use Rattle.operators.specs.Left.{IsPlanOf, plan_of}
 use Rattle.results.specs.Coming.{IsComing, IsResultCause, SelectionData, answer_of}
 use Rattle.results.specs.declared.stream.Results.{Results}
@@ -27,14 +27,14 @@ use Rattle.distinct_results.specs.declared.stream.DistinctResults.{DistinctResul
 use Rattle.query_plans.specs.Answers.{HitsOf, IsAnswerOf, PlannedData}
 use Rattle.select_plans.specs.Laws.{PlanReaches}
 use Rattle.compound_results.specs.Arms.{ArePlannedOver, ArmsHit, work_of_arms}
-use Rattle.compound_results.specs.Chains.{IsChain, chain_answer}
+use Rattle.compound_results.specs.Chains.{IsUnionChain, chain_answer}
 use Rattle.compound_results.specs.Compounds.{CompoundData, IsArmsCause, IsCompoundAnswer}
 use Rattle.compound_results.specs.InTurn.{IsChainComing, arms_of}
 use Rattle.compound_results.specs.declared.chained.ChainedResults.{ChainedResults}
 use Rattle.compound_results.proofs.ChainAnswerLemmas.{chain_is_answer}
 use Rattle.running.specs.Columns.{columns_selection}
 use Rattle.running.specs.GatheredView.{gathered_data, rows_data}
-use Rattle.running.specs.Given.{Comes, GivesFirst, HasAnswered, HasGiven, IsOpened, IsRowCause, rows_left}
+use Rattle.running.specs.Given.{Comes, GivesFirst, HasAnswered, HasGiven, IsOpenedRun, IsRowCause, rows_left}
 use Rattle.running.specs.declared.gathered.Gathered.{Gathered}
 use Rattle.running.specs.declared.rows.Running.{Running}
 use Rattle.running.specs.declared.rows.Running.TheVariants.{Rows, Distinct, Chained, Waiting, Giving}
@@ -107,7 +107,7 @@ module _ (start now : PagerState) (sources : List SourceData) (row : Row) where
   module _ (old new : Results) (plans : plan_of new.op ≡ plan_of old.op) (terms : map term new.columns.items ≡ map term old.columns.items) where
     pub rows_step : (result : Result Bool Fault)
         → WhereSteady start (λ pages. (on : Basis) (rest : List Row) (ahead : ℕ) → AreStored pages sources on → IsComing pages sources on old rest ahead
-        → MatchResult result (λ found. Gives found on.local start ahead now rest row (IsComing pages sources on new)) (IsResultCause on (map term old.columns.items)))
+        → MatchResult result (λ found. GivesRowOrNone found on.local start ahead now rest row (IsComing pages sources on new)) (IsResultCause on (map term old.columns.items)))
         → Steps (Rows old) (Rows new) result
     rows_step (Ok true) says steady planned given comes =
         next_comes (pages_seen start) sources planned (plan_of old.op) (map term old.columns.items) (λ on. IsComing (pages_seen start) sources on old) given comes start now row
@@ -123,7 +123,7 @@ module _ (start now : PagerState) (sources : List SourceData) (row : Row) where
       (terms : map term new.results.columns.items ≡ map term old.results.columns.items) where
     pub distinct_step : (result : Result Bool Fault)
         → WhereSteady start (λ pages. (on : Basis) (rest : List Row) (ahead : ℕ) → AreStored pages sources on → IsDistinctComing pages sources on old rest ahead
-        → MatchResult result (λ found. Gives found on.local start ahead now rest row (IsDistinctComing pages sources on new))
+        → MatchResult result (λ found. GivesRowOrNone found on.local start ahead now rest row (IsDistinctComing pages sources on new))
         (IsResultCause on (map term old.results.columns.items)))
         → Steps (Distinct old) (Distinct new) result
     distinct_step (Ok true) says steady planned given comes =
@@ -140,7 +140,7 @@ module _ (start now : PagerState) (sources : List SourceData) (row : Row) where
   module _ (old new : ChainedResults) (hits : (w : Datum) (db : Database) → ArmsHit w db (arms_of new.arms) → ArmsHit w db (arms_of old.arms)) where
     pub chained_step : (result : Result Bool Fault)
         → WhereSteady start (λ pages. (on : Basis) (rest : List Row) (ahead : ℕ) → AreStored pages sources on → IsChainComing pages sources on old rest ahead
-        → MatchResult result (λ found. Gives found on.local start ahead now rest row (IsChainComing pages sources on new)) (IsArmsCause on (arms_of old.arms)))
+        → MatchResult result (λ found. GivesRowOrNone found on.local start ahead now rest row (IsChainComing pages sources on new)) (IsArmsCause on (arms_of old.arms)))
         → Steps (Chained old) (Chained new) result
     chained_step (Ok true) says steady planned given comes = record {
       rows = λ on has.
@@ -289,7 +289,7 @@ module _ (pages : Pages) (sources : List SourceData) (selection : SelectionData)
 pub rows_opened : (selection : SelectionData) (results : Results) → plan_of results.op ≡ selection.plan → map term results.columns.items ≡ selection.columns
     → ((pages : Pages) (sources : List SourceData) (on : Basis) → on.plan ≡ selection.plan
     → IsComing pages sources on results (answer_of on.w on.db selection) (work on.w on.db on.sizes on.plan))
-    → IsOpened (PlannedData.rows selection) (Rows results)
+    → IsOpenedRun (PlannedData.rows selection) (Rows results)
 rows_opened selection results plans terms coming = record {
   given = λ pages sources.
       rows_come pages sources selection (PlannedData.rows selection) results plans terms (coming pages sources) (λ w db. refl) (λ w db reaches. reaches);
@@ -300,17 +300,17 @@ pub distinct_opened : (selection : SelectionData) (distinct : DistinctResults) �
     → map term distinct.results.columns.items ≡ selection.columns
     → ((pages : Pages) (sources : List SourceData) (on : Basis) → on.plan ≡ selection.plan
     → IsDistinctComing pages sources on distinct (distinct_answer_of on.w on.db selection) (work on.w on.db on.sizes on.plan))
-    → IsOpened (PlannedData.distinct selection) (Distinct distinct)
+    → IsOpenedRun (PlannedData.distinct selection) (Distinct distinct)
 distinct_opened selection distinct plans terms coming = record {
   given = λ pages sources. distinct_come pages sources selection distinct plans terms (coming pages sources);
   over = λ sources over. subst (λ (p : PlanData). IsPlanOf sources p) (sym plans) over;
 }
 
 -- SELECTs whose rows come one by one, one SELECT after the other
-pub chained_opened : (joined : CompoundData) (chained : ChainedResults) → IsChain joined → arms_of chained.arms ≡ joined.arms
+pub chained_opened : (joined : CompoundData) (chained : ChainedResults) → IsUnionChain joined → arms_of chained.arms ≡ joined.arms
     → ((pages : Pages) (sources : List SourceData) (on : Basis)
     → IsChainComing pages sources on chained (chain_answer on.w on.db joined) (work_of_arms on.w on.db on.sizes joined.arms))
-    → IsOpened (PlannedData.compound joined) (Chained chained)
+    → IsOpenedRun (PlannedData.compound joined) (Chained chained)
 chained_opened joined chained chain arms coming = record {
   given = λ pages sources. record {
     rows = λ on has. record {
@@ -329,7 +329,7 @@ pub columns_opened : (at : ℕ) (places : List ℕ) (selection : SelectionData) 
     → (results : Results) → plan_of results.op ≡ selection.plan → map term results.columns.items ≡ selection.columns
     → ((pages : Pages) (sources : List SourceData) (on : Basis) → on.plan ≡ selection.plan
     → IsComing pages sources on results (answer_of on.w on.db selection) (work on.w on.db on.sizes on.plan))
-    → IsOpened (PlannedData.columns at places) (Rows results)
+    → IsOpenedRun (PlannedData.columns at places) (Rows results)
 columns_opened at places selection same results plans terms coming = record {
   given = λ pages sources.
       rows_come pages sources selection (PlannedData.columns at places) results plans terms (coming pages sources)

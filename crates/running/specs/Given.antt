@@ -86,7 +86,7 @@ IsRunOver sources (Waiting gathered) = IsPlannedOver sources (gathered_data gath
 IsRunOver sources (Giving rows) = ⊤
 
 -- a plan was opened: no row was given
-pub record IsOpened (planned : PlannedData) (running : Running) : Type 0 where
+pub record IsOpenedRun (planned : PlannedData) (running : Running) : Type 0 where
   pub given : (pages : Pages) (sources : List SourceData) → HasGiven pages sources planned running []
   pub over : (sources : List SourceData) → IsPlannedOver sources planned → IsRunOver sources running
 

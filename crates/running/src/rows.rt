@@ -5,13 +5,13 @@ ghost use Rattle.values.specs.Row.{Row};
 ghost use Rattle.pager.specs.Calls.{ReadsPages};
 ghost use Rattle.sources.specs.Coming.{IsRooted};
 ghost use Rattle.image.specs.Pages.{WhereSteady};
-ghost use Rattle.compound_results.specs.Chains.{IsChain};
+ghost use Rattle.compound_results.specs.Chains.{IsUnionChain};
 ghost use Rattle.compound_results.specs.Compounds.{compound_data};
 ghost use Rattle.operators.specs.Basis.{AreStored, Basis, IsOperatorFault};
 ghost use Rattle.query_plans.specs.Answers.{PlannedData, planned_data};
 ghost use Rattle.results.specs.Coming.{selection_data};
 ghost use Rattle.running.specs.GatheredView.{gathered_data};
-ghost use Rattle.running.specs.Given.{HasAnswered, HasGiven, IsOpened, IsRowCause, IsRunOver, steps_left};
+ghost use Rattle.running.specs.Given.{HasAnswered, HasGiven, IsOpenedRun, IsRowCause, IsRunOver, steps_left};
 
 use crate::columns::selection_of;
 use crate::gathered::{Gathered, gathered_rows, give};
@@ -42,7 +42,7 @@ pub enum Running {
 
 /// Columns of each row of a table, before the first.
 fn columns_opened(alloc: Global, table: usize, places: Vec<usize>) -> Result<Running, AllocError>
-    ensures { IfOk result (IsOpened (PlannedData.columns table places.items)) }
+    ensures { IfOk result (IsOpenedRun (PlannedData.columns table places.items)) }
 {
     let selection = selection_of(alloc, table, places.as_slice())?;
     let results = Results::open(alloc, &selection)?;
@@ -51,7 +51,7 @@ fn columns_opened(alloc: Global, table: usize, places: Vec<usize>) -> Result<Run
 
 /// Rows in no order, before the first.
 fn rows_opened(alloc: Global, selection: Selection) -> Result<Running, AllocError>
-    ensures { IfOk result (IsOpened (PlannedData.rows (selection_data selection))) }
+    ensures { IfOk result (IsOpenedRun (PlannedData.rows (selection_data selection))) }
 {
     let results = Results::open(alloc, &selection)?;
     Ok(Running::Rows(results))
@@ -59,7 +59,7 @@ fn rows_opened(alloc: Global, selection: Selection) -> Result<Running, AllocErro
 
 /// The same, each once.
 fn distinct_opened(alloc: Global, selection: Selection) -> Result<Running, AllocError>
-    ensures { IfOk result (IsOpened (PlannedData.distinct (selection_data selection))) }
+    ensures { IfOk result (IsOpenedRun (PlannedData.distinct (selection_data selection))) }
 {
     let distinct = DistinctResults::open(alloc, &selection)?;
     Ok(Running::Distinct(distinct))
@@ -67,15 +67,15 @@ fn distinct_opened(alloc: Global, selection: Selection) -> Result<Running, Alloc
 
 /// What is to be gathered.
 fn waiting(gathered: Gathered) -> Running
-    ensures { IsOpened (gathered_data gathered) result }
+    ensures { IsOpenedRun (gathered_data gathered) result }
 {
     Running::Waiting(gathered)
 }
 
 /// Rows of SELECTs that are run one after the other, before the first.
 fn chained_opened(alloc: Global, joined: &Compound) -> Result<Running, AllocError>
-    requires { IsChain (compound_data joined.now) }
-    ensures { IfOk result (IsOpened (PlannedData.compound (compound_data joined.now))) }
+    requires { IsUnionChain (compound_data joined.now) }
+    ensures { IfOk result (IsOpenedRun (PlannedData.compound (compound_data joined.now))) }
 {
     let chained = ChainedResults::open(alloc, joined)?;
     Ok(Running::Chained(chained))
@@ -83,7 +83,7 @@ fn chained_opened(alloc: Global, joined: &Compound) -> Result<Running, AllocErro
 
 /// Rows of SELECTs that operators join, before the first. They are gathered where a row depends on others.
 fn compound_opened(alloc: Global, joined: Compound) -> Result<Running, AllocError>
-    ensures { IfOk result (IsOpened (PlannedData.compound (compound_data joined))) }
+    ensures { IfOk result (IsOpenedRun (PlannedData.compound (compound_data joined))) }
 {
     if is_chain(&joined) {
         chained_opened(alloc, &joined)
@@ -95,7 +95,7 @@ fn compound_opened(alloc: Global, joined: Compound) -> Result<Running, AllocErro
 impl Running {
     /// A plan before its first row. It reads no page.
     pub fn open(alloc: Global, planned: Planned) -> Result<Running, AllocError>
-        ensures { IfOk result (IsOpened (planned_data planned)) }
+        ensures { IfOk result (IsOpenedRun (planned_data planned)) }
     {
         match planned {
             Planned::Columns(table, places) => columns_opened(alloc, table, places),

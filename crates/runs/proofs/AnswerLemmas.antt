@@ -12,7 +12,7 @@ use Rattle.values.specs.declared.fault.Fault.{Fault}
 use Rattle.values.specs.declared.fault.Fault.TheVariants.{WriteFailed}
 use Rattle.pager.specs.PagerState.{PagerState}
 use Rattle.image.specs.Pages.{Pages, WhereSteady, pages_seen}
-use Rattle.sources.specs.Coming.{HasRows, IsStored}
+use Rattle.sources.specs.Coming.{HasRows, IsStoredSource}
 use Rattle.sources.specs.SourceData.{SourceData}
 use Rattle.expr.specs.Meaning.{eval}
 use Rattle.meaning.specs.Answer.{Ascends, key_directions, limited, skipped}
@@ -56,9 +56,9 @@ module _ (pages : Pages) (sources : List SourceData) (at : ℕ) (places : List �
   said : (local : Bool) (rows : List Row) (size : ℕ) → HasRows pages source local rows size → (on : Basis) → AreStored pages sources on → rows ≡ table_rows on.db at
   said local rows size has on stored = same_rows pages source local on.local rows (table_rows on.db at) size (table_size on.sizes at) has (stored at source found)
 
-  module _ (all : All (IsStored pages) sources) (old new : SinkFacts) where
+  module _ (all : All (IsStoredSource pages) sources) (old new : SinkFacts) where
     some : HasSomeRows pages source
-    some = some_rows pages source (all_at (IsStored pages) sources at source all found)
+    some = some_rows pages source (all_at (IsStoredSource pages) sources at source all found)
 
     pub columns_answer : (n : ℕ) → WritesOf pages source (λ rows. Streams places rows n old new)
         → WritesAnswer pages sources (PlannedData.columns at places) old new n

@@ -19,7 +19,7 @@ use Rattle.scan.proofs.ComingLemmas.{Asks-none, Asks-then}
 use Rattle.operators.specs.Basis.{AreStored, Basis, GivesNext, GivesNone, IsOperatorFault}
 use Rattle.operators.proofs.RowLemmas.{at_start}
 use Rattle.compound_results.specs.Arms.{ArePlannedOver, ArmsHit, work_of_arms}
-use Rattle.compound_results.specs.Chains.{IsChain, chain_answer}
+use Rattle.compound_results.specs.Chains.{IsUnionChain, chain_answer}
 use Rattle.compound_results.specs.Compounds.{CompoundData, IsArmsCause, IsCompoundAnswer}
 use Rattle.compound_results.specs.InTurn.{IsChainComing, arms_of}
 use Rattle.compound_results.specs.declared.chained.ChainedResults.{ChainedResults}
@@ -63,7 +63,7 @@ pub record Chaining (start now : PagerState) (sources : List SourceData) (whole 
   pub rows : IsTrue start.source.steady → (on : Basis) → AreStored (pages_seen start) sources on → IsChained start now sources on whole chained given
 
 pub Chaining-start : (start : PagerState) (sources : List SourceData) (whole : CompoundData) (chained : ChainedResults) (n : ℕ) (old : SinkFacts)
-    → SameImage start start → IsChain whole → arms_of chained.arms ≡ whole.arms → ArePlannedOver sources whole.arms
+    → SameImage start start → IsUnionChain whole → arms_of chained.arms ≡ whole.arms → ArePlannedOver sources whole.arms
     → ((pages : Pages) (sources : List SourceData) (on : Basis)
     → IsChainComing pages sources on chained (chain_answer on.w on.db whole) (work_of_arms on.w on.db on.sizes whole.arms))
     → n ≡ 0 → Chaining start start sources whole chained n old old

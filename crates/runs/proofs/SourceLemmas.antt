@@ -10,7 +10,7 @@ use Rattle.stored_tables.specs.Tables.{IsAnyStored}
 use Rattle.stored_tables.proofs.TableLemmas.{stored_once}
 use Rattle.scan.specs.Coming.{Asks, size_of}
 use Rattle.scan.proofs.ComingLemmas.{Asks-none}
-use Rattle.sources.specs.Coming.{HasRows, IsStored, IsStoredWith}
+use Rattle.sources.specs.Coming.{HasRows, IsStoredSource, IsStoredWith}
 use Rattle.sources.specs.SourceData.{SourceData, of_rows, of_table}
 use Rattle.runs.specs.Stream.{AsksFew, Streams, StreamsUntil}
 
@@ -26,7 +26,7 @@ pub record HasSomeRows (pages : Pages) (source : SourceData) : Type 0 where
   pub size : ℕ
   pub has : HasRows pages source false rows size
 
-pub some_rows : (pages : Pages) (source : SourceData) → IsStored pages source → HasSomeRows pages source
+pub some_rows : (pages : Pages) (source : SourceData) → IsStoredSource pages source → HasSomeRows pages source
 some_rows pages (of_table table) stored = record {
   rows = stored.rows;
   size = size_of pages table stored.levels;

@@ -7,7 +7,7 @@ ghost use Rattle.image.specs.Pages.{WhereSteady};
 ghost use Rattle.scan.specs.Coming.{Asks};
 ghost use Rattle.operators.specs.Basis.{AreStored, Basis};
 ghost use Rattle.compound_results.specs.Arms.{ArePlannedOver, arms_data, work_of_arms};
-ghost use Rattle.compound_results.specs.Chains.{IsChain};
+ghost use Rattle.compound_results.specs.Chains.{IsUnionChain};
 ghost use Rattle.compound_results.specs.Compounds.{compound_data};
 ghost use Rattle.query_plans.specs.Answers.{PlannedData};
 ghost use Rattle.runs.specs.Faults.{IsRunFault};
@@ -31,7 +31,7 @@ fn write_chained<S: Source, W: Sink>(
 ) -> Result<u64, Fault>
     requires roots { All (IsRooted pager.old.state.header) sources.now }
     requires planned { ArePlannedOver sources.now (arms_data compound.now.arms) }
-    requires chain { IsChain (compound_data compound.now) }
+    requires chain { IsUnionChain (compound_data compound.now) }
     ensures rows { WhereSteady pager.old.state (λ pages. MatchResult result
         (WritesAnswer pages sources.now (PlannedData.compound (compound_data compound.now)) (W.facts out.old) (W.facts out.new))
         (WritesBeginning pages sources.now (PlannedData.compound (compound_data compound.now)) (W.facts out.old) (W.facts out.new))) }

@@ -13,14 +13,14 @@ use Rattle.create_trees.specs.declared.create.CreateTable.{CreateTable}
 use Rattle.create_trees.specs.declared.create.TableOption.{TableOption}
 use Rattle.schema.proofs.ListLemmas.{all_from_map}
 use Rattle.declared_keys.specs.Keys.{KeyData, keys_of}
-use Rattle.schema.specs.Created.{AreKeys, AreServed, IsColumn, IsRowKey, IsServed, IsTable, column_names}
-use Rattle.schema.specs.Names.{AreDistinct, IsPlaceOf, IsReserved}
-use Rattle.schema.specs.Refused.{IsRefused}
+use Rattle.schema.specs.Created.{AreKeys, AreServedConstraints, IsColumn, IsRowKey, IsServedConstraint, IsTable, column_names}
+use Rattle.schema.specs.Names.{AreDistinct, IsNameAt, IsReservedName}
+use Rattle.schema.specs.Refused.{IsUnmade}
 use Rattle.tables.specs.TableData.{ColumnData, IsKeyWithin, RowKeyData, TableData}
 
 -- what is refused, as what it is a part of
-pub refused_part : {A B : Type 0} (IsPart : A → Type 0) (IsWhole : B → Type 0) (fault : Fault) → IsRefused IsPart fault
-    → ((whole : B) → IsWhole whole → (part : A) × IsPart part) → IsRefused IsWhole fault
+pub refused_part : {A B : Type 0} (IsPart : A → Type 0) (IsWhole : B → Type 0) (fault : Fault) → IsUnmade IsPart fault
+    → ((whole : B) → IsWhole whole → (part : A) × IsPart part) → IsUnmade IsWhole fault
 refused_part IsPart IsWhole fault (inl memory) part_of = inl memory
 refused_part IsPart IsWhole fault (inr (not_yet, none)) part_of =
     inr (not_yet, (λ whole is. let part = part_of whole is in none part.0 part.1))
@@ -35,7 +35,7 @@ zip_length R [] (y ∷ ys) all = absurd all
 zip_length R (x ∷ xs) [] all = absurd all
 zip_length R (x ∷ xs) (y ∷ ys) all = let rest = zip_length R xs ys all.1 in omega (arith, rest)
 
-places_within : (all names : List Name) (places : List ℕ) (count : ℕ) → length all ≤ count → AllZip (IsPlaceOf all) names places
+places_within : (all names : List Name) (places : List ℕ) (count : ℕ) → length all ≤ count → AllZip (IsNameAt all) names places
     → All (λ place. place < count) places
 places_within all [] [] count long zip = All-nil _
 places_within all [] (place ∷ places) count long zip = absurd zip
@@ -59,13 +59,13 @@ key_within options keys trees columns (RowKeyData.Primary places) is all =
 
 -- the tests of a table's names
 module _ (created : CreateTable) where
-  pub reserved_refused : (found : Bool) (name : Name) → name ≡ string_bytes created.name → IsTrue found ↔ IsReserved name
+  pub reserved_refused : (found : Bool) (name : Name) → name ≡ string_bytes created.name → IsTrue found ↔ IsReservedName name
       → found ≡ true → (table : TableData) → ¬ IsTable (table_of created) table
-  reserved_refused found name e tested some table is = is.unreserved (subst IsReserved e (tested.0 some))
+  reserved_refused found name e tested some table is = is.unreserved (subst IsReservedName e (tested.0 some))
 
-  pub unreserved : (found : Bool) (name : Name) → name ≡ string_bytes created.name → IsTrue found ↔ IsReserved name
-      → found ≡ false → ¬ IsReserved (string_bytes created.name)
-  unreserved found name e tested none reserved = let h : found ≡ true = tested.1 (subst IsReserved (sym e) reserved) in absurd cc
+  pub unreserved : (found : Bool) (name : Name) → name ≡ string_bytes created.name → IsTrue found ↔ IsReservedName name
+      → found ≡ false → ¬ IsReservedName (string_bytes created.name)
+  unreserved found name e tested none reserved = let h : found ≡ true = tested.1 (subst IsReservedName (sym e) reserved) in absurd cc
 
   -- and of its columns
   module _ (columns : List Column) (e : columns ≡ created.columns.items) where
@@ -82,17 +82,17 @@ module _ (created : CreateTable) where
       distinct_names one =
           subst (λ cs. AreDistinct (map (λ c. c.name) cs)) same (subst AreDistinct (sym (names_of columns)) (tested.0 one))
 
-    module _ (found : Bool) (tested : IsTrue found ↔ All (λ (c : Column). All (λ x. IsServed (constraint_of x)) c.constraints.items) columns) where
-      pub served_constraints : found ≡ true → All AreServed (table_of created).columns
+    module _ (found : Bool) (tested : IsTrue found ↔ All (λ (c : Column). All (λ x. IsServedConstraint (constraint_of x)) c.constraints.items) columns) where
+      pub served_constraints : found ≡ true → All AreServedConstraints (table_of created).columns
       served_constraints all =
-          subst (All AreServed) same
-          (All-map AreServed column_of columns (λ k c within. All-map IsServed constraint_of _ (tested.0 all k c within)))
+          subst (All AreServedConstraints) same
+          (All-map AreServedConstraints column_of columns (λ k c within. All-map IsServedConstraint constraint_of _ (tested.0 all k c within)))
 
       pub unserved_refused : found ≡ false → (table : TableData) → ¬ IsTable (table_of created) table
       unserved_refused none table is =
-          let all = subst (All AreServed) (sym same) is.served in
+          let all = subst (All AreServedConstraints) (sym same) is.served in
           let h : found ≡ true = tested.1 (λ k c within.
-          all_from_map IsServed constraint_of _ (all_from_map AreServed column_of columns all k c within)) in
+          all_from_map IsServedConstraint constraint_of _ (all_from_map AreServedConstraints column_of columns all k c within)) in
           absurd cc
 
     module _ (keys : List KeyData) (keyed : keys ≡ keys_of (table_of created)) where
@@ -133,8 +133,8 @@ module _ (created : CreateTable) where
         columns_are made all = told (λ os ks cs made. AllZip (IsColumn os ks) cs made) made all
 
         pub columns_refused : (fault : Fault)
-            → IsRefused (λ (cs : List ColumnData). AllZip (IsColumn options keys) (map column_of columns) cs) fault
-            → IsRefused (IsTable (table_of created)) fault
+            → IsUnmade (λ (cs : List ColumnData). AllZip (IsColumn options keys) (map column_of columns) cs) fault
+            → IsUnmade (IsTable (table_of created)) fault
         columns_refused fault refused =
             refused_part (λ (cs : List ColumnData). AllZip (IsColumn options keys) (map column_of columns) cs) (IsTable (table_of created))
             fault refused

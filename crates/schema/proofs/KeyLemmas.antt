@@ -11,7 +11,7 @@ use Rattle.create_trees.specs.declared.create.TableOption.{TableOption}
 use Rattle.declared_keys.specs.Keys.{KeyData}
 use Rattle.syntax.specs.Tree.{Name}
 use Rattle.schema.specs.Created.{AreColumns, AreKeys, Clash, IsNamedIn, IsOnlyPrimary, IsRowid, IsRowidPlace, IsRowKey, IsRowless, column_names}
-use Rattle.schema.specs.Names.{AreApart, IsPlaceOf, IsSameName}
+use Rattle.schema.specs.Names.{AreApart, IsNameAt, IsSameName}
 use Rattle.tables.specs.TableData.{RowKeyData}
 use Rattle.schema.proofs.ListLemmas.{all_from_map, all_zip_push, map_next}
 use Rattle.schema.proofs.ServedLemmas.{any_from_map}
@@ -85,7 +85,7 @@ module _ (options : List TableOption) (keys : List KeyData) (columns : List Colu
 module _ (columns : List Column) (name : Name) where
   pub place_here : (i : ℕ) (x : Column) (given : Name) (found : Bool) → i < length columns → x ≡ get_or columns i x
       → given ≡ string_bytes x.name → IsTrue found ↔ IsSameName given name → found ≡ true
-      → IsPlaceOf (column_names (map column_of columns)) name i
+      → IsNameAt (column_names (map column_of columns)) name i
   place_here i x given found within is e tested some = record {
     other = string_bytes x.name;
     stands = slice_get-map (λ (c : ColumnTree). c.name) (map column_of columns) i
@@ -111,24 +111,24 @@ some_place columns name None none named = absurd (none named)
 -- the places of a key's columns, one after the other
 module _ (columns : List ColumnTree) (names : List (String Global)) where
   abbrev pub PlacesSoFar : ℕ → List ℕ → Type 0
-  PlacesSoFar count places = AllZip (IsPlaceOf (column_names columns)) (map (λ n. string_bytes n) (take count names)) places
+  PlacesSoFar count places = AllZip (IsNameAt (column_names columns)) (map (λ n. string_bytes n) (take count names)) places
 
   pub all_places : (count : ℕ) (places : List ℕ) → length names ≤ count → PlacesSoFar count places
-      → AllZip (IsPlaceOf (column_names columns)) (map (λ n. string_bytes n) names) places
+      → AllZip (IsNameAt (column_names columns)) (map (λ n. string_bytes n) names) places
   all_places count places end far =
-      subst (λ ns. AllZip (IsPlaceOf (column_names columns)) (map (λ n. string_bytes n) ns) places) (take_all count names end) far
+      subst (λ ns. AllZip (IsNameAt (column_names columns)) (map (λ n. string_bytes n) ns) places) (take_all count names end) far
 
   module _ (i : ℕ) (x : String Global) (within : i < length names) (is : x ≡ get_or names i x) where
     pub named_at : All (IsNamedIn columns) (map (λ n. string_bytes n) names) → IsNamedIn columns (string_bytes x)
     named_at all =
         subst (λ n. IsNamedIn columns (string_bytes n)) (sym is) (all_from_map (IsNamedIn columns) (λ n. string_bytes n) names all i x within)
 
-    pub place_more : (places more : List ℕ) (next : ℕ) → IsPlaceOf (column_names columns) (string_bytes x) next
+    pub place_more : (places more : List ℕ) (next : ℕ) → IsNameAt (column_names columns) (string_bytes x) next
         → more ≡ places ++ next ∷ [] → PlacesSoFar i places → PlacesSoFar (i + 1) more
     place_more places more next here e far =
         subst (PlacesSoFar (i + 1)) (sym e)
-        (subst (λ ns. AllZip (IsPlaceOf (column_names columns)) ns (places ++ next ∷ [])) (sym (map_next (λ n. string_bytes n) names i x within is))
-        (all_zip_push (IsPlaceOf (column_names columns)) (map (λ n. string_bytes n) (take i names)) places (string_bytes x) next far here))
+        (subst (λ ns. AllZip (IsNameAt (column_names columns)) ns (places ++ next ∷ [])) (sym (map_next (λ n. string_bytes n) names i x within is))
+        (all_zip_push (IsNameAt (column_names columns)) (map (λ n. string_bytes n) (take i names)) places (string_bytes x) next far here))
 
 -- the columns of the only key are columns of the table
 pub only_named : (columns : List ColumnTree) (keys : List KeyData) (key : KeyData) → AreKeys columns keys → IsOnlyPrimary keys key

@@ -5,16 +5,16 @@ use Rattle.std.proofs.lemmas.List.Elements.{All-contains, All-nil, All-push, Con
 use Rattle.create_trees.specs.CreateTrees.{ConstraintTree, DefaultTree}
 use Rattle.create_trees.specs.CreateView.{constraint_of}
 use Rattle.create_trees.specs.declared.create.ColumnConstraint.{ColumnConstraint}
-use Rattle.schema.specs.Missing.{IsMissing, IsOther, filled, missing_behind}
+use Rattle.schema.specs.Missing.{IsMissingValue, IsOther, filled, missing_behind}
 use Rattle.tables.specs.TableData.{MissingData}
 
 missing_default : (constraints : List ConstraintTree) (value : DefaultTree) (missing : MissingData) → missing ≡ filled value
-    → IsMissing (constraints ++ ConstraintTree.Default value ∷ []) missing
+    → IsMissingValue (constraints ++ ConstraintTree.Default value ∷ []) missing
 missing_default constraints value missing e =
     inr (value, record { front = constraints; back = []; stands = refl; last = All-nil IsOther }, e)
 
 missing_other : (constraints : List ConstraintTree) (c : ConstraintTree) (missing : MissingData) → IsOther c
-    → IsMissing constraints missing → IsMissing (constraints ++ c ∷ []) missing
+    → IsMissingValue constraints missing → IsMissingValue (constraints ++ c ∷ []) missing
 missing_other constraints c missing other (inl (none, e)) = inl (All-push IsOther constraints c none other, e)
 missing_other constraints c missing other (inr (value, is, e)) =
     inr (
@@ -29,8 +29,8 @@ missing_other constraints c missing other (inr (value, is, e)) =
     )
 
 -- one constraint more
-step : (constraints : List ConstraintTree) (c : ConstraintTree) (missing : MissingData) → IsMissing constraints missing
-    → IsMissing (constraints ++ c ∷ []) (missing_behind missing c)
+step : (constraints : List ConstraintTree) (c : ConstraintTree) (missing : MissingData) → IsMissingValue constraints missing
+    → IsMissingValue (constraints ++ c ∷ []) (missing_behind missing c)
 step constraints (ConstraintTree.Default value) missing is = missing_default constraints value (filled value) refl
 step constraints (ConstraintTree.PrimaryKey order automatic) missing is = missing_other constraints _ missing tt is
 step constraints ConstraintTree.NotNull missing is = missing_other constraints _ missing tt is
@@ -40,11 +40,11 @@ step constraints (ConstraintTree.Collate name) missing is = missing_other constr
 step constraints ConstraintTree.References missing is = missing_other constraints _ missing tt is
 
 pub missing_more : (constraints : List ColumnConstraint) (c : ColumnConstraint) (missing next : MissingData)
-    → next ≡ missing_behind missing (constraint_of c) → IsMissing (map constraint_of constraints) missing
-    → IsMissing (map constraint_of (constraints ++ c ∷ [])) next
+    → next ≡ missing_behind missing (constraint_of c) → IsMissingValue (map constraint_of constraints) missing
+    → IsMissingValue (map constraint_of (constraints ++ c ∷ [])) next
 missing_more constraints c missing next e is =
-    subst (λ cs. IsMissing cs next) (sym (map_push constraint_of constraints c))
-    (subst (IsMissing (map constraint_of constraints ++ constraint_of c ∷ [])) (sym e)
+    subst (λ cs. IsMissingValue cs next) (sym (map_push constraint_of constraints c))
+    (subst (IsMissingValue (map constraint_of constraints ++ constraint_of c ∷ [])) (sym e)
     (step (map constraint_of constraints) (constraint_of c) missing is))
 
 -- one value
@@ -64,7 +64,7 @@ same_value (x ∷ front) [] back rest a b e p q =
     absurd (no_default front back a (subst (All IsOther) (sym tail) q))
 same_value (x ∷ front) (y ∷ other) back rest a b e p q = same_value front other back rest a b (cc) p q
 
-pub one_missing : (constraints : List ConstraintTree) (a b : MissingData) → IsMissing constraints a → IsMissing constraints b → a ≡ b
+pub one_missing : (constraints : List ConstraintTree) (a b : MissingData) → IsMissingValue constraints a → IsMissingValue constraints b → a ≡ b
 one_missing constraints a b (inl (none, p)) (inl (nothing, q)) = p ∙ sym q
 one_missing constraints a b (inl (none, p)) (inr (value, is, q)) =
     absurd (no_default is.front is.back value (subst (All IsOther) is.stands none))

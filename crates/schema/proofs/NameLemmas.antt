@@ -5,7 +5,7 @@ use Rattle.std.specs.List.{Any}
 use Rattle.syntax.specs.Tree.{Name}
 use Rattle.std.proofs.lemmas.Slice.Eq.{bytes_eq-Decides}
 use Rattle.std.specs.Char.{to_ascii_lowercase}
-use Rattle.schema.specs.Names.{AreDistinct, IsPlaceOf, IsSameName, same_name}
+use Rattle.schema.specs.Names.{AreDistinct, IsNameAt, IsSameName, same_name}
 use Rattle.schema.proofs.ApartLemmas.{apart_next, apart_stops}
 
 -- tests of one thing agree
@@ -34,10 +34,10 @@ module _ {X : Type 0} (name_of : X → Name) (xs : List X) (i : ℕ) (x : X) (na
   distinct_stops = apart_stops IsSameName name_of xs i x name found within is named tested
 
 -- one place of a name
-named_twice : (names : List Name) (name : Name) (i j : ℕ) → AreDistinct names → i < j → IsPlaceOf names name i → ¬ IsPlaceOf names name j
+named_twice : (names : List Name) (name : Name) (i j : ℕ) → AreDistinct names → i < j → IsNameAt names name i → ¬ IsNameAt names name j
 named_twice names name i j distinct less p q = distinct i j p.other q.other less p.stands q.stands (p.named ∙ sym q.named)
 
-pub one_place : (names : List Name) → AreDistinct names → (name : Name) (i j : ℕ) → IsPlaceOf names name i → IsPlaceOf names name j → i ≡ j
+pub one_place : (names : List Name) → AreDistinct names → (name : Name) (i j : ℕ) → IsNameAt names name i → IsNameAt names name j → i ≡ j
 one_place names distinct name i j p q = go (cases_order i j)
   where
     go : (i ≡ j) ⊎ ((i < j) ⊎ (j < i)) → i ≡ j

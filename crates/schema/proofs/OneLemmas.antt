@@ -10,8 +10,8 @@ use Rattle.create_reader.specs.CreateGrammar.{SpellsCreate}
 use Rattle.create_trees.specs.CreateTrees.{ColumnTree, TableTree}
 use Rattle.create_trees.specs.declared.create.TableOption.{TableOption}
 use Rattle.declared_keys.specs.Keys.{KeyData, keys_of}
-use Rattle.schema.specs.Created.{Clash, IsColumn, IsKeyOf, IsRowid, IsRowidPlace, IsRowKey, IsTable, column_names}
-use Rattle.schema.specs.Names.{AreApart, AreDistinct, IsPlaceOf, IsSameName}
+use Rattle.schema.specs.Created.{Clash, IsColumn, IsLonePrimaryKey, IsRowid, IsRowidPlace, IsRowKey, IsTable, column_names}
+use Rattle.schema.specs.Names.{AreApart, AreDistinct, IsNameAt, IsSameName}
 use Rattle.schema.specs.Rows.{SaysTable}
 use Rattle.tables.specs.TableData.{ColumnData, RowKeyData, TableData}
 use Rattle.schema.proofs.MissingLemmas.{one_missing}
@@ -33,7 +33,7 @@ one_column options keys tree a b p q =
 module _ (options : List TableOption) (columns : List ColumnTree) (keys : List KeyData) (distinct : AreDistinct (column_names columns))
     (apart : AreApart Clash keys) where
   -- the one PRIMARY KEY is alone of columns of one name
-  same_key : (a b : Name) → Any (IsKeyOf a) keys → Any (IsKeyOf b) keys → IsSameName a b
+  same_key : (a b : Name) → Any (IsLonePrimaryKey a) keys → Any (IsLonePrimaryKey b) keys → IsSameName a b
   same_key a b (i, x, within, is, p) (j, y, inside, at, q) = go (cases_order i j)
     where
       first : slice_get keys i ≡ Some x
@@ -83,8 +83,8 @@ module _ (options : List TableOption) (columns : List ColumnTree) (keys : List K
       let both : p.1.key ∷ [] ≡ q.1.key ∷ [] = sym p.1.primary.0 ∙ q.1.primary.0 in
       let same : p.1.key ≡ q.1.key = cc in
       ap RowKeyData.Primary
-      (zip_same (IsPlaceOf (column_names columns)) (one_place (column_names columns) distinct) q.1.key.columns xs ys
-      (subst (λ (k : KeyData). AllZip (IsPlaceOf (column_names columns)) k.columns xs) same p.1.places_are) q.1.places_are)
+      (zip_same (IsNameAt (column_names columns)) (one_place (column_names columns) distinct) q.1.key.columns xs ys
+      (subst (λ (k : KeyData). AllZip (IsNameAt (column_names columns)) k.columns xs) same p.1.places_are) q.1.places_are)
 
 one_created : (tree : TableTree) (a b : TableData) → IsTable tree a → IsTable tree b → a.root ≡ b.root → a ≡ b
 one_created tree a b p q root =

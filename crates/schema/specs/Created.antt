@@ -3,13 +3,13 @@ use Rattle.std.specs.Prelude.{◌≡◌, ◌↔◌, ◌⊎◌, Bool, true, false
 use Rattle.std.specs.List.{AllZip, Any}
 use Rattle.create_trees.specs.CreateTrees.{ConstraintTree, ColumnTree, IndexedColumnTree, TableConstraintTree, TableTree}
 use Rattle.declared_keys.specs.Keys.{KeyData, keys_of}
-use Rattle.schema.specs.Missing.{IsMissing}
+use Rattle.schema.specs.Missing.{IsMissingValue}
 use Rattle.tables.specs.TableData.{ColumnData, RowKeyData, TableData}
 use Rattle.create_trees.specs.declared.create.KeyOrder.TheVariants.{Ascending}
 use Rattle.syntax.specs.Tree.{Name}
 use Rattle.create_trees.specs.declared.create.TableOption.{TableOption}
 use Rattle.create_trees.specs.declared.create.TableOption.TheVariants.{Strict, WithoutRowid}
-use Rattle.schema.specs.Names.{AreApart, AreDistinct, IsPlaceOf, IsReserved, IsSameName}
+use Rattle.schema.specs.Names.{AreApart, AreDistinct, IsNameAt, IsReservedName, IsSameName}
 use Rattle.schema.specs.Types.{IsInteger, IsType}
 
 -- NOT NULL
@@ -18,13 +18,13 @@ is_not_null ConstraintTree.NotNull = true
 is_not_null _ = false
 
 -- a constraint of a column with no order but that of values
-abbrev pub IsServed : ConstraintTree → Type 0
-IsServed (ConstraintTree.PrimaryKey order automatic) = (order ≡ Ascending) × (automatic ≡ false)
-IsServed (ConstraintTree.Collate name) = IsSameName name (codes "BINARY")
-IsServed _ = Unit {0}
+abbrev pub IsServedConstraint : ConstraintTree → Type 0
+IsServedConstraint (ConstraintTree.PrimaryKey order automatic) = (order ≡ Ascending) × (automatic ≡ false)
+IsServedConstraint (ConstraintTree.Collate name) = IsSameName name (codes "BINARY")
+IsServedConstraint _ = Unit {0}
 
-abbrev pub AreServed : ColumnTree → Type 0
-AreServed column = All IsServed column.constraints
+abbrev pub AreServedConstraints : ColumnTree → Type 0
+AreServedConstraints column = All IsServedConstraint column.constraints
 
 -- what may stand behind the columns: STRICT, alone or beside WITHOUT ROWID
 abbrev pub AreOptions : List TableOption → Type 0
@@ -54,13 +54,13 @@ IsBinary None = Unit {0}
 IsBinary (Some collation) = IsSameName collation (codes "BINARY")
 
 -- a column of a key, in the order of its values
-abbrev pub IsPlain : IndexedColumnTree → Type 0
-IsPlain x = IsBinary x.collation × (x.order ≡ Ascending)
+abbrev pub IsPlainKeyColumn : IndexedColumnTree → Type 0
+IsPlainKeyColumn x = IsBinary x.collation × (x.order ≡ Ascending)
 
 -- a constraint of a table of these columns: a key has no order but that of values, a foreign key is of columns of the table
 abbrev pub IsServedIn : List ColumnTree → TableConstraintTree → Type 0
-IsServedIn columns (TableConstraintTree.PrimaryKey key) = All IsPlain key
-IsServedIn columns (TableConstraintTree.Unique key) = All IsPlain key
+IsServedIn columns (TableConstraintTree.PrimaryKey key) = All IsPlainKeyColumn key
+IsServedIn columns (TableConstraintTree.Unique key) = All IsPlainKeyColumn key
 IsServedIn columns TableConstraintTree.Check = Unit {0}
 IsServedIn columns (TableConstraintTree.ForeignKey names) = AreColumns columns names
 
@@ -74,28 +74,28 @@ pub record AreKeys (columns : List ColumnTree) (keys : List KeyData) : Type 0 wh
   pub apart : AreApart Clash keys
 
 -- PRIMARY KEY of the column of this name alone
-abbrev pub IsKeyOf : Name → KeyData → Type 0
-IsKeyOf name key = (key.is_primary ≡ true) × AllZip IsSameName key.columns (name ∷ [])
+abbrev pub IsLonePrimaryKey : Name → KeyData → Type 0
+IsLonePrimaryKey name key = (key.is_primary ≡ true) × AllZip IsSameName key.columns (name ∷ [])
 
 -- a column that is the rowid: the table has rowids, it is INTEGER, and alone the PRIMARY KEY
 abbrev pub IsRowid : List TableOption → List KeyData → ColumnTree → Type 0
-IsRowid options keys column = (¬ IsRowless options) × IsInteger column.ty × Any (IsKeyOf column.name) keys
+IsRowid options keys column = (¬ IsRowless options) × IsInteger column.ty × Any (IsLonePrimaryKey column.name) keys
 
 -- PRIMARY KEY of a column of this name, maybe with others
-abbrev pub HasColumn : Name → KeyData → Type 0
-HasColumn name key = (key.is_primary ≡ true) × Any (λ n. IsSameName n name) key.columns
+abbrev pub IsPrimaryKeyWith : Name → KeyData → Type 0
+IsPrimaryKeyWith name key = (key.is_primary ≡ true) × Any (λ n. IsSameName n name) key.columns
 
 -- no value of a column is NULL: NOT NULL says so, or it is of the PRIMARY KEY, and isn't the rowid (STRICT Tables)
 abbrev pub IsNotNull : List TableOption → List KeyData → ColumnTree → Type 0
 IsNotNull options keys column =
-    Contains column.constraints ConstraintTree.NotNull ⊎ (Any (HasColumn column.name) keys × (¬ IsRowid options keys column))
+    Contains column.constraints ConstraintTree.NotNull ⊎ (Any (IsPrimaryKeyWith column.name) keys × (¬ IsRowid options keys column))
 
 -- the column that a column's text declares, in a table of these options and keys
 pub record IsColumn (options : List TableOption) (keys : List KeyData) (tree : ColumnTree) (column : ColumnData) : Type 0 where
   pub name_is : column.name ≡ tree.name
   pub ty_is : IsType tree.ty column.ty
   pub not_null_is : IsTrue column.not_null ↔ IsNotNull options keys tree
-  pub missing_is : IsMissing tree.constraints column.missing
+  pub missing_is : IsMissingValue tree.constraints column.missing
 
 -- the place of the column that is the rowid, where there is one
 abbrev pub IsRowidPlace : List TableOption → List KeyData → List ColumnTree → Option ℕ → Type 0
@@ -111,7 +111,7 @@ IsOnlyPrimary keys key = (keys ≡ key ∷ []) × (key.is_primary ≡ true)
 pub record IsKeyPlaces (keys : List KeyData) (columns : List ColumnTree) (places : List ℕ) : Type 0 where
   pub key : KeyData
   pub primary : IsOnlyPrimary keys key
-  pub places_are : AllZip (IsPlaceOf (column_names columns)) key.columns places
+  pub places_are : AllZip (IsNameAt (column_names columns)) key.columns places
 
 -- How the rows of a table of these columns are found: by their rowids, or WITHOUT ROWID by the PRIMARY KEY, beside which such a
 -- table has no key.
@@ -124,10 +124,10 @@ IsRowKey options keys columns (RowKeyData.Primary places) = IsRowless options ×
 -- and WITHOUT ROWID where PRIMARY KEY is the only key; a FOREIGN KEY names columns of the table, each once.
 pub record IsTable (tree : TableTree) (table : TableData) : Type 0 where
   pub name_is : table.name ≡ tree.name
-  pub unreserved : ¬ IsReserved tree.name
+  pub unreserved : ¬ IsReservedName tree.name
   pub columns_are : AllZip (IsColumn tree.options (keys_of tree)) tree.columns table.columns
   pub distinct : AreDistinct (column_names tree.columns)
-  pub served : All AreServed tree.columns
+  pub served : All AreServedConstraints tree.columns
   pub served_in : All (IsServedIn tree.columns) tree.constraints
   pub keys_are : AreKeys tree.columns (keys_of tree)
   pub options_are : AreOptions tree.options

@@ -36,7 +36,7 @@ pub record IsLastDefault (constraints : List ConstraintTree) (value : DefaultTre
   pub last : All IsOther back
 
 -- NULL without a DEFAULT, else what the last one says
-abbrev pub IsMissing : List ConstraintTree → MissingData → Type 0
-IsMissing constraints missing =
+abbrev pub IsMissingValue : List ConstraintTree → MissingData → Type 0
+IsMissingValue constraints missing =
     (All IsOther constraints × (missing ≡ MissingData.Fill Datum.null))
     ⊎ ((value : DefaultTree) × IsLastDefault constraints value × (missing ≡ filled value))

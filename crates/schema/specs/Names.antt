@@ -11,7 +11,7 @@ abbrev pub same_name : Name → Name → Bool
 same_name a b = bytes_eq (map to_ascii_lowercase a) (map to_ascii_lowercase b)
 
 -- the name at this place is this one
-pub record IsPlaceOf (names : List Name) (name : Name) (place : ℕ) : Type 0 where
+pub record IsNameAt (names : List Name) (name : Name) (place : ℕ) : Type 0 where
   pub other : Name
   pub stands : slice_get names place ≡ Some other
   pub named : IsSameName other name
@@ -25,5 +25,5 @@ abbrev pub AreDistinct : List Name → Type 0
 AreDistinct = AreApart IsSameName
 
 -- a name that only SQLite gives: it begins with `sqlite_`
-abbrev pub IsReserved : Name → Type 0
-IsReserved name = IsSameName (take (length (codes "sqlite_")) name) (codes "sqlite_")
+abbrev pub IsReservedName : Name → Type 0
+IsReservedName name = IsSameName (take (length (codes "sqlite_")) name) (codes "sqlite_")

@@ -4,7 +4,7 @@ use Rattle.std.specs.List.{AllZip}
 use Rattle.values.specs.Datum.{int, text}
 use Rattle.values.specs.Row.{Row}
 use Rattle.create_reader.specs.CreateGrammar.{SpellsCreate}
-use Rattle.phrases.specs.Texts.{IsWithin}
+use Rattle.phrases.specs.Texts.{AreWithinLimits}
 use Rattle.syntax.specs.Tree.{Name}
 use Rattle.create_trees.specs.CreateTrees.{TableTree, columns_of_table}
 use Rattle.tables.specs.TableData.{TableData}
@@ -20,7 +20,7 @@ pub record SaysTable (pages : ℕ) (row : Row) (table : TableData) : Type 0 wher
   pub tree : TableTree
   pub row_is : row ≡ text (codes "table") ∷ text name ∷ text owner ∷ int (pos table.root) ∷ text sql ∷ []
   pub spelt : SpellsCreate sql tree
-  pub within : IsWithin columns_of_table sql tree
+  pub within : AreWithinLimits columns_of_table sql tree
   pub name_is : IsSameName name tree.name
   pub owner_is : IsSameName owner tree.name
   pub least : 2 ≤ table.root

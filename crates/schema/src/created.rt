@@ -5,9 +5,9 @@ ghost use Rattle.create_trees.specs.CreateTrees.{ConstraintTree};
 ghost use Rattle.create_trees.specs.CreateView.{column_of, constraint_of, table_of};
 ghost use Rattle.declared_keys.specs.KeyView.{key_data};
 ghost use Rattle.schema.specs.Created as spec;
-ghost use Rattle.schema.specs.Created.{AreServed, IsColumn, IsNotNull, IsServed, IsTable};
-ghost use Rattle.schema.specs.Names.{AreDistinct, IsReserved, IsSameName};
-ghost use Rattle.schema.specs.Refused.{IsRefused};
+ghost use Rattle.schema.specs.Created.{AreServedConstraints, IsColumn, IsNotNull, IsServedConstraint, IsTable};
+ghost use Rattle.schema.specs.Names.{AreDistinct, IsReservedName, IsSameName};
+ghost use Rattle.schema.specs.Refused.{IsUnmade};
 ghost use Rattle.tables.specs.TableData.{ColumnData};
 
 use crate::keys::{are_keys, is_in_primary, is_rowid, row_key};
@@ -27,7 +27,7 @@ const RESERVED: &[u8] = b"sqlite_";
 
 /// Whether a name is one that only SQLite gives.
 fn is_reserved(name: &str) -> bool
-    ensures { IsTrue result ↔ IsReserved name.now }
+    ensures { IsTrue result ↔ IsReservedName name.now }
 {
     match name.as_bytes().get(..RESERVED.len()) {
         Some(front) => front.eq_ignore_ascii_case(RESERVED),
@@ -65,7 +65,7 @@ fn are_distinct(columns: &[ColumnDefinition]) -> bool
 
 /// Whether a constraint has no order but that of values. (CREATE TABLE)
 fn is_served(constraint: &ColumnConstraint) -> bool
-    ensures { IsTrue result ↔ IsServed (constraint_of constraint.now) }
+    ensures { IsTrue result ↔ IsServedConstraint (constraint_of constraint.now) }
 {
     match constraint {
         ColumnConstraint::PrimaryKey(order, automatic) => {
@@ -82,14 +82,14 @@ fn is_served(constraint: &ColumnConstraint) -> bool
 
 /// Whether each of these constraints does.
 fn are_served(constraints: &[ColumnConstraint]) -> bool
-    ensures { IsTrue result ↔ All (λ c. IsServed (constraint_of c)) constraints.now }
+    ensures { IsTrue result ↔ All (λ c. IsServedConstraint (constraint_of c)) constraints.now }
 {
     constraints.iter().all(|constraint| is_served(constraint))
 }
 
 /// Whether each constraint of these columns does.
 fn columns_are_served(columns: &[ColumnDefinition]) -> bool
-    ensures { IsTrue result ↔ All (λ c. All (λ x. IsServed (constraint_of x)) c.constraints.items) columns.now }
+    ensures { IsTrue result ↔ All (λ c. All (λ x. IsServedConstraint (constraint_of x)) c.constraints.items) columns.now }
 {
     columns
         .iter()
@@ -153,7 +153,7 @@ fn columns_from(
 ) -> Result<Vec<Column>, Fault>
     ensures made { IfOk result (λ columns. AllZip (IsColumn options.now (map key_data keys.now)) (map column_of definitions.items)
         columns.items) }
-    ensures refused { IfErr result (IsRefused (λ (columns : List ColumnData). AllZip (IsColumn options.now (map key_data keys.now))
+    ensures refused { IfErr result (IsUnmade (λ (columns : List ColumnData). AllZip (IsColumn options.now (map key_data keys.now))
         (map column_of definitions.items) columns)) }
 {
     let mut columns = Vec::with_capacity(alloc, definitions.len())?;
@@ -172,7 +172,7 @@ fn columns_from(
 pub fn table_from(alloc: Global, created: CreateTable, root: u32) -> Result<Table, Fault>
     ensures made { IfOk result (λ table. IsTable (table_of created) table) }
     ensures root { IfOk result (λ table. table.root ≡ root) }
-    ensures refused { IfErr result (IsRefused (IsTable (table_of created))) }
+    ensures refused { IfErr result (IsUnmade (IsTable (table_of created))) }
 {
     let keys = keys_of(alloc, &created)?;
     let CreateTable {

@@ -4,8 +4,8 @@ ghost use Rattle.std.specs.List.{AllZip, Any};
 ghost use Rattle.create_trees.specs.CreateView.{column_of};
 ghost use Rattle.declared_keys.specs.Keys.{KeyData};
 ghost use Rattle.declared_keys.specs.KeyView.{key_data};
-ghost use Rattle.schema.specs.Created.{AreColumns, AreKeys, Clash, HasColumn, IsKeyOf, IsNamedIn, IsOnlyPrimary, IsRowid, IsRowidPlace, IsRowKey, column_names};
-ghost use Rattle.schema.specs.Names.{AreApart, IsPlaceOf, IsSameName};
+ghost use Rattle.schema.specs.Created.{AreColumns, AreKeys, Clash, IsPrimaryKeyWith, IsLonePrimaryKey, IsNamedIn, IsOnlyPrimary, IsRowid, IsRowidPlace, IsRowKey, column_names};
+ghost use Rattle.schema.specs.Names.{AreApart, IsNameAt, IsSameName};
 ghost use Rattle.tables.specs.RowKeyView.{row_key_of};
 ghost use Rattle.tables.specs.TableData.{RowKeyData};
 
@@ -82,14 +82,14 @@ pub(crate) fn are_keys(columns: &[ColumnDefinition], keys: &[Key]) -> bool
 
 /// Whether a key is PRIMARY KEY, and the column of this name is of it.
 fn has_column(key: &Key, name: &str) -> bool
-    ensures { IsTrue result ↔ HasColumn name.now (key_data key.now) }
+    ensures { IsTrue result ↔ IsPrimaryKeyWith name.now (key_data key.now) }
 {
     key.is_primary && contains(key.columns.as_slice(), name)
 }
 
 /// Whether one of the columns of the PRIMARY KEY has this name.
 pub(crate) fn is_in_primary(keys: &[Key], name: &str) -> bool
-    ensures { IsTrue result ↔ Any (HasColumn name.now) (map key_data keys.now) }
+    ensures { IsTrue result ↔ Any (IsPrimaryKeyWith name.now) (map key_data keys.now) }
 {
     keys.iter().any(|key| has_column(key, name))
 }
@@ -106,14 +106,14 @@ fn are_one(names: &[String], name: &str) -> bool
 
 /// Whether a key is PRIMARY KEY of the column of this name alone.
 fn is_key_of(key: &Key, name: &str) -> bool
-    ensures { IsTrue result ↔ IsKeyOf name.now (key_data key.now) }
+    ensures { IsTrue result ↔ IsLonePrimaryKey name.now (key_data key.now) }
 {
     key.is_primary && are_one(key.columns.as_slice(), name)
 }
 
 /// Whether one of the keys is.
 fn is_key(keys: &[Key], name: &str) -> bool
-    ensures { IsTrue result ↔ Any (IsKeyOf name.now) (map key_data keys.now) }
+    ensures { IsTrue result ↔ Any (IsLonePrimaryKey name.now) (map key_data keys.now) }
 {
     keys.iter().any(|key| is_key_of(key, name))
 }
@@ -150,7 +150,7 @@ fn only_primary(keys: &[Key]) -> Option<&Key>
 
 /// The place of the first column of this name.
 fn place_of(columns: &[ColumnDefinition], name: &str) -> Option<usize>
-    ensures found { IfSome result (IsPlaceOf (column_names (map column_of columns.now)) name.now) }
+    ensures found { IfSome result (IsNameAt (column_names (map column_of columns.now)) name.now) }
     ensures none { IfNone result (¬ IsNamedIn (map column_of columns.now) name.now) }
 {
     for (place, column) in columns.iter().enumerate() {
@@ -164,7 +164,7 @@ fn place_of(columns: &[ColumnDefinition], name: &str) -> Option<usize>
 /// The place of the column that is called so.
 fn column_place(columns: &[ColumnDefinition], name: &str) -> usize
     requires { IsNamedIn (map column_of columns.now) name.now }
-    ensures { IsPlaceOf (column_names (map column_of columns.now)) name.now result }
+    ensures { IsNameAt (column_names (map column_of columns.now)) name.now result }
 {
     place_of(columns, name).unwrap()
 }
@@ -176,7 +176,7 @@ fn key_places(
     names: &[String],
 ) -> Result<Vec<usize>, AllocError>
     requires { All (IsNamedIn (map column_of columns.now)) (map (λ n. string_bytes n) names.now) }
-    ensures { IfOk result (λ places. AllZip (IsPlaceOf (column_names (map column_of columns.now)))
+    ensures { IfOk result (λ places. AllZip (IsNameAt (column_names (map column_of columns.now)))
         (map (λ n. string_bytes n) names.now) places.items) }
 {
     let mut places = Vec::with_capacity(alloc, names.len())?;

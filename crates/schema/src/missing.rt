@@ -1,7 +1,7 @@
 //! What a row has in a column that was added after it was written. (ALTER TABLE ADD COLUMN)
 ghost use Rattle.std.specs.Prelude.{◌≡◌, map};
 ghost use Rattle.create_trees.specs.CreateView.{constraint_of, default_of};
-ghost use Rattle.schema.specs.Missing.{IsMissing, filled, missing_behind};
+ghost use Rattle.schema.specs.Missing.{IsMissingValue, filled, missing_behind};
 ghost use Rattle.tables.specs.MissingView.{missing_of};
 
 use create_trees::{ColumnConstraint, DefaultValue};
@@ -35,7 +35,7 @@ fn missing_after(missing: Missing, constraint: ColumnConstraint) -> Missing
 
 /// What older rows have by the last DEFAULT of these constraints, or NULL where there is none.
 pub(crate) fn missing_by(constraints: Vec<ColumnConstraint>) -> Missing
-    ensures { IsMissing (map constraint_of constraints.items) (missing_of result) }
+    ensures { IsMissingValue (map constraint_of constraints.items) (missing_of result) }
 {
     let mut missing = Missing::Fill(Value::Null);
     for constraint in constraints {

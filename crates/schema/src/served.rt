@@ -2,7 +2,7 @@
 ghost use Rattle.std.specs.Prelude.{◌≡◌, ◌↔◌, ◌∷◌, [], All, IsTrue, map, option_map, string_bytes};
 ghost use Rattle.std.specs.List.{Any};
 ghost use Rattle.create_trees.specs.CreateView.{column_of, indexed_of, table_constraint_of};
-ghost use Rattle.schema.specs.Created.{AreColumns, AreOptions, IsBinary, IsNamedIn, IsPlain, IsRowless, IsServedIn};
+ghost use Rattle.schema.specs.Created.{AreColumns, AreOptions, IsBinary, IsNamedIn, IsPlainKeyColumn, IsRowless, IsServedIn};
 ghost use Rattle.schema.specs.Names.{AreDistinct, IsSameName};
 
 use crate::created::{is_named, is_same_name};
@@ -83,14 +83,14 @@ pub fn is_binary(collation: &Option<String>) -> bool
 
 /// Whether a column of a key is in the order of its values.
 fn is_plain(column: &IndexedColumn) -> bool
-    ensures { IsTrue result ↔ IsPlain (indexed_of column.now) }
+    ensures { IsTrue result ↔ IsPlainKeyColumn (indexed_of column.now) }
 {
     is_binary(&column.collation) && column.order == KeyOrder::Ascending
 }
 
 /// Whether each of these columns is.
 fn are_plain(key: &[IndexedColumn]) -> bool
-    ensures { IsTrue result ↔ All IsPlain (map indexed_of key.now) }
+    ensures { IsTrue result ↔ All IsPlainKeyColumn (map indexed_of key.now) }
 {
     key.iter().all(|column| is_plain(column))
 }

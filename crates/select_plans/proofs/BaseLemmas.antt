@@ -25,7 +25,7 @@ use Rattle.meaning.proofs.ScanLemmas.{map-identity, windowed-none}
 use Rattle.plan_terms.specs.Over.{StandsOver}
 use Rattle.plans.specs.JoinPlan as join
 use Rattle.plans.specs.JoinPlan.{AreWide, AreWideBefore}
-use Rattle.plans.specs.Plan.{Hits, PlanData, Reaches, rows_of}
+use Rattle.plans.specs.Plan.{Hits, PlanData, ReachesOverflow, rows_of}
 use Rattle.plans.proofs.JoinLemmas.{AreTables, choice_width, wide_before}
 use Rattle.select_plans.specs.Made.{IsOverRows, IsOverWindows}
 use Rattle.select_plans.specs.Read.{IsReadBy, IsWideBy, reads_all}
@@ -50,7 +50,7 @@ pub record IsBase (w : Datum) (db : Database) (from : From) (s : Select) (column
   pub rows_are : IsPermutation (map seen (computed_rows w db from s)) (rows_of w db plan)
   pub says : (e t : Term) → StandsOver columns 0 e t → SaysOf seen (computed_rows w db from s) e (filled (answers_in w db from) t)
   pub plan_hits : (terms : List Term) → Hits w db plan → FromHits w db (answers_in w db from) from false ⊎ SelectHits w db from s terms
-  pub column_hits : (terms es : List Term) → AllZip (StandsOver columns 0) es (s.columns ++ terms) → Any (Reaches es) (rows_of w db plan) → SelectHits w db from s terms
+  pub column_hits : (terms es : List Term) → AllZip (StandsOver columns 0) es (s.columns ++ terms) → Any (ReachesOverflow es) (rows_of w db plan) → SelectHits w db from s terms
 
 -- A plan has, in some order, the rows that windows take, of so many values; and what it reaches the SELECT can reach.
 record IsInput (w : Datum) (db : Database) (from : From) (s : Select) (width : ℕ) (plan : PlanData) : Type 0 where

@@ -11,7 +11,7 @@ use Rattle.meaning.specs.Query.{From, Key, QueryData, Select, select}
 use Rattle.meaning.specs.Typed.{HasTypes, IsTyped}
 use Rattle.operators.specs.Left.{IsPlanOf}
 use Rattle.plan_terms.specs.Over.{StandsOver}
-use Rattle.plans.specs.Plan.{Hits, PlanData, Reaches, rows_of}
+use Rattle.plans.specs.Plan.{Hits, PlanData, ReachesOverflow, rows_of}
 use Rattle.results.specs.Permitted.{SeesRows}
 use Rattle.sources.specs.SourceData.{SourceData}
 use Rattle.select_plans.specs.Columns.{HaveColumns}
@@ -23,7 +23,7 @@ use Rattle.table_plans.specs.Input.{input_from}
 
 -- the conditions of a plan, or these terms on one of its rows, reach an operation out of range
 abbrev pub PlanReaches : Datum → Database → PlanData → List Term → Type 0
-PlanReaches w db plan terms = Hits w db plan ⊎ Any (Reaches terms) (rows_of w db plan)
+PlanReaches w db plan terms = Hits w db plan ⊎ Any (ReachesOverflow terms) (rows_of w db plan)
 
 -- one SELECT, with ORDER BY, LIMIT and OFFSET
 abbrev pub of_select : From → Select → List Key → Option ℤ → ℤ → QueryData

@@ -12,7 +12,7 @@ use Rattle.values.specs.declared.fault.Fault.{Fault}
 use Rattle.shell.specs.State.{EngineState}
 use Rattle.sessions.specs.Replies.{Base, MayReply, Request, SlotState, asks, base_of, closed, closes, first_state, missing, missing_fault, opens, request_of, slot_of}
 use Rattle.sessions.specs.Run.{Runs, TellReads, TellsRead, steps_on}
-use Rattle.sessions.specs.Stands.{HasCompleted, KeepsImage, Replied, SlotStands, StandsAt}
+use Rattle.sessions.specs.Stands.{HasCompleted, KeepsImage, Replied, SlotStands, SlotStandsAt}
 use Rattle.sessions.specs.declared.slot.Slot.{Slot}
 use Rattle.sessions.specs.declared.slot.Slot.TheVariants.{Closed}
 use Rattle.sessions.specs.declared.step.Reply.{Reply}
@@ -26,12 +26,12 @@ use Rattle.sessions.proofs.SlotLemmas.{slot_kept}
 pub none_there : (engine new : EngineState) (slots : List Slot) (number : ℕ) (request : Request) (at : SlotState) → length slots ≤ number
     → SlotStands engine slots number at → Replied (base_of engine) request at (answers.Fault (missing_fault request)) (SlotStands new slots number)
 none_there engine new slots number request at past stands =
-    let is : at ≡ missing = subst (λ (o : Option Slot). MatchOption o (at ≡ missing) (λ slot. StandsAt engine slot at)) (slice_get_past slots number past) stands in
+    let is : at ≡ missing = subst (λ (o : Option Slot). MatchOption o (at ≡ missing) (λ slot. SlotStandsAt engine slot at)) (slice_get_past slots number past) stands in
     subst (λ (s : SlotState). Replied (base_of engine) request s (answers.Fault (missing_fault request)) (SlotStands new slots number)) (sym is)
     (record {
       next = missing;
       may = refused request;
-      stands = subst (λ (o : Option Slot). MatchOption o (missing ≡ missing) (λ slot. StandsAt new slot missing)) (sym (slice_get_past slots number past)) refl;
+      stands = subst (λ (o : Option Slot). MatchOption o (missing ≡ missing) (λ slot. SlotStandsAt new slot missing)) (sym (slice_get_past slots number past)) refl;
     })
   where
     refused : (request : Request) → MayReply (base_of engine) request missing (answers.Fault (missing_fault request)) missing
@@ -40,14 +40,14 @@ none_there engine new slots number request at past stands =
     refused closes = (refl, refl)
 
 got_some : (engine : EngineState) (slots : List Slot) (number : ℕ) (slot : Slot) (at : SlotState) → slice_get slots number ≡ Some slot
-    → SlotStands engine slots number at → StandsAt engine slot at
+    → SlotStands engine slots number at → SlotStandsAt engine slot at
 got_some engine slots number slot at here stands =
-    subst (λ (o : Option Slot). MatchOption o (at ≡ missing) (λ slot. StandsAt engine slot at)) here stands
+    subst (λ (o : Option Slot). MatchOption o (at ≡ missing) (λ slot. SlotStandsAt engine slot at)) here stands
 
 some_got : (engine : EngineState) (slots : List Slot) (number : ℕ) (slot : Slot) (at : SlotState) → slice_get slots number ≡ Some slot
-    → StandsAt engine slot at → SlotStands engine slots number at
+    → SlotStandsAt engine slot at → SlotStands engine slots number at
 some_got engine slots number slot at here stands =
-    subst (λ (o : Option Slot). MatchOption o (at ≡ missing) (λ slot. StandsAt engine slot at)) (sym here) stands
+    subst (λ (o : Option Slot). MatchOption o (at ≡ missing) (λ slot. SlotStandsAt engine slot at)) (sym here) stands
 
 got_set : {X : Type 0} (xs : List X) (i : ℕ) (x : X) → i < length xs → slice_get (set xs i x) i ≡ Some x
 got_set [] i x within = absurd (omega (arith, within))
@@ -63,7 +63,7 @@ got_other (y ∷ ys) (suc i) (suc j) x other = got_other ys i j x (λ same. othe
 
 -- a step is made on the slot of this number
 pub made_there : (old new : EngineState) (slots : List Slot) (at number : ℕ) (first later : Slot) (request : Request) (reply : Reply) → at ≡ number → at < length slots
-    → ((state : SlotState) → StandsAt old (get_or slots at first) state → Replied (base_of old) request state reply (StandsAt new later))
+    → ((state : SlotState) → SlotStandsAt old (get_or slots at first) state → Replied (base_of old) request state reply (SlotStandsAt new later))
     → (state : SlotState) → SlotStands old slots number state → Replied (base_of old) request state reply (SlotStands new (set slots at later) number)
 made_there old new slots at number first later request reply same within replies state stands =
     subst (λ (n : ℕ). SlotStands old slots n state → Replied (base_of old) request state reply (SlotStands new (set slots at later) n)) same
@@ -78,7 +78,7 @@ made_there old new slots at number first later request reply same within replies
 
 -- what the slot of this number has still to give was gathered
 pub completed_there : (old new : EngineState) (slots : List Slot) (at number : ℕ) (first later : Slot) (result : Result (Vec Row) Fault) → at ≡ number → at < length slots
-    → ((state : SlotState) → StandsAt old (get_or slots at first) state → HasCompleted (base_of old) state result (StandsAt new later))
+    → ((state : SlotState) → SlotStandsAt old (get_or slots at first) state → HasCompleted (base_of old) state result (SlotStandsAt new later))
     → (state : SlotState) → SlotStands old slots number state → HasCompleted (base_of old) state result (SlotStands new (set slots at later) number)
 completed_there old new slots at number first later result same within rows state stands =
     subst (λ (n : ℕ). SlotStands old slots n state → HasCompleted (base_of old) state result (SlotStands new (set slots at later) n)) same
@@ -95,10 +95,10 @@ completed_there old new slots at number first later result same within rows stat
 pub others_kept : (old new : EngineState) → KeepsImage old new → (slots : List Slot) (at number : ℕ) (later : Slot) → at ≡ number
     → (other : ℕ) (state : SlotState) → other ≢ number → SlotStands old slots other state → SlotStands new (set slots at later) other state
 others_kept old new kept slots at number later same other state apart stands =
-    subst (λ (o : Option Slot). MatchOption o (state ≡ missing) (λ slot. StandsAt new slot state))
+    subst (λ (o : Option Slot). MatchOption o (state ≡ missing) (λ slot. SlotStandsAt new slot state))
     (sym (got_other slots at other later (λ is. apart (is ∙ same)))) (kept_at (slice_get slots other) stands)
   where
-    kept_at : (o : Option Slot) → MatchOption o (state ≡ missing) (λ slot. StandsAt old slot state) → MatchOption o (state ≡ missing) (λ slot. StandsAt new slot state)
+    kept_at : (o : Option Slot) → MatchOption o (state ≡ missing) (λ slot. SlotStandsAt old slot state) → MatchOption o (state ≡ missing) (λ slot. SlotStandsAt new slot state)
     kept_at None is = is
     kept_at (Some slot) stands = slot_kept old new kept slot state stands
 
@@ -114,7 +114,7 @@ first_of engine number = by_number (leb_tells (suc number) 16)
         (slice_get-get_or (replicate 16 Closed) number Closed (omega (arith, within.1)) ∙ ap Some (get_or-replicate 16 number Closed Closed (omega (arith, within.1))))
         (ap (λ b. if b then closed else missing) within.0)
     by_number (inr past) =
-        subst (λ (o : Option Slot). MatchOption o (first_state number ≡ missing) (λ slot. StandsAt engine slot (first_state number)))
+        subst (λ (o : Option Slot). MatchOption o (first_state number ≡ missing) (λ slot. SlotStandsAt engine slot (first_state number)))
         (sym (slice_get_past (replicate 16 Closed) number (omega (arith, past.1)))) (ap (λ b. if b then closed else missing) past.0)
 
 pub first_stands : (engine : EngineState) (slots : List Slot) → slots ≡ replicate 16 Closed → (number : ℕ) → SlotStands engine slots number (first_state number)

@@ -10,24 +10,24 @@ use Rattle.pager.specs.Calls.{SameImage}
 use Rattle.tables.specs.TableData.{TableData}
 use Rattle.shell.specs.Answer.{IsAnswerOver}
 use Rattle.shell.specs.State.{EngineState}
-use Rattle.shell.specs.Stepped.{IsStepCause, IsSteppedOver, StandsBehind}
+use Rattle.shell.specs.Stepped.{IsStepCause, IsSteppedOver, HasGivenSoFar}
 use Rattle.sessions.specs.Replies.{Base, MayReply, Request, SlotState, closed, ended, missing, running}
 use Rattle.sessions.specs.declared.slot.Slot.{Slot}
 use Rattle.sessions.specs.declared.slot.Slot.TheVariants as slot
 use Rattle.sessions.specs.declared.step.Reply.{Reply}
 
 -- a slot stands so: its statement is of this query, and has given these rows
-abbrev pub StandsAt : EngineState → Slot → SlotState → Type 0
-StandsAt engine slot.Closed at = at ≡ closed
-StandsAt engine (slot.Running statement) missing = ⊥
-StandsAt engine (slot.Running statement) closed = ⊥
-StandsAt engine (slot.Running statement) (running query given) = StandsBehind engine query statement given
-StandsAt engine (slot.Running statement) ended = ⊥
-StandsAt engine slot.Ended at = at ≡ ended
+abbrev pub SlotStandsAt : EngineState → Slot → SlotState → Type 0
+SlotStandsAt engine slot.Closed at = at ≡ closed
+SlotStandsAt engine (slot.Running statement) missing = ⊥
+SlotStandsAt engine (slot.Running statement) closed = ⊥
+SlotStandsAt engine (slot.Running statement) (running query given) = HasGivenSoFar engine query statement given
+SlotStandsAt engine (slot.Running statement) ended = ⊥
+SlotStandsAt engine slot.Ended at = at ≡ ended
 
 -- the slot of this number stands so, if there is one
 abbrev pub SlotStands : EngineState → List Slot → ℕ → SlotState → Type 0
-SlotStands engine slots number at = MatchOption (slice_get slots number) (at ≡ missing) (λ slot. StandsAt engine slot at)
+SlotStands engine slots number at = MatchOption (slice_get slots number) (at ≡ missing) (λ slot. SlotStandsAt engine slot at)
 
 -- what its statement reads is some of these tables
 abbrev pub IsSoundSlot : List TableData → Slot → Type 0

@@ -4,11 +4,11 @@ ghost use Rattle.values.specs.Row.{Row as RowData};
 ghost use Rattle.meaning.specs.Query.{QueryData};
 ghost use Rattle.pager.specs.Calls.{TellsFailedReads};
 ghost use Rattle.shell.specs.State.{EngineState};
-ghost use Rattle.shell.specs.Stepped.{IsSteppedOver, StandsBehind};
+ghost use Rattle.shell.specs.Stepped.{IsSteppedOver, HasGivenSoFar};
 ghost use Rattle.tables.specs.TableData.{TableData};
 ghost use Rattle.sessions.specs.Replies.{SlotState, asks, base_of, closes, opens, request_of};
 ghost use Rattle.sessions.specs.Run.{TellsRead};
-ghost use Rattle.sessions.specs.Stands.{HasCollected, HasCompleted, IsSoundSlot, KeepsImage, Replied, StandsAt};
+ghost use Rattle.sessions.specs.Stands.{HasCollected, HasCompleted, IsSoundSlot, KeepsImage, Replied, SlotStandsAt};
 
 use crate::{Reply, Step};
 use pager::Source;
@@ -34,7 +34,7 @@ fn rows_behind<S: Source>(
     statement: &mut Statement,
 ) -> Result<Vec<Row>, Fault>
     requires { IsSteppedOver engine.old.tables statement.old }
-    ensures rows { (query : QueryData) (given : List RowData) → StandsBehind engine.old query statement.old given
+    ensures rows { (query : QueryData) (given : List RowData) → HasGivenSoFar engine.old query statement.old given
         → HasCollected (base_of engine.old) query given result }
     ensures image { KeepsImage engine.old engine.new }
     ensures reads { TellsFailedReads result engine.old.pager.source.failures engine.new.pager.source.failures }
@@ -57,8 +57,8 @@ impl Slot {
     /// Opens a text in a closed slot.
     fn open<S: Source>(&mut self, engine: &Engine<S>, text: &str) -> Reply
         requires { IsSoundSlot engine.now.tables self.old }
-        ensures replies { (at : SlotState) → StandsAt engine.now self.old at
-            → Replied (base_of engine.now) (opens text.now) at result (StandsAt engine.now self.new) }
+        ensures replies { (at : SlotState) → SlotStandsAt engine.now self.old at
+            → Replied (base_of engine.now) (opens text.now) at result (SlotStandsAt engine.now self.new) }
         ensures sound { IsSoundSlot engine.now.tables self.new }
         ensures reads { TellsRead result engine.now.pager.source.failures engine.now.pager.source.failures }
     {
@@ -77,8 +77,8 @@ impl Slot {
     /// Gives the next row of the statement. Behind the last one, and where it fails, the statement has ended.
     fn next<S: Source>(&mut self, engine: &mut Engine<S>) -> Reply
         requires { IsSoundSlot engine.old.tables self.old }
-        ensures replies { (at : SlotState) → StandsAt engine.old self.old at
-            → Replied (base_of engine.old) asks at result (StandsAt engine.new self.new) }
+        ensures replies { (at : SlotState) → SlotStandsAt engine.old self.old at
+            → Replied (base_of engine.old) asks at result (SlotStandsAt engine.new self.new) }
         ensures sound { IsSoundSlot engine.new.tables self.new }
         ensures image { KeepsImage engine.old engine.new }
         ensures reads { TellsRead result engine.old.pager.source.failures engine.new.pager.source.failures }
@@ -102,8 +102,8 @@ impl Slot {
 
     /// Closes a slot that isn't closed.
     fn close(&mut self) -> Reply
-        ensures replies { (engine : EngineState) (at : SlotState) → StandsAt engine self.old at
-            → Replied (base_of engine) closes at result (StandsAt engine self.new) }
+        ensures replies { (engine : EngineState) (at : SlotState) → SlotStandsAt engine self.old at
+            → Replied (base_of engine) closes at result (SlotStandsAt engine self.new) }
         ensures sound { (tables : List TableData) → IsSoundSlot tables self.new }
         ensures reads { (failures : ℕ) → TellsRead result failures failures }
     {
@@ -119,8 +119,8 @@ impl Slot {
     /// Makes a step on this slot.
     pub(crate) fn step<S: Source>(&mut self, engine: &mut Engine<S>, step: &Step) -> Reply
         requires { IsSoundSlot engine.old.tables self.old }
-        ensures replies { (at : SlotState) → StandsAt engine.old self.old at
-            → Replied (base_of engine.old) (request_of step.now) at result (StandsAt engine.new self.new) }
+        ensures replies { (at : SlotState) → SlotStandsAt engine.old self.old at
+            → Replied (base_of engine.old) (request_of step.now) at result (SlotStandsAt engine.new self.new) }
         ensures sound { IsSoundSlot engine.new.tables self.new }
         ensures image { KeepsImage engine.old engine.new }
         ensures reads { TellsRead result engine.old.pager.source.failures engine.new.pager.source.failures }
@@ -139,8 +139,8 @@ impl Slot {
         engine: &mut Engine<S>,
     ) -> Result<Vec<Row>, Fault>
         requires { IsSoundSlot engine.old.tables self.old }
-        ensures rows { (at : SlotState) → StandsAt engine.old self.old at
-            → HasCompleted (base_of engine.old) at result (StandsAt engine.new self.new) }
+        ensures rows { (at : SlotState) → SlotStandsAt engine.old self.old at
+            → HasCompleted (base_of engine.old) at result (SlotStandsAt engine.new self.new) }
         ensures sound { IsSoundSlot engine.new.tables self.new }
         ensures image { KeepsImage engine.old engine.new }
         ensures reads { TellsFailedReads result engine.old.pager.source.failures engine.new.pager.source.failures }

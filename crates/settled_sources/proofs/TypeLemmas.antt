@@ -5,7 +5,7 @@ use Rattle.values.specs.Database.{Database}
 use Rattle.values.specs.declared.value.Ty.{Ty}
 use Rattle.meaning.proofs.BodyLemmas.{AllZip-append}
 use Rattle.meaning.specs.Query.{Body, From, InnerQuery, Key, KeyTerm, QueryData, Source, compound, derived, exists, joined, nothing, schema, select, table, values_of, with_inner}
-use Rattle.meaning.specs.Typed.{AnswersHaveTypes, BodyHasTypes, FitTypes, Fits, FromHasTypes, HasTypes, InnerHasType, IsKeyTerm, IsTyped, SourceHasTypes, schema_types}
+use Rattle.meaning.specs.Typed.{AnswersHaveTypes, BodyHasTypes, FitTypes, FitsCatalog, FromHasTypes, HasTypes, InnerHasType, IsKeyTerm, IsTyped, SourceHasTypes, schema_types}
 use Rattle.settled_sources.specs.Settled.{settled, settled_body, settled_from, settled_inner, settled_source, types_with_schema, with_schema}
 use Rattle.settled_sources.specs.Within.{IsBodyWithin, IsFromWithin, IsInnerWithin, IsSourceWithin}
 
@@ -100,7 +100,7 @@ module _ (catalog : List (List Ty)) where
         (λ key is. key_still query.body types key.by is) query.order has.order;
   }
 
-  pub fits_still : (db : Database) → Fits catalog db → Fits more (with_schema db)
+  pub fits_still : (db : Database) → FitsCatalog catalog db → FitsCatalog more (with_schema db)
   fits_still db fits = record {
     schema = fits.schema;
     tables = AllZip-append FitTypes catalog db.tables schema_types db.schema fits.tables fits.schema;

@@ -8,7 +8,7 @@ ghost use Rattle.meaning.specs.Answer.{Permits};
 ghost use Rattle.meaning.specs.Body.{body};
 ghost use Rattle.meaning.specs.Hits.{Hits};
 ghost use Rattle.meaning.specs.Query.{QueryData};
-ghost use Rattle.meaning.specs.Typed.{Fits, HasTypes, IsTyped};
+ghost use Rattle.meaning.specs.Typed.{FitsCatalog, HasTypes, IsTyped};
 ghost use Rattle.settled_sources.specs.Examples.{ShowLater};
 ghost use Rattle.settled_sources.specs.Settled.{settled, types_with_schema, with_schema};
 ghost use Rattle.settled_sources.specs.Within.{IsBodyWithin};
@@ -29,7 +29,7 @@ pub fn settled_is_typed()
     ensures within { (catalog : List (List Ty)) (query : QueryData) → IsTyped catalog query → IsBodyWithin (length catalog) query.body }
     ensures typed { (catalog : List (List Ty)) (query : QueryData) (types : List Ty) → HasTypes catalog query types
         → HasTypes (types_with_schema catalog) (settled (length catalog) query) types }
-    ensures fits { (catalog : List (List Ty)) (db : Database) → Fits catalog db → Fits (types_with_schema catalog) (with_schema db) }
+    ensures fits { (catalog : List (List Ty)) (db : Database) → FitsCatalog catalog db → FitsCatalog (types_with_schema catalog) (with_schema db) }
 {}
 
 /// A query over the schema's table, at two depths, is one over the table behind two others, whose rows are computed.

@@ -15,7 +15,7 @@ use Rattle.statement_texts.specs.StatementTexts.{IsAllowed, IsRefusedStatement, 
 use Rattle.syntax.specs.StatementTree.{StatementTree}
 use Rattle.settled_sources.specs.Settled.{settled}
 use Rattle.shell.proofs.SettledLemmas.{typed_over}
-use Rattle.shell.specs.Prepared.{IsPlannedAs, IsPlannedFor, IsPreparedFor, Refuses, RunsFor, settled_over}
+use Rattle.shell.specs.Prepared.{IsPlannedAs, IsPlannedFor, IsPreparedFor, RefusesText, RunsFor, settled_over}
 use Rattle.shell.specs.PreparedView.{PreparedData}
 use Rattle.shell.specs.State.{sources_over}
 
@@ -46,12 +46,12 @@ prepared_for tables prepared named place last typed same settled_is runs =
     }
 
 -- memory ran out
-pub unprepared : (tables : List TableData) (text : List ℕ) (e : Fault) → e ≡ NoMemory → Refuses tables text e
+pub unprepared : (tables : List TableData) (text : List ℕ) (e : Fault) → e ≡ NoMemory → RefusesText tables text e
 unprepared tables text e is = inl (subst (λ (f : Fault). IsRefusedStatement text f) (sym is) tt)
 
 -- it is only to be explained
 pub unexplained : (tables : List TableData) (text : List ℕ) (tree : StatementTree) (named : Named) → SpellsStatement text tree → IsAllowed text tree
-    → Resolves tables tree named → tree.explain ≡ true → Refuses tables text NotYet
+    → Resolves tables tree named → tree.explain ≡ true → RefusesText tables text NotYet
 unexplained tables text tree named spelt within resolves explained = inr (inr (record {
   named = named;
   spells = record { tree = tree; spelt = spelt; within = within; resolves = resolves };

@@ -34,7 +34,7 @@ use Rattle.tables.specs.ColumnTypes.{column_types, types_of}
 use Rattle.tables.specs.TableData.{ColumnData, TableData, schema_table}
 use Rattle.stored_rows.specs.Stored.{Fits, FitsColumn}
 use Rattle.stored_tables.specs.Tables.{IsAnyStored}
-use Rattle.sources.specs.Coming.{IsStored}
+use Rattle.sources.specs.Coming.{IsStoredSource}
 use Rattle.sources.specs.SourceData.{SourceData, of_table, sources_of}
 use Rattle.sources.proofs.StepLemmas.{tables_alone}
 use Rattle.integrity.specs.Checked.{IsCheckFault}
@@ -54,7 +54,7 @@ use Rattle.shell.proofs.SettledLemmas.{fits_over, hits_over, permits_over, typed
 use Rattle.shell.specs.Prepared.{IsPlannedFor, IsPreparedFor, RunsFor, settled_over}
 use Rattle.shell.specs.PreparedView.{PreparedData}
 use Rattle.shell.specs.Run.{HasRun, HasStopped, TookFew}
-use Rattle.shell.specs.State.{EngineState, IsOpeningFault, IsReady, sources_over}
+use Rattle.shell.specs.State.{EngineState, IsEngineFault, IsReady, sources_over}
 use Rattle.shell.specs.Stepped.{HitsOver, IsBeginningOver, IsStepCause}
 use Rattle.shell.specs.Written.{HasBegun, HasWritten, IsRunOverSome}
 use Rattle.shell.specs.declared.engine.Report.{Report}
@@ -85,7 +85,7 @@ tables_typed [] (first ∷ rows) fits = absurd fits
 tables_typed (table ∷ tables) [] fits = absurd fits
 tables_typed (table ∷ tables) (first ∷ rows) fits = (rows_typed table first fits.0, tables_typed tables rows fits.1)
 
-denoted_fits : (image : List ℕ) (tables : List TableData) (db : Database) → Denotes image tables db → meant.Fits (column_types tables) db
+denoted_fits : (image : List ℕ) (tables : List TableData) (db : Database) → Denotes image tables db → meant.FitsCatalog (column_types tables) db
 denoted_fits image tables db denotes = record {
   schema = rows_typed schema_table db.schema denotes.catalog.fit;
   tables = tables_typed tables db.tables denotes.fit;
@@ -180,7 +180,7 @@ module _ (pager : PagerState) (tables : List TableData) (query : QueryData) (typ
       subst (λ (p : Pages). AreStored p (sources_over tables) (on w)) same_pages
       (stored_at (pages_of pager.source.bytes) w has.db.schema (all_tables tables) (with_schema has.db).tables all_stored)
 
-  fits : meant.Fits (column_types tables) has.db
+  fits : meant.FitsCatalog (column_types tables) has.db
   fits = denoted_fits pager.source.bytes tables has.db has.denotes
 
   -- each row has as many values as its table has columns
@@ -342,16 +342,16 @@ WritesEither pages tables query plan old new result = MatchResult result (HasWri
 
 module _ (pager : PagerState) (tables : List TableData) (query : QueryData) (plan : Option PlannedData) where
   pub written_planned : (planned : PlannedData) → plan ≡ Some planned → (old new : SinkFacts) (result : Result ℕ Fault)
-      → WhereSteady pager (λ pages. All (IsStored pages) (sources_of tables []) → MatchResult result
+      → WhereSteady pager (λ pages. All (IsStoredSource pages) (sources_of tables []) → MatchResult result
       (WritesAnswer pages (sources_of tables []) planned old new) (WritesBeginning pages (sources_of tables []) planned old new))
-      → WhereSteady pager (λ pages. All (IsStored pages) (sources_of tables []) → WritesEither pages tables query plan old new result)
+      → WhereSteady pager (λ pages. All (IsStoredSource pages) (sources_of tables []) → WritesEither pages tables query plan old new result)
   written_planned planned is old new result wrote = λ steady stored.
       subst (λ (p : Option PlannedData). WritesEither (pages_seen pager) tables query p old new result) (sym is) (wrote steady stored)
 
   pub written_nested : plan ≡ None → (old new : SinkFacts) (result : Result ℕ Fault)
-      → WhereSteady pager (λ pages. IsTyped (column_types tables) query → IsRunnableBody query.body → All (IsStored pages) (sources_of tables [])
+      → WhereSteady pager (λ pages. IsTyped (column_types tables) query → IsRunnableBody query.body → All (IsStoredSource pages) (sources_of tables [])
       → MatchResult result (WritesPermitted pages tables query old new) (nested.WritesBeginning pages tables query old new))
-      → WhereSteady pager (λ pages. All (IsStored pages) (sources_of tables []) → WritesEither pages tables query plan old new result)
+      → WhereSteady pager (λ pages. All (IsStoredSource pages) (sources_of tables []) → WritesEither pages tables query plan old new result)
   written_nested is old new result wrote = λ steady stored.
       subst (λ (p : Option PlannedData). WritesEither (pages_seen pager) tables query p old new result) (sym is)
       (in_each result (λ typed runs. wrote steady typed runs stored))
@@ -367,10 +367,10 @@ module _ (pager : PagerState) (tables : List TableData) (prepared : PreparedData
   abbrev engine : EngineState
   engine = record { pager = pager; tables = tables }
 
-  pub stored : IsTrue pager.source.steady → All (IsStored (pages_seen pager)) (sources_over tables)
+  pub stored : IsTrue pager.source.steady → All (IsStoredSource (pages_seen pager)) (sources_over tables)
   stored steady =
       let has = ready.stored steady in
-      all_alone (IsStored (pages_seen pager)) (all_tables tables)
+      all_alone (IsStoredSource (pages_seen pager)) (all_tables tables)
       (subst (λ (p : Pages). All (IsAnyStored p) (all_tables tables)) (λ k. pages_in (sym (ready.header steady) k) pager.source.bytes)
       (All-append (IsAnyStored (pages_of pager.source.bytes)) tables (schema_table ∷ []) has.stored
       (All-cons (IsAnyStored (pages_of pager.source.bytes)) schema_table [] has.own (All-nil (IsAnyStored (pages_of pager.source.bytes))))))
@@ -393,7 +393,7 @@ module _ (pager : PagerState) (tables : List TableData) (prepared : PreparedData
       over None runs = tt
 
   pub has_run : (new : EngineState) (report : Report) (before after : SinkFacts)
-      → WhereSteady pager (λ pages. All (IsStored pages) (sources_over tables)
+      → WhereSteady pager (λ pages. All (IsStoredSource pages) (sources_over tables)
       → HasWritten pages (all_tables tables) prepared.settled prepared.planned before after report.rows)
       → ((planned : PlannedData) → prepared.planned ≡ Some planned → WhereSteady pager (λ pages. (on : Basis) → AreStored pages (sources_over tables) on
       → Asks on.local pager (work_of on.w on.db on.sizes planned) new.pager 0))
@@ -418,7 +418,7 @@ module _ (pager : PagerState) (tables : List TableData) (prepared : PreparedData
           (subst (λ (q : QueryData). HasWritten (pages_seen pager) (all_tables tables) q None before after report.rows) is.settled wrote typed_all runnable)
 
   pub has_stopped : (e : Fault) (before after : SinkFacts)
-      → WhereSteady pager (λ pages. All (IsStored pages) (sources_over tables)
+      → WhereSteady pager (λ pages. All (IsStoredSource pages) (sources_over tables)
       → HasBegun pages (all_tables tables) prepared.settled prepared.planned before after e)
       → IsRunFault e → HasStopped engine prepared before after e
   has_stopped e before after wrote only = record {
@@ -446,6 +446,6 @@ read_check : (fault : Fault) → IsReadFault fault → IsCheckFault fault
 read_check fault (inl is) = subst (λ (x : Fault). IsCheckFault x) (sym is) tt
 read_check fault (inr is) = subst (λ (x : Fault). IsCheckFault x) (sym is) tt
 
-pub opening_fault : (source : SourceFacts) (fault : Fault) → IsOpenFault source fault → IsOpeningFault source fault
+pub opening_fault : (source : SourceFacts) (fault : Fault) → IsOpenFault source fault → IsEngineFault source fault
 opening_fault source fault (inl read) = record { only = inr (read_check fault read); cause = λ steady. inl read }
 opening_fault source fault (inr header) = record { only = inl header.0; cause = λ steady. inr (inl (header.1 steady)) }

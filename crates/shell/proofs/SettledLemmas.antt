@@ -8,7 +8,7 @@ use Rattle.values.specs.declared.value.Ty.{Ty}
 use Rattle.meaning.specs.Answer.{Permits}
 use Rattle.meaning.specs.Hits.{Hits}
 use Rattle.meaning.specs.Query.{QueryData}
-use Rattle.meaning.specs.Typed.{FitTypes, Fits, IsTyped}
+use Rattle.meaning.specs.Typed.{FitTypes, FitsCatalog, IsTyped}
 use Rattle.meaning.proofs.ElementLemmas.{length_all_zip}
 use Rattle.settled_sources.proofs.HitLemmas.{settled_hits}
 use Rattle.settled_sources.proofs.RowLemmas.{same_answers}
@@ -33,11 +33,11 @@ typed_over tables query typed =
     (subst (λ (n : ℕ). IsTyped (types_with_schema (column_types tables)) (settled n query)) (count_is tables)
     (typed.0, typed_still (column_types tables) query typed.0 typed.1))
 
-pub fits_over : (tables : List TableData) (db : Database) → Fits (column_types tables) db → Fits (column_types (all_tables tables)) (with_schema db)
-fits_over tables db fits = subst (λ (types : List (List Ty)). Fits types (with_schema db)) (sym (types_are tables)) (fits_still (column_types tables) db fits)
+pub fits_over : (tables : List TableData) (db : Database) → FitsCatalog (column_types tables) db → FitsCatalog (column_types (all_tables tables)) (with_schema db)
+fits_over tables db fits = subst (λ (types : List (List Ty)). FitsCatalog types (with_schema db)) (sym (types_are tables)) (fits_still (column_types tables) db fits)
 
 -- over a database with as many tables
-module _ (tables : List TableData) (db : Database) (query : QueryData) (typed : IsTyped (column_types tables) query) (fits : Fits (column_types tables) db) where
+module _ (tables : List TableData) (db : Database) (query : QueryData) (typed : IsTyped (column_types tables) query) (fits : FitsCatalog (column_types tables) db) where
   as_many : length tables ≡ length db.tables
   as_many = sym (count_is tables) ∙ length_all_zip FitTypes (column_types tables) db.tables fits.tables
 

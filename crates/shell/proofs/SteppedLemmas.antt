@@ -31,7 +31,7 @@ use Rattle.shell.specs.Prepared.{IsPlannedFor, IsPreparedFor, RunsFor, settled_o
 use Rattle.shell.specs.PreparedView.{PreparedData}
 use Rattle.shell.specs.State.{EngineState, IsReady, sources_over}
 use Rattle.shell.specs.Steps.{PlanSteps, TakesStep}
-use Rattle.shell.specs.Stepped.{HasGivenBy, HasPlanGiven, HasQueryGiven, HasStarted, HasStepped, IsStartedFor, IsSteppingOf, IsSteppingOver, IsUnstarted, StandsBehind}
+use Rattle.shell.specs.Stepped.{HasGivenBy, HasPlanGiven, HasQueryGiven, HasStarted, HasSteppedStatement, IsStartedFor, IsSteppingOf, IsSteppingOver, IsUnstarted, HasGivenSoFar}
 use Rattle.shell.specs.declared.stepped.Started.{Started}
 use Rattle.shell.specs.declared.stepped.Statement.{Statement}
 use Rattle.shell.specs.declared.stepped.Stepping.{Stepping}
@@ -121,7 +121,7 @@ given_kept old new query given (Nested run) image tables gave = λ steady.
 
 -- the statement stands as it stood
 pub stands_kept : (old new : EngineState) (query : QueryData) (statement : Statement) (given : List Row) → SameImage old.pager new.pager → new.tables ≡ old.tables
-    → StandsBehind old query statement given → StandsBehind new query statement given
+    → HasGivenSoFar old query statement given → HasGivenSoFar new query statement given
 stands_kept old new query statement given image tables stands = record {
   typed = subst (λ (ts : List TableData). IsTyped (column_types ts) query) (sym tables) stands.typed;
   gave = given_kept old new query given statement.stepping image tables stands.gave;
@@ -141,7 +141,7 @@ module _ (pager : PagerState) (tables : List TableData) (ready : IsReady pager t
         → SameImage pager new.pager → new.tables ≡ tables
         → WhereSteady pager (λ pages. (planned : PlannedData) (given : List Row) → HasGiven pages (sources_over tables) planned old given
         → HasAnswered true pages (sources_over tables) planned running given row)
-        → HasStepped engine new query given statement (Ok (Some row))
+        → HasSteppedStatement engine new query given statement (Ok (Some row))
     row_step new running statement row is image same answers = record {
       stands = stands_kept engine new query statement (given ++ row ∷ []) image same (record {
         typed = typed;
@@ -159,7 +159,7 @@ module _ (pager : PagerState) (tables : List TableData) (ready : IsReady pager t
     pub end_step : (new : EngineState) (running : Running) (statement : Statement) (row : Row)
         → WhereSteady pager (λ pages. (planned : PlannedData) (given : List Row) → HasGiven pages (sources_over tables) planned old given
         → HasAnswered false pages (sources_over tables) planned running given row)
-        → HasStepped engine new query given statement (Ok None)
+        → HasSteppedStatement engine new query given statement (Ok None)
     end_step new running statement row answers = λ steady.
         answer_over pager tables query typed ready steady gave.planned gave.is given (answers steady gave.planned given (gave.gave steady))
 
@@ -167,7 +167,7 @@ module _ (pager : PagerState) (tables : List TableData) (ready : IsReady pager t
     pub fault_step : (new : EngineState) (statement : Statement) (fault : Fault)
         → WhereSteady pager (λ pages. (planned : PlannedData) (given : List Row) → HasGiven pages (sources_over tables) planned old given
         → (on : Basis) → AreStored pages (sources_over tables) on → IsRowCause on planned fault)
-        → HasStepped engine new query given statement (Err fault)
+        → HasSteppedStatement engine new query given statement (Err fault)
     fault_step new statement fault causes = λ steady.
         step_cause pager tables query typed ready steady gave.planned gave.is fault (causes steady gave.planned given (gave.gave steady))
 
@@ -175,7 +175,7 @@ module _ (pager : PagerState) (tables : List TableData) (ready : IsReady pager t
         → statement.stepping ≡ Planned running → SameImage pager new.pager → new.tables ≡ tables
         → WhereSteady pager (λ pages. (planned : PlannedData) (given : List Row) → HasGiven pages (sources_over tables) planned old given
         → PlanSteps pages (sources_over tables) planned given running result)
-        → HasStepped engine new query given statement result
+        → HasSteppedStatement engine new query given statement result
     planned_step new running statement (Ok (Some row)) is image same steps = row_step new running statement row is image same steps
     planned_step new running statement (Ok None) is image same steps = end_step new running statement [] steps
     planned_step new running statement (Err fault) is image same steps = fault_step new statement fault steps
@@ -188,8 +188,8 @@ module _ (pager : PagerState) (tables : List TableData) (ready : IsReady pager t
     pub nested_row : (new : EngineState) (run : NestedRun) (statement : Statement) (row : Row) → statement.stepping ≡ Nested run
         → SameImage pager new.pager → new.tables ≡ tables
         → WhereSteady pager (λ pages. (of : QueryData) (given : List Row) → IsTyped (column_types (all_tables tables)) of → IsRunnableBody of.body
-        → HasGivenOf pages (all_tables tables) of old given → nested.HasStepped pages (all_tables tables) of run given (Some row))
-        → HasStepped engine new query given statement (Ok (Some row))
+        → HasGivenOf pages (all_tables tables) of old given → nested.HasSteppedRows pages (all_tables tables) of run given (Some row))
+        → HasSteppedStatement engine new query given statement (Ok (Some row))
     nested_row new run statement row is image same answers = record {
       stands = stands_kept engine new query statement (given ++ row ∷ []) image same (record {
         typed = typed;
@@ -205,8 +205,8 @@ module _ (pager : PagerState) (tables : List TableData) (ready : IsReady pager t
 
     pub nested_end : (new : EngineState) (run : NestedRun) (statement : Statement)
         → WhereSteady pager (λ pages. (of : QueryData) (given : List Row) → IsTyped (column_types (all_tables tables)) of → IsRunnableBody of.body
-        → HasGivenOf pages (all_tables tables) of old given → nested.HasStepped pages (all_tables tables) of run given None)
-        → HasStepped engine new query given statement (Ok None)
+        → HasGivenOf pages (all_tables tables) of old given → nested.HasSteppedRows pages (all_tables tables) of run given None)
+        → HasSteppedStatement engine new query given statement (Ok None)
     nested_end new run statement answers = λ steady.
         nested_permitted pager tables query typed ready steady given
         (answers steady over given (typed_over tables query typed) (settled_runs (length tables) query.body) (gave steady))
@@ -214,7 +214,7 @@ module _ (pager : PagerState) (tables : List TableData) (ready : IsReady pager t
     pub nested_fault : (new : EngineState) (statement : Statement) (fault : Fault)
         → WhereSteady pager (λ pages. (of : QueryData) (given : List Row) → IsTyped (column_types (all_tables tables)) of → IsRunnableBody of.body
         → HasGivenOf pages (all_tables tables) of old given → (on : Basis) → AreSaid pages (all_tables tables) on → IsQueryCause on of fault)
-        → HasStepped engine new query given statement (Err fault)
+        → HasSteppedStatement engine new query given statement (Err fault)
     nested_fault new statement fault causes = λ steady.
         nested_cause pager tables query typed ready steady fault
         (causes steady over given (typed_over tables query typed) (settled_runs (length tables) query.body) (gave steady))
@@ -223,9 +223,9 @@ module _ (pager : PagerState) (tables : List TableData) (ready : IsReady pager t
         → statement.stepping ≡ Nested run → SameImage pager new.pager → new.tables ≡ tables
         → WhereSteady pager (λ pages. (of : QueryData) (given : List Row) → IsTyped (column_types (all_tables tables)) of → IsRunnableBody of.body
         → HasGivenOf pages (all_tables tables) of old given → MatchResult result
-        (λ found. nested.HasStepped pages (all_tables tables) of run given found)
+        (λ found. nested.HasSteppedRows pages (all_tables tables) of run given found)
         (λ fault. (on : Basis) → AreSaid pages (all_tables tables) on → IsQueryCause on of fault))
-        → HasStepped engine new query given statement result
+        → HasSteppedStatement engine new query given statement result
     nested_step new run statement (Ok (Some row)) is image same steps = nested_row new run statement row is image same steps
     nested_step new run statement (Ok None) is image same steps = nested_end new run statement steps
     nested_step new run statement (Err fault) is image same steps = nested_fault new statement fault steps
@@ -234,7 +234,7 @@ module _ (pager : PagerState) (tables : List TableData) (ready : IsReady pager t
 pub stepped : (pager : PagerState) (tables : List TableData) → IsReady pager tables → (query : QueryData) (given : List Row) → IsTyped (column_types tables) query
     → (old : Stepping) → HasGivenBy (record { pager = pager; tables = tables }) query given old → (new : EngineState) (then : Stepping) (statement : Statement)
     → statement.stepping ≡ then → (result : Result (Option Row) Fault) → SameImage pager new.pager → new.tables ≡ tables
-    → TakesStep pager (all_tables tables) old then result → HasStepped (record { pager = pager; tables = tables }) new query given statement result
+    → TakesStep pager (all_tables tables) old then result → HasSteppedStatement (record { pager = pager; tables = tables }) new query given statement result
 stepped pager tables ready query given typed (Planned old) gave new (Planned running) statement is result image same step =
     planned_step pager tables ready query given typed old gave new running statement result is image same step
 stepped pager tables ready query given typed (Nested old) gave new (Nested run) statement is result image same step =

@@ -6,7 +6,7 @@ use Rattle.meaning.specs.Query.{QueryData}
 use Rattle.meaning.specs.Typed.{IsTyped}
 use Rattle.naming.specs.Statement.{Named}
 use Rattle.query_plans.specs.Answers.{IsPlanFor, IsPlannedAsTyped, IsPlannedOver, PlannedData}
-use Rattle.resolver.specs.Resolved.{IsRefused, Resolves}
+use Rattle.resolver.specs.Resolved.{IsNoQueryOver, Resolves}
 use Rattle.settled_sources.specs.Settled.{settled}
 use Rattle.tables.specs.ColumnTypes.{column_types}
 use Rattle.tables.specs.TableData.{TableData}
@@ -37,7 +37,7 @@ pub record IsPreparedFor (tables : List TableData) (prepared : PreparedData) : T
   pub runs : RunsFor tables prepared.query prepared.planned
 
 -- the text spells a statement within the limits, which is this over these tables
-pub record Spells (tables : List TableData) (text : List ℕ) (named : Named) : Type 0 where
+pub record SpellsQuery (tables : List TableData) (text : List ℕ) (named : Named) : Type 0 where
   pub tree : StatementTree
   pub spelt : SpellsStatement text tree
   pub within : IsAllowed text tree
@@ -46,7 +46,7 @@ pub record Spells (tables : List TableData) (text : List ℕ) (named : Named) : 
 -- the text spells a statement without EXPLAIN that is this query, with these names
 pub record Means (tables : List TableData) (text : List ℕ) (prepared : PreparedData) : Type 0 where
   pub named : Named
-  pub spells : Spells tables text named
+  pub spells : SpellsQuery tables text named
   pub unexplained : spells.tree.explain ≡ false
   pub query_is : named.query ≡ prepared.query
   pub names_are : named.names ≡ prepared.names
@@ -56,7 +56,7 @@ pub record IsUnresolved (tables : List TableData) (text : List ℕ) (fault : Fau
   pub tree : StatementTree
   pub spelt : SpellsStatement text tree
   pub within : IsAllowed text tree
-  pub refused : IsRefused tables tree fault
+  pub refused : IsNoQueryOver tables tree fault
 
 -- a query has this plan, which is made as it is typed
 abbrev pub IsPlannedAs : QueryData → Option PlannedData → Type 0
@@ -66,10 +66,10 @@ IsPlannedAs query None = ⊤
 -- it spells a statement with EXPLAIN, which isn't served yet
 pub record IsUnserved (tables : List TableData) (text : List ℕ) (fault : Fault) : Type 0 where
   pub named : Named
-  pub spells : Spells tables text named
+  pub spells : SpellsQuery tables text named
   pub explained : spells.tree.explain ≡ true
   pub fault_is : fault ≡ NotYet
 
 -- why a text was refused: it spells no statement, or one that is too large, or what it spells is no query, or it is to be explained
-abbrev pub Refuses : List TableData → List ℕ → Fault → Type 0
-Refuses tables text fault = IsRefusedStatement text fault ⊎ (IsUnresolved tables text fault ⊎ IsUnserved tables text fault)
+abbrev pub RefusesText : List TableData → List ℕ → Fault → Type 0
+RefusesText tables text fault = IsRefusedStatement text fault ⊎ (IsUnresolved tables text fault ⊎ IsUnserved tables text fault)

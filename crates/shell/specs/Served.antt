@@ -23,7 +23,7 @@ pub record HasLines (image : List ℕ) (tables : List TableData) (prepared : Pre
   pub written : Appends old.written new.written (header_text header prepared.names ++ rows_text rows)
 
 -- the image has these tables, the text is this query over them, and its whole answer was written
-pub record IsServed (image sql : List ℕ) (header : Bool) (old new : SinkFacts) : Type 0 where
+pub record IsServedWhole (image sql : List ℕ) (header : Bool) (old new : SinkFacts) : Type 0 where
   pub tables : List TableData
   pub prepared : PreparedData
   pub has : HasTables (pages_of image) tables

@@ -48,7 +48,7 @@ IsImageFault image fault = IsLeastBroken image fault ⊎ (KeepsAll image × IsBr
 
 -- Why none was opened: a fault of reading, one of the header or one of the check. Over a steady source another fault than one of
 -- reading has its condition.
-pub record IsOpeningFault (source : SourceFacts) (fault : Fault) : Type 0 where
+pub record IsEngineFault (source : SourceFacts) (fault : Fault) : Type 0 where
   pub only : IsHeaderFault fault ⊎ IsCheckFault fault
   pub cause : IsTrue source.steady → IsReadFault fault ⊎ IsImageFault source.bytes fault
 

@@ -15,7 +15,7 @@ use Rattle.nested_runs.specs.Steps.{HasGivenOf}
 use Rattle.nested_runs.specs.Steps as nested
 use Rattle.nested_runs.specs.declared.steps.NestedRun.{NestedRun}
 use Rattle.query_plans.specs.Answers.{PlannedData}
-use Rattle.running.specs.Given.{HasGiven, IsOpened, IsRunOver, steps_left}
+use Rattle.running.specs.Given.{HasGiven, IsOpenedRun, IsRunOver, steps_left}
 use Rattle.running.specs.declared.rows.Running.{Running}
 use Rattle.sources.specs.SourceData.{SourceData}
 use Rattle.statement_texts.specs.StatementTexts.{IsRefusedStatement}
@@ -24,7 +24,7 @@ use Rattle.table_copies.specs.Whole.{all_tables}
 use Rattle.tables.specs.ColumnTypes.{column_types}
 use Rattle.tables.specs.TableData.{TableData}
 use Rattle.shell.specs.Answer.{IsAnswerOver, OverTables}
-use Rattle.shell.specs.Prepared.{IsPlannedFor, IsUnresolved, Spells, settled_over}
+use Rattle.shell.specs.Prepared.{IsPlannedFor, IsUnresolved, SpellsQuery, settled_over}
 use Rattle.shell.specs.PreparedView.{PreparedData}
 use Rattle.shell.specs.State.{EngineState, sources_over}
 use Rattle.shell.specs.declared.stepped.Started.{Started}
@@ -47,7 +47,7 @@ IsStepCause image tables query fault = IsReadFault fault ⊎ ((fault ≡ Overflo
 -- the text spells a statement without EXPLAIN that is this query, whose result columns have these names
 pub record IsStatement (tables : List TableData) (text : List ℕ) (query : QueryData) (names : List Name) : Type 0 where
   pub named : Named
-  pub spells : Spells tables text named
+  pub spells : SpellsQuery tables text named
   pub unexplained : spells.tree.explain ≡ false
   pub query_is : named.query ≡ query
   pub names_are : named.names ≡ names
@@ -55,7 +55,7 @@ pub record IsStatement (tables : List TableData) (text : List ℕ) (query : Quer
 -- it spells a statement with EXPLAIN, of which no row is given
 pub record IsExplained (tables : List TableData) (text : List ℕ) (fault : Fault) : Type 0 where
   pub named : Named
-  pub spells : Spells tables text named
+  pub spells : SpellsQuery tables text named
   pub explained : spells.tree.explain ≡ true
   pub fault_is : fault ≡ WrongPlace
 
@@ -97,7 +97,7 @@ HasGivenBy engine query given (Planned running) = HasPlanGiven engine query runn
 HasGivenBy engine query given (Nested run) = HasQueryGiven engine query run given
 
 -- a statement of this query has given these rows: over a steady source what is run for it has given them
-pub record StandsBehind (engine : EngineState) (query : QueryData) (statement : Statement) (given : List Row) : Type 0 where
+pub record HasGivenSoFar (engine : EngineState) (query : QueryData) (statement : Statement) (given : List Row) : Type 0 where
   pub typed : IsTyped (column_types engine.tables) query
   pub gave : HasGivenBy engine query given statement.stepping
 
@@ -105,7 +105,7 @@ pub record StandsBehind (engine : EngineState) (query : QueryData) (statement : 
 pub record IsPlanOpened (planned : Option PlannedData) (running : Running) : Type 0 where
   pub plan : PlannedData
   pub plan_is : planned ≡ Some plan
-  pub opened : IsOpened plan running
+  pub opened : IsOpenedRun plan running
 
 -- it has none, and has given no row
 pub record IsQueryOpened (settled : QueryData) (planned : Option PlannedData) (run : NestedRun) : Type 0 where
@@ -125,16 +125,16 @@ pub record IsStartedFor (prepared : PreparedData) (started : Started) : Type 0 w
 pub record HasStarted (engine : EngineState) (text : List ℕ) (started : Started) : Type 0 where
   pub query : QueryData
   pub means : IsStatement engine.tables text query (map (λ name. string_bytes name) started.names.items)
-  pub stands : StandsBehind engine query started.statement []
+  pub stands : HasGivenSoFar engine query started.statement []
   pub over : IsSteppedOver engine.tables started.statement
 
 -- one row more was given, and an answer may begin with all that were
 pub record HasGivenRow (old new : EngineState) (query : QueryData) (given : List Row) (statement : Statement) (row : Row) : Type 0 where
-  pub stands : StandsBehind new query statement (given ++ row ∷ [])
+  pub stands : HasGivenSoFar new query statement (given ++ row ∷ [])
   pub begins : IsTrue old.pager.source.steady → IsBeginningOver old.pager.source.bytes old.tables query (given ++ row ∷ [])
 
 -- what a step does of a statement that has given these rows: a row comes, or those are an answer, or there is a cause that none comes
-abbrev pub HasStepped : EngineState → EngineState → QueryData → List Row → Statement → Result (Option Row) Fault → Type 0
-HasStepped old new query given statement (Ok (Some row)) = HasGivenRow old new query given statement row
-HasStepped old new query given statement (Ok None) = IsTrue old.pager.source.steady → IsAnswerOver old.pager.source.bytes old.tables query given
-HasStepped old new query given statement (Err fault) = IsTrue old.pager.source.steady → IsStepCause old.pager.source.bytes old.tables query fault
+abbrev pub HasSteppedStatement : EngineState → EngineState → QueryData → List Row → Statement → Result (Option Row) Fault → Type 0
+HasSteppedStatement old new query given statement (Ok (Some row)) = HasGivenRow old new query given statement row
+HasSteppedStatement old new query given statement (Ok None) = IsTrue old.pager.source.steady → IsAnswerOver old.pager.source.bytes old.tables query given
+HasSteppedStatement old new query given statement (Err fault) = IsTrue old.pager.source.steady → IsStepCause old.pager.source.bytes old.tables query fault

@@ -8,7 +8,7 @@ use Rattle.inner_rows.specs.Over.{AreSaid, IsQueryCause}
 use Rattle.inner_rows.specs.Runnable.{IsRunnableBody}
 use Rattle.meaning.specs.Query.{QueryData}
 use Rattle.meaning.specs.Typed.{IsTyped}
-use Rattle.nested_runs.specs.Steps.{HasGivenOf, HasStepped}
+use Rattle.nested_runs.specs.Steps.{HasGivenOf, HasSteppedRows}
 use Rattle.operators.specs.Basis.{AreStored, Basis}
 use Rattle.query_plans.specs.Answers.{IsAnswerOf, PlannedData}
 use Rattle.running.specs.Given.{HasGiven, IsRowCause}
@@ -32,7 +32,7 @@ TakesStep pager tables (Planned old) (Planned new) result =
     → PlanSteps pages (sources_of tables []) planned given new result)
 TakesStep pager tables (Nested old) (Nested new) result =
     WhereSteady pager (λ pages. (query : QueryData) (given : List Row) → IsTyped (column_types tables) query → IsRunnableBody query.body
-    → HasGivenOf pages tables query old given → MatchResult result (λ found. HasStepped pages tables query new given found)
+    → HasGivenOf pages tables query old given → MatchResult result (λ found. HasSteppedRows pages tables query new given found)
     (λ fault. (on : Basis) → AreSaid pages tables on → IsQueryCause on query fault))
 TakesStep pager tables (Planned old) (Nested new) result = ⊥
 TakesStep pager tables (Nested old) (Planned new) result = ⊥

@@ -6,11 +6,11 @@ ghost use Rattle.values.specs.Fault.{Counts};
 ghost use Rattle.values.specs.Row.{Row as RowData};
 ghost use Rattle.meaning.specs.Query.{QueryData};
 ghost use Rattle.operators.specs.Basis.{IsOperatorFault};
-ghost use Rattle.shell.specs.Prepared.{IsPreparedFor, Means, Refuses};
+ghost use Rattle.shell.specs.Prepared.{IsPreparedFor, Means, RefusesText};
 ghost use Rattle.shell.specs.PreparedView.{prepared_data};
 ghost use Rattle.shell.specs.Run.{HasRun, HasStopped};
-ghost use Rattle.shell.specs.State.{IsOpenedOver, IsOpeningFault, ReadsTables};
-ghost use Rattle.shell.specs.Stepped.{HasStarted, HasStepped, IsSteppedOver, IsUnstarted, StandsBehind, rows_ahead};
+ghost use Rattle.shell.specs.State.{IsOpenedOver, IsEngineFault, ReadsTables};
+ghost use Rattle.shell.specs.Stepped.{HasStarted, HasSteppedStatement, IsSteppedOver, IsUnstarted, HasGivenSoFar, rows_ahead};
 
 use crate::{Prepared, Started, Statement};
 use integrity::{Checked, check};
@@ -64,7 +64,7 @@ impl<S: Source> Engine<S> {
     /// The least condition of the header that is broken; then those of the image's tables and rows; `ReadFailed` where the source
     /// failed, and `NoMemory`. The source is handed back.
     pub fn open(alloc: Global, source: S, cache: NonZeroUsize) -> Result<Engine<S>, (Fault, S)>
-        ensures outcome { MatchResult result (IsOpenedOver (S.facts source) (non_zero_usize_get cache)) (λ e. IsOpeningFault (S.facts source) e.0) }
+        ensures outcome { MatchResult result (IsOpenedOver (S.facts source) (non_zero_usize_get cache)) (λ e. IsEngineFault (S.facts source) e.0) }
         ensures back { IfErr result (λ e. HandsBack e.0 (S.facts source) (S.facts e.1)) }
     {
         let mut pager = Pager::open(alloc, source, cache)?;
@@ -92,7 +92,7 @@ impl<S: Source> Engine<S> {
     pub fn prepare(&self, text: &str) -> Result<Prepared, Fault>
         ensures { MatchResult result
             (λ p. IsPreparedFor self.now.tables (prepared_data p) × Means self.now.tables text.now (prepared_data p))
-            (Refuses self.now.tables text.now) }
+            (RefusesText self.now.tables text.now) }
     {
         let statement = read_select(self.alloc, text)?;
         let named = resolve(self.alloc, self.checked.tables(), &statement)?;
@@ -158,8 +158,8 @@ impl<S: Source> Engine<S> {
     /// which comes only where the source no longer has the bytes that were checked.
     pub fn next_row(&mut self, statement: &mut Statement) -> Result<Option<Row>, Fault>
         requires { IsSteppedOver self.old.tables statement.old }
-        ensures rows { (query : QueryData) (given : List RowData) → StandsBehind self.old query statement.old given
-            → HasStepped self.old self.new query given statement.new result }
+        ensures rows { (query : QueryData) (given : List RowData) → HasGivenSoFar self.old query statement.old given
+            → HasSteppedStatement self.old self.new query given statement.new result }
         ensures over { IsSteppedOver self.new.tables statement.new }
         ensures left { IfOk result (λ found. OnSome found (rows_ahead self.new.tables statement.new < rows_ahead self.old.tables statement.old)) }
         ensures only { IfErr result IsOperatorFault }

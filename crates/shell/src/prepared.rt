@@ -8,7 +8,7 @@ ghost use Rattle.image.specs.Pages.{WhereSteady};
 ghost use Rattle.explain.specs.Text.{row_text};
 ghost use Rattle.statement_names.specs.NamedView.{named_data, query_data};
 ghost use Rattle.scan.specs.Coming.{Asks};
-ghost use Rattle.sources.specs.Coming.{IsRooted, IsStored};
+ghost use Rattle.sources.specs.Coming.{IsRooted, IsStoredSource};
 ghost use Rattle.sources.specs.SourceData.{sources_of};
 ghost use Rattle.operators.specs.Basis.{AreStored, Basis};
 ghost use Rattle.query_plans.specs.Answers.{PlannedData, planned_data, work_of};
@@ -170,7 +170,7 @@ impl Prepared {
     ) -> Result<u64, Fault>
         requires roots { All (IsRooted pager.old.state.header) (sources_of tables.now []) }
         requires planned { IsRunOverSome (sources_of tables.now []) (prepared_data self.now).planned }
-        ensures rows { WhereSteady pager.old.state (λ pages. All (IsStored pages) (sources_of tables.now []) → MatchResult result
+        ensures rows { WhereSteady pager.old.state (λ pages. All (IsStoredSource pages) (sources_of tables.now []) → MatchResult result
             (HasWritten pages tables.now (prepared_data self.now).settled (prepared_data self.now).planned (W.facts out.old) (W.facts out.new))
             (HasBegun pages tables.now (prepared_data self.now).settled (prepared_data self.now).planned (W.facts out.old) (W.facts out.new))) }
         ensures pages { (planned : PlannedData) → (prepared_data self.now).planned ≡ Some planned → WhereSteady pager.old.state (λ pages.

@@ -4,7 +4,7 @@ ghost use Rattle.std.specs.NonZero.{non_zero_usize_get};
 ghost use Rattle.values.specs.Sink.{Writes};
 ghost use Rattle.image.specs.Pages.{pages_of};
 ghost use Rattle.integrity.specs.Denotes.{HasTables};
-ghost use Rattle.shell.specs.Served.{HasLines, IsServed, header_text};
+ghost use Rattle.shell.specs.Served.{HasLines, IsServedWhole, header_text};
 ghost use Rattle.shell.specs.Prepared.{IsPreparedFor};
 ghost use Rattle.shell.specs.PreparedView.{prepared_data};
 
@@ -48,7 +48,7 @@ fn answer<S: Source + Drop, O: Sink + Drop>(
     out: O,
 ) -> Result<O, Fault>
     ensures served { IsTrue (S.facts source).steady
-        → IfOk result (λ back. IsServed (S.facts source).bytes args.now.sql.now args.now.header (O.facts out) (O.facts back)) }
+        → IfOk result (λ back. IsServedWhole (S.facts source).bytes args.now.sql.now args.now.header (O.facts out) (O.facts back)) }
     ensures unfailed { IfOk result (λ back. (O.facts back).failures ≡ (O.facts out).failures) }
 {
     let mut engine = open(alloc, source, args.cache)?;

@@ -15,7 +15,7 @@ use Rattle.meaning.specs.Body.{Output, output}
 use Rattle.meaning.specs.Hits.{key_terms, order_terms}
 use Rattle.meaning.specs.Query.{Key}
 use Rattle.meaning.specs.Valuation.{term_values}
-use Rattle.plans.specs.Plan.{Reaches, rows_of}
+use Rattle.plans.specs.Plan.{ReachesOverflow, rows_of}
 use Rattle.plans.proofs.HitLemmas.{any_held, any_here}
 use Rattle.scan.specs.Coming.{Asks}
 use Rattle.scan.proofs.ComingLemmas.{Asks-none, Asks-then}
@@ -38,19 +38,19 @@ use Rattle.sorted_results.specs.Sorted.{outputs_over}
 -- ---- terms of ORDER BY
 
 -- what some terms reach, they reach among others
-pub left_reaches : (some more : List Term) (row : Row) → Reaches some row → Reaches (some ++ more) row
+pub left_reaches : (some more : List Term) (row : Row) → ReachesOverflow some row → ReachesOverflow (some ++ more) row
 left_reaches some more row reach =
     let held = any_held (λ t. Overflows t row) some reach in
     any_here (λ t. Overflows t row) (some ++ more) held.0 (Contains-append_left some more held.0 held.1) held.2
 
-pub right_reaches : (some more : List Term) (row : Row) → Reaches more row → Reaches (some ++ more) row
+pub right_reaches : (some more : List Term) (row : Row) → ReachesOverflow more row → ReachesOverflow (some ++ more) row
 right_reaches some more row reach =
     let held = any_held (λ t. Overflows t row) more reach in
     any_here (λ t. Overflows t row) (some ++ more) held.0 (Contains-append_right some more held.0 held.1) held.2
 
 -- what a term of ORDER BY reaches, ORDER BY reaches
-pub order_reaches : (order : List SKey) (i : ℕ) (d : SKey) (row : Row) → i < length order → Reaches (key_terms (key_term (get_or order i d).by)) row
-    → Reaches (order_terms (map key_data order)) row
+pub order_reaches : (order : List SKey) (i : ℕ) (d : SKey) (row : Row) → i < length order → ReachesOverflow (key_terms (key_term (get_or order i d).by)) row
+    → ReachesOverflow (order_terms (map key_data order)) row
 order_reaches [] i d row within reach = absurd (omega (arith, within))
 order_reaches (key ∷ order) zero d row within reach = left_reaches (key_terms (key_term key.by)) (order_terms (map key_data order)) row reach
 order_reaches (key ∷ order) (suc i) d row within reach =
@@ -127,9 +127,9 @@ module _ (start now : PagerState) (image : SameImage start now) (sources : List 
       all_among = subst (λ (rows : List Row). All (Contains (rows_of on.w on.db on.plan)) rows) given.rest_is here.5
 
       -- an expression on the row has no value
-      pub output_cause : (terms : List Term) (e : Fault) → (e ≡ Overflow) ⊎ (e ≡ NoMemory) → (e ≡ Overflow → Reaches terms after) → IsResultCause on terms e
+      pub output_cause : (terms : List Term) (e : Fault) → (e ≡ Overflow) ⊎ (e ≡ NoMemory) → (e ≡ Overflow → ReachesOverflow terms after) → IsResultCause on terms e
       output_cause terms e (inl is) reaches =
-          inr (is, inr (any_here (Reaches terms) (rows_of on.w on.db on.plan) after (All-head (Contains (rows_of on.w on.db on.plan)) after given.later all_among) (reaches is)))
+          inr (is, inr (any_here (ReachesOverflow terms) (rows_of on.w on.db on.plan) after (All-head (Contains (rows_of on.w on.db on.plan)) after given.later all_among) (reaches is)))
       output_cause terms e (inr is) reaches = inl (inr is)
 
       -- an output more

@@ -11,7 +11,7 @@ ghost use Rattle.meaning.specs.Answer.{key_directions, limited, skipped};
 ghost use Rattle.meaning.specs.Body.{Output as OutputData, output};
 ghost use Rattle.meaning.specs.Hits.{order_terms};
 ghost use Rattle.meaning.specs.Valuation.{term_values};
-ghost use Rattle.plans.specs.Plan.{Reaches, rows_of, work};
+ghost use Rattle.plans.specs.Plan.{ReachesOverflow, rows_of, work};
 ghost use Rattle.plans.specs.PlanView.{plan_data};
 ghost use Rattle.scan.specs.Coming.{Asks};
 ghost use Rattle.operators.specs.Basis.{AreStored, Basis, IsOperatorFault};
@@ -54,7 +54,7 @@ fn output_of(
 ) -> Result<Output, Fault>
     ensures value { IfOk result (λ o. (w : Datum) → output_data o
         ≡ output (eval w) (map key_data order.now) (term_values (eval w) (map term columns.now) (map datum_of row.now)) (map datum_of row.now)) }
-    ensures overflow { result ≡ Err Fault.Overflow → Reaches (map term columns.now ++ order_terms (map key_data order.now)) (map datum_of row.now) }
+    ensures overflow { result ≡ Err Fault.Overflow → ReachesOverflow (map term columns.now ++ order_terms (map key_data order.now)) (map datum_of row.now) }
     ensures only { IfErr result (λ e. (e ≡ Fault.Overflow) ⊎ (e ≡ Fault.NoMemory)) }
 {
     let Output {

@@ -25,9 +25,9 @@ HasRows pages (of_table table) local rows size = IsStoredWith pages table local 
 HasRows pages (of_rows kept) local rows size = (kept ≡ rows) × (size ≡ 0)
 
 -- it has some rows
-abbrev pub IsStored : Pages → SourceData → Type 0
-IsStored pages (of_table table) = IsAnyStored pages table
-IsStored pages (of_rows kept) = ⊤
+abbrev pub IsStoredSource : Pages → SourceData → Type 0
+IsStoredSource pages (of_table table) = IsAnyStored pages table
+IsStoredSource pages (of_rows kept) = ⊤
 
 -- the page at a table's root is one of an image with this header
 abbrev pub IsRooted : Header → SourceData → Type 0

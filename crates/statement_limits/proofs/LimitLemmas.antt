@@ -6,7 +6,7 @@ use Rattle.std.proofs.lemmas.List.Elements.{All-contains, All-cons, All-nil, Con
 use Rattle.std.specs.Prelude.{All, Contains, sum_by, if◌then◌else◌}
 use Rattle.statement_limits.proofs.ShapeLemmas.{bind_assoc, bind_same}
 use Rattle.phrases.specs.Texts.{max_columns}
-use Rattle.statement_limits.specs.Limits.{IsBeyond, IsSmall, IsWithin, columns_of_core, count_from, count_results, max_sources, max_written, sources_of_core}
+use Rattle.statement_limits.specs.Limits.{IsBeyond, IsSmallSelect, IsWithin, columns_of_core, count_from, count_results, max_sources, max_written, sources_of_core}
 use Rattle.statement_limits.specs.Selects.{
   in_arms,
   in_behind,
@@ -219,8 +219,8 @@ refused_by false b c left sources h = inl refl
 
 step_left : (o : Option ℕ) (left rest : ℕ) (c : CoreTree) (cs : List CoreTree) → without left c ≡ o
     → (o >>= after_all cs) ≡ Some rest
-    → ((k : ℕ) → after_all cs k ≡ Some rest → All IsSmall cs × (sum_by sources_of_core cs + rest ≡ k))
-    → All IsSmall (c ∷ cs) × (sum_by sources_of_core (c ∷ cs) + rest ≡ left)
+    → ((k : ℕ) → after_all cs k ≡ Some rest → All IsSmallSelect cs × (sum_by sources_of_core cs + rest ≡ k))
+    → All IsSmallSelect (c ∷ cs) × (sum_by sources_of_core (c ∷ cs) + rest ≡ left)
 step_left None left rest c cs e h more = absurd cc
 step_left (Some k) left rest c cs e h more =
     let p = spent_by (leb (columns_of_core c) max_columns) (leb (sources_of_core c) max_sources)
@@ -228,7 +228,7 @@ step_left (Some k) left rest c cs e h more =
     let m = more k h in
     let l = leb-true (sources_of_core c) left p.1.1.0 in
     let d = p.1.1.1 in let n = m.1 in (
-      All-cons IsSmall c cs
+      All-cons IsSmallSelect c cs
           (record {
             columns = leb-true (columns_of_core c) max_columns p.0;
             sources = leb-true (sources_of_core c) max_sources p.1.0;
@@ -238,8 +238,8 @@ step_left (Some k) left rest c cs e h more =
     )
 
 left_within : (left rest : ℕ) (cs : List CoreTree) → after_all cs left ≡ Some rest
-    → All IsSmall cs × (sum_by sources_of_core cs + rest ≡ left)
-left_within left rest [] h = let i : left ≡ rest = cc in (All-nil IsSmall, omega (arith, i))
+    → All IsSmallSelect cs × (sum_by sources_of_core cs + rest ≡ left)
+left_within left rest [] h = let i : left ≡ rest = cc in (All-nil IsSmallSelect, omega (arith, i))
 left_within left rest (c ∷ cs) h = step_left (without left c) left rest c cs refl h (λ k. left_within k rest cs)
 
 -- one of the SELECTs has too many result columns or sources, or they have more sources than are left
@@ -297,7 +297,7 @@ none_beyond s h = exceeds s (none_left max_written (in_statement s) (sym (of_sta
 -- no statement is both
 pub not_both : (s : StatementTree) → IsWithin s → IsBeyond s → ⊥
 not_both s w (IsBeyond.Columns c h m) =
-    let small = All-contains IsSmall (in_statement s) c w.each h in let l = small.columns in absurd (omega (arith, l, m))
+    let small = All-contains IsSmallSelect (in_statement s) c w.each h in let l = small.columns in absurd (omega (arith, l, m))
 not_both s w (IsBeyond.Sources c h m) =
-    let small = All-contains IsSmall (in_statement s) c w.each h in let l = small.sources in absurd (omega (arith, l, m))
+    let small = All-contains IsSmallSelect (in_statement s) c w.each h in let l = small.sources in absurd (omega (arith, l, m))
 not_both s w (IsBeyond.Written m) = let l = w.written in absurd (omega (arith, l, m))

@@ -31,13 +31,13 @@ abbrev pub sources_of_core : CoreTree → ℕ
 sources_of_core (CoreTree.Select distinct results from condition groups having windows) = count_from from
 
 -- a SELECT alone, without those inside it
-pub record IsSmall (c : CoreTree) : Type 0 where
+pub record IsSmallSelect (c : CoreTree) : Type 0 where
   pub columns : columns_of_core c ≤ max_columns
   pub sources : sources_of_core c ≤ max_sources
 
 -- each SELECT of the statement is, and they have no more sources in all
 pub record IsWithin (s : StatementTree) : Type 0 where
-  pub each : All IsSmall (in_statement s)
+  pub each : All IsSmallSelect (in_statement s)
   pub written : sum_by sources_of_core (in_statement s) ≤ max_written
 
 -- one of its SELECTs has too many result columns or sources, or they have too many sources in all

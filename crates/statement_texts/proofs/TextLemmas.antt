@@ -6,7 +6,7 @@ use Rattle.values.specs.declared.fault.Fault.{Fault}
 use Rattle.values.specs.declared.fault.Fault.TheVariants as f
 use Rattle.grammar.proofs.SoundStatements.{says}
 use Rattle.grammar.proofs.StatementLemmas as grammar
-use Rattle.grammar.specs.Read.{Says}
+use Rattle.grammar.specs.Read.{SaysOfStatement}
 use Rattle.grammar.specs.Reading.{statement}
 use Rattle.grammar.specs.Statements.{States}
 use Rattle.phrases.proofs.TextLemmas.{same_lexemes}
@@ -18,7 +18,7 @@ use Rattle.statement_limits.proofs.LimitLemmas.{none_beyond, not_both, some_with
 use Rattle.statement_limits.specs.Limits.{IsBeyond, IsWithin, max_written}
 use Rattle.statement_limits.specs.Spending.{after_statement}
 use Rattle.statement_texts.specs.StatementTexts.{IsAllowed, IsRefusedStatement, SpellsAt, SpellsStatement}
-use Rattle.statement_texts.specs.Told.{Tells}
+use Rattle.statement_texts.specs.Told.{TellsOfStatement}
 use Rattle.statement_trees.specs.StatementView.{statement_of}
 use Rattle.statement_trees.specs.declared.queries.Statement.{Statement}
 use Rattle.syntax.specs.StatementTree.{StatementTree}
@@ -37,27 +37,27 @@ count_lexemes (t ∷ items) = ap suc (count_lexemes items)
 
 pub told : (source : ℕ → ℕ → List ℕ) (items : List Token) (r : Result Statement Fault)
     → Yields statement_of r (statement source max_levels (lexemes_of items)) → (r ≡ Err f.Limit → max_levels < length items)
-    → Tells source (lexemes_of items) r
-told source items (Ok s) h many = subst (Says source max_levels (lexemes_of items)) h (says source max_levels (lexemes_of items))
+    → TellsOfStatement source (lexemes_of items) r
+told source items (Ok s) h many = subst (SaysOfStatement source max_levels (lexemes_of items)) h (says source max_levels (lexemes_of items))
 told source items (Err (f.Syntax place)) h many =
-    subst (Says source max_levels (lexemes_of items)) h (says source max_levels (lexemes_of items))
+    subst (SaysOfStatement source max_levels (lexemes_of items)) h (says source max_levels (lexemes_of items))
 told source items (Err f.Limit) h many = (
   let m = many refl in omega (arith, m, count_lexemes items),
-  subst (Says source max_levels (lexemes_of items)) h (says source max_levels (lexemes_of items)),
+  subst (SaysOfStatement source max_levels (lexemes_of items)) h (says source max_levels (lexemes_of items)),
 )
 told source items (Err f.NoMemory) h many = tt
 told source items (Err _) h many = absurd h
 
 pub told_long : (source : ℕ → ℕ → List ℕ) (items : List Token) (r : Result Statement Fault) (e : Fault)
     → Yields statement_of r (statement source max_levels (lexemes_of items)) → r ≡ Err e → max_levels < length items
-    → Tells source (lexemes_of items) (Err e)
-told_long source items r e h is many = subst (Tells source (lexemes_of items)) is (told source items r h (λ k. many))
+    → TellsOfStatement source (lexemes_of items) (Err e)
+told_long source items r e h is many = subst (TellsOfStatement source (lexemes_of items)) is (told source items r h (λ k. many))
 
 pub told_short : (source : ℕ → ℕ → List ℕ) (items : List Token) (r : Result Statement Fault) (place : ℕ)
     → Yields statement_of r (statement source max_levels (lexemes_of items)) → r ≡ Err f.Limit → length items ≤ max_levels
-    → Tells source (lexemes_of items) (Err (f.Syntax place))
+    → TellsOfStatement source (lexemes_of items) (Err (f.Syntax place))
 told_short source items (Err f.Limit) place h e few = λ levels tree x.
-    let deep = subst (Says source max_levels (lexemes_of items)) h (says source max_levels (lexemes_of items)) in
+    let deep = subst (SaysOfStatement source max_levels (lexemes_of items)) h (says source max_levels (lexemes_of items)) in
     let k = deep levels tree x in let l = grammar.statement_room source x in absurd (omega (arith, k, l, few, count_lexemes items))
 told_short source items (Ok s) place h e few = absurd cc
 told_short source items (Err _) place h e few = absurd cc
@@ -83,7 +83,7 @@ length_lexemes [] = refl
 length_lexemes (t ∷ items) = ap suc (length_lexemes items)
 
 pub statement_spelt : (text : List ℕ) (items : List Token) (s : Statement) → Tokens g.Select text (map placed_of items)
-    → Tells (source_of text items) (lexemes_of items) (Ok s) → SpellsStatement text (statement_of s)
+    → TellsOfStatement (source_of text items) (lexemes_of items) (Ok s) → SpellsStatement text (statement_of s)
 statement_spelt text items s t told = record {
   levels = told.0;
   few = told.1;
@@ -95,7 +95,7 @@ statement_spelt text items s t told = record {
 }
 
 pub statement_refused : (text : List ℕ) (items : List Token) (e : Fault) → Tokens g.Select text (map placed_of items)
-    → Tells (source_of text items) (lexemes_of items) (Err e) → IsRefusedStatement text e
+    → TellsOfStatement (source_of text items) (lexemes_of items) (Err e) → IsRefusedStatement text e
 statement_refused text items (f.Syntax place) t told = λ levels tree s.
     told levels tree (spelt_by_items text items levels tree t s)
 statement_refused text items f.Limit t told =
@@ -108,7 +108,7 @@ statement_refused text items f.Limit t told =
 statement_refused text items f.NoMemory t told = tt
 statement_refused text items _ t told = absurd told
 
-pub tokens_refused : (text : List ℕ) (e : Fault) → tokens.IsRefused g.Select text e → IsRefusedStatement text e
+pub tokens_refused : (text : List ℕ) (e : Fault) → tokens.HasNoTokens g.Select text e → IsRefusedStatement text e
 tokens_refused text (f.Syntax place) h = λ levels tree s. tokens_read.no_list h s.tokens s.are_tokens
 tokens_refused text f.NoMemory h = tt
 tokens_refused text _ h = absurd h

@@ -28,7 +28,7 @@ pub record IsAllowed (text : List ℕ) (tree : StatementTree) : Type 0 where
   pub small : IsWithin tree
 
 -- the text has more tokens than the limit of levels, and each statement that it spells has more levels
-pub record IsTooDeep (text : List ℕ) : Type 0 where
+pub record IsStatementTooDeep (text : List ℕ) : Type 0 where
   pub tokens : List Placed
   pub are_tokens : Tokens g.Select text tokens
   pub many : max_levels < length tokens
@@ -44,6 +44,6 @@ pub record IsTooLarge (text : List ℕ) : Type 0 where
 -- memory ran out
 abbrev pub IsRefusedStatement : List ℕ → Fault → Type 0
 IsRefusedStatement text (f.Syntax place) = (levels : ℕ) (tree : StatementTree) → ¬ SpellsAt levels text tree
-IsRefusedStatement text f.Limit = (max_text < length text) ⊎ (IsTooDeep text ⊎ IsTooLarge text)
+IsRefusedStatement text f.Limit = (max_text < length text) ⊎ (IsStatementTooDeep text ⊎ IsTooLarge text)
 IsRefusedStatement text f.NoMemory = Unit {0}
 IsRefusedStatement text _ = ⊥

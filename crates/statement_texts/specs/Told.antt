@@ -9,10 +9,10 @@ use Rattle.statement_trees.specs.StatementView.{statement_of}
 use Rattle.statement_trees.specs.declared.queries.Statement.{Statement}
 use Rattle.syntax.specs.StatementTree.{StatementTree}
 
-abbrev pub Tells : (ℕ → ℕ → List ℕ) → clauses.Tokens → Result Statement Fault → Type 0
-Tells source ts (Ok statement) = (h : ℕ) × (h ≤ max_levels) × States source h (statement_of statement) ts
-Tells source ts (Err (f.Syntax place)) = (h : ℕ) (tree : StatementTree) → ¬ States source h tree ts
-Tells source ts (Err f.Limit) =
+abbrev pub TellsOfStatement : (ℕ → ℕ → List ℕ) → clauses.Tokens → Result Statement Fault → Type 0
+TellsOfStatement source ts (Ok statement) = (h : ℕ) × (h ≤ max_levels) × States source h (statement_of statement) ts
+TellsOfStatement source ts (Err (f.Syntax place)) = (h : ℕ) (tree : StatementTree) → ¬ States source h tree ts
+TellsOfStatement source ts (Err f.Limit) =
     (max_levels < length ts) × ((h : ℕ) (tree : StatementTree) → States source h tree ts → max_levels < h)
-Tells source ts (Err f.NoMemory) = Unit {0}
-Tells source ts (Err _) = ⊥
+TellsOfStatement source ts (Err f.NoMemory) = Unit {0}
+TellsOfStatement source ts (Err _) = ⊥

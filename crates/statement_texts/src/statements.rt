@@ -3,7 +3,7 @@ ghost use Rattle.std.specs.Prelude.{◌≡◌, ◌<◌, Err, IfErr, IfOk, length
 ghost use Rattle.phrases.specs.Texts.{lexemes_of, max_text};
 ghost use Rattle.source_texts.specs.Sources.{AreCut, source_of};
 ghost use Rattle.statement_texts.specs.StatementTexts.{IsAllowed, IsRefusedStatement, SpellsStatement};
-ghost use Rattle.statement_texts.specs.Told.{Tells};
+ghost use Rattle.statement_texts.specs.Told.{TellsOfStatement};
 ghost use Rattle.statement_trees.specs.StatementView.{statement_of};
 
 use nested_reader::{MAX_LEVELS, Source, statement_within};
@@ -18,7 +18,7 @@ use values::Fault;
 #[tactic(auto, using(crate::proofs::TextLemmas::told))]
 fn settled<'t>(alloc: Global, text: &'t str, tokens: &'t [Token<'t>]) -> Result<Statement, Fault>
     requires { AreCut text.now tokens.now }
-    ensures { Tells (source_of text.now tokens.now) (lexemes_of tokens.now) result }
+    ensures { TellsOfStatement (source_of text.now tokens.now) (lexemes_of tokens.now) result }
 {
     let source = Source {
         alloc,

@@ -16,7 +16,7 @@ use Rattle.meaning.specs.Query.{From, Select}
 use Rattle.meaning.specs.Windows.{windowed}
 use Rattle.meaning.proofs.HitLemmas.{column_is_hit}
 use Rattle.meaning.proofs.ScanLemmas.{windowed-none}
-use Rattle.plans.specs.Plan.{Reaches, rows_of}
+use Rattle.plans.specs.Plan.{ReachesOverflow, rows_of}
 use Rattle.plans.proofs.HitLemmas.{any_held, from_map}
 use Rattle.plans.proofs.JoinHitLemmas.{terms_reach}
 use Rattle.plans.proofs.WholeLemmas.{join_hits}
@@ -52,12 +52,12 @@ module _ (w : Datum) (db : Database) (s : Select) (input : i.Input) (read : List
 pub columns_are_hit : ColumnsAreHit
 columns_are_hit w db s terms es input read plan wide ungrouped windowless of stand any =
     let from = input_from input in
-    let here = any_held (Reaches es) (rows_of w db plan) any in
+    let here = any_held (ReachesOverflow es) (rows_of w db plan) any in
     let row = from_map (seen input read) (where_rows w db from s) here.0 (Contains-permutation (rows_of w db plan) (map (seen input read) (where_rows w db from s)) here.0
     (IsPermutation-sym (map (seen input read) (where_rows w db from s)) (rows_of w db plan) (plan_has_bag w db s input read plan wide of)) here.1) in
-    let reach : Reaches (map (filled (answers_in w db from)) (s.columns ++ terms)) row.0 =
+    let reach : ReachesOverflow (map (filled (answers_in w db from)) (s.columns ++ terms)) row.0 =
     terms_reach (seen input read row.0) row.0 es (map (filled (answers_in w db from)) (s.columns ++ terms))
-    (say_all w db s input read row.0 row.1 es (s.columns ++ terms) stand) (subst (Reaches es) (sym row.2) here.2) in
+    (say_all w db s input read row.0 row.1 es (s.columns ++ terms) stand) (subst (ReachesOverflow es) (sym row.2) here.2) in
     let t = any_held (λ t. Overflows t row.0) (map (filled (answers_in w db from)) (s.columns ++ terms)) reach in
     let whole = from_map (filled (answers_in w db from)) (s.columns ++ terms) t.0 t.1 in
     column_is_hit w db from s terms row.0 whole.0

@@ -12,7 +12,7 @@ use Rattle.meaning.specs.Body.{answers_in}
 use Rattle.meaning.specs.Hits.{FromHits, SelectHits, where_rows}
 use Rattle.meaning.specs.Query.{From, Select}
 use Rattle.plans.specs.JoinPlan.{AreWideBefore, where_in_turn}
-use Rattle.plans.specs.Plan.{Hits, PlanData, Reaches, rows_of}
+use Rattle.plans.specs.Plan.{Hits, PlanData, ReachesOverflow, rows_of}
 use Rattle.plan_terms.specs.Over.{IsOver, StandsOver}
 use Rattle.table_plans.specs.declared.inputs.Input as i
 use Rattle.table_plans.specs.Input.{input_from, seen}
@@ -56,4 +56,4 @@ abbrev pub ColumnsAreHit : Type 0
 ColumnsAreHit = (w : Datum) (db : Database) (s : Select) (terms es : List Term) (input : i.Input) (read : List ℕ) (plan : PlanData)
     → AreWideBefore db (input_from input) → s.grouping ≡ None → s.windows ≡ [] → IsPlanOver input read s.condition plan
     → AllZip (StandsOver read 0) es (s.columns ++ terms)
-    → Any (Reaches es) (rows_of w db plan) → SelectHits w db (input_from input) s terms
+    → Any (ReachesOverflow es) (rows_of w db plan) → SelectHits w db (input_from input) s terms

@@ -46,7 +46,7 @@ pub record StopsAt (grammar : Grammar) (text : List ℕ) (place : ℕ) : Type 0 
   pub no_token : (t : Lexeme) (after : List ℕ) → ¬ (Begins grammar rest t after)
 
 -- why the tokens of a text weren't read: it stops at a place, or memory ran out
-abbrev pub IsRefused : Grammar → List ℕ → Fault → Type 0
-IsRefused grammar text (Syntax place) = StopsAt grammar text place
-IsRefused grammar text NoMemory = Unit {0}
-IsRefused grammar text _ = ⊥
+abbrev pub HasNoTokens : Grammar → List ℕ → Fault → Type 0
+HasNoTokens grammar text (Syntax place) = StopsAt grammar text place
+HasNoTokens grammar text NoMemory = Unit {0}
+HasNoTokens grammar text _ = ⊥

@@ -2,7 +2,7 @@
 ghost use Rattle.std.specs.Prelude.{◌≡◌, ◌<◌, ◌≤◌, All, length, map, option_map, IfErr, IfOk, IfSome, Some};
 ghost use Rattle.tokens.specs.Content.{lexeme_of, placed_of};
 ghost use Rattle.tokens.specs.Reading as spec;
-ghost use Rattle.tokens.specs.Tokens.{IsRefused, StandsIn, Tokens, between};
+ghost use Rattle.tokens.specs.Tokens.{HasNoTokens, StandsIn, Tokens, between};
 
 use crate::blank::skip_blank;
 use crate::lexer::token_at_front;
@@ -34,7 +34,7 @@ pub fn read_tokens<'a>(
 ) -> Result<Vec<Token<'a>>, Fault>
     ensures spelt { IfOk result (λ tokens. Tokens grammar text.now (map placed_of tokens.items)) }
     ensures cut { IfOk result (λ tokens. All (λ t. StandsIn text.now (placed_of t)) tokens.items) }
-    ensures refused { IfErr result (λ fault. IsRefused grammar text.now fault) }
+    ensures refused { IfErr result (λ fault. HasNoTokens grammar text.now fault) }
 {
     let mut tokens = Vec::new(alloc);
     let mut rest = text;

@@ -16,7 +16,7 @@ use Rattle.meaning.specs.Times.{once, same_row, times}
 use Rattle.meaning.specs.Windows.{earlier, peer_group, row_at}
 use Rattle.meaning.proofs.KeyLemmas.{keys_cmp_total}
 use Rattle.meaning.proofs.TimesLemmas.{bags_are_times, same_row-itself, same_row-reads, times-once}
-use Rattle.window_order.specs.Entries.{IsInOrder}
+use Rattle.window_order.specs.Entries.{IsInWindowOrder}
 use Rattle.window_order.specs.Groups.{groups_made}
 
 -- ---- keys that tie are equal
@@ -142,7 +142,7 @@ is_Equal Less p = absurd cc
 is_Equal Equal p = refl
 is_Equal Greater p = absurd cc
 
-module _ (ds : List Direction) (keys : List Row) (up : IsInOrder ds keys) where
+module _ (ds : List Direction) (keys : List Row) (up : IsInWindowOrder ds keys) where
   R : Row → Row → Ordering
   R = keys_cmp ds
 

@@ -15,7 +15,7 @@ use Rattle.meaning.specs.Valuation.{Valuation}
 use Rattle.meaning.specs.Windows.{directions, row_at, sequence, sequence_cmp, sort_values}
 use Rattle.meaning.proofs.KeyLemmas.{keys_cmp_total, sequence_is_one}
 use Rattle.window_order.specs.declared.sorting.Entry.{Entry}
-use Rattle.window_order.specs.Entries.{IsInOrder, IsOf, IsSequence, Keyed, entry_cmp, keys_of, rows_of, view}
+use Rattle.window_order.specs.Entries.{IsInWindowOrder, IsOf, IsSequence, Keyed, entry_cmp, keys_of, rows_of, view}
 use Rattle.window_order.proofs.EntryLemmas.{key_at, length-keys_of, row_of_at}
 
 pub entry_total : (ds : List Direction) → IsTotalOrder (entry_cmp ds)
@@ -45,7 +45,7 @@ module _ (ds : List Direction) (before after : List Entry) (same : IsPermutation
       ap length (key_at (e ∷ es) i e inside) ∙ length-map (get_or (e ∷ es) i e).keys.items datum_of
       ∙ All-get_or (λ (e : Entry). length e.keys.items ≡ n) (e ∷ es) i e inside all
 
-  pub in_order : All (λ (e : Entry). length e.keys.items ≡ length ds) before → IsInOrder ds (keys_of after)
+  pub in_order : All (λ (e : Entry). length e.keys.items ≡ length ds) before → IsInWindowOrder ds (keys_of after)
   in_order all = record {
     rises = rises_at after up;
     whole = whole_at (length ds) after (All-permutation (λ (e : Entry). length e.keys.items ≡ length ds) before after same all);

@@ -33,7 +33,7 @@ abbrev pub IsOf : Valuation → List SortTerm → Entry → Type 0
 IsOf value order entry = (view entry).keys ≡ sort_values value order (view entry).row
 
 -- no keys come before those that stand in front of them, and there is one for each term of ORDER BY
-pub record IsInOrder (ds : List Direction) (keys : List Row) : Type 0 where
+pub record IsInWindowOrder (ds : List Direction) (keys : List Row) : Type 0 where
   pub rises : (i j : ℕ) → i ≤ j → j < length keys → is_lt (keys_cmp ds (row_at keys j) (row_at keys i)) ≡ false
   pub whole : (i : ℕ) → i < length keys → length (row_at keys i) ≡ length ds
 

@@ -1,7 +1,7 @@
 //! The peer groups of a sequence.
 ghost use Rattle.std.specs.Prelude.{◌≡◌, ◌<◌, ◌+◌, ◌-◌, ◌++◌, [], ◌∷◌, false, IfOk, OnOk, if◌then◌else◌, length, map};
 ghost use Rattle.query_trees.specs.SelectView.{direction_of};
-ghost use Rattle.window_order.specs.Entries.{IsInOrder, keys_of};
+ghost use Rattle.window_order.specs.Entries.{IsInWindowOrder, keys_of};
 ghost use Rattle.window_order.specs.Groups.{AreGroups, groups_made};
 
 use crate::keys::compare_keys;
@@ -20,7 +20,7 @@ pub struct PeerGroups {
 
 /// Whether a group begins at a place.
 fn begins_group(directions: &[Direction], entries: &[Entry], at: usize) -> bool
-    requires in_order { IsInOrder (map direction_of directions.now) (keys_of entries.now) }
+    requires in_order { IsInWindowOrder (map direction_of directions.now) (keys_of entries.now) }
     requires within { at < length entries.now }
     ensures { groups_made (map direction_of directions.now) (keys_of entries.now) (at + 1)
         ≡ (if result then groups_made (map direction_of directions.now) (keys_of entries.now) at + 1 else groups_made (map direction_of directions.now) (keys_of entries.now) at) }
@@ -57,7 +57,7 @@ pub fn peer_groups(
     directions: &[Direction],
     entries: &[Entry],
 ) -> Result<PeerGroups, AllocError>
-    requires { IsInOrder (map direction_of directions.now) (keys_of entries.now) }
+    requires { IsInWindowOrder (map direction_of directions.now) (keys_of entries.now) }
     ensures { IfOk result (λ groups. AreGroups (map direction_of directions.now) (keys_of entries.now) groups) }
 {
     let mut groups = PeerGroups {

@@ -1,7 +1,7 @@
 //! A sequence with its peer groups.
 ghost use Rattle.std.specs.Prelude.{map};
 ghost use Rattle.query_trees.specs.SelectView.{direction_of};
-ghost use Rattle.window_order.specs.Entries.{IsInOrder, keys_of};
+ghost use Rattle.window_order.specs.Entries.{IsInWindowOrder, keys_of};
 ghost use Rattle.window_order.specs.Groups.{AreGroups};
 
 use crate::peers::PeerGroups;
@@ -14,6 +14,6 @@ pub struct Sequence<'a, 'b> {
     pub directions: &'a [Direction],
     pub entries: &'a [Entry<'b>],
     pub groups: &'a PeerGroups,
-    ghost in_order: { IsInOrder (map direction_of directions.now) (keys_of entries.now) },
+    ghost in_order: { IsInWindowOrder (map direction_of directions.now) (keys_of entries.now) },
     ghost grouped: { AreGroups (map direction_of directions.now) (keys_of entries.now) groups.now },
 }

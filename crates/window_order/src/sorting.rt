@@ -6,7 +6,7 @@ ghost use Rattle.meaning.specs.Query.{SortTerm};
 ghost use Rattle.meaning.specs.Valuation.{Valuation};
 ghost use Rattle.meaning.specs.Windows as windows;
 ghost use Rattle.query_trees.specs.SelectView.{direction_of};
-ghost use Rattle.window_order.specs.Entries.{IsInOrder, IsOf, IsSequence, entry_cmp, keys_of, view};
+ghost use Rattle.window_order.specs.Entries.{IsInWindowOrder, IsOf, IsSequence, entry_cmp, keys_of, view};
 
 use crate::keys::compare_keys;
 use std::alloc::AllocError;
@@ -38,7 +38,7 @@ fn compare_entries(directions: &[Direction], a: &Entry, b: &Entry) -> Ordering
 pub fn sort(directions: &[Direction], entries: &mut Vec<Entry>) -> Result<(), AllocError>
     ensures same { IsPermutation entries.old.items entries.new.items }
     ensures stable { IsStableByKey view (entry_cmp (map direction_of directions.now)) entries.old.items entries.new.items }
-    ensures in_order { OnOk result (All (λ (e : Entry). length e.keys.items ≡ length (map direction_of directions.now)) entries.old.items → IsInOrder (map direction_of directions.now) (keys_of entries.new.items)) }
+    ensures in_order { OnOk result (All (λ (e : Entry). length e.keys.items ≡ length (map direction_of directions.now)) entries.old.items → IsInWindowOrder (map direction_of directions.now) (keys_of entries.new.items)) }
     ensures sequence { OnOk result ((value : Valuation) (order : List SortTerm) → windows.directions order ≡ map direction_of directions.now
         → All (IsOf value order) entries.old.items → IsSequence value order entries.old.items entries.new.items) }
 {

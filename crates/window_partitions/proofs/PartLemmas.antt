@@ -17,7 +17,7 @@ use Rattle.meaning.proofs.KeyLemmas.{keys_cmp_total}
 use Rattle.meaning.proofs.MoveLemmas.{filter-filter}
 use Rattle.meaning.proofs.TimesLemmas.{same_row-itself, same_row-reads}
 use Rattle.window_order.specs.declared.peers.PeerGroups.{PeerGroups}
-use Rattle.window_order.specs.Entries.{IsInOrder}
+use Rattle.window_order.specs.Entries.{IsInWindowOrder}
 use Rattle.window_order.specs.Groups.{AreGroups}
 use Rattle.window_order.proofs.GroupLemmas.{keys-as_numbers, keys-ties}
 use Rattle.window_partitions.specs.Tagged.{AreAlike, copies, rows_of_tags, tagged}
@@ -78,7 +78,7 @@ same_as_tie ds a b p q =
 
 -- ---- places of a group
 
-module _ (ds : List Direction) (keys : List Row) (groups : PeerGroups) (up : IsInOrder ds keys) (are : AreGroups ds keys groups) where
+module _ (ds : List Direction) (keys : List Row) (groups : PeerGroups) (up : IsInWindowOrder ds keys) (are : AreGroups ds keys groups) where
   abbrev start : ℕ → ℕ
   start g = slice_index groups.starts.items g
 

@@ -7,7 +7,7 @@ ghost use Rattle.meaning.specs.Query.{SortTerm};
 ghost use Rattle.meaning.specs.Valuation.{term_values};
 ghost use Rattle.meaning.specs.Windows as windows;
 ghost use Rattle.query_trees.specs.SelectView.{direction_of};
-ghost use Rattle.window_order.specs.Entries.{IsInOrder, keys_of, rows_of};
+ghost use Rattle.window_order.specs.Entries.{IsInWindowOrder, keys_of, rows_of};
 ghost use Rattle.window_entries.specs.Tags.{tags_of};
 ghost use Rattle.window_partitions.specs.Tagged.{AreAlike, terms_of};
 
@@ -27,7 +27,7 @@ pub fn ordered<'a>(
     entries: &[Entry<'a>],
 ) -> Result<Vec<Entry<'a>>, Fault>
     requires { length terms.now ≡ length directions.now }
-    ensures in_order { IfOk result (λ placed. IsInOrder (map direction_of directions.now) (keys_of placed.items)) }
+    ensures in_order { IfOk result (λ placed. IsInWindowOrder (map direction_of directions.now) (keys_of placed.items)) }
     ensures same { IfOk result (λ placed. IsPermutation (tags_of entries.now) (tags_of placed.items)) }
     ensures ties { IfOk result (λ placed. AreAlike (tags_of entries.now) (tags_of placed.items)) }
     ensures keys { IfOk result (λ placed. (w : Datum) → keys_of placed.items ≡ map (term_values (eval w) (map term terms.now)) (rows_of placed.items)) }

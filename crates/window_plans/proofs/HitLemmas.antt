@@ -14,7 +14,7 @@ use Rattle.meaning.specs.Windows.{call_result, numbered}
 use Rattle.meaning.proofs.GroupLemmas.{call_result-same, numbered-same}
 use Rattle.meaning.proofs.HitLemmas.{column_is_hit, window_is_hit, window_number_is_hit}
 use Rattle.plan_terms.specs.Over.{StandsOver}
-use Rattle.plans.specs.Plan.{Hits, PlanData, Reaches, rows_of, windowed}
+use Rattle.plans.specs.Plan.{Hits, PlanData, ReachesOverflow, rows_of, windowed}
 use Rattle.plans.proofs.HitLemmas.{any_held}
 use Rattle.settled_sources.specs.Mapped.{mapped_call}
 use Rattle.settled_sources.proofs.MappedLemmas.{all_call_terms_mapped, call_mapped}
@@ -67,7 +67,7 @@ windowed_is_hit w db from s terms inner below plan has over below_hits hits =
 
 pub windowed_columns_are_hit : WindowedColumnsAreHit
 windowed_columns_are_hit w db from s terms es width inner below plan has wide over stand any =
-    let held = any_held (Reaches es) (rows_of w db plan) any in
+    let held = any_held (ReachesOverflow es) (rows_of w db plan) any in
     let row = Contains-permutation (rows_of w db plan) (computed_rows w db from s) held.0
     (IsPermutation-sym (computed_rows w db from s) (rows_of w db plan) (windowed_has_rows w db from s inner below plan has over)) held.1 in
     let reached = any_held (λ e. Overflows e held.0) es held.2 in

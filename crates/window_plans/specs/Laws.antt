@@ -13,7 +13,7 @@ use Rattle.meaning.specs.Groups.{grouped}
 use Rattle.meaning.specs.Hits.{FromHits, SelectHits, where_rows}
 use Rattle.meaning.specs.Query.{From, Select}
 use Rattle.plan_terms.specs.Over.{StandsOver}
-use Rattle.plans.specs.Plan.{Hits, PlanData, Reaches, rows_of}
+use Rattle.plans.specs.Plan.{Hits, PlanData, ReachesOverflow, rows_of}
 use Rattle.window_plans.specs.Windowed.{IsWindowedOver, windowed_columns}
 
 -- the rows that windows take: those of FROM that WHERE keeps, or those of groups that HAVING keeps
@@ -51,4 +51,4 @@ WindowedIsHit = (w : Datum) (db : Database) (from : From) (s : Select) (terms : 
 abbrev pub WindowedColumnsAreHit : Type 0
 WindowedColumnsAreHit = (w : Datum) (db : Database) (from : From) (s : Select) (terms es : List Term) (width inner : ℕ) (below plan : PlanData)
     → HasTaken w db from s inner below → All (λ row. length row ≡ width) (windows_take w db from s) → IsWindowedOver inner s.windows below plan
-    → AllZip (StandsOver (windowed_columns width s.windows) inner) es (s.columns ++ terms) → Any (Reaches es) (rows_of w db plan) → SelectHits w db from s terms
+    → AllZip (StandsOver (windowed_columns width s.windows) inner) es (s.columns ++ terms) → Any (ReachesOverflow es) (rows_of w db plan) → SelectHits w db from s terms

@@ -9,7 +9,7 @@ use Rattle.window_order.specs.declared.placed.Sequence.{Sequence}
 use Rattle.window_order.specs.Placed.{keys_in, rows_in, ways_in}
 
 -- the sequence is in the order of the window, its frames are so, and the values of ORDER BY on its rows are these
-pub record IsOver (value : Valuation) (window : Window) (sequence : Sequence) (frame : Frame) : Type 0 where
+pub record IsWindowOver (value : Valuation) (window : Window) (sequence : Sequence) (frame : Frame) : Type 0 where
   pub ways : directions window.order ≡ ways_in sequence
   pub edges : window.frame ≡ frame_of frame
   pub keys : keys_in sequence ≡ map (sort_values value window.order) (rows_in sequence)

@@ -12,7 +12,7 @@ ghost use Rattle.query_trees.specs.SelectView.{frame_of};
 ghost use Rattle.window_order.specs.Placed.{keys_in, rows_in, ways_in};
 ghost use Rattle.window_terms.specs.FunctionView.{function_data};
 ghost use Rattle.window_results.specs.Known.{IsAsLong, known_for, known_of, known_result};
-ghost use Rattle.window_results.specs.Over.{IsOver};
+ghost use Rattle.window_results.specs.Over.{IsWindowOver};
 ghost use Rattle.window_results.specs.Put.{AreWanted, PutsEach, numbers_in};
 
 use crate::computed::{Computed, compute};
@@ -108,10 +108,10 @@ impl Computed {
         requires here { here < length (keys_in sequence.now) }
         requires whole { IsAsLong (length (keys_in sequence.now)) (known_of self.now) }
         ensures value { IfOk result (λ v. (value : Valuation) (o : Option Datum) (window : query.Window) (f : query.WindowFunction)
-            → IsOver value window sequence.now frame → known_of self.now ≡ known_for value f (rows_in sequence.now)
+            → IsWindowOver value window sequence.now frame → known_of self.now ≡ known_for value f (rows_in sequence.now)
             → window_result value o window f (rows_in sequence.now) here ≡ Some (datum_of v)) }
         ensures overflow { result ≡ Err Fault.Overflow → (value : Valuation) (window : query.Window) (f : query.WindowFunction)
-            → IsOver value window sequence.now frame → known_of self.now ≡ known_for value f (rows_in sequence.now)
+            → IsWindowOver value window sequence.now frame → known_of self.now ≡ known_for value f (rows_in sequence.now)
             → window_result value None window f (rows_in sequence.now) here ≡ None }
         ensures only { IfErr result (λ e. (e ≡ Fault.Overflow) ⊎ (e ≡ Fault.NoMemory)) }
     {
@@ -131,11 +131,11 @@ impl Computed {
         requires within { All (λ i. i < length results.old.items) (numbers_in sequence.now) }
         ensures size { length results.new.items ≡ length results.old.items }
         ensures values { OnOk result ((value : Valuation) (o : Option Datum) (window : query.Window) (f : query.WindowFunction) (want : ℕ → Option Datum)
-            → IsOver value window sequence.now frame → known_of self.now ≡ known_for value f (rows_in sequence.now)
+            → IsWindowOver value window sequence.now frame → known_of self.now ≡ known_for value f (rows_in sequence.now)
             → AreWanted want (window_result value o window f (rows_in sequence.now)) (numbers_in sequence.now)
             → PutsEach want (numbers_in sequence.now) (map datum_of results.old.items) (map datum_of results.new.items)) }
         ensures overflow { result ≡ Err Fault.Overflow → (value : Valuation) (window : query.Window) (f : query.WindowFunction)
-            → IsOver value window sequence.now frame → known_of self.now ≡ known_for value f (rows_in sequence.now)
+            → IsWindowOver value window sequence.now frame → known_of self.now ≡ known_for value f (rows_in sequence.now)
             → Any (λ here. window_result value None window f (rows_in sequence.now) here ≡ None) (places (rows_in sequence.now)) }
         ensures only { IfErr result (λ e. (e ≡ Fault.Overflow) ⊎ (e ≡ Fault.NoMemory)) }
     {
@@ -160,12 +160,12 @@ pub fn put_values(
 ) -> Result<usize, Fault>
     requires { All (λ i. i < length results.old.items) (numbers_in sequence.now) }
     ensures size { length results.new.items ≡ length results.old.items }
-    ensures values { OnOk result ((w : Datum) (o : Option Datum) (window : query.Window) (want : ℕ → Option Datum) → IsOver (eval w) window sequence.now frame
+    ensures values { OnOk result ((w : Datum) (o : Option Datum) (window : query.Window) (want : ℕ → Option Datum) → IsWindowOver (eval w) window sequence.now frame
         → AreWanted want (window_result (eval w) o window (function_data function.now) (rows_in sequence.now)) (numbers_in sequence.now)
         → PutsEach want (numbers_in sequence.now) (map datum_of results.old.items) (map datum_of results.new.items)) }
     ensures added { IfOk result (λ added. added ≤ length (rows_in sequence.now)) }
     ensures overflow { result ≡ Err Fault.Overflow → Any (λ row. Any (λ t. Overflows t row) (function_terms (function_data function.now))) (rows_in sequence.now)
-        ⊎ ((w : Datum) (window : query.Window) → IsOver (eval w) window sequence.now frame
+        ⊎ ((w : Datum) (window : query.Window) → IsWindowOver (eval w) window sequence.now frame
         → Any (λ here. window_result (eval w) None window (function_data function.now) (rows_in sequence.now) here ≡ None) (places (rows_in sequence.now))) }
     ensures only { IfErr result (λ e. (e ≡ Fault.Overflow) ⊎ (e ≡ Fault.NoMemory)) }
 {

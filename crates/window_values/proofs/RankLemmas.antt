@@ -6,7 +6,7 @@ use Rattle.values.specs.Row.{Row}
 use Rattle.meaning.specs.Query.{Direction}
 use Rattle.meaning.specs.Windows.{earlier, peer_group, row_at}
 use Rattle.window_order.specs.declared.peers.PeerGroups.{PeerGroups}
-use Rattle.window_order.specs.Entries.{IsInOrder}
+use Rattle.window_order.specs.Entries.{IsInWindowOrder}
 use Rattle.window_order.specs.Groups.{AreGroups}
 use Rattle.window_order.proofs.GroupLemmas.{keys-as_numbers}
 
@@ -34,7 +34,7 @@ less_as_test : (a b : ℕ) → is_lt (nat_cmp a b) ≡ nat_lt a b
 less_as_test a b = grind (arith, nat_tests)
 
 -- the rows before a group are those before its first place
-pub before_group : (ds : List Direction) (keys : List Row) (groups : PeerGroups) → IsInOrder ds keys → AreGroups ds keys groups → (here : ℕ) → here < length keys
+pub before_group : (ds : List Direction) (keys : List Row) (groups : PeerGroups) → IsInWindowOrder ds keys → AreGroups ds keys groups → (here : ℕ) → here < length keys
     → (g : ℕ) → g ≡ peer_group ds keys here → get_or groups.starts.items g 0 ≡ length (earlier ds keys (row_at keys here))
 before_group ds keys groups up are here inside g is =
     let last = are.last here inside in

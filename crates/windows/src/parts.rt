@@ -6,7 +6,7 @@ ghost use Rattle.expr.specs.Meaning.{Overflows, eval};
 ghost use Rattle.meaning.specs.Hits.{CallLeaves, call_terms, function_terms};
 ghost use Rattle.meaning.specs.Windows.{places, sort_values, window_result};
 ghost use Rattle.query_trees.specs.SelectView.{direction_of};
-ghost use Rattle.window_order.specs.Entries.{IsInOrder, keys_of, rows_of};
+ghost use Rattle.window_order.specs.Entries.{IsInWindowOrder, keys_of, rows_of};
 ghost use Rattle.window_entries.specs.Tags.{tags_of};
 ghost use Rattle.window_partitions.specs.Partition.{IsPartition};
 ghost use Rattle.window_terms.specs.FunctionView.{function_data};
@@ -29,7 +29,7 @@ fn put_in_order(
     entries: &[Entry],
     results: &mut Vec<Value>,
 ) -> Result<usize, Fault>
-    requires in_order { IsInOrder (map direction_of call.now.window.directions.items) (keys_of entries.now) }
+    requires in_order { IsInWindowOrder (map direction_of call.now.window.directions.items) (keys_of entries.now) }
     requires within { All (λ i. i < length results.old.items) (map (λ entry. entry.index) entries.now) }
     ensures size { length results.new.items ≡ length results.old.items }
     ensures values { OnOk result ((w : Datum) (o : Option Datum) (want : ℕ → Option Datum) → keys_of entries.now ≡ map (sort_values (eval w) (window_data call.now.window).order) (rows_of entries.now)

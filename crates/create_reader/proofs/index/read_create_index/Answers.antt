@@ -4,7 +4,7 @@ use Rattle.phrases.specs.Texts.{lexemes_of}
 use Rattle.source_texts.specs.Sources.{source_of}
 use Rattle.create_reader.proofs.IndexTexts.{index_spelt}
 use Rattle.create_reader.proofs.index.read_create_index.Goals as goal
-use Rattle.create_reader.specs.Told.{Tells}
+use Rattle.create_reader.specs.Told.{TellsOfIndex}
 use Rattle.create_trees.specs.CreateView.{index_of, indexed_of}
 use Rattle.tokens.specs.declared.token.Token.{Token}
 
@@ -12,7 +12,7 @@ pub returns-then-len-gt-MAX_COLUMNS-clause-refused :
     goal.returns-then-len-gt-MAX_COLUMNS-clause-refused
 returns-then-len-gt-MAX_COLUMNS-clause-refused c =
     let index = c.in_ok-index.index in
-    let told = subst (λ (ts : List Token). Tells (source_of c.args.text.now ts) (lexemes_of ts) (Ok index))
+    let told = subst (λ (ts : List Token). TellsOfIndex (source_of c.args.text.now ts) (lexemes_of ts) (Ok index))
     c.as_slice.ensures.value c.in_ok-index.ensures in
     let columns = length-map index.columns.items indexed_of in
     inr (inr (record {

@@ -3,7 +3,7 @@ use Rattle.std.specs.Int.{w128}
 use Rattle.std.proofs.lemmas.Int.{ints}
 use Rattle.window_order.specs.Placed.{keys_in, ways_in}
 use Rattle.window_order.proofs.EntryLemmas.{length-keys_of}
-use Rattle.frames.specs.Cuts.{IsCut, is_end}
+use Rattle.frames.specs.Cuts.{CutsPlaces, is_end}
 use Rattle.frames.proofs.CutLemmas.{rows_cut}
 use Rattle.frames.proofs.cuts.row_cut.Goals as goal
 
@@ -15,6 +15,6 @@ returns c =
     let by : to_z w128 (of_z w128 c.args.by) ≡ c.args.by = omega (arith, ints) in
     let off : t ≡ c.counted.result = omega (arith, ints) in
     let is = off ∙ c.counted.ensures ∙ ap (λ b. if is_end c.args.side then (pos here +ℤ b) +ℤ pos 1 else (pos here +ℤ b)) by in
-    let cut : IsCut (λ k. not (int_le t (pos k))) (length s.entries.now) c.place_cut.result = c.place_cut.ensures in
+    let cut : CutsPlaces (λ k. not (int_le t (pos k))) (length s.entries.now) c.place_cut.result = c.place_cut.ensures in
     rows_cut (ways_in s) (keys_in s) here c.args.by t c.args.side c.place_cut.result is
-    (subst (λ n. IsCut (λ k. not (int_le t (pos k))) n c.place_cut.result) (sym (length-keys_of s.entries.now)) cut)
+    (subst (λ n. CutsPlaces (λ k. not (int_le t (pos k))) n c.place_cut.result) (sym (length-keys_of s.entries.now)) cut)

@@ -6,7 +6,7 @@ use Rattle.query_trees.specs.SelectView.{edge_of, unit_of}
 use Rattle.window_order.specs.Placed.{keys_in, ways_in}
 use Rattle.window_order.proofs.EntryLemmas.{length-keys_of}
 use Rattle.frames.specs.declared.cuts.Side.TheVariants.{End}
-use Rattle.frames.specs.Cuts.{IsCut, ahead}
+use Rattle.frames.specs.Cuts.{CutsPlaces, ahead}
 use Rattle.frames.proofs.UnionLemmas.{end_none, end_some}
 use Rattle.frames.proofs.ranges.end_of.Goals as goal
 
@@ -17,12 +17,12 @@ returns-in-Some c =
     let unit = unit_of c.args.unit in
     let by : to_z w128 (of_z w128 c.in-Some.by) ≡ c.in-Some.by = omega (arith, ints) in
     end_some (λ k b. after_edge ds unit keys c.args.here b k) (distance (edge_of c.args.edge)) (length keys) c.cut.result c.in-Some.by (sym c.in-Some.ensures.value)
-    (subst (λ b. IsCut (ahead End ds unit keys c.args.here b) (length keys) c.cut.result) by c.cut.ensures)
+    (subst (λ b. CutsPlaces (ahead End ds unit keys c.args.here b) (length keys) c.cut.result) by c.cut.ensures)
 
 pub returns-in-None : goal.returns-in-None
 returns-in-None c =
     let ds = ways_in c.args.sequence.now in
     let keys = keys_in c.args.sequence.now in
     let unit = unit_of c.args.unit in
-    subst (λ n. IsCut (λ k. unless (λ by. after_edge ds unit keys c.args.here by k) (distance (edge_of c.args.edge))) (length keys) n) (length-keys_of c.args.sequence.now.entries.now)
+    subst (λ n. CutsPlaces (λ k. unless (λ by. after_edge ds unit keys c.args.here by k) (distance (edge_of c.args.edge))) (length keys) n) (length-keys_of c.args.sequence.now.entries.now)
     (end_none (λ k b. after_edge ds unit keys c.args.here b k) (distance (edge_of c.args.edge)) (length keys) (sym c.in-None.ensures.value))

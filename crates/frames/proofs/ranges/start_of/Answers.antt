@@ -5,7 +5,7 @@ use Rattle.meaning.specs.Windows.{before_edge, distance}
 use Rattle.query_trees.specs.SelectView.{edge_of, unit_of}
 use Rattle.window_order.specs.Placed.{keys_in, ways_in}
 use Rattle.frames.specs.declared.cuts.Side.TheVariants.{Start}
-use Rattle.frames.specs.Cuts.{IsCut, ahead}
+use Rattle.frames.specs.Cuts.{CutsPlaces, ahead}
 use Rattle.frames.proofs.UnionLemmas.{start_none, start_some}
 use Rattle.frames.proofs.ranges.start_of.Goals as goal
 
@@ -16,7 +16,7 @@ returns-in-Some c =
     let unit = unit_of c.args.unit in
     let by : to_z w128 (of_z w128 c.in-Some.by) ≡ c.in-Some.by = omega (arith, ints) in
     start_some (λ k b. before_edge ds unit keys c.args.here b k) (distance (edge_of c.args.edge)) (length keys) c.cut.result c.in-Some.by (sym c.in-Some.ensures.value)
-    (subst (λ b. IsCut (ahead Start ds unit keys c.args.here b) (length keys) c.cut.result) by c.cut.ensures)
+    (subst (λ b. CutsPlaces (ahead Start ds unit keys c.args.here b) (length keys) c.cut.result) by c.cut.ensures)
 
 pub returns-in-None : goal.returns-in-None
 returns-in-None c =

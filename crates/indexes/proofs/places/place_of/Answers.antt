@@ -3,7 +3,7 @@ use borrow.Author.Count.{below_more}
 use Rattle.indexes.proofs.ConditionLemmas.{first_further, first_here, first_nowhere}
 use Rattle.indexes.proofs.IndexLemmas.{no_place, place_here, place_not_here}
 use Rattle.indexes.proofs.places.place_of.Goals as goal
-use Rattle.schema.specs.Names.{IsPlaceOf}
+use Rattle.schema.specs.Names.{IsNameAt}
 
 pub returns-then-is_same_name-clause-found : goal.returns-then-is_same_name-clause-found
 returns-then-is_same_name-clause-found c =
@@ -24,7 +24,7 @@ loop-place-preserved c =
     let columns = c.args.columns.now in
     let name = c.args.name.now in
     let here = c.index-columns-place in (
-      below_more (λ k. ¬ IsPlaceOf (map (λ c. c.name) columns) name k) c.loop-place.place c.loop-place.invariant.0
+      below_more (λ k. ¬ IsNameAt (map (λ c. c.name) columns) name k) c.loop-place.place c.loop-place.invariant.0
           (place_not_here columns name c.loop-place.place here.result c.name.result.now c.is_same_name.result within here.is
           c.name.ensures c.is_same_name.ensures c.if-is_same_name.false),
       first_further columns name c.loop-place.place here.result c.name.result.now c.is_same_name.result within here.is

@@ -6,7 +6,7 @@ use Rattle.pager.specs.declared.header.Header.{Header}
 use Rattle.query_plans.specs.Answers.{IsPlannedOver, planned_data}
 use Rattle.runs.proofs.GivenLemmas.{operator_fault}
 use Rattle.scan.proofs.ComingLemmas.{seen_same}
-use Rattle.sources.specs.Coming.{IsRooted, IsStored}
+use Rattle.sources.specs.Coming.{IsRooted, IsStoredSource}
 use Rattle.sources.specs.SourceData.{sources_of}
 use Rattle.statement_names.specs.NamedView.{query_data}
 use Rattle.nested_runs.proofs.NestedLemmas.{stopped_before, stored_behind, wrote_over, WritesOver}
@@ -50,8 +50,8 @@ returns-clause-rows g c = λ steady typed runs stored.
     let image = c.kept_plan.ensures.reads.image in
     let pages = pages_seen c.args.pager.now.state in
     let all : c.new-sources.result ≡ sources_of tables kept = c.new-sources.ensures ∙ ap (λ rows. sources_of tables rows) c.as_slice.ensures.value in
-    let wrote : All (IsStored pages) (sources_of tables kept) → WritesOver pages tables kept planned old new c.write_answer.result =
-    subst (λ (p : Pages). All (IsStored p) (sources_of tables kept) → WritesOver p tables kept planned old new c.write_answer.result)
+    let wrote : All (IsStoredSource pages) (sources_of tables kept) → WritesOver pages tables kept planned old new c.write_answer.result =
+    subst (λ (p : Pages). All (IsStoredSource p) (sources_of tables kept) → WritesOver p tables kept planned old new c.write_answer.result)
     (seen_same c.args.pager.now.state c.kept_plan.new.pager.state image)
     (rw all at (c.write_answer.ensures.rows (rw image.steady steady))) in
     wrote_over pages tables (query_data c.args.query.now) kept planned (λ on said. c.in_ok-run.ensures.plan steady on said typed runs) old new c.write_answer.result

@@ -1,5 +1,5 @@
 use Rattle.std.proofs.Common.{◌∙◌, map, sym, ap, subst}
-use Rattle.distinct_results.specs.Permitted.{IsResult}
+use Rattle.distinct_results.specs.Permitted.{IsResultColumn}
 use Rattle.distinct_results.specs.Sorted.{result_key}
 use Rattle.distinct_results.specs.declared.order.ResultKey.{ResultKey}
 use Rattle.meaning.specs.Query as query
@@ -14,7 +14,7 @@ pub loop-key-preserved : goal.loop-key-preserved
 loop-key-preserved c =
     let key = c.key-item.result in
     let one : ResultKey = record { at = c.in-Some.at; direction = key.direction } in record {
-      all = results_more c.args.order.now c.loop-key.key-index key c.loop-key-test.true c.key-item.is c.loop-key.invariant.all (subst IsResult (sym c.in-Some.ensures) tt);
+      all = results_more c.args.order.now c.loop-key.key-index key c.loop-key-test.true c.key-item.is c.loop-key.invariant.all (subst IsResultColumn (sym c.in-Some.ensures) tt);
       same =
           ap (map result_key) c.in_ok-push.ensures.items
           ∙ keys_more c.args.order.now c.loop-key.key-index key c.loop-key-test.true c.key-item.is c.loop-key.keys.items one c.loop-key.invariant.same

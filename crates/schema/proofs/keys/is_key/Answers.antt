@@ -2,7 +2,7 @@ use Rattle.std.proofs.Common.{rules, tests}
 use Rattle.std.proofs.lemmas.Iterator.{YieldsList-from_slice, cases_from_any}
 use Rattle.declared_keys.specs.KeyView.{key_data}
 use Rattle.declared_keys.specs.declared.keys.Key.{Key}
-use Rattle.schema.specs.Created.{IsKeyOf}
+use Rattle.schema.specs.Created.{IsLonePrimaryKey}
 use Rattle.schema.proofs.ListLemmas.{any_is}
 use Rattle.schema.proofs.ServedLemmas.{any_told}
 use Rattle.schema.proofs.keys.is_key.Goals as goal
@@ -10,7 +10,7 @@ use Rattle.schema.proofs.keys.is_key.Goals as goal
 pub returns : goal.returns
 returns c =
     let name = c.args.name.now in
-    any_told (IsKeyOf name) key_data c.args.keys.now c.any.result
-    (any_is (λ (x : Key). IsKeyOf name (key_data x)) c.args.keys.now c.any.result
-    (cases_from_any _ _ _ (λ (x : Key). IsKeyOf name (key_data x)) (λ (x : Key). ¬ IsKeyOf name (key_data x))
+    any_told (IsLonePrimaryKey name) key_data c.args.keys.now c.any.result
+    (any_is (λ (x : Key). IsLonePrimaryKey name (key_data x)) c.args.keys.now c.any.result
+    (cases_from_any _ _ _ (λ (x : Key). IsLonePrimaryKey name (key_data x)) (λ (x : Key). ¬ IsLonePrimaryKey name (key_data x))
     c.any.ensures.ran (YieldsList-from_slice c.args.keys.now cc) (λ x q k. search (rules, tests)) (λ x q k. search (rules, tests))))

@@ -1,7 +1,7 @@
 use Rattle.std.proofs.Common.{map, subst, sym}
 use Rattle.create_trees.specs.CreateView.{column_of}
 use Rattle.schema.specs.Created.{IsNamedIn, column_names}
-use Rattle.schema.specs.Names.{IsPlaceOf}
+use Rattle.schema.specs.Names.{IsNameAt}
 use Rattle.schema.proofs.KeyLemmas.{all_places, named_at, place_more}
 use Rattle.schema.proofs.keys.key_places.Goals as goal
 
@@ -16,7 +16,7 @@ loop-name-preserved c =
     let columns = map column_of c.args.columns.now in
     place_more columns c.args.names.now c.loop-name.name-index c.name-item.result c.loop-name-test.true c.name-item.is
     c.loop-name.places.items c.push.new.self.items c.column_place.result
-    (subst (λ n. IsPlaceOf (column_names columns) n c.column_place.result) c.as_str.ensures.value c.column_place.ensures)
+    (subst (λ n. IsNameAt (column_names columns) n c.column_place.result) c.as_str.ensures.value c.column_place.ensures)
     c.in_ok-push.ensures.items c.loop-name.invariant
 
 pub returns : goal.returns

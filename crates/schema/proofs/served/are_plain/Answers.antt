@@ -2,15 +2,15 @@ use Rattle.std.proofs.Common.{rules, tests}
 use Rattle.std.proofs.lemmas.Iterator.{YieldsList-from_slice, cases_from_all}
 use Rattle.create_trees.specs.CreateView.{indexed_of}
 use Rattle.create_trees.specs.declared.create.IndexedColumn.{IndexedColumn}
-use Rattle.schema.specs.Created.{IsPlain}
+use Rattle.schema.specs.Created.{IsPlainKeyColumn}
 use Rattle.schema.proofs.ListLemmas.{all_is}
 use Rattle.schema.proofs.ServedLemmas.{all_of_map}
 use Rattle.schema.proofs.served.are_plain.Goals as goal
 
 pub returns : goal.returns
 returns c =
-    all_of_map IsPlain indexed_of c.args.key.now c.all.result
-    (all_is (λ (x : IndexedColumn). IsPlain (indexed_of x)) c.args.key.now c.all.result
-    (cases_from_all _ _ _ (λ (x : IndexedColumn). IsPlain (indexed_of x)) (λ (x : IndexedColumn). ¬ IsPlain (indexed_of x))
+    all_of_map IsPlainKeyColumn indexed_of c.args.key.now c.all.result
+    (all_is (λ (x : IndexedColumn). IsPlainKeyColumn (indexed_of x)) c.args.key.now c.all.result
+    (cases_from_all _ _ _ (λ (x : IndexedColumn). IsPlainKeyColumn (indexed_of x)) (λ (x : IndexedColumn). ¬ IsPlainKeyColumn (indexed_of x))
     c.all.ensures.ran (YieldsList-from_slice c.args.key.now cc) (λ x q k. (search (rules, tests), search (rules, tests)))
     (λ x q k. search (rules, tests))))

@@ -1,14 +1,14 @@
 use Rattle.std.proofs.Common.{◌≡◌, ◌++◌, List}
 use Rattle.values.specs.Row.{Row}
 use Rattle.meaning.specs.Query.{QueryData}
-use Rattle.shell.specs.Stepped.{IsSteppedOver, StandsBehind, rows_ahead}
+use Rattle.shell.specs.Stepped.{IsSteppedOver, HasGivenSoFar, rows_ahead}
 use Rattle.sessions.specs.Stands.{KeepsImage}
 use Rattle.sessions.proofs.slot.rows_behind.Given as goal
 
 abbrev pub invariant-loop-rows : goal.invariant-loop-rows
 invariant-loop-rows g l = record {
-  behind : (query : QueryData) (given : List Row) → StandsBehind l.initial.engine query l.initial.statement given
-      → StandsBehind l.engine query l.statement (given ++ l.rows.items);
+  behind : (query : QueryData) (given : List Row) → HasGivenSoFar l.initial.engine query l.initial.statement given
+      → HasGivenSoFar l.engine query l.statement (given ++ l.rows.items);
   over : IsSteppedOver l.engine.tables l.statement;
   image : KeepsImage l.initial.engine l.engine;
   unfailed : l.engine.pager.source.failures ≡ l.initial.engine.pager.source.failures;

@@ -6,7 +6,7 @@ use Rattle.expr.specs.Meaning.{eval}
 use Rattle.meaning.specs.Body.{key_value}
 use Rattle.meaning.specs.Hits.{key_terms}
 use Rattle.meaning.proofs.GroupLemmas.{map-map}
-use Rattle.plans.specs.Plan.{Reaches}
+use Rattle.plans.specs.Plan.{ReachesOverflow}
 use Rattle.query_trees.specs.SelectView.{direction_of}
 use Rattle.sorted_results.specs.declared.keys.Key.{Key}
 use Rattle.sorted_results.specs.KeyView.{key_data, key_term}
@@ -18,7 +18,7 @@ pub returns-in_err-value-clause-overflow : goal.returns-in_err-value-clause-over
 returns-in_err-value-clause-overflow c = λ is.
     let p = err_from_is_err_and c.from_residual-in_err-value.result c.from_residual-in_err-value.ensures.1 in
     order_reaches c.args.order.now c.loop-key.key-index c.key-item.result (map datum_of c.args.row.now) c.loop-key-test.true
-    (subst (λ (key : Key). Reaches (key_terms (key_term key.by)) (map datum_of c.args.row.now)) c.key-item.is
+    (subst (λ (key : Key). ReachesOverflow (key_terms (key_term key.by)) (map datum_of c.args.row.now)) c.key-item.is
     (c.in_err-value.ensures.overflow (cc (is, p.1, p.2))))
 
 pub loop-key-preserved : goal.loop-key-preserved

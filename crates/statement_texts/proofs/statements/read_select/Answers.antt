@@ -4,7 +4,7 @@ use Rattle.phrases.specs.Texts.{lexemes_of}
 use Rattle.source_texts.specs.Sources.{source_of}
 use Rattle.statement_texts.proofs.TextLemmas.{statement_spelt, too_large}
 use Rattle.statement_texts.proofs.statements.read_select.Goals as goal
-use Rattle.statement_texts.specs.Told.{Tells}
+use Rattle.statement_texts.specs.Told.{TellsOfStatement}
 use Rattle.statement_trees.specs.StatementView.{statement_of}
 use Rattle.tokens.specs.declared.token.Token.{Token}
 
@@ -12,7 +12,7 @@ pub returns-in_err-check_limits-clause-refused : goal.returns-in_err-check_limit
 returns-in_err-check_limits-clause-refused c =
     let items = c.in_ok-tokens.tokens.items in
     let statement = c.in_ok-statement.statement in
-    let told = subst (λ (ts : List Token). Tells (source_of c.args.text.now ts) (lexemes_of ts) (Ok statement))
+    let told = subst (λ (ts : List Token). TellsOfStatement (source_of c.args.text.now ts) (lexemes_of ts) (Ok statement))
     c.as_slice.ensures.value c.in_ok-statement.ensures in
     let p = err_from_is_err_and c.from_residual-in_err-check_limits.result c.from_residual-in_err-check_limits.ensures.1 in
     rw (p.1, p.2) (too_large c.args.text.now (statement_of statement) c.check_limits.result c.in_err-check_limits.field-0.0

@@ -11,7 +11,7 @@ use Rattle.syntax.specs.declared.query.Direction.{Direction as Way}
 use Rattle.query_trees.specs.SelectView.{direction_of}
 use Rattle.window_order.specs.declared.peers.PeerGroups.{PeerGroups}
 use Rattle.window_order.specs.declared.sorting.Entry.{Entry}
-use Rattle.window_order.specs.Entries.{IsInOrder, keys_of, rows_of}
+use Rattle.window_order.specs.Entries.{IsInWindowOrder, keys_of, rows_of}
 use Rattle.window_order.specs.Groups.{AreGroups}
 use Rattle.window_order.proofs.EntryLemmas.{length-keys_of}
 use Rattle.window_entries.specs.Tags.{tags_of}
@@ -35,10 +35,10 @@ all_tags es rows are places =
     tags_from es 0 (places ∙ ap (range_with_len 0) size) ∙ ap (tagged 0) are
 
 same_groups : (given before after : List Way) (es placed : List Entry) (groups : PeerGroups) → before ≡ given → after ≡ given → placed ≡ es
-    → IsInOrder (map direction_of before) (keys_of es) → AreGroups (map direction_of after) (keys_of placed) groups
-    → IsInOrder (map direction_of given) (keys_of es) × AreGroups (map direction_of given) (keys_of es) groups
+    → IsInWindowOrder (map direction_of before) (keys_of es) → AreGroups (map direction_of after) (keys_of placed) groups
+    → IsInWindowOrder (map direction_of given) (keys_of es) × AreGroups (map direction_of given) (keys_of es) groups
 same_groups given before after es placed groups p q r up are = (
-  subst (λ (l : List Way). IsInOrder (map direction_of l) (keys_of es)) p up,
+  subst (λ (l : List Way). IsInWindowOrder (map direction_of l) (keys_of es)) p up,
   subst (λ (l : List Entry). AreGroups (map direction_of given) (keys_of l) groups) r (subst (λ (l : List Way). AreGroups (map direction_of l) (keys_of placed) groups) q are),
 )
 

@@ -3,7 +3,7 @@ use Rattle.std.specs.List.{Any}
 use Rattle.indexes.specs.IndexView.{index_data}
 use Rattle.schema.specs.Rows.{SaysTable}
 use Rattle.tables.specs.TableData.{TableData}
-use Rattle.catalog.specs.Keyed.{HasRows, LacksRow, tables_in}
+use Rattle.catalog.specs.Keyed.{HasKeyRows, LacksRow, tables_in}
 use Rattle.catalog.specs.KeyedView.{keyed_data}
 use Rattle.catalog.specs.Refused.{IsBadSchema}
 use Rattle.catalog.specs.Says.{AreIndexesOf, AreTablesOf, IsNoTable}
@@ -17,7 +17,7 @@ returns-then-are_doubled-clause-refused c = IsBadSchema.doubled (c.are_doubled.e
 pub returns-then-lack_row-clause-refused : goal.returns-then-lack_row-clause-refused
 returns-then-lack_row-clause-refused c =
     let rows = c.args.rows.now in
-    let told = subst (λ (b : Bool). MatchBool b (Any (LacksRow rows) (map keyed_data c.as_slice-2.result.now)) (All (HasRows rows) (map keyed_data c.as_slice-2.result.now)))
+    let told = subst (λ (b : Bool). MatchBool b (Any (LacksRow rows) (map keyed_data c.as_slice-2.result.now)) (All (HasKeyRows rows) (map keyed_data c.as_slice-2.result.now)))
     c.if-lack_row.true c.lack_row.ensures in
     let any = subst (λ xs. Any (LacksRow rows) (map keyed_data xs)) c.as_slice-2.ensures.value told in
     let found = one_lacks c.args.pages rows (map keyed_data c.in_ok-keyed.keyed.items) c.in_ok-keyed.ensures.said any in
@@ -29,9 +29,9 @@ returns-clause-said c =
     let rows = c.args.rows.now in
     let items = c.in_ok-keyed.keyed.items in
     let tables = tables_alone items ∙ sym c.in_ok-tables.ensures in
-    let told = subst (λ (b : Bool). MatchBool b (Any (LacksRow rows) (map keyed_data c.as_slice-2.result.now)) (All (HasRows rows) (map keyed_data c.as_slice-2.result.now)))
+    let told = subst (λ (b : Bool). MatchBool b (Any (LacksRow rows) (map keyed_data c.as_slice-2.result.now)) (All (HasKeyRows rows) (map keyed_data c.as_slice-2.result.now)))
     c.if-lack_row.false c.lack_row.ensures in
-    let all = subst (λ xs. All (HasRows rows) (map keyed_data xs)) c.as_slice-2.ensures.value told in
+    let all = subst (λ xs. All (HasKeyRows rows) (map keyed_data xs)) c.as_slice-2.ensures.value told in
     let indexes = map index_data c.in_ok-indexes.indexes.items in
     record {
       tables_are = subst (AreTablesOf pages rows) tables (tables_said pages c.in_ok-keyed.ensures.said);

@@ -1,5 +1,5 @@
 use Rattle.sessions.specs.Replies.{base_of, closes}
-use Rattle.sessions.specs.Stands.{Replied, StandsAt}
+use Rattle.sessions.specs.Stands.{Replied, SlotStandsAt}
 use Rattle.sessions.specs.declared.slot.Slot.{Slot}
 use Rattle.sessions.specs.declared.step.Reply.TheVariants as answers
 use Rattle.std.proofs.Common.{sym, subst}
@@ -9,8 +9,8 @@ use Rattle.sessions.proofs.slot.Slot.close.Goals as goal
 
 pub returns-in-Closed-clause-replies : goal.returns-in-Closed-clause-replies
 returns-in-Closed-clause-replies c = λ engine at stands.
-    subst (λ (s : Slot). Replied (base_of engine) closes at (answers.Fault NoStatement) (StandsAt engine s)) (sym c.in-Closed.is)
-    (closed_closed engine at (subst (λ (s : Slot). StandsAt engine s at) c.in-Closed.is stands))
+    subst (λ (s : Slot). Replied (base_of engine) closes at (answers.Fault NoStatement) (SlotStandsAt engine s)) (sym c.in-Closed.is)
+    (closed_closed engine at (subst (λ (s : Slot). SlotStandsAt engine s at) c.in-Closed.is stands))
 
 pub returns-in-Running-clause-replies : goal.returns-in-Running-clause-replies
 returns-in-Running-clause-replies c = λ engine at stands. closing engine c.args.self.now at c.in-Running.is stands

@@ -1,6 +1,6 @@
 use Rattle.std.proofs.Common.{subst, sym}
 use Rattle.sessions.specs.Replies.{base_of, opens}
-use Rattle.sessions.specs.Stands.{Replied, StandsAt}
+use Rattle.sessions.specs.Stands.{Replied, SlotStandsAt}
 use Rattle.sessions.specs.declared.slot.Slot.{Slot}
 use Rattle.sessions.specs.declared.step.Reply.TheVariants as answers
 use Rattle.sessions.proofs.SlotLemmas.{opening, taken, unopened}
@@ -10,13 +10,13 @@ use Rattle.sessions.proofs.slot.Slot.open.Goals as goal
 pub returns-in-Ok-clause-replies : goal.returns-in-Ok-clause-replies
 returns-in-Ok-clause-replies g c = λ at stands.
     opening c.args.engine.now c.args.text.now c.in-Ok.started at c.in-Ok.ensures
-    (subst (λ (s : Slot). StandsAt c.args.engine.now s at) c.in-Closed.is stands)
+    (subst (λ (s : Slot). SlotStandsAt c.args.engine.now s at) c.in-Closed.is stands)
 
 pub returns-in-Err-clause-replies : goal.returns-in-Err-clause-replies
 returns-in-Err-clause-replies g c = λ at stands.
-    subst (λ (s : Slot). Replied (base_of c.args.engine.now) (opens c.args.text.now) at (answers.Fault c.in-Err.fault) (StandsAt c.args.engine.now s)) (sym c.in-Closed.is)
+    subst (λ (s : Slot). Replied (base_of c.args.engine.now) (opens c.args.text.now) at (answers.Fault c.in-Err.fault) (SlotStandsAt c.args.engine.now s)) (sym c.in-Closed.is)
     (unopened c.args.engine.now c.args.text.now c.in-Err.fault at c.in-Err.ensures
-    (subst (λ (s : Slot). StandsAt c.args.engine.now s at) c.in-Closed.is stands))
+    (subst (λ (s : Slot). SlotStandsAt c.args.engine.now s at) c.in-Closed.is stands))
 
 pub returns-in-Running-clause-replies : goal.returns-in-Running-clause-replies
 returns-in-Running-clause-replies g c = λ at stands.

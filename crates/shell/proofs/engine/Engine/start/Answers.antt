@@ -5,7 +5,7 @@ use Rattle.tables.specs.ColumnTypes.{column_types}
 use Rattle.tables.specs.TableData.{TableData}
 use Rattle.statement_names.specs.NamedView.{named_data}
 use Rattle.statement_trees.specs.StatementView.{statement_of}
-use Rattle.resolver.specs.Resolved.{IsRefused, Resolves}
+use Rattle.resolver.specs.Resolved.{IsNoQueryOver, Resolves}
 use Rattle.shell.specs.PreparedView.{prepared_data}
 use Rattle.shell.specs.State.{EngineState}
 use Rattle.shell.proofs.PreparedLemmas.{prepared_for}
@@ -21,7 +21,7 @@ returns-in_err-named g c =
       tree = statement_of c.in_ok-spelt.spelt;
       spelt = c.in_ok-spelt.ensures.spelt;
       within = c.in_ok-spelt.ensures.within;
-      refused = subst (λ (ts : List TableData). IsRefused ts (statement_of c.in_ok-spelt.spelt) c.in_err-named.field-0.0) tables
+      refused = subst (λ (ts : List TableData). IsNoQueryOver ts (statement_of c.in_ok-spelt.spelt) c.in_err-named.field-0.0) tables
           c.in_err-named.ensures.refused;
     })))
 

@@ -5,7 +5,7 @@ use Rattle.meaning.specs.Valuation.{Valuation}
 use Rattle.meaning.specs.Windows.{window_result}
 use Rattle.window_order.specs.Placed.{rows_in}
 use Rattle.window_results.specs.Known.{known_for, known_of}
-use Rattle.window_results.specs.Over.{IsOver}
+use Rattle.window_results.specs.Over.{IsWindowOver}
 use Rattle.window_results.specs.Put.{AreWanted, numbers_in}
 use Rattle.window_results.proofs.PutLemmas.{ArePut}
 use Rattle.window_results.proofs.computed.Computed.put_along.Given as goal
@@ -13,7 +13,7 @@ use Rattle.window_results.proofs.computed.Computed.put_along.Given as goal
 abbrev pub invariant-loop-here : goal.invariant-loop-here
 invariant-loop-here l = record {
   size : length l.results.items ≡ length l.fn.results.items;
-  puts : (value : Valuation) (o : Option Datum) (window : query.Window) (f : query.WindowFunction) (want : ℕ → Option Datum) → IsOver value window l.sequence l.frame
+  puts : (value : Valuation) (o : Option Datum) (window : query.Window) (f : query.WindowFunction) (want : ℕ → Option Datum) → IsWindowOver value window l.sequence l.frame
       → known_of l.self ≡ known_for value f (rows_in l.sequence) → AreWanted want (window_result value o window f (rows_in l.sequence)) (numbers_in l.sequence)
       → ArePut want (numbers_in l.sequence) (map datum_of l.fn.results.items) (map datum_of l.results.items) l.here;
 }

@@ -10,12 +10,12 @@ use Rattle.window_order.specs.declared.placed.Sequence.{Sequence}
 use Rattle.window_order.specs.Placed.{keys_in, rows_in, ways_in}
 use Rattle.query_trees.specs.declared.selects.Frame.{Frame}
 use Rattle.window_results.specs.Known.{Known, known_for, known_of, known_result}
-use Rattle.window_results.specs.Over.{IsOver}
+use Rattle.window_results.specs.Over.{IsWindowOver}
 use Rattle.window_results.proofs.KnownLemmas.{known_gives, same_length}
 use Rattle.window_results.proofs.computed.Computed.value_at.Goals as goal
 
 gives : (s : Sequence) (frame : Frame) (known : Known) (here : ℕ) → here < length (keys_in s) → (o : Option Datum) (value : Valuation) (window : query.Window) (f : query.WindowFunction)
-    → IsOver value window s frame → known ≡ known_for value f (rows_in s)
+    → IsWindowOver value window s frame → known ≡ known_for value f (rows_in s)
     → window_result value o window f (rows_in s) here ≡ known_result o (ways_in s) (frame_of frame) (keys_in s) known here
 gives s frame known here inside o value window f over is =
     let size = same_length s.entries.now in
@@ -29,7 +29,7 @@ returns-clause-value c =
     let s = c.args.sequence.now in
     IfOk-weaker c.known_value.result
     (λ (v : Value). (o : Option Datum) → known_result o (ways_in s) (frame_of c.args.frame) (keys_in s) (known_of c.args.self.now) c.args.here ≡ Some (datum_of v))
-    (λ (v : Value). (value : Valuation) (o : Option Datum) (window : query.Window) (f : query.WindowFunction) → IsOver value window s c.args.frame
+    (λ (v : Value). (value : Valuation) (o : Option Datum) (window : query.Window) (f : query.WindowFunction) → IsWindowOver value window s c.args.frame
     → known_of c.args.self.now ≡ known_for value f (rows_in s) → window_result value o window f (rows_in s) c.args.here ≡ Some (datum_of v))
     (λ v is value o window f over known. gives s c.args.frame (known_of c.args.self.now) c.args.here c.requires.here o value window f over known ∙ is o)
     c.known_value.ensures.value
