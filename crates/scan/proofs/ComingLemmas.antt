@@ -101,10 +101,11 @@ module _ (pages : Pages) (table : TableData) (local : Bool) (columns : List ℕ)
   Later new then later = (left : ℕ) × IsToCome pages table local new later left × Asks local start ahead then left
 
   -- there is no further row
-  pub none_given : (before : Row) → IsEntry pages (kind_of table.key) t.places None → GivesRow false columns rows before before (Later old start)
-  none_given before entry =
+  pub none_given : (before after : Row) → after ≡ before → IsEntry pages (kind_of table.key) t.places None
+      → GivesRow false columns rows before after (Later old start)
+  none_given before after same entry =
       let none = no_cell pages table t.places rows t.stored entry in
-      (none, refl, (ahead, subst (λ (rs : List Row). IsToCome pages table local old rs ahead) none t, Asks-none local start ahead))
+      (none, same, (ahead, subst (λ (rs : List Row). IsToCome pages table local old rs ahead) none t, Asks-none local start ahead))
 
   module _ (cell : CellData) (entry : IsEntry pages (kind_of table.key) t.places (Some cell)) where
     pub first : IsFirst pages table cell rows (drop 1 t.places)

@@ -1,5 +1,5 @@
-//! The columns of a cell that are read, put behind other values.
-ghost use Rattle.std.specs.Prelude.{◌≡◌, ◌⊎◌, ◌<◌, ◌++◌, ℕ, All, IfErr, IfOk, List, MatchResult, None, length, map};
+//! The columns of a cell that are read, put behind the front of a row.
+ghost use Rattle.std.specs.Prelude.{◌≡◌, ◌⊎◌, ◌<◌, ◌++◌, ℕ, All, IfErr, IfOk, List, MatchResult, None, length, map, take};
 ghost use Rattle.std.specs.Cow.{cow_slice_items};
 ghost use Rattle.values.specs.Datum.{datum_of};
 ghost use Rattle.values.specs.Row.{Row};
@@ -11,6 +11,7 @@ ghost use Rattle.meaning.specs.OneTable.{shown};
 ghost use Rattle.stored_tables.specs.Tables.{IsAnyRecord, IsAnyRow};
 ghost use Rattle.scan.specs.Coming.{Grows, IsScanFault};
 
+use crate::buffer::put_value;
 use btree::{Cell, payload};
 use pager::{Pager, Source};
 use std::alloc::Global;
@@ -35,51 +36,64 @@ pub fn payload_of<'p, S: Source>(
     payload(alloc, pager, cell)?.ok_or(Fault::Changed)
 }
 
-/// Puts the values of these columns of the row that the bytes of a payload are behind others. Its faults are `NoMemory`,
-/// and `Changed` where they are none.
-fn push_values(
+/// Puts the values of these columns of the row that the bytes of a payload are behind the first `before` values of `row`, over
+/// what stands there. Its faults are `NoMemory`, and `Changed` where they are none.
+fn put_values(
     alloc: Global,
     table: &Table,
     rowid: Option<i64>,
     payload: &[u8],
     columns: &[usize],
+    before: usize,
     row: &mut Vec<Value>,
 ) -> Result<(), Fault>
     requires { All (λ at. at < length table.now.columns) columns.now }
     ensures shown { (whole : Row) → IsAnyRecord table.now rowid payload.now whole
-        → MatchResult result (λ _. map datum_of row.new.items ≡ map datum_of row.old.items ++ shown columns.now whole) (λ e. e ≡ Fault.NoMemory) }
-    ensures front { IfOk result (λ _. Grows (map datum_of row.old.items) (map datum_of row.new.items)) }
+        → MatchResult result (λ _. map datum_of row.new.items ≡ take before (map datum_of row.old.items) ++ shown columns.now whole) (λ e. e ≡ Fault.NoMemory) }
+    ensures front { IfOk result (λ _. Grows (take before (map datum_of row.old.items)) (map datum_of row.new.items)) }
     ensures only { IfErr result (λ e. (e ≡ Fault.NoMemory) ⊎ (e ≡ Fault.Changed)) }
 {
     let Some(mut reader) = ValueReader::new(table, rowid, payload) else {
         return Err(Fault::Changed);
     };
+    let mut at = before.min(row.len());
     for column in columns {
         let Some(value) = reader.value(*column) else {
             return Err(Fault::Changed);
         };
-        row.push(value.to_value(alloc)?)?;
+        put_value(alloc, row, at, value)?;
+        at += 1;
     }
+    row.truncate(at);
     Ok(())
 }
 
-/// Puts these columns of the row that a cell is behind other values.
-pub(crate) fn push_cell<S: Source>(
+/// Puts these columns of the row that a cell is behind the first `before` values of `row`.
+pub(crate) fn put_cell<S: Source>(
     alloc: Global,
     pager: &mut Pager<S>,
     table: &Table,
     cell: &Cell<'_>,
     columns: &[usize],
+    before: usize,
     row: &mut Vec<Value>,
 ) -> Result<(), Fault>
     requires { All (λ at. at < length table.now.columns) columns.now }
     ensures shown { WhereSteady pager.old.state (λ pages. (whole : Row) → IsAnyRow pages table.now (cell_data cell.now) whole
-        → MatchResult result (λ _. map datum_of row.new.items ≡ map datum_of row.old.items ++ shown columns.now whole) IsReadFault) }
-    ensures front { IfOk result (λ _. Grows (map datum_of row.old.items) (map datum_of row.new.items)) }
+        → MatchResult result (λ _. map datum_of row.new.items ≡ take before (map datum_of row.old.items) ++ shown columns.now whole) IsReadFault) }
+    ensures front { IfOk result (λ _. Grows (take before (map datum_of row.old.items)) (map datum_of row.new.items)) }
     ensures only { IfErr result IsScanFault }
     ensures reads { ReadsChainPages result pager.old.state pager.new.state }
     ensures unread { cell.now.payload.overflow ≡ None → pager.new.state ≡ pager.old.state }
 {
     let bytes = payload_of(alloc, pager, cell)?;
-    push_values(alloc, table, cell.rowid, bytes.as_slice(), columns, row)
+    put_values(
+        alloc,
+        table,
+        cell.rowid,
+        bytes.as_slice(),
+        columns,
+        before,
+        row,
+    )
 }

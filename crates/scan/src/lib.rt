@@ -3,12 +3,14 @@
 //! asks for pages in between, and for none of overflow chains where no cell has one; that over any source it returns, falls
 //! by a measure and tells of a failed read; and that over a steady source the table hasn't changed.
 //!
-//! The modules, in the order in which data passes them: `cells` (a cell's columns, behind others) and `rows` (from one row
-//! to the next).
+//! The modules, in the order in which data passes them: `buffer` (values over those of an earlier row), `cells` (a cell's
+//! columns, behind the front of a row) and `rows` (from one row to the next).
 #![tactic(auto)]
 
+mod buffer;
 mod cells;
 mod rows;
 
+pub use buffer::put_value;
 pub use cells::payload_of;
 pub use rows::{first_row, take_row};

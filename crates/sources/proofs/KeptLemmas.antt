@@ -2,7 +2,7 @@
 use Rattle.std.proofs.Common.{◌≡◌, ◌∙◌, ◌<◌, ◌+◌, ℕ, zero, suc, List, [], ◌∷◌, ◌++◌, add-one, append_assoc, drop, get_or, length, map, slice_get, take, None, Some, Vec, Global, sym, ap, refl}
 use Rattle.std.proofs.lemmas.List.{map_push, take_more}
 use Rattle.std.proofs.lemmas.Option.{same_Some}
-use Rattle.values.specs.Datum.{datum_of}
+use Rattle.values.specs.Datum.{Datum, datum_of}
 use Rattle.values.specs.Row.{Row}
 use Rattle.values.specs.declared.value.Value.{Value}
 use Rattle.meaning.specs.OneTable.{shown}
@@ -10,13 +10,12 @@ use Rattle.meaning.specs.Sequence.{value_at}
 use Rattle.sources.specs.SourceData.{rows_data}
 
 -- one column more
-pub shown_more : (whole : Row) (columns : List ℕ) (i : ℕ) (front : Row) (values : List Value) (value : Value) → i < length columns
-    → datum_of value ≡ value_at whole (get_or columns i 0)
-    → map datum_of values ≡ front ++ shown (take i columns) whole
-    → map datum_of (values ++ value ∷ []) ≡ front ++ shown (take (i + 1) columns) whole
-shown_more whole columns i front values value within is before =
-    map_push datum_of values value
-    ∙ (λ k. before k ++ is k ∷ [])
+pub shown_more : (whole : Row) (columns : List ℕ) (i : ℕ) (front here there : Row) (d : Datum) → i < length columns
+    → d ≡ value_at whole (get_or columns i 0) → here ≡ front ++ shown (take i columns) whole → there ≡ here ++ d ∷ []
+    → there ≡ front ++ shown (take (i + 1) columns) whole
+shown_more whole columns i front here there d within at before is =
+    is
+    ∙ (λ k. before k ++ at k ∷ [])
     ∙ append_assoc front (shown (take i columns) whole) (value_at whole (get_or columns i 0) ∷ [])
     ∙ ap (λ t. front ++ t)
     (sym (map_push (value_at whole) (take i columns) (get_or columns i 0)) ∙ sym (ap (map (value_at whole)) (take_more columns i 0 within)))

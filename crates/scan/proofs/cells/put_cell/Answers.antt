@@ -2,7 +2,7 @@ use Rattle.std.proofs.Common.{◌≡◌, ◌∙◌, List, ℕ, sym, subst}
 use Rattle.std.proofs.lemmas.Result.{err_from_is_err_and}
 use Rattle.stored_tables.specs.Tables.{IsAnyRecord}
 use Rattle.scan.proofs.CellLemmas.{only_memory}
-use Rattle.scan.proofs.cells.push_cell.Goals as goal
+use Rattle.scan.proofs.cells.put_cell.Goals as goal
 
 pub returns-in_err-bytes-clause-shown : goal.returns-in_err-bytes-clause-shown
 returns-in_err-bytes-clause-shown g c = λ steady whole is.
@@ -12,5 +12,5 @@ returns-in_err-bytes-clause-shown g c = λ steady whole is.
 pub returns-clause-shown : goal.returns-clause-shown
 returns-clause-shown g c = λ steady whole is.
     let read : c.as_slice.result.now ≡ is.bytes = c.as_slice.ensures.value ∙ c.in_ok-bytes.ensures.bytes steady is.bytes is.whole in
-    only_memory _ c.push_values.result
-    (c.push_values.ensures.shown whole (subst (λ (b : List ℕ). IsAnyRecord c.args.table.now c.args.cell.now.rowid b whole) (sym read) is.is))
+    only_memory _ c.put_values.result
+    (c.put_values.ensures.shown whole (subst (λ (b : List ℕ). IsAnyRecord c.args.table.now c.args.cell.now.rowid b whole) (sym read) is.is))
