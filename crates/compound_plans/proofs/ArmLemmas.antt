@@ -5,6 +5,7 @@ use Rattle.expr.specs.Term.{Term}
 use Rattle.meaning.specs.Query.{From, Key, Select, select}
 use Rattle.meaning.specs.Typed.{IsKeyTerm}
 use Rattle.compound_plans.specs.Arms.{IsArmFor}
+use Rattle.compound_plans.proofs.WorkLemmas.{made_work}
 use Rattle.compound_results.specs.Arms.{ArmData}
 use Rattle.select_plans.specs.Laws.{PlanReaches}
 use Rattle.select_plans.specs.Made.{IsMadeOver}
@@ -22,6 +23,7 @@ arm_over input s arm inner made distinct = record {
   hits = λ w db wide hits.
       made_is_hit w db input s [] [] arm.plan arm.columns [] inner wide made tt
       (subst (λ (es : List Term). PlanReaches w db arm.plan es) (sym (append-nil arm.columns)) hits);
+  few = λ w db sizes wide. made_work w db sizes input s [] arm.plan arm.columns wide made;
   over = λ catalog sources have types typed.
       plan_over catalog sources have input s inner [] None (pos 0) arm.plan arm.columns (
         types,
