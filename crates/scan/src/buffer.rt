@@ -43,3 +43,10 @@ pub fn put_value(
     row.push(value.to_value(alloc)?)?;
     Ok(())
 }
+
+/// The first values of a row, or all where it has fewer.
+pub fn front_of(row: &[Value], count: usize) -> &[Value]
+    ensures { map datum_of result.now ≡ take count (map datum_of row.now) }
+{
+    &row[..count.min(row.len())]
+}

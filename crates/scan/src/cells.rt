@@ -1,5 +1,5 @@
 //! The columns of a cell that are read, put behind the front of a row.
-ghost use Rattle.std.specs.Prelude.{◌≡◌, ◌⊎◌, ◌<◌, ◌++◌, ℕ, All, IfErr, IfOk, List, MatchResult, None, length, map, take};
+ghost use Rattle.std.specs.Prelude.{◌≡◌, ◌⊎◌, ◌<◌, ◌≤◌, ◌+◌, ◌++◌, ℕ, All, IfErr, IfOk, List, MatchResult, None, length, map, take};
 ghost use Rattle.std.specs.Cow.{cow_slice_items};
 ghost use Rattle.values.specs.Datum.{datum_of};
 ghost use Rattle.values.specs.Row.{Row};
@@ -8,6 +8,7 @@ ghost use Rattle.image.specs.Chain.{HasBytes};
 ghost use Rattle.image.specs.Pages.{WhereSteady};
 ghost use Rattle.btree.specs.Views.{cell_data, payload_data};
 ghost use Rattle.meaning.specs.OneTable.{shown};
+ghost use Rattle.stored_tables.specs.Reading.{IsReadingRow, table_read};
 ghost use Rattle.stored_tables.specs.Tables.{IsAnyRecord, IsAnyRow};
 ghost use Rattle.scan.specs.Coming.{Grows, IsScanFault};
 
@@ -36,6 +37,38 @@ pub fn payload_of<'p, S: Source>(
     payload(alloc, pager, cell)?.ok_or(Fault::Changed)
 }
 
+/// Puts the values that a reader gives of these columns into the places of a row from `at` on, over what stands there. Its faults
+/// are `NoMemory`, and `Changed` where the payload is no row.
+pub fn put_columns(
+    alloc: Global,
+    reader: &mut ValueReader<'_>,
+    columns: &[usize],
+    at: usize,
+    row: &mut Vec<Value>,
+) -> Result<(), Fault>
+    requires columns { All (λ column. column < length (table_read reader.old).columns) columns.now }
+    requires at { at ≤ length row.old.items }
+    ensures shown { (whole : Row) → IsReadingRow reader.old whole
+        → MatchResult result
+        (λ _. (take (at + length columns.now) (map datum_of row.new.items) ≡ take at (map datum_of row.old.items) ++ shown columns.now whole)
+        × IsReadingRow reader.new whole)
+        (λ e. e ≡ Fault.NoMemory) }
+    ensures front { IfOk result (λ _. Grows (take at (map datum_of row.old.items)) (take (at + length columns.now) (map datum_of row.new.items))) }
+    ensures long { IfOk result (λ _. at + length columns.now ≤ length row.new.items) }
+    ensures table { table_read reader.new ≡ table_read reader.old }
+    ensures only { IfErr result (λ e. (e ≡ Fault.NoMemory) ⊎ (e ≡ Fault.Changed)) }
+{
+    let mut next = at;
+    for column in columns {
+        let Some(value) = reader.value(*column) else {
+            return Err(Fault::Changed);
+        };
+        put_value(alloc, row, next, value)?;
+        next += 1;
+    }
+    Ok(())
+}
+
 /// Puts the values of these columns of the row that the bytes of a payload are behind the first `before` values of `row`, over
 /// what stands there. Its faults are `NoMemory`, and `Changed` where they are none.
 fn put_values(
@@ -56,15 +89,9 @@ fn put_values(
     let Some(mut reader) = ValueReader::new(table, rowid, payload) else {
         return Err(Fault::Changed);
     };
-    let mut at = before.min(row.len());
-    for column in columns {
-        let Some(value) = reader.value(*column) else {
-            return Err(Fault::Changed);
-        };
-        put_value(alloc, row, at, value)?;
-        at += 1;
-    }
-    row.truncate(at);
+    let at = before.min(row.len());
+    put_columns(alloc, &mut reader, columns, at, row)?;
+    row.truncate(at + columns.len());
     Ok(())
 }
 

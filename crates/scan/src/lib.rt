@@ -11,6 +11,6 @@ mod buffer;
 mod cells;
 mod rows;
 
-pub use buffer::put_value;
-pub use cells::payload_of;
-pub use rows::{first_row, take_row};
+pub use buffer::{front_of, put_value};
+pub use cells::{payload_of, put_columns};
+pub use rows::{cell_at, first_row, next_row, take_row};

@@ -1,40 +1,28 @@
-use Rattle.std.proofs.Common.{◌∙◌, ◌+◌, ◌++◌, map, take, ap}
-use Rattle.std.proofs.lemmas.List.{take_all}
-use Rattle.values.specs.Datum.{datum_of, datum_of_ref}
+use Rattle.std.proofs.Common.{rules, ◌∙◌, ◌+◌, ◌++◌, length, map, ap, refl}
+use Rattle.std.proofs.lemmas.Result.{err_from_is_err_and}
+use Rattle.values.specs.Datum.{datum_of}
 use Rattle.meaning.specs.OneTable.{shown}
-use Rattle.scan.proofs.CellLemmas.{Grows-more, shown_more, take_datums}
+use Rattle.scan.proofs.CellLemmas.{front_is, take_datums}
 use Rattle.scan.proofs.cells.put_values.Goals as goal
 
 pub returns-in_default-clause-shown : goal.returns-in_default-clause-shown
 returns-in_default-clause-shown c = λ whole is. absurd (c.in_default.ensures.none whole is)
 
-pub returns-in_default-value-clause-shown : goal.returns-in_default-value-clause-shown
-returns-in_default-value-clause-shown c = λ whole is. absurd (c.in_default-value.ensures.none whole (c.loop-column.invariant.reads whole is))
-
-pub loop-column-preserved : goal.loop-column-preserved
-loop-column-preserved c =
-    let front = take c.args.before (map datum_of c.args.row.now.items) in
-    let here = take c.loop-column.at (map datum_of c.loop-column.row.items) in
-    let there = take (c.loop-column.at + 1) (map datum_of c.put_value.new.row.items) in
-    record {
-      table_is = c.value.ensures.table ∙ c.loop-column.invariant.table_is;
-      reads = λ whole is. (c.in-Some-value.ensures.found whole (c.loop-column.invariant.reads whole is)).1;
-      shows = λ whole is.
-          shown_more whole c.args.columns.now c.loop-column.column-index front here there (datum_of_ref c.in-Some-value.value) c.loop-column-test.true
-          (c.in-Some-value.ensures.found whole (c.loop-column.invariant.reads whole is)).0
-          (c.loop-column.invariant.shows whole is) c.in_ok-put_value.ensures.value;
-      front = Grows-more front here there (datum_of_ref c.in-Some-value.value) c.loop-column.invariant.front c.in_ok-put_value.ensures.value;
-      long = c.in_ok-put_value.ensures.long;
-    }
+pub returns-in_err-put_columns-clause-shown : goal.returns-in_err-put_columns-clause-shown
+returns-in_err-put_columns-clause-shown c = λ whole is.
+    let p = err_from_is_err_and c.from_residual.result c.from_residual.ensures.1 in
+    rw (p.1, p.2) (c.in_err-put_columns.ensures.shown whole (c.in-Some.ensures.found.1 whole is))
 
 pub returns-clause-shown : goal.returns-clause-shown
 returns-clause-shown c = λ whole is.
-    ap (map datum_of) c.truncate.ensures.items ∙ take_datums c.loop-column.at c.loop-column.row.items
-    ∙ c.loop-column.invariant.shows whole is
-    ∙ ap (λ columns. take c.args.before (map datum_of c.args.row.now.items) ++ shown columns whole) (take_all c.loop-column.column-index c.args.columns.now c.loop-column-test.false)
+    ap (map datum_of) c.truncate.ensures.items ∙ take_datums (c.min-at.result + length c.args.columns.now) c.put_columns.new.row.items
+    ∙ (c.in_ok-put_columns.ensures.shown whole (c.in-Some.ensures.found.1 whole is)).0
+    ∙ ap (λ front. front ++ shown c.args.columns.now whole) (front_is c.args.before (length c.args.row.now.items) c.min-at.result c.args.row.now.items (search rules) refl)
 
 pub returns-clause-front : goal.returns-clause-front
 returns-clause-front c = (
-  c.loop-column.invariant.front.0,
-  ap (map datum_of) c.truncate.ensures.items ∙ take_datums c.loop-column.at c.loop-column.row.items ∙ c.loop-column.invariant.front.1,
+  c.in_ok-put_columns.ensures.front.0,
+  ap (map datum_of) c.truncate.ensures.items ∙ take_datums (c.min-at.result + length c.args.columns.now) c.put_columns.new.row.items
+      ∙ c.in_ok-put_columns.ensures.front.1
+      ∙ ap (λ front. front ++ c.in_ok-put_columns.ensures.front.0) (front_is c.args.before (length c.args.row.now.items) c.min-at.result c.args.row.now.items (search rules) refl),
 )
