@@ -1,11 +1,11 @@
 -- Rows of values that have one code.
-use Rattle.std.proofs.Common.{◌≡◌, ◌∙◌, ◌<◌, ◌^◌, ℕ, All, List, [], ◌∷◌, ◌++◌, append_assoc, length, refl, sym, ap, arith}
+use Rattle.std.proofs.Common.{◌≡◌, ◌≢◌, ◌∙◌, ◌+◌, ◌<◌, ◌≤◌, ◌^◌, ℕ, zero, suc, All, List, [], ◌∷◌, ◌++◌, append_assoc, get_or, length, take, refl, sym, ap, subst, arith}
 use Rattle.std.proofs.lemmas.List.Elements.{All-head, All-tail}
 use Rattle.std.proofs.lemmas.Nat.{from_le_bytes-to_le_bytes_8}
 use Rattle.std.specs.Int.{cast_signed, cast_unsigned, from_le_bytes, to_le_bytes, w64}
 use Rattle.values.specs.Datum.{Datum, blob, int, null, text}
 use Rattle.values.specs.Row.{Row}
-use Rattle.entry_batches.specs.Codes.{IsHeld, code_of, codes_of}
+use Rattle.entry_batches.specs.Codes.{IsHeld, code_of, codes_of, in_front, number_code, trimmed}
 
 -- two lists that go on equal where their fronts are as long
 fronts : (xs us ys vs : List ℕ) → length xs ≡ length us → xs ++ ys ≡ us ++ vs → (xs ≡ us) × (ys ≡ vs)
@@ -25,48 +25,120 @@ eight n = refl
 one_number : (n m : ℕ) → n < 2 ^ 64 → m < 2 ^ 64 → to_le_bytes w64 n ≡ to_le_bytes w64 m → n ≡ m
 one_number n m few too same = sym (from_le_bytes-to_le_bytes_8 n few) ∙ ap (from_le_bytes w64) same ∙ from_le_bytes-to_le_bytes_8 m too
 
-bytes_first : (s t rest more : List ℕ) → length s < 2 ^ 64 → length t < 2 ^ 64
-    → (to_le_bytes w64 (length s) ++ s) ++ rest ≡ (to_le_bytes w64 (length t) ++ t) ++ more → (s ≡ t) × (rest ≡ more)
-bytes_first s t rest more few too same =
-    let parted : to_le_bytes w64 (length s) ++ (s ++ rest) ≡ to_le_bytes w64 (length t) ++ (t ++ more) =
-    sym (append_assoc (to_le_bytes w64 (length s)) s rest) ∙ same ∙ append_assoc (to_le_bytes w64 (length t)) t more in
-    let counts = fronts (to_le_bytes w64 (length s)) (to_le_bytes w64 (length t)) (s ++ rest) (t ++ more) (eight (length s) ∙ sym (eight (length t))) parted in
-    fronts s t rest more (one_number (length s) (length t) few too counts.0) counts.1
-
 heads : (a b : ℕ) (xs ys : List ℕ) → a ∷ xs ≡ b ∷ ys → a ≡ b
 heads a b xs ys e = cc
 
 tails : (a b : ℕ) (xs ys : List ℕ) → a ∷ xs ≡ b ∷ ys → xs ≡ ys
 tails a b xs ys e = cc
 
+-- a byte in front of others, which both are told again
+parted : (us vs : List ℕ) (x y : ℕ) → in_front us x ≡ in_front vs y → (x ≡ y) × (us ≡ vs)
+parted [] [] zero zero same = (refl, refl)
+parted [] [] zero (suc y) same = cc
+parted [] [] (suc x) zero same = cc
+parted [] [] (suc x) (suc y) same = (heads (suc x) (suc y) [] [] same, refl)
+parted [] (v ∷ vs) zero y same = cc
+parted [] (v ∷ vs) (suc x) y same = let e = tails (suc x) y [] (v ∷ vs) same in cc
+parted (u ∷ us) [] x zero same = cc
+parted (u ∷ us) [] x (suc y) same = let e = tails x (suc y) (u ∷ us) [] same in cc
+parted (u ∷ us) (v ∷ vs) x y same = (heads x y (u ∷ us) (v ∷ vs) same, tails x y (u ∷ us) (v ∷ vs) same)
+
+-- as many bytes that are the same up to the last that isn't 0
+same_bytes : (xs ys : List ℕ) → length xs ≡ length ys → trimmed xs ≡ trimmed ys → xs ≡ ys
+same_bytes [] [] long same = refl
+same_bytes [] (y ∷ ys) long same = cc
+same_bytes (x ∷ xs) [] long same = cc
+same_bytes (x ∷ xs) (y ∷ ys) long same =
+    let parts = parted (trimmed xs) (trimmed ys) x y same in
+    let e : length xs ≡ length ys = cc in
+    let rest = same_bytes xs ys e parts.1 in
+    λ k. parts.0 k ∷ rest k
+
+fewer : (us : List ℕ) (x : ℕ) → length (in_front us x) ≤ suc (length us)
+fewer [] zero = omega arith
+fewer [] (suc x) = omega arith
+fewer (u ∷ us) x = omega arith
+
+no_longer : (xs : List ℕ) → length (trimmed xs) ≤ length xs
+no_longer [] = omega arith
+no_longer (x ∷ xs) = let few = fewer (trimmed xs) x in let rest = no_longer xs in omega (arith, few, rest)
+
+few_bytes : (n : ℕ) → length (trimmed (to_le_bytes w64 n)) ≤ 8
+few_bytes n = subst (λ (k : ℕ). length (trimmed (to_le_bytes w64 n)) ≤ k) (eight n) (no_longer (to_le_bytes w64 n))
+
+-- the bytes up to the last that isn't 0 are so many first ones
+pub trimmed_at : (xs : List ℕ) (size : ℕ) → size ≤ length xs → ((i : ℕ) → size ≤ i → i < length xs → get_or xs i 0 ≡ 0)
+    → ((k : ℕ) → size ≡ suc k → get_or xs k 0 ≢ 0) → trimmed xs ≡ take size xs
+trimmed_at [] zero most zeros last = refl
+trimmed_at [] (suc size) most zeros last = absurd (omega (arith, most))
+trimmed_at (x ∷ xs) zero most zeros last =
+    let rest : trimmed xs ≡ [] = trimmed_at xs zero (omega arith) (λ i up less. zeros (suc i) (omega arith) (omega (arith, less))) (λ k e. absurd (omega (arith, e))) in
+    let none : x ≡ 0 = zeros 0 (omega arith) (omega arith) in
+    λ k. in_front (rest k) (none k)
+trimmed_at (zero ∷ xs) (suc zero) most zeros last = absurd (last 0 refl refl)
+trimmed_at (suc x ∷ xs) (suc zero) most zeros last =
+    let rest : trimmed xs ≡ [] = trimmed_at xs zero (omega arith) (λ i up less. zeros (suc i) (omega arith) (omega (arith, less))) (λ k e. absurd (omega (arith, e))) in
+    ap (λ (us : List ℕ). in_front us (suc x)) rest
+trimmed_at (x ∷ []) (suc (suc size)) most zeros last = absurd (omega (arith, most))
+trimmed_at (x ∷ y ∷ xs) (suc (suc size)) most zeros last =
+    let rest : trimmed (y ∷ xs) ≡ take (suc size) (y ∷ xs) = trimmed_at (y ∷ xs) (suc size) (omega (arith, most))
+    (λ i up less. zeros (suc i) (omega (arith, up)) (omega (arith, less))) (λ k e. last (suc k) (ap suc e)) in
+    ap (λ (us : List ℕ). in_front us x) rest
+
+-- the numbers with which two codes begin
+number_first : (kind n m : ℕ) (rest more : List ℕ) → n < 2 ^ 64 → m < 2 ^ 64 → number_code kind n ++ rest ≡ number_code kind m ++ more
+    → (n ≡ m) × (rest ≡ more)
+number_first kind n m rest more few too same =
+    let s = trimmed (to_le_bytes w64 n) in
+    let t = trimmed (to_le_bytes w64 m) in
+    let counts = heads (kind + length s) (kind + length t) (s ++ rest) (t ++ more) same in
+    let long : length s ≡ length t = omega (arith, counts) in
+    let parts = fronts s t rest more long (tails (kind + length s) (kind + length t) (s ++ rest) (t ++ more) same) in
+    (one_number n m few too (same_bytes (to_le_bytes w64 n) (to_le_bytes w64 m) (eight n ∙ sym (eight m)) parts.0), parts.1)
+
+bytes_first : (kind : ℕ) (s t rest more : List ℕ) → length s < 2 ^ 64 → length t < 2 ^ 64
+    → (number_code kind (length s) ++ s) ++ rest ≡ (number_code kind (length t) ++ t) ++ more → (s ≡ t) × (rest ≡ more)
+bytes_first kind s t rest more few too same =
+    let apart : number_code kind (length s) ++ (s ++ rest) ≡ number_code kind (length t) ++ (t ++ more) =
+    sym (append_assoc (number_code kind (length s)) s rest) ∙ same ∙ append_assoc (number_code kind (length t)) t more in
+    let counts = number_first kind (length s) (length t) (s ++ rest) (t ++ more) few too apart in
+    fronts s t rest more counts.0 counts.1
+
+-- the kinds of two codes that are the same
+kinds : (a b n m : ℕ) (rest more : List ℕ) → a + 8 < b → number_code a n ++ rest ≡ number_code b m ++ more → ⊥
+kinds a b n m rest more far same =
+    let e = heads _ _ (trimmed (to_le_bytes w64 n) ++ rest) (trimmed (to_le_bytes w64 m) ++ more) same in
+    let few = few_bytes n in
+    omega (arith, e, few, far)
+
 -- the first values of two codes are the same
 first_value : (x y : Datum) (rest more : List ℕ) → IsHeld x → IsHeld y → code_of x ++ rest ≡ code_of y ++ more → (x ≡ y) × (rest ≡ more)
 first_value null null rest more held too same = (refl, tails 0 0 rest more same)
-first_value null (int m) rest more held too same = let e = heads 0 1 _ _ same in absurd (omega (arith, e))
-first_value null (text t) rest more held too same = let e = heads 0 2 _ _ same in absurd (omega (arith, e))
-first_value null (blob c) rest more held too same = let e = heads 0 3 _ _ same in absurd (omega (arith, e))
-first_value (int n) null rest more held too same = let e = heads 1 0 _ _ same in absurd (omega (arith, e))
+first_value null (int m) rest more held too same = let e = heads 0 _ _ _ same in absurd (omega (arith, e))
+first_value null (text t) rest more held too same = let e = heads 0 _ _ _ same in absurd (omega (arith, e))
+first_value null (blob c) rest more held too same = let e = heads 0 _ _ _ same in absurd (omega (arith, e))
+first_value (int n) null rest more held too same = let e = heads _ 0 _ _ same in absurd (omega (arith, e))
 first_value (int n) (int m) rest more held too same =
-    let e = tails 1 1 (to_le_bytes w64 (cast_unsigned w64 n) ++ rest) (to_le_bytes w64 (cast_unsigned w64 m) ++ more) same in
-    let parts = fronts (to_le_bytes w64 (cast_unsigned w64 n)) (to_le_bytes w64 (cast_unsigned w64 m)) rest more (eight (cast_unsigned w64 n) ∙ sym (eight (cast_unsigned w64 m))) e in
-    let bits = one_number (cast_unsigned w64 n) (cast_unsigned w64 m) held.0 too.0 parts.0 in
-    (ap int (sym held.1 ∙ ap (cast_signed w64) bits ∙ too.1), parts.1)
-first_value (int n) (text t) rest more held too same = let e = heads 1 2 _ _ same in absurd (omega (arith, e))
-first_value (int n) (blob c) rest more held too same = let e = heads 1 3 _ _ same in absurd (omega (arith, e))
-first_value (text s) null rest more held too same = let e = heads 2 0 _ _ same in absurd (omega (arith, e))
-first_value (text s) (int m) rest more held too same = let e = heads 2 1 _ _ same in absurd (omega (arith, e))
-first_value (text s) (text t) rest more held too same =
-    let e = tails 2 2 ((to_le_bytes w64 (length s) ++ s) ++ rest) ((to_le_bytes w64 (length t) ++ t) ++ more) same in
-    let parts = bytes_first s t rest more held too e in
-    (ap text parts.0, parts.1)
-first_value (text s) (blob c) rest more held too same = let e = heads 2 3 _ _ same in absurd (omega (arith, e))
-first_value (blob b) null rest more held too same = let e = heads 3 0 _ _ same in absurd (omega (arith, e))
-first_value (blob b) (int m) rest more held too same = let e = heads 3 1 _ _ same in absurd (omega (arith, e))
-first_value (blob b) (text t) rest more held too same = let e = heads 3 2 _ _ same in absurd (omega (arith, e))
-first_value (blob b) (blob c) rest more held too same =
-    let e = tails 3 3 ((to_le_bytes w64 (length b) ++ b) ++ rest) ((to_le_bytes w64 (length c) ++ c) ++ more) same in
-    let parts = bytes_first b c rest more held too e in
-    (ap blob parts.0, parts.1)
+    let parts = number_first 1 (cast_unsigned w64 n) (cast_unsigned w64 m) rest more held.0 too.0 same in
+    (ap int (sym held.1 ∙ ap (cast_signed w64) parts.0 ∙ too.1), parts.1)
+first_value (int n) (text t) rest more held too same =
+    absurd (kinds 1 10 (cast_unsigned w64 n) (length t) rest (t ++ more) (omega arith) (same ∙ append_assoc (number_code 10 (length t)) t more))
+first_value (int n) (blob c) rest more held too same =
+    absurd (kinds 1 19 (cast_unsigned w64 n) (length c) rest (c ++ more) (omega arith) (same ∙ append_assoc (number_code 19 (length c)) c more))
+first_value (text s) null rest more held too same = let e = heads _ 0 _ _ same in absurd (omega (arith, e))
+first_value (text s) (int m) rest more held too same =
+    absurd (kinds 1 10 (cast_unsigned w64 m) (length s) more (s ++ rest) (omega arith) (sym same ∙ append_assoc (number_code 10 (length s)) s rest))
+first_value (text s) (text t) rest more held too same = let parts = bytes_first 10 s t rest more held too same in (ap text parts.0, parts.1)
+first_value (text s) (blob c) rest more held too same =
+    absurd (kinds 10 19 (length s) (length c) (s ++ rest) (c ++ more) (omega arith)
+    (sym (append_assoc (number_code 10 (length s)) s rest) ∙ same ∙ append_assoc (number_code 19 (length c)) c more))
+first_value (blob b) null rest more held too same = let e = heads _ 0 _ _ same in absurd (omega (arith, e))
+first_value (blob b) (int m) rest more held too same =
+    absurd (kinds 1 19 (cast_unsigned w64 m) (length b) more (b ++ rest) (omega arith) (sym same ∙ append_assoc (number_code 19 (length b)) b rest))
+first_value (blob b) (text t) rest more held too same =
+    absurd (kinds 10 19 (length t) (length b) (t ++ more) (b ++ rest) (omega arith)
+    (sym (append_assoc (number_code 10 (length t)) t more) ∙ sym same ∙ append_assoc (number_code 19 (length b)) b rest))
+first_value (blob b) (blob c) rest more held too same = let parts = bytes_first 19 b c rest more held too same in (ap blob parts.0, parts.1)
 
 never_empty : (x : Datum) (rest : List ℕ) → code_of x ++ rest ≡ [] → ⊥
 never_empty null rest e = cc

@@ -1,15 +1,30 @@
 -- The code of values: bytes, of which two rows of values have the same only where they are the same.
-use Rattle.std.specs.Prelude.{◌≡◌, ◌<◌, ◌++◌, ◌∷◌, [], ◌^◌, ℕ, List, flat_map, length}
+use Rattle.std.specs.Prelude.{◌≡◌, ◌<◌, ◌+◌, ◌++◌, ◌∷◌, [], ◌^◌, ℕ, zero, suc, List, flat_map, length}
 use Rattle.std.specs.Int.{cast_signed, cast_unsigned, to_le_bytes, w64}
 use Rattle.values.specs.Datum.{Datum, blob, int, null, text}
 use Rattle.values.specs.Row.{Row}
 
--- its kind, and behind it the eight bytes of a whole number; or of a text or a blob its length and its bytes
+-- a byte in front of others, unless all are 0
+abbrev pub in_front : List ℕ → ℕ → List ℕ
+in_front [] zero = []
+in_front [] (suc byte) = suc byte ∷ []
+in_front (other ∷ bytes) byte = byte ∷ other ∷ bytes
+
+-- bytes up to the last that isn't 0
+abbrev pub trimmed : List ℕ → List ℕ
+trimmed [] = []
+trimmed (byte ∷ bytes) = in_front (trimmed bytes) byte
+
+-- its kind and how many bytes it needs, and behind that these, the least first
+abbrev pub number_code : ℕ → ℕ → List ℕ
+number_code kind n = (kind + length (trimmed (to_le_bytes w64 n))) ∷ trimmed (to_le_bytes w64 n)
+
+-- a whole number; or of a text or a blob its length and its bytes
 abbrev pub code_of : Datum → List ℕ
 code_of null = 0 ∷ []
-code_of (int n) = 1 ∷ to_le_bytes w64 (cast_unsigned w64 n)
-code_of (text bytes) = 2 ∷ to_le_bytes w64 (length bytes) ++ bytes
-code_of (blob bytes) = 3 ∷ to_le_bytes w64 (length bytes) ++ bytes
+code_of (int n) = number_code 1 (cast_unsigned w64 n)
+code_of (text bytes) = number_code 10 (length bytes) ++ bytes
+code_of (blob bytes) = number_code 19 (length bytes) ++ bytes
 
 abbrev pub codes_of : Row → List ℕ
 codes_of values = flat_map code_of values
