@@ -26,7 +26,7 @@ use tables::Table;
 use values::Fault;
 
 /// How many bytes a batch may have before the index is held against it: an entry's slot and its code are counted.
-const MOST_BYTES: usize = 10 << 20;
+const MOST_BYTES: usize = 25 << 19;
 
 /// How many bytes the slot of an entry has.
 const SLOT_BYTES: usize = 16;
