@@ -9,7 +9,7 @@ use Rattle.meaning.specs.Times.{combined, once, rule_of, same_row, times}
 use Rattle.meaning.proofs.CountLemmas.{count-append}
 use Rattle.meaning.proofs.TimesLemmas.{bags_are_times, rules_are_times, same_row-itself, same_row-reads, times-once}
 use Rattle.distinct_results.specs.Firsts.{firsts}
-use Rattle.distinct_results.proofs.FirstLemmas.{firsts_are_once}
+use Rattle.distinct_rows.proofs.FirstLemmas.{firsts_are_once}
 use Rattle.compound_results.specs.Joined.{JoinedIsCombined, filtered, has_row, joined_rows}
 
 pub times-firsts : (r : Row) (rows : List Row) → times r (firsts rows) ≡ min 1 (times r rows)

@@ -16,7 +16,7 @@ use Rattle.results.specs.Coming.{result_rows}
 use Rattle.results.proofs.PermittedLemmas.{results_are}
 use Rattle.distinct_results.specs.Firsts.{firsts}
 use Rattle.distinct_results.specs.Permitted.{AreResults, IsResultColumn}
-use Rattle.distinct_results.proofs.FirstLemmas.{firsts_are_once}
+use Rattle.distinct_rows.proofs.FirstLemmas.{firsts_are_once}
 use Rattle.distinct_results.proofs.PermittedLemmas.{in_order_is_permitted}
 use Rattle.compound_results.specs.Arms.{ArmData, ArmsData, ArmsHit, arm_rows, each_once_if, joined, one, rows_of_arms}
 use Rattle.compound_results.specs.Joined.{joined_rows}

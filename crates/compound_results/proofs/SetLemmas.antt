@@ -6,7 +6,7 @@ use Rattle.values.specs.Row.{Row}
 use Rattle.indexmap.specs.IndexSet.{insert_key}
 use Rattle.meaning.specs.Times.{same_row, times}
 use Rattle.distinct_results.specs.Firsts.{firsts, unmet}
-use Rattle.distinct_results.proofs.FirstLemmas.{met_passed, new_first, unmet_none}
+use Rattle.distinct_rows.proofs.FirstLemmas.{met_passed, new_first, unmet_none}
 use Rattle.compound_results.specs.Joined.{filtered, has_row}
 use Rattle.compound_results.proofs.JoinedLemmas.{apart, has_times, times-firsts}
 

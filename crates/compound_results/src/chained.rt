@@ -31,7 +31,7 @@ fn is_union_all(operator: CompoundOperator) -> bool
 }
 
 /// Whether all rows of each SELECT are given.
-fn are_all(arms: &Arms) -> bool
+pub(crate) fn are_all(arms: &Arms) -> bool
     ensures { IsTrue result ↔ AreAll (arms_data arms.now) }
 {
     match arms {
@@ -75,7 +75,11 @@ fn arm_opened(alloc: Global, arm: &Arm) -> Result<Results, AllocError>
 }
 
 /// The rows of SELECTs before those that are opened already. It reads no page.
-fn opened(alloc: Global, arms: &Arms, behind: Vec<Results>) -> Result<ArmsInTurn, AllocError>
+pub(crate) fn opened(
+    alloc: Global,
+    arms: &Arms,
+    behind: Vec<Results>,
+) -> Result<ArmsInTurn, AllocError>
     requires { AreAll (arms_data arms.now) }
     ensures arms { IfOk result (λ turn. arms_of turn ≡ arms_from (arms_data arms.now) behind.items) }
     ensures rows { IfOk result (λ turn. (pages : Pages) (sources : List SourceData) (on : Basis) → All (IsWaiting pages sources on) behind.items
@@ -112,7 +116,7 @@ impl ArmsInTurn {
 
     /// Puts the next row into `out`, or tells that there is none. It isn't called again after `false` or a fault. Its faults are
     /// those of an operator.
-    fn next<S: Source>(
+    pub(crate) fn next<S: Source>(
         &mut self,
         alloc: Global,
         pager: &mut Pager<S>,

@@ -6,11 +6,17 @@ ghost use Rattle.sources.specs.Coming.{IsRooted};
 ghost use Rattle.image.specs.Pages.{WhereSteady};
 ghost use Rattle.scan.specs.Coming.{Asks};
 ghost use Rattle.operators.specs.Basis.{AreStored, Basis, IsOperatorFault};
-ghost use Rattle.compound_results.specs.Arms.{ArePlannedOver, arms_data, work_of_arms};
+ghost use Rattle.ordered_rows.specs.Firsts.{BeginsAll};
+ghost use Rattle.ordered_rows.specs.FirstView.{rows_data};
+ghost use Rattle.ordered_rows.specs.Keys.{comes_before};
+ghost use Rattle.compound_results.specs.Arms.{ArePlannedOver, arms_data, rows_of_arms, work_of_arms};
 ghost use Rattle.compound_results.specs.Compounds.{IsArmsCause, IsCompoundAnswer, compound_data};
 
 use crate::arms::{Arms, arms_rows};
-use distinct_results::{ResultKey, shown_rows, sort_rows};
+use crate::chained::are_all;
+use crate::in_order::arms_in_order;
+use distinct_results::shown_rows;
+use ordered_rows::{ResultKey, rows_looked_at, sort_rows};
 use pager::{Pager, Source};
 use results::Slice;
 use sources::Sources;
@@ -24,6 +30,34 @@ pub struct Compound {
     pub order: Vec<ResultKey>,
     pub limit: Option<i64>,
     pub offset: i64,
+}
+
+/// The rows of SELECTs in order, of which as many as are looked for come first. Where UNION ALL alone joins them, the others are let go
+/// while they come.
+fn rows_in_order<S: Source>(
+    alloc: Global,
+    pager: &mut Pager<S>,
+    sources: &Sources<'_>,
+    arms: &Arms,
+    order: &[ResultKey],
+    most: Option<usize>,
+) -> Result<Vec<Vec<Value>>, Fault>
+    requires roots { All (IsRooted pager.old.state.header) sources.now }
+    requires planned { ArePlannedOver sources.now (arms_data arms.now) }
+    ensures rows { WhereSteady pager.old.state (λ pages. (on : Basis) → AreStored pages sources.now on
+        → MatchResult result
+        (λ rows. BeginsAll (comes_before order.now) most (rows_data rows.items) (rows_of_arms on.w on.db (arms_data arms.now))
+        × Asks on.local pager.old.state (work_of_arms on.w on.db on.sizes (arms_data arms.now)) pager.new.state 0)
+        (IsArmsCause on (arms_data arms.now))) }
+    ensures only { IfErr result IsOperatorFault }
+    ensures reads { ReadsPages result pager.old.state pager.new.state }
+{
+    if are_all(arms) {
+        return arms_in_order(alloc, pager, sources, arms, order, most);
+    }
+    let mut rows = arms_rows(alloc, pager, sources, arms)?;
+    sort_rows(order, &mut rows)?;
+    Ok(rows)
 }
 
 /// The rows of SELECTs that are joined. Its faults are those of an operator.
@@ -43,8 +77,9 @@ pub fn compound_rows<S: Source>(
     ensures only { IfErr result IsOperatorFault }
     ensures reads { ReadsPages result pager.old.state pager.new.state }
 {
-    let mut rows = arms_rows(alloc, pager, sources, &compound.arms)?;
-    sort_rows(compound.order.as_slice(), &mut rows)?;
+    let order = compound.order.as_slice();
+    let most = rows_looked_at(compound.limit, compound.offset);
+    let rows = rows_in_order(alloc, pager, sources, &compound.arms, order, most)?;
     let slice = Slice::new(compound.limit, compound.offset);
     let shown = shown_rows(alloc, rows, slice)?;
     Ok(shown)

@@ -6,14 +6,15 @@
 //! asked for than the plans' work, and of rows that are given one by one none behind the last that LIMIT leaves.
 //!
 //! The modules, in the order in which data passes them: `gathered` (the rows of a stream), `sets` (rows, each once, and those
-//! that others have), `arms` (the rows of each SELECT, joined), `compound` (the rows in order), `chained` (rows that are given one
-//! by one) and `laws` of the definitions.
+//! that others have), `arms` (the rows of each SELECT, joined), `chained` (rows that are given one by one), `in_order` (these in
+//! order), `compound` (the rows in order) and `laws` of the definitions.
 #![tactic(auto)]
 
 mod arms;
 mod chained;
 mod compound;
 mod gathered;
+mod in_order;
 pub mod laws;
 mod sets;
 

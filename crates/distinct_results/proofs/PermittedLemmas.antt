@@ -21,7 +21,7 @@ use Rattle.results.proofs.PermittedLemmas.{results_are}
 use Rattle.distinct_results.specs.Firsts.{firsts}
 use Rattle.distinct_results.specs.Sorted.{IsShownInOrder}
 use Rattle.distinct_results.specs.Permitted.{AreResults, DistinctIsPermitted, IsResultColumn, SortedIsPermitted}
-use Rattle.distinct_results.proofs.FirstLemmas.{firsts_are_once}
+use Rattle.distinct_rows.proofs.FirstLemmas.{firsts_are_once}
 
 module _ (w : Datum) (db : Database) (from : From) (s : Select) (once_each : s.distinct ≡ true) (plan : PlanData) (columns : List Term) (sees : SeesRows w db from s plan columns) where
   abbrev bag : List Row

@@ -7,27 +7,14 @@ use Rattle.expr.specs.Meaning.{eval}
 use Rattle.expr.specs.View.{term}
 use Rattle.meaning.specs.Answer.{Ascends, limited, skipped}
 use Rattle.meaning.specs.Body.{Output, plain_outputs}
-use Rattle.meaning.specs.Query.{Direction, Key, KeyTerm}
-use Rattle.meaning.specs.Sequence.{value_at}
+use Rattle.meaning.specs.Query.{Key}
 use Rattle.plans.specs.Plan.{rows_of}
 use Rattle.plans.specs.PlanView.{plan_data}
-use Rattle.query_trees.specs.SelectView.{direction_of}
 use Rattle.results.specs.Coming.{result_rows}
+use Rattle.ordered_rows.specs.Keys.{result_key}
 use Rattle.sorted_results.specs.Sorted.{SortedData}
 use Rattle.distinct_results.specs.Firsts.{firsts}
 use Rattle.distinct_results.specs.declared.gathered.SortedDistinct.{SortedDistinct}
-use Rattle.distinct_results.specs.declared.order.ResultKey.{ResultKey}
-
--- a term of ORDER BY that is a result column
-abbrev pub result_key : ResultKey → Key
-result_key key = record { by = KeyTerm.result key.at; direction = direction_of key.direction }
-
-abbrev pub directions : List ResultKey → List Direction
-directions order = map (λ key. direction_of key.direction) order
-
--- the values that a row is put in order by
-abbrev pub key_values : List ResultKey → Row → Row
-key_values order row = map (λ key. value_at row key.at) order
 
 abbrev pub sorted_distinct_data : SortedDistinct → SortedData
 sorted_distinct_data selection = record {

@@ -1,6 +1,6 @@
 //! The rows of a SELECT DISTINCT, gathered and put in order.
-ghost use Rattle.std.specs.Prelude.{◌≡◌, ℕ, All, IfErr, IfOk, List, MatchResult, map};
-ghost use Rattle.values.specs.Datum.{Datum, datum_of};
+ghost use Rattle.std.specs.Prelude.{◌≡◌, All, IfErr, IfOk, MatchResult, map};
+ghost use Rattle.values.specs.Datum.{datum_of};
 ghost use Rattle.pager.specs.Calls.{ReadsPages};
 ghost use Rattle.sources.specs.Coming.{IsRooted};
 ghost use Rattle.image.specs.Pages.{WhereSteady};
@@ -9,18 +9,18 @@ ghost use Rattle.plans.specs.Plan.{work};
 ghost use Rattle.plans.specs.PlanView.{plan_data};
 ghost use Rattle.scan.specs.Coming.{Asks};
 ghost use Rattle.operators.specs.Basis.{AreStored, Basis, IsOperatorFault};
-ghost use Rattle.operators.specs.Left.{IsPlanOf, plan_of};
+ghost use Rattle.operators.specs.Left.{IsPlanOf};
 ghost use Rattle.results.specs.Coming.{IsResultCause};
 ghost use Rattle.results.specs.Slices.{sliced};
-ghost use Rattle.distinct_results.specs.Coming.{IsDistinctComing};
 ghost use Rattle.distinct_results.specs.Sorted.{IsSortedDistinctAnswer, sorted_distinct_data};
 
-use crate::order::{ResultKey, sort_rows};
-use crate::stream::DistinctResults;
+use crate::pushed::push_distinct;
+use distinct_rows::DistinctInOrder;
 use expr::Expr;
+use ordered_rows::{ResultKey, rows_looked_at};
 use pager::{Pager, Source};
 use plans::Plan;
-use results::Slice;
+use results::{Results, Slice};
 use sources::Sources;
 use std::alloc::{AllocError, Global};
 use values::{Fault, Value};
@@ -34,33 +34,6 @@ pub struct SortedDistinct {
     pub order: Vec<ResultKey>,
     pub limit: Option<i64>,
     pub offset: i64,
-}
-
-/// The rows that are still to come.
-fn gather<S: Source>(
-    alloc: Global,
-    pager: &mut Pager<S>,
-    sources: &Sources<'_>,
-    distinct: DistinctResults,
-) -> Result<Vec<Vec<Value>>, Fault>
-    requires roots { All (IsRooted pager.old.state.header) sources.now }
-    requires planned { IsPlanOf sources.now (plan_of distinct.results.op) }
-    ensures rows { WhereSteady pager.old.state (λ pages. (on : Basis) (rest : List (List Datum)) (ahead : ℕ) → AreStored pages sources.now on
-        → IsDistinctComing pages sources.now on distinct rest ahead
-        → MatchResult result
-        (λ rows. (map (λ row. map datum_of row.items) rows.items ≡ rest) × Asks on.local pager.old.state ahead pager.new.state 0)
-        (IsResultCause on (map term distinct.results.columns.items))) }
-    ensures only { IfErr result IsOperatorFault }
-    ensures reads { ReadsPages result pager.old.state pager.new.state }
-{
-    let mut distinct = distinct;
-    let mut row = Vec::new(alloc);
-    let mut rows = Vec::new(alloc);
-    'rows: while distinct.next(alloc, pager, sources, &mut row)? {
-        rows.push(row)?;
-        row = Vec::new(alloc);
-    }
-    Ok(rows)
 }
 
 /// The rows that a slice leaves.
@@ -99,11 +72,12 @@ pub fn sorted_distinct_rows<S: Source>(
     ensures only { IfErr result IsOperatorFault }
     ensures reads { ReadsPages result pager.old.state pager.new.state }
 {
-    let all = Slice::new(None, 0);
-    let columns = selection.columns.as_slice();
-    let distinct = DistinctResults::sliced(alloc, &selection.plan, columns, all)?;
-    let mut rows = gather(alloc, pager, sources, distinct)?;
-    sort_rows(selection.order.as_slice(), &mut rows)?;
+    let order = selection.order.as_slice();
+    let results = Results::of_all(alloc, &selection.plan, selection.columns.as_slice())?;
+    let most = rows_looked_at(selection.limit, selection.offset);
+    let mut first = DistinctInOrder::new(alloc, most);
+    push_distinct(alloc, pager, sources, results, order, &mut first)?;
+    let rows = first.in_order(alloc, order)?;
     let slice = Slice::new(selection.limit, selection.offset);
     let shown = shown_rows(alloc, rows, slice)?;
     Ok(shown)

@@ -3,8 +3,8 @@ use Rattle.std.proofs.Common.{◌≡◌, ◌∙◌, ◌+◌, ◌<◌, Contains, 
 use Rattle.std.proofs.lemmas.List.{get_or-map, length-map, map-append, map_push, take_more}
 use Rattle.std.proofs.lemmas.List.Elements.{All-contains, All-push, Contains-get_or}
 use Rattle.distinct_results.specs.Permitted.{AreResults, IsResultColumn}
-use Rattle.distinct_results.specs.Sorted.{result_key}
-use Rattle.distinct_results.specs.declared.order.ResultKey.{ResultKey}
+use Rattle.ordered_rows.specs.Keys.{result_key}
+use Rattle.ordered_rows.specs.declared.order.ResultKey.{ResultKey}
 use Rattle.meaning.specs.Query as query
 use Rattle.order_keys.specs.KeyView.{key_of}
 use Rattle.order_keys.specs.declared.terms.Key.{Key}

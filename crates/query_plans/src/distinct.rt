@@ -1,7 +1,7 @@
 //! SELECT DISTINCT.
 ghost use Rattle.std.specs.Prelude.{◌≡◌, IfOk, MatchOption, map, true};
 ghost use Rattle.distinct_results.specs.Permitted.{AreResults, IsResultColumn};
-ghost use Rattle.distinct_results.specs.Sorted.{result_key};
+ghost use Rattle.ordered_rows.specs.Keys.{result_key};
 ghost use Rattle.meaning.specs.Hits.{order_terms};
 ghost use Rattle.meaning.specs.Query as query;
 ghost use Rattle.order_keys.specs.KeyView.{key_of, key_term_of};
@@ -13,8 +13,9 @@ ghost use Rattle.table_plans.specs.TableJoins.{AreTableJoins};
 ghost use Rattle.table_plans.specs.Input.{input_from};
 
 use crate::Planned;
-use distinct_results::{ResultKey, SortedDistinct};
+use distinct_results::SortedDistinct;
 use order_keys::{Key, KeyTerm};
+use ordered_rows::ResultKey;
 use query_trees::Select;
 use results::Selection;
 use select_plans::base_of;

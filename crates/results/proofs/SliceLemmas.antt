@@ -1,7 +1,8 @@
 -- LIMIT and OFFSET, row by row.
 use Rattle.std.proofs.Common.{◌≡◌, ◌-◌, ◌<◌, ℕ, zero, suc, List, [], ◌∷◌, drop, take, Option, Some, None, refl, ap, arith}
+use Rattle.ordered_rows.specs.Firsts.{at_most}
 use Rattle.results.specs.declared.limits.Slice.{Slice}
-use Rattle.results.specs.Slices.{at_most, sliced}
+use Rattle.results.specs.Slices.{sliced}
 
 pub drop_behind : {X : Type 0} (n : ℕ) (x : X) (xs : List X) → 0 < n → drop n (x ∷ xs) ≡ drop (n - 1) xs
 drop_behind zero x xs some = absurd (omega (arith, some))

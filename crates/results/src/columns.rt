@@ -23,6 +23,8 @@ pub fn push_results(
     ensures overflow { result ≡ Err Fault.Overflow → ReachesOverflow (map term columns.now) (map datum_of row.now) }
     ensures only { IfErr result (λ e. (e ≡ Fault.Overflow) ⊎ (e ≡ Fault.NoMemory)) }
 {
+    // A row that is kept has no more memory than its values.
+    out.reserve_exact(columns.len())?;
     for column in columns {
         let value = eval(alloc, column, row)?;
         out.push(value)?;

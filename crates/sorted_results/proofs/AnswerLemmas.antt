@@ -1,65 +1,102 @@
--- Outputs that were put in order are an answer.
-use Rattle.std.proofs.Common.{◌≡◌, ◌∙◌, ◌+◌, ◌<◌, Bool, ℕ, zero, suc, List, [], ◌∷◌, get_or, length, map, refl, sym, ap, subst, Option, arith}
-use Rattle.std.specs.List.Sorted.{IsSortedBy}
+-- Rows that were put in order are an answer.
+use Rattle.std.proofs.Common.{◌≡◌, ◌∙◌, ◌++◌, Bool, ℕ, ℤ, List, is_lt, length, map, take, refl, sym, ap, subst, Option, IsPermutation}
+use Rattle.std.proofs.Math.Seq.{take-append_seam}
+use Rattle.std.proofs.lemmas.List.{length-map, map-append}
 use Rattle.values.specs.Database.{Database}
-use Rattle.values.specs.Datum.{Datum, datum_of}
+use Rattle.values.specs.Datum.{Datum}
 use Rattle.values.specs.Row.{Row}
-use Rattle.image.specs.Pages.{Pages}
-use Rattle.sources.specs.SourceData.{SourceData}
+use Rattle.expr.specs.Meaning.{eval}
 use Rattle.meaning.specs.Answer.{key_directions, limited, skipped}
-use Rattle.meaning.specs.Body.{Output}
+use Rattle.meaning.specs.Body.{Output, key_value, output}
+use Rattle.meaning.specs.Hits.{order_terms}
+use Rattle.meaning.specs.Query.{Direction}
+use Rattle.meaning.specs.Sequence.{keys_cmp}
+use Rattle.meaning.specs.Valuation.{term_values}
 use Rattle.meaning.proofs.AnswerLemmas.{limited-map, skipped-map}
 use Rattle.meaning.proofs.GroupLemmas.{map-map}
-use Rattle.plans.specs.Plan.{Hits, PlanData, rows_of, work}
-use Rattle.operators.specs.declared.tree.Op.{Op}
-use Rattle.operators.specs.Basis.{Basis}
-use Rattle.operators.specs.Left.{IsLeft}
+use Rattle.plans.specs.Plan.{rows_of}
+use Rattle.results.specs.Coming.{result_rows}
 use Rattle.results.specs.declared.limits.Slice.{Slice}
-use Rattle.results.specs.Slices.{at_most, sliced}
-use Rattle.sorted_results.specs.declared.keys.Output.{Output as Made}
-use Rattle.sorted_results.specs.Firsts.{BeginsAll, comes_before}
-use Rattle.sorted_results.specs.KeyView.{output_data}
+use Rattle.results.specs.Slices.{sliced}
+use Rattle.ordered_rows.specs.declared.order.ResultKey.{ResultKey}
+use Rattle.ordered_rows.specs.Firsts.{BeginsAll, at_most}
+use Rattle.ordered_rows.specs.Keys.{comes_before, directions, key_values}
+use Rattle.ordered_rows.proofs.FirstLemmas.{BeginsAll-map, at_most-map}
 use Rattle.sorted_results.specs.Sorted.{IsSortedAnswer, SortedData, outputs_over}
 
-pub get_map : {X Y : Type 0} (f : X → Y) (xs : List X) (i : ℕ) (x : X) (y : Y) → i < length xs → get_or (map f xs) i y ≡ f (get_or xs i x)
-get_map f [] i x y within = absurd (omega (arith, within))
-get_map f (z ∷ xs) zero x y within = refl
-get_map f (z ∷ xs) (suc i) x y within = get_map f xs i x y (omega (arith, within))
+-- rows in order, of which a part is shown
+module _ (front : Row → Row) (order : List ResultKey) (ways : List Direction) (limit : Option ℤ) (offset : ℤ) (most : Option ℕ) (first all : List Row)
+    (slice : Slice) (rows : List Row)
+    (ways_are : directions order ≡ ways)
+    (made : BeginsAll (comes_before order) most first all)
+    (looked_at : (rows : List Row) → limited limit (skipped offset (at_most most rows)) ≡ limited limit (skipped offset rows))
+    (shown : rows ≡ sliced slice (map front first))
+    (slice_is : (rows : List Row) → sliced slice rows ≡ limited limit (skipped offset rows)) where
+  abbrev pub output_of : Row → Output
+  output_of row = record { row = front row; keys = key_values order row }
 
-length_map : {X Y : Type 0} (f : X → Y) (xs : List X) → length (map f xs) ≡ length xs
-length_map f [] = refl
-length_map f (x ∷ xs) = ap suc (length_map f xs)
+  pub outputs_begin : BeginsAll (λ (a b : Output). is_lt (keys_cmp ways a.keys b.keys)) most (map output_of first) (map output_of all)
+  outputs_begin =
+      BeginsAll-map (λ (a b : Output). is_lt (keys_cmp ways a.keys b.keys)) output_of most first all
+      (subst (λ (ds : List Direction). BeginsAll (λ x y. is_lt (keys_cmp ds (key_values order x) (key_values order y))) most first all) ways_are made)
 
-pub sorted_map : {X Y : Type 0} (lt : Y → Y → Bool) (f : X → Y) (xs : List X) → IsSortedBy (λ x y. lt (f x) (f y)) xs → IsSortedBy lt (map f xs)
-sorted_map lt f [] sorted k d low within = absurd (omega (arith, within))
-sorted_map lt f (x ∷ xs) sorted k d low within =
-    let long = length_map f (x ∷ xs) in
-    let short : k + 1 < length (x ∷ xs) = omega (arith, within, long) in
-    rw (get_map f (x ∷ xs) (k + 1) x d short, get_map f (x ∷ xs) k x d (omega (arith, short))) (sorted k x low short)
+  abbrev row_of : Output → Row
+  row_of o = o.row
 
-module _ (w : Datum) (db : Database) (selection : SortedData) (most : Option ℕ) (outputs : List Made) (slice : Slice) (rows : List Row)
-    (made : BeginsAll (comes_before (key_directions selection.order)) most (map output_data outputs) (outputs_over w selection.columns selection.order (rows_of w db selection.plan)))
-    (looked_at : (outs : List Output) → limited selection.limit (skipped selection.offset (at_most most outs)) ≡ limited selection.limit (skipped selection.offset outs))
-    (shown : rows ≡ sliced slice (map (λ (o : Made). map datum_of o.row.items) outputs))
+  first_rows : at_most most (map front first) ≡ at_most most (map row_of outputs_begin.ordered)
+  first_rows =
+      ap (at_most most) (sym (map-map row_of output_of first))
+      ∙ at_most-map row_of most (map output_of first)
+      ∙ ap (map row_of) (sym outputs_begin.begins)
+      ∙ sym (at_most-map row_of most outputs_begin.ordered)
+
+  pub rows_shown : rows ≡ map row_of (limited limit (skipped offset outputs_begin.ordered))
+  rows_shown =
+      shown ∙ slice_is (map front first)
+      ∙ sym (looked_at (map front first))
+      ∙ ap (λ rows. limited limit (skipped offset rows)) first_rows
+      ∙ looked_at (map row_of outputs_begin.ordered)
+      ∙ ap (limited limit) (skipped-map row_of offset outputs_begin.ordered)
+      ∙ limited-map row_of limit (skipped offset outputs_begin.ordered)
+
+-- a row of the result columns and the other terms of ORDER BY
+module _ (w : Datum) (db : Database) (selection : SortedData) (order : List ResultKey) (most : Option ℕ) (first : List Row) (slice : Slice) (rows : List Row)
+    (ways_are : directions order ≡ key_directions selection.order)
+    (values_are : (row : Row) → key_values order (term_values (eval w) (selection.columns ++ order_terms selection.order) row)
+    ≡ map (key_value (eval w) (term_values (eval w) selection.columns row) row) selection.order)
+    (made : BeginsAll (comes_before order) most first (result_rows w (selection.columns ++ order_terms selection.order) (rows_of w db selection.plan)))
+    (looked_at : (rows : List Row) → limited selection.limit (skipped selection.offset (at_most most rows)) ≡ limited selection.limit (skipped selection.offset rows))
+    (shown : rows ≡ sliced slice (map (take (length selection.columns)) first))
     (slice_is : (rows : List Row) → sliced slice rows ≡ limited selection.limit (skipped selection.offset rows)) where
+  abbrev wide : Row → Row
+  wide row = term_values (eval w) (selection.columns ++ order_terms selection.order) row
+
+  abbrev seen : Row → Output
+  seen row = record { row = take (length selection.columns) row; keys = key_values order row }
+
+  front_is : (row : Row) → take (length selection.columns) (wide row) ≡ term_values (eval w) selection.columns row
+  front_is row =
+      ap (take (length selection.columns)) (map-append (λ t. eval w t row) selection.columns (order_terms selection.order))
+      ∙ ap (λ n. take n (term_values (eval w) selection.columns row ++ term_values (eval w) (order_terms selection.order) row)) (sym (length-map selection.columns (λ t. eval w t row)))
+      ∙ take-append_seam (term_values (eval w) selection.columns row) (term_values (eval w) (order_terms selection.order) row)
+
+  seen_is : (row : Row) → seen (wide row) ≡ output (eval w) selection.order (term_values (eval w) selection.columns row) row
+  seen_is row i = record { row = front_is row i; keys = values_are row i }
+
+  outputs_are : map seen (result_rows w (selection.columns ++ order_terms selection.order) (rows_of w db selection.plan))
+      ≡ outputs_over w selection.columns selection.order (rows_of w db selection.plan)
+  outputs_are = map-map seen wide (rows_of w db selection.plan) ∙ ap (λ (f : Row → Output). map f (rows_of w db selection.plan)) (λ i row. seen_is row i)
+
+  abbrev begin : BeginsAll (λ (a b : Output). is_lt (keys_cmp (key_directions selection.order) a.keys b.keys)) most (map seen first)
+      (map seen (result_rows w (selection.columns ++ order_terms selection.order) (rows_of w db selection.plan)))
+  begin = outputs_begin (take (length selection.columns)) order (key_directions selection.order) selection.limit selection.offset most first _ slice rows
+      ways_are made looked_at shown slice_is
+
   pub is_answer : IsSortedAnswer w db selection rows
   is_answer = record {
-    ordered = made.ordered;
-    same = made.same;
-    ascends = made.ascends;
-    shown =
-        shown ∙ slice_is (map (λ (o : Made). map datum_of o.row.items) outputs)
-        ∙ ap (λ rows. limited selection.limit (skipped selection.offset rows)) (sym (map-map (λ (o : Output). o.row) output_data outputs))
-        ∙ ap (limited selection.limit) (skipped-map (λ (o : Output). o.row) selection.offset (map output_data outputs))
-        ∙ limited-map (λ (o : Output). o.row) selection.limit (skipped selection.offset (map output_data outputs))
-        ∙ ap (map (λ (o : Output). o.row))
-        (sym (looked_at (map output_data outputs)) ∙ ap (λ outs. limited selection.limit (skipped selection.offset outs)) (sym made.begins) ∙ looked_at made.ordered);
+    ordered = begin.ordered;
+    same = subst (λ (outs : List Output). IsPermutation outs begin.ordered) outputs_are begin.same;
+    ascends = begin.ascends;
+    shown = rows_shown (take (length selection.columns)) order (key_directions selection.order) selection.limit selection.offset most first _ slice rows
+        ways_are made looked_at shown slice_is;
   }
-
--- an operator of the plan that is run, before its first row
-pub all_left : (pages : Pages) (sources : List SourceData) (on : Basis) (op : Op) (plan : PlanData) → on.plan ≡ plan
-    → ((Hits on.w on.db plan → Hits on.w on.db on.plan) → IsLeft pages sources on op [] (rows_of on.w on.db plan) (work on.w on.db on.sizes plan))
-    → IsLeft pages sources on op [] (rows_of on.w on.db on.plan) (work on.w on.db on.sizes on.plan)
-all_left pages sources on op plan same opens =
-    subst (λ (p : PlanData). IsLeft pages sources on op [] (rows_of on.w on.db p) (work on.w on.db on.sizes p)) (sym same)
-    (opens (λ hits. subst (Hits on.w on.db) (sym same) hits))

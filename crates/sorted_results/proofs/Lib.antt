@@ -1,6 +1,5 @@
-pub mod OrderLemmas
+pub mod PlaceLemmas
 pub mod PermittedLemmas
 pub mod GatherLemmas
 pub mod AnswerLemmas
-pub mod FirstLemmas
-pub mod LimitLemmas
+pub mod ShownLemmas

@@ -1,14 +1,10 @@
--- What the program's terms of ORDER BY and its outputs are.
-use Rattle.std.specs.Prelude.{map}
-use Rattle.values.specs.Datum.{datum_of}
+-- What the program's terms of ORDER BY are.
 use Rattle.expr.specs.View.{term}
-use Rattle.meaning.specs.Body as body
 use Rattle.meaning.specs.Query as query
 use Rattle.query_trees.specs.SelectView.{direction_of}
 use Rattle.sorted_results.specs.declared.keys.Key.{Key}
 use Rattle.sorted_results.specs.declared.keys.KeyTerm.{KeyTerm}
 use Rattle.sorted_results.specs.declared.keys.KeyTerm.TheVariants as terms
-use Rattle.sorted_results.specs.declared.keys.Output.{Output}
 
 abbrev pub key_term : KeyTerm → query.KeyTerm
 key_term (terms.Result at) = query.KeyTerm.result at
@@ -16,6 +12,3 @@ key_term (terms.Term t) = query.KeyTerm.term (term t)
 
 abbrev pub key_data : Key → query.Key
 key_data key = record { by = key_term key.by; direction = direction_of key.direction }
-
-abbrev pub output_data : Output → body.Output
-output_data o = record { row = map datum_of o.row.items; keys = map datum_of o.keys.items }

@@ -1,5 +1,4 @@
 pub mod KeyView
-pub mod Firsts
-pub mod FirstView
+pub mod Places
 pub mod Sorted
 pub mod Permitted

@@ -4,18 +4,15 @@
 //! that no more pages are asked for than the plan's work. Where a LIMIT stands, rows behind those that it and OFFSET look at are let
 //! go while they come.
 //!
-//! The modules, in the order in which data passes them: `keys` (the values that a row is put in order by), `ranks` (numbers
-//! that tell most of an order), `order` (rows in order), `first_outputs` (the first rows in order, kept while they come),
-//! `gathered` (the rows) and `laws` of the definitions.
+//! The modules, in the order in which data passes them: `keys` (the values that a row is put in order by), `pushed` (the rows of a
+//! stream, of which the first in order are kept), `gathered` (the rows) and `laws` of the definitions.
 #![tactic(auto)]
 
-mod first_outputs;
 mod gathered;
 mod keys;
 pub mod laws;
-mod order;
-mod ranks;
+mod pushed;
 
 pub use gathered::{SortedSelection, sorted_rows};
-pub use keys::{Key, KeyTerm, Output};
-pub use order::compare_at;
+pub use keys::{Key, KeyTerm};
+pub use pushed::push_rows;

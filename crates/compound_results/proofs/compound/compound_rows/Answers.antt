@@ -1,7 +1,10 @@
-use Rattle.std.proofs.Common.{rules, ◌∙◌, ℤ, SFits, w64, map, refl, ap}
+use Rattle.std.proofs.Common.{rules, ◌≡◌, ◌∙◌, List, ℤ, SFits, w64, refl, ap, subst}
 use Rattle.std.proofs.lemmas.Int.{to_z-of_z}
-use Rattle.values.specs.Datum.{datum_of}
 use Rattle.meaning.specs.Answer.{limited, skipped}
+use Rattle.ordered_rows.specs.declared.order.ResultKey.{ResultKey}
+use Rattle.ordered_rows.specs.Firsts.{BeginsAll, at_most}
+use Rattle.ordered_rows.specs.FirstView.{rows_data}
+use Rattle.ordered_rows.specs.Keys.{comes_before}
 use Rattle.distinct_results.proofs.AnswerLemmas.{is_answer}
 use Rattle.compound_results.specs.Arms.{rows_of_arms}
 use Rattle.compound_results.specs.Compounds.{compound_data}
@@ -14,8 +17,13 @@ returns-clause-rows g c = λ steady on has.
     let offset = compound.offset in
     let fits : SFits w64 offset = search rules in
     let gathered = c.in_ok-rows.ensures.rows steady on has in (
-      is_answer (λ row. map datum_of row.items) on.w whole.order whole.limit whole.offset (rows_of_arms on.w on.db whole.arms) compound.order.items c.in_ok-rows.rows.items
-          c.sort_rows.new.rows.items c.new-slice.result _ refl gathered.0 c.in_ok-sort_rows.ensures.same (rw c.as_slice.ensures.value at c.in_ok-sort_rows.ensures.sorted)
-          c.in_ok-shown.ensures (λ rows. c.new-slice.ensures rows ∙ ap (λ (n : ℤ). limited compound.limit (skipped n rows)) (to_z-of_z w64 offset fits)),
+      is_answer on.w whole.order whole.limit whole.offset (rows_of_arms on.w on.db whole.arms) compound.order.items c.rows_looked_at-most.result (rows_data c.in_ok-rows.rows.items)
+          c.new-slice.result _ refl
+          (subst (λ (order : List ResultKey). BeginsAll (comes_before order) c.rows_looked_at-most.result (rows_data c.in_ok-rows.rows.items) (rows_of_arms on.w on.db whole.arms))
+          c.as_slice-order.ensures.value gathered.0)
+          (λ rows. subst (λ (n : ℤ). limited compound.limit (skipped n (at_most c.rows_looked_at-most.result rows)) ≡ limited compound.limit (skipped n rows)) (to_z-of_z w64 offset fits)
+          (c.rows_looked_at-most.ensures rows))
+          c.in_ok-shown.ensures
+          (λ rows. c.new-slice.ensures rows ∙ ap (λ (n : ℤ). limited compound.limit (skipped n rows)) (to_z-of_z w64 offset fits)),
       gathered.1,
     )

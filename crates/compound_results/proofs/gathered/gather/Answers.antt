@@ -1,11 +1,11 @@
-use Rattle.std.proofs.Common.{◌∙◌, map, refl, subst}
+use Rattle.std.proofs.Common.{◌≡◌, ◌∙◌, ◌++◌, ◌∷◌, [], ap, map, refl, subst}
 use Rattle.std.proofs.lemmas.Result.{err_from_is_err_and}
 use Rattle.std.proofs.lemmas.List.{map_push}
 use Rattle.values.specs.Datum.{datum_of}
 use Rattle.pager.proofs.CallLemmas.{SameImage-none, SameImage-trans}
 use Rattle.expr.specs.View.{term}
 use Rattle.results.specs.Coming.{IsComing, IsResultCause}
-use Rattle.distinct_results.proofs.GatherLemmas.{Gathering-start, gather_says, gathered_all, gathered_more}
+use Rattle.sorted_results.proofs.GatherLemmas.{Gathering-start, gather_says, gathered_all, gathered_more}
 use Rattle.compound_results.proofs.gathered.gather.Goals as goal
 
 pub rows-init : goal.rows-init
@@ -14,7 +14,8 @@ rows-init g c = record {
   failures = refl;
   plan = refl;
   columns = refl;
-  rows = rw c.new-rows.ensures.items (Gathering-start IsComing c.args.pager.now.state c.args.sources.now c.args.results);
+  rows = Gathering-start IsComing c.args.pager.now.state c.args.sources.now c.args.results
+      (λ given. map (λ row. map datum_of row.items) c.new-rows.result.items ≡ given) (ap (map (λ row. map datum_of row.items)) c.new-rows.ensures.items);
 }
 
 pub returns-in_err-next-clause-rows : goal.returns-in_err-next-clause-rows
@@ -22,7 +23,7 @@ returns-in_err-next-clause-rows g c = λ steady on rest ahead has coming.
     let p = err_from_is_err_and c.from_residual.result c.from_residual.ensures.1 in
     rw (p.1, p.2)
     (subst (λ columns. IsResultCause on columns c.in_err-next.field-0.0) c.rows.invariant.columns
-    (gather_says IsComing _ c.rows.pager.state c.rows.invariant.image c.args.sources.now c.args.results c.rows.results (map (λ row. map datum_of row.items) c.rows.rows.items)
+    (gather_says IsComing _ c.rows.pager.state c.rows.invariant.image c.args.sources.now c.args.results c.rows.results _
     c.rows.invariant.rows steady on rest ahead has coming (λ on. IsResultCause on (map term c.rows.results.columns.items) c.in_err-next.field-0.0)
     c.in_err-next.ensures.rows))
 
@@ -33,14 +34,16 @@ rows-preserved g c = record {
   plan = c.in_ok-next.ensures.plan ∙ c.rows.invariant.plan;
   columns = c.in_ok-next.ensures.columns ∙ c.rows.invariant.columns;
   rows = λ steady on rest ahead has coming.
-      rw (c.in_ok-push.ensures.items, map_push (λ row. map datum_of row.items) c.rows.rows.items c.next.new.out)
-      (gathered_more IsComing _ c.rows.pager.state c.rows.invariant.image c.args.sources.now c.args.results c.rows.results (map (λ row. map datum_of row.items) c.rows.rows.items)
+      gathered_more IsComing _ c.rows.pager.state c.rows.invariant.image c.args.sources.now c.args.results c.rows.results _
       c.rows.invariant.rows steady on rest ahead has coming c.next.new.self (map datum_of c.next.new.out.items) c.next.new.pager.state
-      (rw c.if-branch.true at c.in_ok-next.ensures.rows));
+      (λ given. map (λ row. map datum_of row.items) c.push.new.self.items ≡ given)
+      (λ given is. ap (map (λ row. map datum_of row.items)) c.in_ok-push.ensures.items ∙ map_push (λ row. map datum_of row.items) c.rows.rows.items c.next.new.out
+      ∙ ap (λ rows. rows ++ map datum_of c.next.new.out.items ∷ []) is)
+      (rw c.if-branch.true at c.in_ok-next.ensures.rows);
 }
 
 pub returns-clause-rows : goal.returns-clause-rows
 returns-clause-rows g c = λ steady on rest ahead has coming.
-    gathered_all IsComing _ c.rows.pager.state c.rows.invariant.image c.args.sources.now c.args.results c.rows.results (map (λ row. map datum_of row.items) c.rows.rows.items)
+    gathered_all IsComing _ c.rows.pager.state c.rows.invariant.image c.args.sources.now c.args.results c.rows.results _
     c.rows.invariant.rows steady on rest ahead has coming c.next.new.self (map datum_of c.next.new.out.items) c.next.new.pager.state
     (rw c.if-branch.false at c.in_ok-next.ensures.rows)

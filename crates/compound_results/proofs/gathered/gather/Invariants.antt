@@ -4,7 +4,7 @@ use Rattle.pager.specs.Calls.{SameImage}
 use Rattle.expr.specs.View.{term}
 use Rattle.operators.specs.Left.{plan_of, steps}
 use Rattle.results.specs.Coming.{IsComing}
-use Rattle.distinct_results.proofs.GatherLemmas.{Gathering}
+use Rattle.sorted_results.proofs.GatherLemmas.{Gathering}
 use Rattle.compound_results.proofs.gathered.gather.Given as goal
 
 abbrev pub invariant-rows : goal.invariant-rows
@@ -13,7 +13,7 @@ invariant-rows g l = record {
   failures : l.pager.state.source.failures ≡ l.fn.pager.state.source.failures;
   plan : plan_of l.results.op ≡ plan_of l.fn.results.op;
   columns : map term l.results.columns.items ≡ map term l.fn.results.columns.items;
-  rows : Gathering IsComing l.fn.pager.state l.sources l.fn.results l.results (map (λ row. map datum_of row.items) l.rows.items) l.pager.state;
+  rows : Gathering IsComing l.fn.pager.state l.sources l.fn.results l.results (λ given. map (λ row. map datum_of row.items) l.rows.items ≡ given) l.pager.state;
 }
 
 abbrev pub decreases-rows : goal.decreases-rows

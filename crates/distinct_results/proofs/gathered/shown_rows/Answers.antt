@@ -4,7 +4,7 @@ use Rattle.std.proofs.lemmas.Iterator.Consumers.{YieldsList-end}
 use Rattle.values.specs.Datum.{datum_of}
 use Rattle.meaning.proofs.ScanLemmas.{map-identity}
 use Rattle.results.specs.Slices.{sliced}
-use Rattle.sorted_results.proofs.GatherLemmas.{slice_whole}
+use Rattle.sorted_results.proofs.ShownLemmas.{slice_whole}
 use Rattle.distinct_results.proofs.gathered.shown_rows.Goals as goal
 
 pub returns : goal.returns

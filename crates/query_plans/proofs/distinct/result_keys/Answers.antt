@@ -1,7 +1,7 @@
 use Rattle.std.proofs.Common.{◌∙◌, map, sym, ap, subst}
 use Rattle.distinct_results.specs.Permitted.{IsResultColumn}
-use Rattle.distinct_results.specs.Sorted.{result_key}
-use Rattle.distinct_results.specs.declared.order.ResultKey.{ResultKey}
+use Rattle.ordered_rows.specs.Keys.{result_key}
+use Rattle.ordered_rows.specs.declared.order.ResultKey.{ResultKey}
 use Rattle.meaning.specs.Query as query
 use Rattle.query_trees.specs.SelectView.{direction_of}
 use Rattle.query_plans.proofs.DistinctLemmas.{keys_more, not_all, results_more}

@@ -1,6 +1,6 @@
 use Rattle.std.proofs.Common.{◌≡◌, map, take}
 use Rattle.distinct_results.specs.Permitted.{AreResults}
-use Rattle.distinct_results.specs.Sorted.{result_key}
+use Rattle.ordered_rows.specs.Keys.{result_key}
 use Rattle.order_keys.specs.KeyView.{key_of}
 use Rattle.query_plans.proofs.distinct.result_keys.Given as goal
 

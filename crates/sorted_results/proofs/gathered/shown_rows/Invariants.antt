@@ -1,9 +1,9 @@
-use Rattle.std.proofs.Common.{◌≡◌, ◌++◌, List, map}
-use Rattle.values.specs.Datum.{datum_of}
+use Rattle.std.proofs.Common.{◌≡◌, ◌++◌, List, map, take}
 use Rattle.values.specs.Row.{Row}
 use Rattle.results.specs.Slices.{sliced}
+use Rattle.ordered_rows.specs.FirstView.{rows_data}
 use Rattle.sorted_results.proofs.gathered.shown_rows.Given as goal
 
-abbrev pub invariant-loop-output : goal.invariant-loop-output
-invariant-loop-output l =
-    (rest : List Row) → sliced l.fn.slice (map (λ o. map datum_of o.row.items) l.yielded ++ rest) ≡ map (λ row. map datum_of row.items) l.rows.items ++ sliced l.slice rest
+abbrev pub invariant-loop-row : goal.invariant-loop-row
+invariant-loop-row l =
+    (rest : List Row) → sliced l.fn.slice (map (take l.width) (rows_data l.yielded) ++ rest) ≡ rows_data l.shown.items ++ sliced l.slice rest

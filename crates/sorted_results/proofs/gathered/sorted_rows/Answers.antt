@@ -1,44 +1,70 @@
-use Rattle.std.proofs.Common.{rules, ◌≡◌, ◌∙◌, [], ℤ, SFits, w64, map, ap, subst}
+use Rattle.std.proofs.Common.{rules, ◌≡◌, ◌∙◌, ◌++◌, [], List, ℕ, ℤ, Option, SFits, length, map, take, w64, ap, subst, sym}
 use Rattle.std.proofs.lemmas.Int.{to_z-of_z}
-use Rattle.std.proofs.lemmas.List.Elements.{All-contains_itself}
+use Rattle.std.proofs.lemmas.List.{length-map}
 use Rattle.std.proofs.lemmas.Result.{err_from_is_err_and}
+use Rattle.values.specs.Row.{Row}
 use Rattle.image.specs.Pages.{pages_seen}
+use Rattle.expr.specs.declared.tree.Expr.{Expr}
+use Rattle.expr.specs.Term.{Term}
 use Rattle.expr.specs.View.{term}
-use Rattle.meaning.specs.Answer.{key_directions, limited, skipped}
+use Rattle.expr.specs.Meaning.{eval}
+use Rattle.meaning.specs.Valuation.{term_values}
+use Rattle.meaning.specs.Answer.{limited, skipped}
+use Rattle.meaning.specs.Hits.{order_terms}
 use Rattle.plans.specs.Plan.{PlanData, rows_of, work}
 use Rattle.plans.specs.PlanView.{plan_data}
-use Rattle.results.specs.Slices.{at_most}
-use Rattle.sorted_results.specs.Firsts.{BeginsAll, comes_before}
-use Rattle.sorted_results.specs.KeyView.{key_data, output_data}
-use Rattle.sorted_results.specs.Sorted.{outputs_over, sorted_data}
-use Rattle.sorted_results.proofs.AnswerLemmas.{all_left, is_answer}
+use Rattle.results.specs.Coming.{IsResultCause, result_rows}
+use Rattle.results.specs.Slices.{sliced}
+use Rattle.ordered_rows.specs.Firsts.{BeginsAll, at_most}
+use Rattle.ordered_rows.specs.FirstView.{rows_data}
+use Rattle.ordered_rows.specs.declared.order.ResultKey.{ResultKey}
+use Rattle.ordered_rows.specs.Keys.{comes_before, directions, key_values}
+use Rattle.sorted_results.specs.declared.keys.Key.{Key}
+use Rattle.sorted_results.specs.KeyView.{key_data}
+use Rattle.sorted_results.specs.Sorted.{IsSortedAnswer, SortedData}
+use Rattle.sorted_results.proofs.AnswerLemmas.{is_answer}
 use Rattle.sorted_results.proofs.gathered.sorted_rows.Goals as goal
 
-pub returns-in_err-outputs-clause-rows : goal.returns-in_err-outputs-clause-rows
-returns-in_err-outputs-clause-rows g c = λ steady on has same.
-    let p = err_from_is_err_and c.from_residual-in_err-outputs.result c.from_residual-in_err-outputs.ensures.1 in
+pub returns-in_err-push_rows-clause-rows : goal.returns-in_err-push_rows-clause-rows
+returns-in_err-push_rows-clause-rows g c = λ steady on has same.
+    let p = err_from_is_err_and c.from_residual-in_err-push_rows.result c.from_residual-in_err-push_rows.ensures.1 in
     let pages = pages_seen c.args.pager.now.state in
     rw (p.1, p.2)
-    ((rw (c.as_slice-2.ensures.value, c.as_slice.ensures.value) at (c.in_err-outputs.ensures.rows steady)) on (rows_of on.w on.db on.plan) (work on.w on.db on.sizes on.plan) has
-    (all_left pages c.args.sources.now on c.in_ok-op.op (plan_data c.args.selection.now.plan) same (c.in_ok-op.ensures.rows pages c.args.sources.now on []))
-    (All-contains_itself (rows_of on.w on.db on.plan)))
+    (subst (λ (columns : List Term). IsResultCause on columns c.in_err-push_rows.field-0.0)
+    (c.in_ok-results.ensures.columns ∙ ap (map term) c.as_slice.ensures.value ∙ c.in_ok-wide.ensures
+    ∙ (λ i. map term (c.as_slice-columns.ensures.value i) ++ order_terms (map key_data (c.as_slice-by.ensures.value i))))
+    (c.in_err-push_rows.ensures.rows steady on _ (work on.w on.db on.sizes on.plan) has (c.in_ok-results.ensures.rows pages c.args.sources.now on same)))
 
 pub returns-clause-rows : goal.returns-clause-rows
 returns-clause-rows g c = λ steady on has same.
     let pages = pages_seen c.args.pager.now.state in
     let selection = c.args.selection.now in
+    let columns = c.as_slice-columns.result.now in
+    let by = c.as_slice-by.result.now in
+    let order = c.as_slice-order.result.now in
     let offset = selection.offset in
     let fits : SFits w64 offset = search rules in
-    let gathered =
-    (rw (c.as_slice-2.ensures.value, c.as_slice.ensures.value) at (c.in_ok-outputs.ensures.rows steady)) on (rows_of on.w on.db on.plan) (work on.w on.db on.sizes on.plan) has
-    (all_left pages c.args.sources.now on c.in_ok-op.op (plan_data selection.plan) same (c.in_ok-op.ensures.rows pages c.args.sources.now on []))
-    (All-contains_itself (rows_of on.w on.db on.plan)) in (
-      is_answer on.w on.db (sorted_data selection) c.rows_looked_at-most.result c.in_ok-outputs.outputs.items c.new-slice.result _
-          (subst (λ (p : PlanData). BeginsAll (comes_before (key_directions (map key_data selection.order.items))) c.rows_looked_at-most.result (map output_data c.in_ok-outputs.outputs.items)
-          (outputs_over on.w (map term selection.columns.items) (map key_data selection.order.items) (rows_of on.w on.db p))) same gathered.0)
-          (λ outs. subst (λ (n : ℤ). limited selection.limit (skipped n (at_most c.rows_looked_at-most.result outs)) ≡ limited selection.limit (skipped n outs)) (to_z-of_z w64 offset fits)
-          (c.rows_looked_at-most.ensures outs))
-          c.in_ok-rows.ensures
-          (λ rows. c.new-slice.ensures rows ∙ ap (λ (n : ℤ). limited selection.limit (skipped n rows)) (to_z-of_z w64 offset fits)),
-      gathered.1,
+    let pushed = c.in_ok-push_rows.ensures.rows steady on _ (work on.w on.db on.sizes on.plan) has (c.in_ok-results.ensures.rows pages c.args.sources.now on same) in
+    let begins = c.in_ok-rows.ensures _ (pushed.0 [] (c.new-first.ensures.none order)) in
+    let made : BeginsAll (comes_before order) c.rows_looked_at-most.result (rows_data c.in_ok-rows.rows.items)
+    (result_rows on.w (map term columns ++ order_terms (map key_data by)) (rows_of on.w on.db (plan_data selection.plan))) =
+    subst (λ (m : Option ℕ). BeginsAll (comes_before order) m (rows_data c.in_ok-rows.rows.items)
+    (result_rows on.w (map term columns ++ order_terms (map key_data by)) (rows_of on.w on.db (plan_data selection.plan))))
+    (c.in_ok-push_rows.ensures.most ∙ c.new-first.ensures.most)
+    (subst (λ (rest : List Row). BeginsAll (comes_before order) c.push_rows.new.first.most (rows_data c.in_ok-rows.rows.items) rest)
+    ((λ i. result_rows on.w ((ap (map term) c.as_slice.ensures.value ∙ c.in_ok-wide.ensures) i) (rows_of on.w on.db (same i)))) begins) in
+    let wanted : (cs : List Expr) → List Key → SortedData = λ cs ks.
+    record { plan = plan_data selection.plan; columns = map term cs; order = map key_data ks; limit = selection.limit; offset = offset } in (
+      subst (λ (cs : List Expr). IsSortedAnswer on.w on.db (wanted cs selection.order.items) (rows_data c.in_ok-shown.shown.items)) c.as_slice-columns.ensures.value
+          (subst (λ (ks : List Key). IsSortedAnswer on.w on.db (wanted columns ks) (rows_data c.in_ok-shown.shown.items)) c.as_slice-by.ensures.value
+          (is_answer on.w on.db (wanted columns by) order c.rows_looked_at-most.result (rows_data c.in_ok-rows.rows.items) c.new-slice.result (rows_data c.in_ok-shown.shown.items)
+          (ap directions c.as_slice-order.ensures.value ∙ c.in_ok-keys.ensures.directions)
+          (λ row. ap (λ (ks : List ResultKey). key_values ks (term_values (eval on.w) (map term columns ++ order_terms (map key_data by)) row)) c.as_slice-order.ensures.value
+          ∙ c.in_ok-keys.ensures.values on.w row)
+          made
+          (λ rows. subst (λ (n : ℤ). limited selection.limit (skipped n (at_most c.rows_looked_at-most.result rows)) ≡ limited selection.limit (skipped n rows)) (to_z-of_z w64 offset fits)
+          (c.rows_looked_at-most.ensures rows))
+          (c.in_ok-shown.ensures ∙ ap (λ (n : ℕ). sliced c.new-slice.result (map (take n) (rows_data c.in_ok-rows.rows.items))) (sym (length-map columns term)))
+          (λ rows. c.new-slice.ensures rows ∙ ap (λ (n : ℤ). limited selection.limit (skipped n rows)) (to_z-of_z w64 offset fits)))),
+      pushed.1,
     )

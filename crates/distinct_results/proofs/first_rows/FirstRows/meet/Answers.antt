@@ -3,7 +3,7 @@ use Rattle.std.specs.List.{list_any}
 use Rattle.meaning.specs.Times.{same_row}
 use Rattle.results.specs.Slices.{sliced}
 use Rattle.distinct_results.specs.Firsts.{firsts, unmet}
-use Rattle.distinct_results.proofs.FirstLemmas.{met_passed, new_first}
+use Rattle.distinct_rows.proofs.FirstLemmas.{met_passed, new_first}
 use Rattle.distinct_results.proofs.first_rows.FirstRows.meet.Goals as goal
 
 pub returns-then-contains-clause-passed : goal.returns-then-contains-clause-passed

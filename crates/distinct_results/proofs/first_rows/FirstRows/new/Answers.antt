@@ -1,7 +1,7 @@
 use Rattle.std.proofs.Common.{◌∙◌, ap}
 use Rattle.results.specs.Slices.{sliced}
 use Rattle.distinct_results.specs.Firsts.{firsts, unmet}
-use Rattle.distinct_results.proofs.FirstLemmas.{unmet_none}
+use Rattle.distinct_rows.proofs.FirstLemmas.{unmet_none}
 use Rattle.distinct_results.proofs.first_rows.FirstRows.new.Goals as goal
 
 pub returns : goal.returns

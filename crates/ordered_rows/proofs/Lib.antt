@@ -1,0 +1,3 @@
+pub mod OrderLemmas
+pub mod LimitLemmas
+pub mod FirstLemmas

@@ -1,0 +1,49 @@
+//! The rows of a stream, of which the first in order are kept.
+ghost use Rattle.std.specs.Prelude.{◌≡◌, ◌++◌, ℕ, All, IfErr, List, MatchResult, OnOk, map};
+ghost use Rattle.values.specs.Row.{Row};
+ghost use Rattle.pager.specs.Calls.{ReadsPages};
+ghost use Rattle.sources.specs.Coming.{IsRooted};
+ghost use Rattle.image.specs.Pages.{WhereSteady};
+ghost use Rattle.expr.specs.View.{term};
+ghost use Rattle.scan.specs.Coming.{Asks};
+ghost use Rattle.operators.specs.Basis.{AreStored, Basis, IsOperatorFault};
+ghost use Rattle.operators.specs.Left.{IsPlanOf, plan_of};
+ghost use Rattle.results.specs.Coming.{IsComing, IsResultCause};
+ghost use Rattle.ordered_rows.specs.FirstView.{FewAreKept, KeepsFirst};
+
+use ordered_rows::{FirstInOrder, ResultKey};
+use pager::{Pager, Source};
+use results::Results;
+use sources::Sources;
+use std::alloc::Global;
+use values::Fault;
+
+/// The rows that are still to come, of which the first in order are kept. Its faults are those of an operator.
+pub fn push_rows<S: Source>(
+    alloc: Global,
+    pager: &mut Pager<S>,
+    sources: &Sources<'_>,
+    results: Results,
+    order: &[ResultKey],
+    first: &mut FirstInOrder,
+) -> Result<(), Fault>
+    requires roots { All (IsRooted pager.old.state.header) sources.now }
+    requires planned { IsPlanOf sources.now (plan_of results.op) }
+    ensures rows { WhereSteady pager.old.state (λ pages. (on : Basis) (rest : List Row) (ahead : ℕ) → AreStored pages sources.now on
+        → IsComing pages sources.now on results rest ahead
+        → MatchResult result
+        (λ _. ((all : List Row) → KeepsFirst order.now first.old all → KeepsFirst order.now first.new (all ++ rest))
+        × Asks on.local pager.old.state ahead pager.new.state 0)
+        (IsResultCause on (map term results.columns.items))) }
+    ensures most { first.new.most ≡ first.old.most }
+    ensures few { FewAreKept first.old → OnOk result (FewAreKept first.new) }
+    ensures only { IfErr result IsOperatorFault }
+    ensures reads { ReadsPages result pager.old.state pager.new.state }
+{
+    let mut results = results;
+    let mut row = Vec::new(alloc);
+    'rows: while results.next(alloc, pager, sources, &mut row)? {
+        row = first.push(alloc, order, row)?;
+    }
+    Ok(())
+}
