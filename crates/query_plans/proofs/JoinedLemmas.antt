@@ -1,9 +1,11 @@
 -- The plan of SELECTs that operators join.
-use Rattle.std.proofs.Common.{List}
+use Rattle.std.proofs.Common.{◌≤◌, ℕ, List, arith}
 use Rattle.values.specs.Database.{Database}
+use Rattle.values.specs.Datum.{Datum}
 use Rattle.values.specs.declared.value.Ty.{Ty}
 use Rattle.compound_plans.specs.Arms.{IsArmFor}
-use Rattle.compound_results.specs.Arms.{ArePlannedOver, ArmData, ArmsData, joined, one}
+use Rattle.compound_plans.specs.Work.{selects_work}
+use Rattle.compound_results.specs.Arms.{ArePlannedOver, ArmData, ArmsData, joined, one, work_of_arms}
 use Rattle.compound_results.specs.Compounds.{CompoundData}
 use Rattle.compound_results.specs.Permitted.{AreArmsOf, HitsWithin, IsArmOf}
 use Rattle.compound_results.proofs.PermittedLemmas.{compound_hits_are_hits, compound_is_permitted}
@@ -32,6 +34,17 @@ module _ (catalog : List (List Ty)) (sources : List SourceData) (have : HaveColu
   each_over (compound body operator from s) types (joined left other arm) typed of =
       (each_over body types left typed.0 of.0, of.2.over catalog sources have types typed.1)
 
+-- each asks for no more pages than its SELECT may
+each_few : (w : Datum) (db : Database) (sizes : List ℕ) (body : Body) (arms : ArmsData) → AreWideFor db body → AreArmsOf IsArmFor body arms
+    → work_of_arms w db sizes arms ≤ selects_work w db sizes body
+each_few w db sizes (select from s) (one arm) wide of = of.few w db sizes wide
+each_few w db sizes (select from s) (joined left other arm) wide of = absurd of
+each_few w db sizes (compound body operator from s) (one arm) wide of = absurd of
+each_few w db sizes (compound body operator from s) (joined left other arm) wide of =
+    let before = each_few w db sizes body left wide.0 of.0 in
+    let last = of.2.few w db sizes wide.1 in
+    omega (arith, before, last)
+
 module _ (query : QueryData) (whole : CompoundData) (made : IsJoined query whole) where
   pub joined_is_plan : IsPlanFor query (PlannedData.compound whole)
   joined_is_plan = record {
@@ -47,6 +60,7 @@ module _ (query : QueryData) (whole : CompoundData) (made : IsJoined query whole
     hits = λ w db wide hits.
         compound_hits_are_hits w db query whole.arms made.results
         (each_told db (HitsWithin w db) (λ from s arm wide of. of.hits w db wide) query.body whole.arms wide made.arms) hits;
+    few = λ w db sizes wide. each_few w db sizes query.body whole.arms wide made.arms;
   }
 
   pub joined_over : IsPlannedAsTyped query (PlannedData.compound whole)

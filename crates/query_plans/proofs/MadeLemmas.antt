@@ -1,5 +1,5 @@
--- What a plan answers the query permits, and what it reaches the query can reach.
-use Rattle.std.proofs.Common.{◌≡◌, ◌∙◌, ◌⊎◌, ℕ, ℤ, false, List, [], ◌∷◌, ◌++◌, append-nil, map, Option, refl, sym, ap, subst}
+-- What a plan answers the query permits, what it reaches the query can reach, and it asks for no more pages than the query may.
+use Rattle.std.proofs.Common.{◌≡◌, ◌∙◌, ◌⊎◌, ◌≤◌, ℕ, ℤ, false, List, [], ◌∷◌, ◌++◌, append-nil, map, Option, refl, sym, ap, subst, arith}
 use Rattle.std.specs.List.{AllZip}
 use Rattle.std.proofs.lemmas.List.Elements.{All-head, All-tail}
 use Rattle.values.specs.Database.{Database}
@@ -7,13 +7,15 @@ use Rattle.values.specs.Datum.{Datum}
 use Rattle.values.specs.Row.{Row}
 use Rattle.expr.specs.Term.{Term, column}
 use Rattle.meaning.specs.Answer.{Permits}
-use Rattle.meaning.specs.Body.{answers_in}
+use Rattle.meaning.specs.Body.{answers_in, values_over}
 use Rattle.meaning.specs.Hits as meaning
 use Rattle.meaning.specs.Hits.{FromHits, SelectHits, order_terms}
 use Rattle.meaning.specs.Query.{From, Key, KeyTerm, QueryData, Select, columns_of_table, only, select, table}
 use Rattle.meaning.proofs.OneTableLemmas.{scan_is_permitted}
 use Rattle.plan_terms.specs.Over.{StandsOver}
-use Rattle.plans.specs.Plan.{PlanData}
+use Rattle.plans.specs.Plan.{PlanData, table_size}
+use Rattle.compound_plans.specs.Work.{from_work}
+use Rattle.compound_plans.proofs.WorkLemmas.{made_work}
 use Rattle.distinct_results.specs.Permitted.{AreResults, IsResultColumn}
 use Rattle.distinct_results.proofs.PermittedLemmas as once
 use Rattle.query_plans.specs.Answers.{IsAnswerOf, IsPlanFor, PlannedData, columns, compound, distinct, rows, sorted, sorted_distinct}
@@ -106,6 +108,12 @@ module _ (input : Input) (s : Select) (inner : IsServedFrom (input_from input)) 
       subst (λ (q : QueryData). Permits w db q answer) same
       (subst (Permits w db (columns_of_table at width places)) (sym is) (scan_is_permitted w db at width places))
 
+  -- one table is read once
+  scan_few : (w : Datum) (db : Database) (sizes : List ℕ) (at width : ℕ) → input_from input ≡ only (table at width)
+      → table_size sizes at ≤ from_work w db sizes (values_over w db (input_from input)) (input_from input)
+  scan_few w db sizes at width from_is =
+      subst (λ (from : From). table_size sizes at ≤ from_work w db sizes (values_over w db from) from) (sym from_is) (omega arith)
+
   -- where nothing of ORDER BY is computed on a row of the plan
   result_reaches : (w : Datum) (db : Database) (es : List Term) (plan : PlanData) → IsWideOf db (input_from input) s → IsMadeOver input s order plan es
       → order_terms order ≡ [] → PlanReaches w db plan es → IsHit w db (order_terms order)
@@ -117,6 +125,7 @@ module _ (input : Input) (s : Select) (inner : IsServedFrom (input_from input)) 
   made_is_plan (columns at places) made = record {
     permits = λ w db answer wide is. scan_permits w db at made.width places answer made.from_is made.bare made.columns_are is;
     hits = λ w db wide none. absurd none;
+    few = λ w db sizes wide. scan_few w db sizes at made.width made.from_is;
   }
   made_is_plan (rows selection) made = record {
     permits = λ w db answer wide is.
@@ -127,6 +136,7 @@ module _ (input : Input) (s : Select) (inner : IsServedFrom (input_from input)) 
         (record { sees = sees w db selection.plan selection.columns wide made.made; limit = made.limit_is; offset = made.offset_is }));
     hits = λ w db wide hits.
         result_reaches w db selection.columns selection.plan wide made.made (ap order_terms made.unordered) hits;
+    few = λ w db sizes wide. made_work w db sizes input s order selection.plan selection.columns wide made.made;
   }
   made_is_plan (sorted selection) made = record {
     permits = λ w db answer wide is.
@@ -144,6 +154,7 @@ module _ (input : Input) (s : Select) (inner : IsServedFrom (input_from input)) 
     hits = λ w db wide hits.
         made_is_hit w db input s order (order_terms order) selection.plan selection.columns (order_terms selection.order) inner wide made.made
         (order_stands made.made.columns selection.order order made.order_is) hits;
+    few = λ w db sizes wide. made_work w db sizes input s order selection.plan selection.columns wide made.made;
   }
   made_is_plan (distinct selection) made = record {
     permits = λ w db answer wide is.
@@ -153,6 +164,7 @@ module _ (input : Input) (s : Select) (inner : IsServedFrom (input_from input)) 
         made.unordered
         (record { sees = sees w db selection.plan selection.columns wide made.made; limit = made.limit_is; offset = made.offset_is }));
     hits = λ w db wide hits. result_reaches w db selection.columns selection.plan wide made.made (ap order_terms made.unordered) hits;
+    few = λ w db sizes wide. made_work w db sizes input s order selection.plan selection.columns wide made.made;
   }
   made_is_plan (sorted_distinct selection) made = record {
     permits = λ w db answer wide is.
@@ -167,5 +179,6 @@ module _ (input : Input) (s : Select) (inner : IsServedFrom (input_from input)) 
         })
         is;
     hits = λ w db wide hits. result_reaches w db selection.columns selection.plan wide made.made (no_terms order made.results) hits;
+    few = λ w db sizes wide. made_work w db sizes input s order selection.plan selection.columns wide made.made;
   }
   made_is_plan (compound joined) made = absurd made

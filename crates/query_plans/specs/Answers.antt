@@ -1,5 +1,5 @@
 -- What a plan answers, what it may ask for and what it reaches. (SELECT)
-use Rattle.std.specs.Prelude.{◌≡◌, ◌++◌, false, ℕ, List, [], map}
+use Rattle.std.specs.Prelude.{◌≡◌, ◌≤◌, ◌++◌, false, ℕ, List, [], map}
 use Rattle.values.specs.Database.{Database}
 use Rattle.values.specs.Datum.{Datum}
 use Rattle.values.specs.Row.{Row}
@@ -17,6 +17,7 @@ use Rattle.results.specs.Coming.{SelectionData, answer_of, selection_data}
 use Rattle.sorted_results.specs.Sorted.{IsSortedAnswer, SortedData, sorted_data}
 use Rattle.distinct_results.specs.Coming.{distinct_answer_of}
 use Rattle.distinct_results.specs.Sorted.{IsSortedDistinctAnswer, sorted_distinct_data}
+use Rattle.compound_plans.specs.Work.{selects_work}
 use Rattle.compound_results.specs.Arms.{ArePlannedOver, ArmsHit, work_of_arms}
 use Rattle.compound_results.specs.Compounds.{CompoundData, IsCompoundAnswer, compound_data}
 use Rattle.select_plans.specs.Columns.{HaveColumns}
@@ -75,10 +76,11 @@ abbrev pub AreWideFor : Database → Body → Type 0
 AreWideFor db (Body.select from s) = IsWideOf db from s
 AreWideFor db (Body.compound body operator from s) = AreWideFor db body × IsWideOf db from s
 
--- what it answers the query permits, and what it reaches the query can reach
+-- what it answers the query permits, what it reaches the query can reach, and it asks for no more pages than the query's SELECTs may
 pub record IsPlanFor (query : QueryData) (planned : PlannedData) : Type 0 where
   pub permits : (w : Datum) (db : Database) (answer : List Row) → AreWideFor db query.body → IsAnswerOf w db planned answer → Permits w db query answer
   pub hits : (w : Datum) (db : Database) → AreWideFor db query.body → HitsOf w db planned → meaning.Hits w db query
+  pub few : (w : Datum) (db : Database) (sizes : List ℕ) → AreWideFor db query.body → work_of w db sizes planned ≤ selects_work w db sizes query.body
 
 -- its sources and their columns are some of these
 abbrev pub IsPlannedOver : List SourceData → PlannedData → Type 0
