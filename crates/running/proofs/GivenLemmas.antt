@@ -34,10 +34,11 @@ use Rattle.compound_results.specs.declared.chained.ChainedResults.{ChainedResult
 use Rattle.compound_results.proofs.ChainAnswerLemmas.{chain_is_answer}
 use Rattle.running.specs.Columns.{columns_selection}
 use Rattle.running.specs.GatheredView.{gathered_data, rows_data}
-use Rattle.running.specs.Given.{Comes, GivesFirst, HasAnswered, HasGiven, IsOpenedRun, IsRowCause, rows_left}
+use Rattle.running.specs.Given.{Comes, GivesFirst, HasAhead, HasAnswered, HasGiven, IsOpenedRun, IsRowCause, rows_left}
 use Rattle.running.specs.declared.gathered.Gathered.{Gathered}
 use Rattle.running.specs.declared.rows.Running.{Running}
 use Rattle.running.specs.declared.rows.Running.TheVariants.{Rows, Distinct, Chained, Waiting, Giving}
+use Rattle.running.proofs.AskedLemmas.{columns_work, distinct_ahead, rows_ahead}
 use Rattle.running.proofs.ColumnLemmas.{columns_answer, columns_reach_none}
 
 -- what is said of sources, whatever plan is run
@@ -294,6 +295,7 @@ rows_opened selection results plans terms coming = record {
   given = λ pages sources.
       rows_come pages sources selection (PlannedData.rows selection) results plans terms (coming pages sources) (λ w db. refl) (λ w db reaches. reaches);
   over = λ sources over. subst (λ (p : PlanData). IsPlanOf sources p) (sym plans) over;
+  ahead = λ pages sources on. rows_ahead pages sources on selection results plans (coming pages sources);
 }
 
 pub distinct_opened : (selection : SelectionData) (distinct : DistinctResults) → plan_of distinct.results.op ≡ selection.plan
@@ -304,6 +306,7 @@ pub distinct_opened : (selection : SelectionData) (distinct : DistinctResults) �
 distinct_opened selection distinct plans terms coming = record {
   given = λ pages sources. distinct_come pages sources selection distinct plans terms (coming pages sources);
   over = λ sources over. subst (λ (p : PlanData). IsPlanOf sources p) (sym plans) over;
+  ahead = λ pages sources on. distinct_ahead pages sources on selection distinct plans (coming pages sources);
 }
 
 -- SELECTs whose rows come one by one, one SELECT after the other
@@ -322,6 +325,7 @@ chained_opened joined chained chain arms coming = record {
     hits = λ w db reached. subst (ArmsHit w db) arms reached;
   };
   over = λ sources over. subst (ArePlannedOver sources) (sym arms) over;
+  ahead = λ pages sources on. (chain_answer on.w on.db joined, coming pages sources on);
 }
 
 -- columns of each row of a table
@@ -336,6 +340,10 @@ columns_opened at places selection same results plans terms coming = record {
       (λ w db. ap (answer_of w db) same ∙ columns_answer w db at places)
       (λ w db reaches. columns_reach_none w db at places (subst (λ (s : SelectionData). PlanReaches w db s.plan s.columns) same reaches));
   over = λ sources over. subst (λ (p : PlanData). IsPlanOf sources p) (sym (plans ∙ ap (λ (s : SelectionData). s.plan) same)) (tt, over);
+  ahead = λ pages sources on.
+      subst (HasAhead pages sources on (Rows results))
+      (ap (λ (s : SelectionData). work on.w on.db on.sizes s.plan) same ∙ columns_work pages sources on at places)
+      (rows_ahead pages sources on selection results plans (coming pages sources));
 }
 
 -- ---- what was given begins an answer

@@ -10,19 +10,21 @@ use Rattle.values.specs.declared.value.Value.{Value}
 use Rattle.values.specs.declared.fault.Fault.{Fault}
 use Rattle.values.specs.declared.fault.Fault.TheVariants.{Overflow}
 use Rattle.pager.specs.Calls.{IsReadFault}
+use Rattle.pager.specs.PagerState.{PagerState}
 use Rattle.image.specs.Pages.{Pages}
 use Rattle.sources.specs.SourceData.{SourceData}
 use Rattle.expr.specs.Term.{Term}
 use Rattle.expr.specs.View.{term}
 use Rattle.plans.specs.Plan.{PlanData}
+use Rattle.scan.specs.Coming.{Asks}
 use Rattle.operators.specs.Basis.{AreStored, Basis}
 use Rattle.operators.specs.Left.{IsPlanOf, plan_of, steps}
 use Rattle.results.specs.Coming.{IsComing}
 use Rattle.distinct_results.specs.Coming.{IsDistinctComing}
 use Rattle.compound_results.specs.Arms.{ArePlannedOver, ArmsHit}
-use Rattle.compound_results.specs.InTurn.{IsChainComing, arms_of, turn_steps}
+use Rattle.compound_results.specs.InTurn.{IsChainComing, arms_of, over_plan, turn_steps}
 use Rattle.compound_results.specs.declared.chained.ChainedResults.{ChainedResults}
-use Rattle.query_plans.specs.Answers.{HitsOf, IsAnswerOf, IsPlannedOver, PlannedData}
+use Rattle.query_plans.specs.Answers.{HitsOf, IsAnswerOf, IsPlannedOver, PlannedData, work_of}
 use Rattle.select_plans.specs.Laws.{PlanReaches}
 use Rattle.running.specs.GatheredView.{gathered_data, rows_data}
 use Rattle.running.specs.declared.rows.Running.{Running}
@@ -85,10 +87,26 @@ IsRunOver sources (Chained chained) = ArePlannedOver sources (arms_of chained.ar
 IsRunOver sources (Waiting gathered) = IsPlannedOver sources (gathered_data gathered)
 IsRunOver sources (Giving rows) = ⊤
 
--- a plan was opened: no row was given
+-- so many pages may still be asked for: of what is yet to be gathered those that its plan may ask for, and of rows that were gathered
+-- none
+abbrev pub HasAhead : Pages → List SourceData → Basis → Running → ℕ → Type 0
+HasAhead pages sources on (Rows results) ahead = (rest : List Row) × IsComing pages sources (over_plan on (plan_of results.op)) results rest ahead
+HasAhead pages sources on (Distinct distinct) ahead =
+    (rest : List Row) × IsDistinctComing pages sources (over_plan on (plan_of distinct.results.op)) distinct rest ahead
+HasAhead pages sources on (Chained chained) ahead = (rest : List Row) × IsChainComing pages sources on chained rest ahead
+HasAhead pages sources on (Waiting gathered) ahead = ahead ≡ work_of on.w on.db on.sizes (gathered_data gathered)
+HasAhead pages sources on (Giving rows) ahead = ahead ≡ 0
+
+-- of the pages that were ahead some were asked for, and the others are, or none is behind the last row
+abbrev pub HasAsked : Pages → List SourceData → Basis → PagerState → ℕ → PagerState → Running → Bool → Type 0
+HasAsked pages sources on old ahead new running true = (left : ℕ) × HasAhead pages sources on running left × Asks on.local old ahead new left
+HasAsked pages sources on old ahead new running false = Asks on.local old ahead new 0
+
+-- a plan was opened: no row was given, and the pages that it may ask for are ahead
 pub record IsOpenedRun (planned : PlannedData) (running : Running) : Type 0 where
   pub given : (pages : Pages) (sources : List SourceData) → HasGiven pages sources planned running []
   pub over : (sources : List SourceData) → IsPlannedOver sources planned → IsRunOver sources running
+  pub ahead : (pages : Pages) (sources : List SourceData) (on : Basis) → HasAhead pages sources on running (work_of on.w on.db on.sizes planned)
 
 -- a measure that falls with each row, over any source of bytes; no more rows are gathered than there are addresses
 abbrev pub steps_left : List SourceData → Running → ℕ

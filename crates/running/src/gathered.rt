@@ -1,12 +1,13 @@
 //! Plans whose rows are all gathered before the first is given.
-ghost use Rattle.std.specs.Prelude.{◌<◌, All, IfErr, IsTrue, MatchResult, map};
+ghost use Rattle.std.specs.Prelude.{◌<◌, All, IfErr, IsTrue, MatchResult, OnOk, map};
 ghost use Rattle.std.specs.Vec.Iter.{into_iter_len};
 ghost use Rattle.values.specs.Datum.{datum_of};
 ghost use Rattle.pager.specs.Calls.{ReadsPages};
 ghost use Rattle.sources.specs.Coming.{IsRooted};
 ghost use Rattle.image.specs.Pages.{WhereSteady};
+ghost use Rattle.scan.specs.Coming.{Asks};
 ghost use Rattle.operators.specs.Basis.{AreStored, Basis, IsOperatorFault};
-ghost use Rattle.query_plans.specs.Answers.{IsAnswerOf, IsPlannedOver};
+ghost use Rattle.query_plans.specs.Answers.{IsAnswerOf, IsPlannedOver, work_of};
 ghost use Rattle.running.specs.Given.{GivesFirst, IsRowCause, rows_left};
 ghost use Rattle.running.specs.GatheredView.{gathered_data, rows_data};
 
@@ -30,7 +31,7 @@ pub enum Gathered {
     Compound(Compound),
 }
 
-/// All of its rows. Its faults are those of an operator.
+/// All of its rows, within the work of its plan. Its faults are those of an operator.
 pub(crate) fn gathered_rows<S: Source>(
     alloc: Global,
     pager: &mut Pager<S>,
@@ -42,6 +43,8 @@ pub(crate) fn gathered_rows<S: Source>(
     ensures rows { WhereSteady pager.old.state (λ pages. (on : Basis) → AreStored pages sources.now on → MatchResult result
         (λ rows. IsAnswerOf on.w on.db (gathered_data gathered.now) (rows_data rows.items))
         (IsRowCause on (gathered_data gathered.now))) }
+    ensures pages { WhereSteady pager.old.state (λ pages. (on : Basis) → AreStored pages sources.now on
+        → OnOk result (Asks on.local pager.old.state (work_of on.w on.db on.sizes (gathered_data gathered.now)) pager.new.state 0)) }
     ensures only { IfErr result IsOperatorFault }
     ensures reads { ReadsPages result pager.old.state pager.new.state }
 {

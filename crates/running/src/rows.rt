@@ -1,5 +1,5 @@
 //! A plan that is run.
-ghost use Rattle.std.specs.Prelude.{◌<◌, All, IfErr, IfOk, IsTrue, List, MatchResult, map};
+ghost use Rattle.std.specs.Prelude.{◌<◌, ℕ, All, IfErr, IfOk, IsTrue, List, MatchResult, map};
 ghost use Rattle.values.specs.Datum.{datum_of};
 ghost use Rattle.values.specs.Row.{Row};
 ghost use Rattle.pager.specs.Calls.{ReadsPages};
@@ -11,7 +11,7 @@ ghost use Rattle.operators.specs.Basis.{AreStored, Basis, IsOperatorFault};
 ghost use Rattle.query_plans.specs.Answers.{PlannedData, planned_data};
 ghost use Rattle.results.specs.Coming.{selection_data};
 ghost use Rattle.running.specs.GatheredView.{gathered_data};
-ghost use Rattle.running.specs.Given.{HasAnswered, HasGiven, IsOpenedRun, IsRowCause, IsRunOver, steps_left};
+ghost use Rattle.running.specs.Given.{HasAhead, HasAnswered, HasAsked, HasGiven, IsOpenedRun, IsRowCause, IsRunOver, steps_left};
 
 use crate::columns::selection_of;
 use crate::gathered::{Gathered, gathered_rows, give};
@@ -107,9 +107,9 @@ impl Running {
         }
     }
 
-    /// Puts the next row into `row`, or tells that there is none. It isn't called again after `false` or a fault. Its faults are
-    /// `ReadFailed`, `NoMemory`, `Overflow`, and `Changed`, which comes only where the source no longer has the bytes that were
-    /// checked.
+    /// Puts the next row into `row`, or tells that there is none; all calls together ask for no more pages than the work of the plan.
+    /// It isn't called again after `false` or a fault. Its faults are `ReadFailed`, `NoMemory`, `Overflow`, and `Changed`, which comes
+    /// only where the source no longer has the bytes that were checked.
     pub fn next<S: Source>(
         &mut self,
         alloc: Global,
@@ -122,6 +122,8 @@ impl Running {
         ensures rows { WhereSteady pager.old.state (λ pages. (planned : PlannedData) (given : List Row) → HasGiven pages sources.now planned self.old given
             → MatchResult result (λ found. HasAnswered found pages sources.now planned self.new given (map datum_of row.new.items))
             (λ e. (on : Basis) → AreStored pages sources.now on → IsRowCause on planned e)) }
+        ensures pages { WhereSteady pager.old.state (λ pages. (on : Basis) (ahead : ℕ) → AreStored pages sources.now on
+            → HasAhead pages sources.now on self.old ahead → IfOk result (HasAsked pages sources.now on pager.old.state ahead pager.new.state self.new)) }
         ensures over { IsRunOver sources.now self.new }
         ensures left { IfOk result (λ found. IsTrue found → steps_left sources.now self.new < steps_left sources.now self.old) }
         ensures only { IfErr result IsOperatorFault }

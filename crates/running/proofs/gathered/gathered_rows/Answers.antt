@@ -4,6 +4,7 @@ use Rattle.distinct_results.specs.Sorted.{sorted_distinct_data}
 use Rattle.compound_results.specs.Compounds.{compound_data}
 use Rattle.query_plans.specs.Answers.{PlannedData}
 use Rattle.running.specs.GatheredView.{gathered_data}
+use Rattle.running.proofs.AskedLemmas.{asks_as, compound_asks, distinct_asks, sorted_asks}
 use Rattle.running.proofs.GivenLemmas.{compound_gathers, distinct_gathers, gathers_as, sorted_gathers}
 use Rattle.running.proofs.gathered.gathered_rows.Goals as goal
 
@@ -26,4 +27,25 @@ returns-in-Compound-clause-rows g c =
     gathers_as c.args.pager.now.state c.compound_rows.new.pager.state c.args.sources.now (gathered_data c.args.gathered.now)
     (PlannedData.compound (compound_data c.in-Compound.joined)) c.compound_rows.result (ap gathered_data c.in-Compound.is)
     (compound_gathers c.args.pager.now.state c.compound_rows.new.pager.state c.args.sources.now (compound_data c.in-Compound.joined) c.compound_rows.result
+    c.compound_rows.ensures.rows)
+
+pub returns-in-Sorted-clause-pages : goal.returns-in-Sorted-clause-pages
+returns-in-Sorted-clause-pages g c =
+    asks_as c.args.pager.now.state c.sorted_rows.new.pager.state c.args.sources.now (gathered_data c.args.gathered.now)
+    (PlannedData.sorted (sorted_data c.in-Sorted.selection)) c.sorted_rows.result (ap gathered_data c.in-Sorted.is)
+    (sorted_asks c.args.pager.now.state c.sorted_rows.new.pager.state c.args.sources.now (sorted_data c.in-Sorted.selection) c.sorted_rows.result
+    c.sorted_rows.ensures.rows)
+
+pub returns-in-SortedDistinct-clause-pages : goal.returns-in-SortedDistinct-clause-pages
+returns-in-SortedDistinct-clause-pages g c =
+    asks_as c.args.pager.now.state c.sorted_distinct_rows.new.pager.state c.args.sources.now (gathered_data c.args.gathered.now)
+    (PlannedData.sorted_distinct (sorted_distinct_data c.in-SortedDistinct.selection)) c.sorted_distinct_rows.result (ap gathered_data c.in-SortedDistinct.is)
+    (distinct_asks c.args.pager.now.state c.sorted_distinct_rows.new.pager.state c.args.sources.now (sorted_distinct_data c.in-SortedDistinct.selection)
+    c.sorted_distinct_rows.result c.sorted_distinct_rows.ensures.rows)
+
+pub returns-in-Compound-clause-pages : goal.returns-in-Compound-clause-pages
+returns-in-Compound-clause-pages g c =
+    asks_as c.args.pager.now.state c.compound_rows.new.pager.state c.args.sources.now (gathered_data c.args.gathered.now)
+    (PlannedData.compound (compound_data c.in-Compound.joined)) c.compound_rows.result (ap gathered_data c.in-Compound.is)
+    (compound_asks c.args.pager.now.state c.compound_rows.new.pager.state c.args.sources.now (compound_data c.in-Compound.joined) c.compound_rows.result
     c.compound_rows.ensures.rows)
