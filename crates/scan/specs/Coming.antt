@@ -1,8 +1,30 @@
 -- The rows that a cursor over a table still has to give, and the pages that it may ask for on the way. (Database File
 -- Format, section 2.3 "Representation Of SQL Tables", and section 2.4 "Representation Of WITHOUT ROWID Tables")
-use Rattle.std.specs.Prelude.{◌≡◌, ◌⊎◌, ◌+◌, ◌≤◌, All, Bool, true, false, IsTrue, ℕ, List, [], ◌∷◌, ◌++◌, None}
+use Rattle.std.specs.Prelude.{
+  ◌≡◌,
+  ◌⊎◌,
+  ◌+◌,
+  ◌<◌,
+  ◌≤◌,
+  All,
+  Bool,
+  true,
+  false,
+  IsFalse,
+  IsTrue,
+  ℕ,
+  List,
+  [],
+  ◌∷◌,
+  ◌++◌,
+  map,
+  None,
+  take,
+}
 use Rattle.std.specs.List.{AllZip}
+use Rattle.values.specs.Datum.{datum_of}
 use Rattle.values.specs.Row.{Row}
+use Rattle.values.specs.declared.value.Value.{Value}
 use Rattle.values.specs.declared.fault.Fault.{Fault}
 use Rattle.values.specs.declared.fault.Fault.TheVariants.{Changed}
 use Rattle.pager.specs.Calls.{IsReadFault}
@@ -58,3 +80,10 @@ GivesRow false columns rows old new Then = (rows ≡ []) × (new ≡ old) × The
 -- values stay in front of others
 abbrev pub Grows : Row → Row → Type 0
 Grows old new = (more : Row) × (new ≡ old ++ more)
+
+-- What a step to the next row leaves behind the first `before` values of a row, and of what is left to do: these values stay in
+-- front; where no row was found they stay alone, and where one was, less is left.
+pub record HasMoved (found : Bool) (before : ℕ) (old new : List Value) (was now : ℕ) : Type 0 where
+  pub front : Grows (take before (map datum_of old)) (map datum_of new)
+  pub end : IsFalse found → new ≡ take before old
+  pub left : IsTrue found → now < was
