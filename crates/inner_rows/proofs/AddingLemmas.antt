@@ -48,12 +48,12 @@ module _ (tables : List TableData) where
   abbrev Answers : InnerQuery → Type 0
   Answers query = IsComputableBody (column_types tables) (body_in query)
 
-  computable_front : (sources others : List Source) (queries more : List InnerQuery) → AreComputable (column_types tables) (sources ++ others) (queries ++ more)
+  pub computable_front : (sources others : List Source) (queries more : List InnerQuery) → AreComputable (column_types tables) (sources ++ others) (queries ++ more)
       → AreComputable (column_types tables) sources queries
   computable_front sources others queries more all =
       (front_all (IsComputable (column_types tables)) sources others all.0, front_all Answers queries more all.1)
 
-  computable_back : (sources others : List Source) (queries more : List InnerQuery) → AreComputable (column_types tables) (sources ++ others) (queries ++ more)
+  pub computable_back : (sources others : List Source) (queries more : List InnerQuery) → AreComputable (column_types tables) (sources ++ others) (queries ++ more)
       → AreComputable (column_types tables) others more
   computable_back sources others queries more all =
       (back_all (IsComputable (column_types tables)) sources others all.0, back_all Answers queries more all.1)

@@ -1,5 +1,5 @@
 -- The plan of a query without the queries in it, over their rows.
-use Rattle.std.proofs.Common.{◌≡◌, ◌∙◌, inl, inr, List, [], ◌∷◌, ◌++◌, Vec, Global, Result, length, map, refl, sym, ap, subst, IsPermutation}
+use Rattle.std.proofs.Common.{◌≡◌, ◌∙◌, ◌≤◌, inl, inr, ℕ, List, [], ◌∷◌, ◌++◌, Vec, Global, Result, length, map, take, refl, sym, ap, subst, arith, IsPermutation}
 use Rattle.std.specs.Result.{MatchResult}
 use Rattle.std.proofs.lemmas.Result.{MatchResult-weaker}
 use Rattle.std.specs.List.{AllZip}
@@ -19,7 +19,8 @@ use Rattle.image.specs.Pages.{Pages}
 use Rattle.tables.specs.ColumnTypes.{column_types, types_of}
 use Rattle.tables.specs.TableData.{TableData}
 use Rattle.flat_queries.proofs.FlatHitLemmas.{flat_with_hits}
-use Rattle.flat_queries.proofs.FlatLemmas.{flat_with_permits}
+use Rattle.compound_plans.specs.Work.{selects_work}
+use Rattle.flat_queries.proofs.FlatLemmas.{AreFrom, all_from, flat_with_permits}
 use Rattle.flat_queries.proofs.PartLemmas.{plain_hits, plain_rows}
 use Rattle.flat_queries.proofs.WholeTypeLemmas.{flat_query_typed}
 use Rattle.flat_queries.specs.Flat.{kept_of, with_kept}
@@ -35,7 +36,7 @@ use Rattle.meaning.specs.Typed.{HasTypes, IsTyped, SourceHasTypes}
 use Rattle.operators.specs.Basis.{AreStored, Basis}
 use Rattle.plans.specs.Plan.{PlanData, once}
 use Rattle.query_plans.proofs.WideLemmas.{typed_wide}
-use Rattle.query_plans.specs.Answers.{AreWideFor, IsAnswerOf, IsPlanFor, PlannedData}
+use Rattle.query_plans.specs.Answers.{AreWideFor, IsAnswerOf, IsPlanFor, PlannedData, work_of}
 use Rattle.query_plans.specs.Served.{HaveServedForm}
 use Rattle.running.specs.Given.{IsRowCause}
 use Rattle.select_plans.proofs.ColumnLemmas.{tables_have_columns}
@@ -49,6 +50,7 @@ use Rattle.inner_rows.specs.Over.{AreSaid, IsBodyCause, IsPlanOverKept, IsQueryC
 use Rattle.inner_rows.specs.Runnable.{IsComputableBody, IsRunnableBody}
 use Rattle.inner_rows.proofs.KeptLemmas.{Lists, kept_are_stored, kept_have_columns, tables_count}
 use Rattle.inner_rows.proofs.RunnableLemmas.{flat_is_served}
+use Rattle.inner_rows.proofs.WorkLemmas.{selects_fewer}
 
 stand_in_is : (w : Datum) → IsStandIn w → IsOfType Int w
 stand_in_is null is = tt
@@ -106,12 +108,23 @@ module _ (pages : Pages) (tables : List TableData) (on : Basis) (said : AreSaid 
   wide : AreWideFor db' flat.body
   wide = typed_wide catalog db' (types_of_flat.fits db' same) flat flat_typed
 
+  -- its own SELECTs ask for no more pages
+  plan_few : (planned : PlannedData) → IsPlanFor flat planned
+      → work_of on.w db' (take (length on.db.tables) on.sizes) planned ≤ selects_work on.w on.db on.sizes query.body
+  plan_few planned is =
+      let over = is.few on.w db' (take (length on.db.tables) on.sizes) wide in
+      let fewer = selects_fewer on.w on.db (kept_of query.body) db' same on.sizes inner.answers (length tables) query.body (omega (arith, count)) within
+      (subst (λ n. AreFrom on.w on.db (with_kept on.w on.db (kept_of query.body)).tables n (kept_of query.body)) count (all_from on.w on.db (kept_of query.body)))
+      are.answers in
+      omega (arith, over, fewer)
+
   pub plan_is_over : (planned : PlannedData) → IsPlanFor flat planned → IsPlanOverKept on query inner.kept planned
   plan_is_over planned is = record {
     permits = λ answer answers. flat_with_permits on.w on.db query within db' inner.answers answer same are.answers
         (subst (λ q. Permits on.w db' q answer) (sym flat_at) (is.permits on.w db' answer wide answers));
     hits = λ hits. flat_with_hits on.w on.db query within db' inner.answers same are.answers
         (subst (Hits on.w db') (sym flat_at) (is.hits on.w db' wide hits));
+    few = plan_few planned is;
   }
 
   -- it is one that has a plan, over sources with the columns of such a catalog
@@ -164,6 +177,14 @@ module _ (pages : Pages) (tables : List TableData) (on : Basis) (said : AreSaid 
       MatchResult-weaker result (gives (basis_over tables on (kept_rows kept) once) (kept_are_stored pages tables kept on once said))
       (λ rows. rows_are pages tables on of (kept_rows kept) planned over (rows_data rows.items))
       (cause_is pages tables on of (kept_rows kept) planned over once)
+
+  -- within what its SELECTs may ask for
+  pub rows_asked : (planned : PlannedData) → IsPlanFor (flat_with answers (length tables) (plain of)) planned
+      → work_of on.w (over_kept on.db (kept_rows kept)) (take (length tables) on.sizes) planned ≤ selects_work on.w on.db on.sizes of
+  rows_asked planned is =
+      let over = plan_is_over pages tables on said (plain of) inner are typed_plain planned is in
+      subst (λ (n : ℕ). work_of on.w (over_kept on.db (kept_rows kept)) (take n on.sizes) planned ≤ selects_work on.w on.db on.sizes of)
+      (tables_count pages tables on said) over.few
 
   -- and there is one
   pub plan_found : (e : Fault) → ((catalog : List (List Ty)) → HaveColumns catalog (sources_of tables kept) → IsTyped catalog (flat_with answers (length tables) (plain of))

@@ -5,3 +5,6 @@ pub mod ComputedLemmas
 pub mod FlatLemmas
 pub mod AddingLemmas
 pub mod PushLemmas
+pub mod WorkLemmas
+pub mod AskedLemmas
+pub mod WorkExampleLemmas

@@ -80,10 +80,10 @@ module _ (tables : List TableData) (start : PagerState) where
   abbrev pub GivesWhere : Body → (Basis → Type 0) → Type 0
   GivesWhere of Says = WhereSteady start (λ pages. (on : Basis) → AreSaid pages tables on → IsComputableBody (column_types tables) of → Says on)
 
-  one_derived : (of : Body) → AreComputable (column_types tables) (derived of ∷ []) [] → IsComputableBody (column_types tables) of
+  pub one_derived : (of : Body) → AreComputable (column_types tables) (derived of ∷ []) [] → IsComputableBody (column_types tables) of
   one_derived of all = All-head (IsComputable (column_types tables)) (derived of) [] all.0
 
-  one_query : (query : InnerQuery) → AreComputable (column_types tables) [] (query ∷ []) → IsComputableBody (column_types tables) (body_in query)
+  pub one_query : (query : InnerQuery) → AreComputable (column_types tables) [] (query ∷ []) → IsComputableBody (column_types tables) (body_in query)
   one_query query all = All-head (λ query. IsComputableBody (column_types tables) (body_in query)) query [] all.1
 
   pub derived_adds : (of : Body) (kept : Lists) (answers : List (Vec Value Global)) (rows : Vec (Vec Value Global) Global)

@@ -1,5 +1,5 @@
 -- Over which tables queries are run, and why a run stops. (SELECT)
-use Rattle.std.specs.Prelude.{◌≡◌, ◌⊎◌, ◌++◌, Contains, List, [], Vec, length, take}
+use Rattle.std.specs.Prelude.{◌≡◌, ◌≤◌, ◌⊎◌, ◌++◌, Contains, List, [], Vec, length, take}
 use Rattle.std.specs.Global.{Global}
 use Rattle.values.specs.Database.{Database}
 use Rattle.values.specs.Datum.{Datum}
@@ -9,6 +9,7 @@ use Rattle.values.specs.declared.fault.Fault.{Fault}
 use Rattle.values.specs.declared.fault.Fault.TheVariants.{Overflow}
 use Rattle.pager.specs.Calls.{IsReadFault}
 use Rattle.image.specs.Pages.{Pages}
+use Rattle.compound_plans.specs.Work.{selects_work}
 use Rattle.tables.specs.ColumnTypes.{column_types}
 use Rattle.tables.specs.TableData.{TableData}
 use Rattle.meaning.specs.Answer.{IsStandIn, Permits}
@@ -20,7 +21,7 @@ use Rattle.plans.specs.Plan.{PlanData}
 use Rattle.sources.specs.SourceData.{sources_of}
 use Rattle.operators.specs.Basis.{AreStored, Basis}
 use Rattle.inner_rows.specs.InnerView.{kept_rows}
-use Rattle.query_plans.specs.Answers.{HitsOf, IsAnswerOf, PlannedData}
+use Rattle.query_plans.specs.Answers.{HitsOf, IsAnswerOf, PlannedData, work_of}
 
 -- tables alone are stored as is said of them, their rows fit their columns, and what stands for results out of range may
 pub record AreSaid (pages : Pages) (tables : List TableData) (on : Basis) : Type 0 where
@@ -47,11 +48,12 @@ abbrev pub KeptAreStored : Type 0
 KeptAreStored = (pages : Pages) (tables : List TableData) (kept : List (Vec (Vec Value Global) Global)) (on : Basis) (plan : PlanData)
     → AreSaid pages tables on → AreStored pages (sources_of tables kept) (basis_over tables on (kept_rows kept) plan)
 
--- Over the tables and these rows behind them each answer of a plan is one that the query permits, and what the plan reaches the query
--- can reach.
+-- Over the tables and these rows behind them each answer of a plan is one that the query permits, what the plan reaches the query can
+-- reach, and it asks for no more pages than the query's SELECTs may.
 pub record IsPlanOverKept (on : Basis) (query : QueryData) (kept : List (List Row)) (planned : PlannedData) : Type 0 where
   pub permits : (answer : List Row) → IsAnswerOf on.w (over_kept on.db kept) planned answer → Permits on.w on.db query answer
   pub hits : HitsOf on.w (over_kept on.db kept) planned → Hits on.w on.db query
+  pub few : work_of on.w (over_kept on.db kept) (take (length on.db.tables) on.sizes) planned ≤ selects_work on.w on.db on.sizes query.body
 
 -- ---- why a run stops: reading failed, or something leaves 64 bits
 

@@ -3,6 +3,7 @@ ghost use Rattle.std.specs.Prelude.{◌≡◌, [], All, IfErr, IsPermutation, Ma
 ghost use Rattle.pager.specs.Calls.{ReadsPages};
 ghost use Rattle.image.specs.Pages.{WhereSteady};
 ghost use Rattle.body_trees.specs.BodyView.{body_of, inner_of, joined_of, source_of, tables_of};
+ghost use Rattle.compound_plans.specs.Work.{selects_work};
 ghost use Rattle.flat_bodies.specs.FlatView.{kept_among};
 ghost use Rattle.flat_queries.specs.Flat.{kept_in, kept_of, kept_source};
 ghost use Rattle.flat_queries.specs.FlatWith.{body_in, queries_in, queries_of};
@@ -10,8 +11,10 @@ ghost use Rattle.inner_rows.specs.Computed.{AddsAsMany, AddsRows, AreComputedRow
 ghost use Rattle.inner_rows.specs.InnerView.{inner_data};
 ghost use Rattle.inner_rows.specs.Over.{AreSaid, IsBodyCause, IsInnerCause};
 ghost use Rattle.inner_rows.specs.Runnable.{AreComputable, IsComputableBody};
+ghost use Rattle.inner_rows.specs.Work.{body_work, parts_work};
 ghost use Rattle.meaning.specs.Body.{body_rows};
 ghost use Rattle.operators.specs.Basis.{Basis, IsOperatorFault};
+ghost use Rattle.scan.specs.Coming.{Asks};
 ghost use Rattle.sources.specs.Coming.{IsRooted};
 ghost use Rattle.sources.specs.SourceData.{rows_data, sources_of};
 ghost use Rattle.tables.specs.ColumnTypes.{column_types};
@@ -44,6 +47,10 @@ fn flat_rows<S: pager::Source>(
         → AreComputedRows on.w on.db (kept_of (body_of body.now)) (queries_of (body_of body.now)) (inner_data inner.now)
         → MatchResult result (λ rows. IsPermutation (body_rows on.w on.db (body_of body.now)) (rows_data rows.items))
         (IsBodyCause on (body_of body.now))) }
+    ensures pages { WhereSteady pager.old.state (λ pages. (on : Basis) → AreSaid pages tables.now on
+        → IsComputableBody (column_types tables.now) (body_of body.now)
+        → AreComputedRows on.w on.db (kept_of (body_of body.now)) (queries_of (body_of body.now)) (inner_data inner.now)
+        → OnOk result (Asks on.local pager.old.state (selects_work on.w on.db on.sizes (body_of body.now)) pager.new.state 0)) }
     ensures only { IfErr result IsOperatorFault }
     ensures reads { ReadsPages result pager.old.state pager.new.state }
 {
@@ -66,6 +73,9 @@ fn body_rows<S: pager::Source>(
         → IsComputableBody (column_types tables.now) (body_of body.now)
         → MatchResult result (λ rows. IsPermutation (body_rows on.w on.db (body_of body.now)) (rows_data rows.items))
         (IsBodyCause on (body_of body.now))) }
+    ensures pages { WhereSteady pager.old.state (λ pages. (on : Basis) → AreSaid pages tables.now on
+        → IsComputableBody (column_types tables.now) (body_of body.now)
+        → OnOk result (Asks on.local pager.old.state (body_work on.w on.db on.sizes (body_of body.now)) pager.new.state 0)) }
     ensures only { IfErr result IsOperatorFault }
     ensures reads { ReadsPages result pager.old.state pager.new.state }
 {
@@ -90,6 +100,9 @@ pub(crate) fn add_body<S: pager::Source>(
         → MatchResult result
         (λ _. AddsRows on.w on.db (kept_of (body_of body.now)) (queries_of (body_of body.now)) (inner_data inner.old) (inner_data inner.new))
         (IsInnerCause on (kept_of (body_of body.now)) (queries_of (body_of body.now)))) }
+    ensures pages { WhereSteady pager.old.state (λ pages. (on : Basis) → AreSaid pages tables.now on
+        → AreComputable (column_types tables.now) (kept_of (body_of body.now)) (queries_of (body_of body.now))
+        → OnOk result (Asks on.local pager.old.state (parts_work on.w on.db on.sizes (kept_of (body_of body.now)) (queries_of (body_of body.now))) pager.new.state 0)) }
     ensures only { IfErr result IsOperatorFault }
     ensures reads { ReadsPages result pager.old.state pager.new.state }
 {
@@ -117,6 +130,9 @@ fn add_tables<S: pager::Source>(
         → MatchResult result
         (λ _. AddsRows on.w on.db (kept_in (tables_of from.now)) (queries_in (tables_of from.now)) (inner_data inner.old) (inner_data inner.new))
         (IsInnerCause on (kept_in (tables_of from.now)) (queries_in (tables_of from.now)))) }
+    ensures pages { WhereSteady pager.old.state (λ pages. (on : Basis) → AreSaid pages tables.now on
+        → AreComputable (column_types tables.now) (kept_in (tables_of from.now)) (queries_in (tables_of from.now))
+        → OnOk result (Asks on.local pager.old.state (parts_work on.w on.db on.sizes (kept_in (tables_of from.now)) (queries_in (tables_of from.now))) pager.new.state 0)) }
     ensures only { IfErr result IsOperatorFault }
     ensures reads { ReadsPages result pager.old.state pager.new.state }
 {
@@ -139,6 +155,9 @@ fn add_sources<S: pager::Source>(
         → MatchResult result
         (λ _. AddsRows on.w on.db (kept_among (map joined_of sources.now)) [] (inner_data inner.old) (inner_data inner.new))
         (IsInnerCause on (kept_among (map joined_of sources.now)) [])) }
+    ensures pages { WhereSteady pager.old.state (λ pages. (on : Basis) → AreSaid pages tables.now on
+        → AreComputable (column_types tables.now) (kept_among (map joined_of sources.now)) []
+        → OnOk result (Asks on.local pager.old.state (parts_work on.w on.db on.sizes (kept_among (map joined_of sources.now)) []) pager.new.state 0)) }
     ensures only { IfErr result IsOperatorFault }
     ensures reads { ReadsPages result pager.old.state pager.new.state }
 {
@@ -164,6 +183,9 @@ fn add_source<S: pager::Source>(
         → MatchResult result
         (λ _. AddsRows on.w on.db (kept_source (source_of source.now)) [] (inner_data inner.old) (inner_data inner.new))
         (IsInnerCause on (kept_source (source_of source.now)) [])) }
+    ensures pages { WhereSteady pager.old.state (λ pages. (on : Basis) → AreSaid pages tables.now on
+        → AreComputable (column_types tables.now) (kept_source (source_of source.now)) []
+        → OnOk result (Asks on.local pager.old.state (parts_work on.w on.db on.sizes (kept_source (source_of source.now)) []) pager.new.state 0)) }
     ensures only { IfErr result IsOperatorFault }
     ensures reads { ReadsPages result pager.old.state pager.new.state }
 {
@@ -193,6 +215,9 @@ fn add_queries<S: pager::Source>(
         → MatchResult result
         (λ _. AddsRows on.w on.db [] (map inner_of queries.now) (inner_data inner.old) (inner_data inner.new))
         (IsInnerCause on [] (map inner_of queries.now))) }
+    ensures pages { WhereSteady pager.old.state (λ pages. (on : Basis) → AreSaid pages tables.now on
+        → AreComputable (column_types tables.now) [] (map inner_of queries.now)
+        → OnOk result (Asks on.local pager.old.state (parts_work on.w on.db on.sizes [] (map inner_of queries.now)) pager.new.state 0)) }
     ensures only { IfErr result IsOperatorFault }
     ensures reads { ReadsPages result pager.old.state pager.new.state }
 {
@@ -216,6 +241,9 @@ fn query_rows<S: pager::Source>(
         → IsComputableBody (column_types tables.now) (body_in (inner_of query.now))
         → MatchResult result (λ rows. IsPermutation (body_rows on.w on.db (body_in (inner_of query.now))) (rows_data rows.items))
         (IsBodyCause on (body_in (inner_of query.now)))) }
+    ensures pages { WhereSteady pager.old.state (λ pages. (on : Basis) → AreSaid pages tables.now on
+        → IsComputableBody (column_types tables.now) (body_in (inner_of query.now))
+        → OnOk result (Asks on.local pager.old.state (body_work on.w on.db on.sizes (body_in (inner_of query.now))) pager.new.state 0)) }
     ensures only { IfErr result IsOperatorFault }
     ensures reads { ReadsPages result pager.old.state pager.new.state }
 {

@@ -1,13 +1,17 @@
 //! The plan of a whole query.
-ghost use Rattle.std.specs.Prelude.{◌⊎◌, [], All, IfErr, IfOk, MatchResult, map};
+ghost use Rattle.std.specs.Prelude.{◌⊎◌, [], All, IfErr, IfOk, MatchResult, OnOk, map};
 ghost use Rattle.pager.specs.Calls.{ReadsPages};
 ghost use Rattle.image.specs.Pages.{WhereSteady};
+ghost use Rattle.flat_queries.specs.Flat.{kept_of};
+ghost use Rattle.flat_queries.specs.FlatWith.{queries_of};
 ghost use Rattle.inner_rows.specs.InnerView.{kept_rows};
 ghost use Rattle.inner_rows.specs.Over.{AreSaid, IsPlanOverKept, IsQueryCause};
 ghost use Rattle.inner_rows.specs.Runnable.{IsRunnableBody};
+ghost use Rattle.inner_rows.specs.Work.{parts_work};
 ghost use Rattle.meaning.specs.Typed.{IsTyped};
 ghost use Rattle.operators.specs.Basis.{Basis, IsOperatorFault};
 ghost use Rattle.query_plans.specs.Answers.{IsPlannedOver, planned_data};
+ghost use Rattle.scan.specs.Coming.{Asks};
 ghost use Rattle.sources.specs.Coming.{IsRooted};
 ghost use Rattle.sources.specs.SourceData.{sources_of};
 ghost use Rattle.statement_names.specs.NamedView.{query_data};
@@ -31,7 +35,7 @@ pub struct KeptPlan {
     pub planned: Planned,
 }
 
-/// The plan of a query, once the queries in it are computed. Its faults are `ReadFailed`, `NoMemory`, `Overflow`, and `Changed`, which
+/// The plan of a query, once the queries in it are computed, each of them once. Its faults are `ReadFailed`, `NoMemory`, `Overflow`, and `Changed`, which
 /// comes only where the source no longer has the bytes that were checked, or the query can't be run. (SELECT)
 pub fn kept_plan<S: Source>(
     alloc: Global,
@@ -44,6 +48,10 @@ pub fn kept_plan<S: Source>(
         → IsTyped (column_types tables.now) (query_data query.now) → IsRunnableBody (query_data query.now).body
         → MatchResult result (λ p. IsPlanOverKept on (query_data query.now) (kept_rows p.kept.items) (planned_data p.planned))
         (IsQueryCause on (query_data query.now))) }
+    ensures pages { WhereSteady pager.old.state (λ pages. (on : Basis) → AreSaid pages tables.now on
+        → IsTyped (column_types tables.now) (query_data query.now) → IsRunnableBody (query_data query.now).body
+        → OnOk result (Asks on.local pager.old.state
+        (parts_work on.w on.db on.sizes (kept_of (query_data query.now).body) (queries_of (query_data query.now).body)) pager.new.state 0)) }
     ensures over { IfOk result (λ p. IsPlannedOver (sources_of tables.now p.kept.items) (planned_data p.planned)) }
     ensures only { IfErr result IsOperatorFault }
     ensures reads { ReadsPages result pager.old.state pager.new.state }

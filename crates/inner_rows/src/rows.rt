@@ -1,10 +1,11 @@
 //! The rows of a plan.
-ghost use Rattle.std.specs.Prelude.{[], All, IfErr, MatchResult};
+ghost use Rattle.std.specs.Prelude.{[], ℕ, All, IfErr, MatchResult, OnOk};
 ghost use Rattle.pager.specs.Calls.{ReadsPages};
 ghost use Rattle.image.specs.Pages.{WhereSteady};
 ghost use Rattle.operators.specs.Basis.{AreStored, Basis, IsOperatorFault};
-ghost use Rattle.query_plans.specs.Answers.{IsAnswerOf, IsPlannedOver, PlannedData, planned_data};
-ghost use Rattle.running.specs.Given.{HasGiven, IsRowCause, IsRunOver};
+ghost use Rattle.query_plans.specs.Answers.{IsAnswerOf, IsPlannedOver, PlannedData, planned_data, work_of};
+ghost use Rattle.running.specs.Given.{HasAhead, HasGiven, IsRowCause, IsRunOver};
+ghost use Rattle.scan.specs.Coming.{Asks};
 ghost use Rattle.sources.specs.Coming.{IsRooted};
 ghost use Rattle.sources.specs.SourceData.{rows_data};
 
@@ -28,6 +29,8 @@ fn rows_of_run<S: Source>(
         → (on : Basis) → AreStored pages sources.now on → MatchResult result
         (λ rows. IsAnswerOf on.w on.db planned (rows_data rows.items))
         (IsRowCause on planned)) }
+    ensures pages { WhereSteady pager.old.state (λ pages. (on : Basis) (ahead : ℕ) → AreStored pages sources.now on
+        → HasAhead pages sources.now on running.old ahead → OnOk result (Asks on.local pager.old.state ahead pager.new.state 0)) }
     ensures only { IfErr result IsOperatorFault }
     ensures reads { ReadsPages result pager.old.state pager.new.state }
 {
@@ -40,7 +43,7 @@ fn rows_of_run<S: Source>(
     Ok(rows)
 }
 
-/// All rows that a plan gives. Its faults are those of an operator.
+/// All rows that a plan gives, within its work. Its faults are those of an operator.
 pub fn planned_rows<S: Source>(
     alloc: Global,
     pager: &mut Pager<S>,
@@ -52,6 +55,8 @@ pub fn planned_rows<S: Source>(
     ensures rows { WhereSteady pager.old.state (λ pages. (on : Basis) → AreStored pages sources.now on → MatchResult result
         (λ rows. IsAnswerOf on.w on.db (planned_data planned) (rows_data rows.items))
         (IsRowCause on (planned_data planned))) }
+    ensures pages { WhereSteady pager.old.state (λ pages. (on : Basis) → AreStored pages sources.now on
+        → OnOk result (Asks on.local pager.old.state (work_of on.w on.db on.sizes (planned_data planned)) pager.new.state 0)) }
     ensures only { IfErr result IsOperatorFault }
     ensures reads { ReadsPages result pager.old.state pager.new.state }
 {

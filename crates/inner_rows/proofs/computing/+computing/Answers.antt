@@ -19,6 +19,7 @@ use Rattle.tables.specs.ColumnTypes.{column_types}
 use Rattle.inner_rows.specs.InnerView.{inner_data}
 use Rattle.inner_rows.specs.Runnable.{IsComputable}
 use Rattle.inner_rows.proofs.AddingLemmas.{AddsWhere, CallsWhere, StopsWhere, calls_then, first_among, first_asked, many_calls, query_many, query_more, query_stops, source_many, source_more, source_stops, stops_first}
+use Rattle.inner_rows.proofs.AskedLemmas.{AsksOnOk, AsksWhere, asks_nothing, body_asks, calls_ask, derived_asks, queries_ask, query_asks, source_asks}
 use Rattle.inner_rows.proofs.PushLemmas.{asked_stops, body_gives, body_stops, derived_adds, derived_stops, held, many_rows, many_values, query_adds, with_rows}
 use Rattle.inner_rows.proofs.RunnableLemmas.{kept_are, queries_are}
 use Rattle.inner_rows.proofs.computing.+computing.Goals as goal
@@ -38,6 +39,9 @@ add_sources-loop-joined-preserved g t c =
       rows = source_more joined_of c.args.sources.now at c.joined-item.result within is c.args.tables.now _ _ inv.stays _ _ _ inv.rows
           (subst (λ source. AddsWhere c.args.tables.now c.loop-joined.pager.state (kept_source source) [] (inner_data c.loop-joined.inner) (inner_data c.add_source.new.inner)) (sym same)
           c.in_ok-add_source.ensures.rows);
+      asked = source_asks joined_of c.args.sources.now at c.joined-item.result within is c.args.tables.now _ _ c.add_source.new.pager.state inv.stays inv.asked
+          (subst (λ source. AsksWhere c.args.tables.now c.loop-joined.pager.state (kept_source source) [] c.add_source.new.pager.state) (sym same)
+          c.in_ok-add_source.ensures.pages);
     }
 
 pub add_sources-returns-in_err-add_source-clause-rows : goal.add_sources-returns-in_err-add_source-clause-rows
@@ -56,7 +60,27 @@ add_sources-returns-clause-rows g t c =
     ap (λ xs. kept_among (map joined_of xs)) (take_all c.loop-joined.joined-index c.args.sources.now (omega (arith, end))) in
     subst (λ sources. AddsWhere c.args.tables.now c.args.pager.now.state sources [] (inner_data c.args.inner.now) (inner_data c.loop-joined.inner)) all c.loop-joined.invariant.rows
 
+pub add_sources-returns-clause-pages : goal.add_sources-returns-clause-pages
+add_sources-returns-clause-pages g t c =
+    let end : c.loop-joined.joined-index ≡ length c.args.sources.now = search rules in
+    let all : first_among joined_of c.args.sources.now c.loop-joined.joined-index ≡ kept_among (map joined_of c.args.sources.now) =
+    ap (λ xs. kept_among (map joined_of xs)) (take_all c.loop-joined.joined-index c.args.sources.now (omega (arith, end))) in
+    subst (λ sources. AsksWhere c.args.tables.now c.args.pager.now.state sources [] c.loop-joined.pager.state) all c.loop-joined.invariant.asked
+
 -- ---- one source
+
+pub add_source-returns-in-Table-clause-pages : goal.add_source-returns-in-Table-clause-pages
+add_source-returns-in-Table-clause-pages g t c =
+    let is : source_of c.args.source.now ≡ q.Source.table c.in-Table.field-0 c.in-Table.field-1 = search (rules, the_lemmas, fold-roll-Source, fold_out-Source) in
+    subst (λ source. AsksWhere c.args.tables.now c.args.pager.now.state (kept_source source) [] c.args.pager.now.state) (sym is)
+    (asks_nothing c.args.tables.now c.args.pager.now.state)
+
+pub add_source-returns-in_ok-push-in-Derived-clause-pages : goal.add_source-returns-in_ok-push-in-Derived-clause-pages
+add_source-returns-in_ok-push-in-Derived-clause-pages g t c =
+    let of = body_of c.deref.result.now in
+    let is : source_of c.args.source.now ≡ q.Source.derived of = search (rules, the_lemmas, fold-roll-Source, fold_out-Source) in
+    subst (λ source. AsksWhere c.args.tables.now c.args.pager.now.state (kept_source source) [] c.body_rows.new.pager.state) (sym is)
+    (derived_asks c.args.tables.now c.args.pager.now.state c.body_rows.new.pager.state of c.in_ok-rows-in-Derived.ensures.pages)
 
 pub add_source-returns-in-Schema-clause-rows : goal.add_source-returns-in-Schema-clause-rows
 add_source-returns-in-Schema-clause-rows g t c = λ steady on said all.
@@ -120,6 +144,8 @@ add_queries-loop-query-preserved g t c =
       many = query_many inner_of c.args.queries.now at c.query-item.result within is _ _ _ inv.many (rw c.in_ok-push.ensures.items (many_values kept answers values query));
       rows = query_more inner_of c.args.queries.now at c.query-item.result within is c.args.tables.now _ _ inv.stays _ _ _ inv.rows
           (rw c.in_ok-push.ensures.items (query_adds c.args.tables.now c.loop-query.pager.state query kept answers rows values c.in_ok-rows.ensures.rows c.in_ok-values.ensures));
+      asked = queries_ask inner_of c.args.queries.now at c.query-item.result within is c.args.tables.now _ _ c.query_rows.new.pager.state inv.stays inv.asked
+          (query_asks c.args.tables.now c.loop-query.pager.state c.query_rows.new.pager.state query c.in_ok-rows.ensures.pages);
     }
 
 pub add_queries-returns-clause-rows : goal.add_queries-returns-clause-rows
@@ -128,6 +154,13 @@ add_queries-returns-clause-rows g t c =
     let all : first_asked inner_of c.args.queries.now c.loop-query.query-index ≡ map inner_of c.args.queries.now =
     ap (map inner_of) (take_all c.loop-query.query-index c.args.queries.now (omega (arith, end))) in
     subst (λ queries. AddsWhere c.args.tables.now c.args.pager.now.state [] queries (inner_data c.args.inner.now) (inner_data c.loop-query.inner)) all c.loop-query.invariant.rows
+
+pub add_queries-returns-clause-pages : goal.add_queries-returns-clause-pages
+add_queries-returns-clause-pages g t c =
+    let end : c.loop-query.query-index ≡ length c.args.queries.now = search rules in
+    let all : first_asked inner_of c.args.queries.now c.loop-query.query-index ≡ map inner_of c.args.queries.now =
+    ap (map inner_of) (take_all c.loop-query.query-index c.args.queries.now (omega (arith, end))) in
+    subst (λ queries. AsksWhere c.args.tables.now c.args.pager.now.state [] queries c.loop-query.pager.state) all c.loop-query.invariant.asked
 
 -- ---- FROM
 
@@ -172,7 +205,43 @@ add_tables-returns-clause-rows g t c =
     (calls_then c.args.tables.now c.args.pager.now.state c.add_sources.new.pager.state c.add_sources.ensures.reads.image (kept_among js) [] [] qs (inner_data c.args.inner.now)
     (inner_data c.add_sources.new.inner) (inner_data c.add_queries.new.inner) c.add_queries.result c.in_ok-add_sources.ensures.rows c.add_queries.ensures.rows))
 
+pub add_tables-returns-clause-pages : goal.add_tables-returns-clause-pages
+add_tables-returns-clause-pages g t c =
+    let js = map joined_of c.as_slice.result.now in
+    let qs = map inner_of c.as_slice-2.result.now in
+    let is : tables_of c.args.from.now ≡ with_answers (joined_all q.From.nothing js) qs = search (rules, the_lemmas, fold-roll-Tables, fold_out-Tables) in
+    let kept : kept_in (tables_of c.args.from.now) ≡ kept_among js = ap kept_in is ∙ kept_are js qs in
+    let asked : queries_in (tables_of c.args.from.now) ≡ qs = ap queries_in is ∙ queries_are js qs in
+    subst (λ sources. AsksOnOk c.args.tables.now c.args.pager.now.state sources (queries_in (tables_of c.args.from.now)) c.add_queries.new.pager.state c.add_queries.result)
+    (append-nil (kept_among js) ∙ sym kept)
+    (subst (λ queries. AsksOnOk c.args.tables.now c.args.pager.now.state (kept_among js ++ []) queries c.add_queries.new.pager.state c.add_queries.result) (sym asked)
+    (calls_ask c.args.tables.now c.args.pager.now.state c.add_sources.new.pager.state c.add_queries.new.pager.state c.add_sources.ensures.reads.image
+    (kept_among js) [] [] qs c.add_queries.result c.in_ok-add_sources.ensures.pages c.add_queries.ensures.pages))
+
 -- ---- SELECT
+
+pub add_body-returns-in-Select-clause-pages : goal.add_body-returns-in-Select-clause-pages
+add_body-returns-in-Select-clause-pages g t c =
+    let single = single_of c.in-Select.single in
+    let is : body_of c.args.body.now ≡ q.Body.select single.from single.select = search (rules, the_lemmas, fold-roll-Body, fold_out-Body) in
+    let from : single.from ≡ tables_of (out-Single c.in-Select.single).tables = search (rules, the_lemmas, fold_out-Single) in
+    subst (λ body. AsksOnOk c.args.tables.now c.args.pager.now.state (kept_of body) (queries_of body) c.add_tables.new.pager.state c.add_tables.result) (sym is)
+    (subst (λ from. AsksOnOk c.args.tables.now c.args.pager.now.state (kept_in from) (queries_in from) c.add_tables.new.pager.state c.add_tables.result) (sym from)
+    c.add_tables.ensures.pages)
+
+pub add_body-returns-in_ok-add_body-in-Compound-clause-pages : goal.add_body-returns-in_ok-add_body-in-Compound-clause-pages
+add_body-returns-in_ok-add_body-in-Compound-clause-pages g t c =
+    let single = single_of c.in-Compound.single in
+    let left = body_of c.deref.result.now in
+    let call = c.add_tables-in-Compound in
+    let start = c.args.pager.now.state in
+    let is : body_of c.args.body.now ≡ q.Body.compound left (operator_of c.in-Compound.field-1) single.from single.select =
+    search (rules, the_lemmas, fold-roll-Body, fold_out-Body) in
+    let from : single.from ≡ tables_of (out-Single c.in-Compound.single).tables = search (rules, the_lemmas, fold_out-Single) in
+    subst (λ body. AsksOnOk c.args.tables.now start (kept_of body) (queries_of body) call.new.pager.state call.result) (sym is)
+    (subst (λ from. AsksOnOk c.args.tables.now start (kept_of left ++ kept_in from) (queries_of left ++ queries_in from) call.new.pager.state call.result) (sym from)
+    (calls_ask c.args.tables.now start c.add_body.new.pager.state call.new.pager.state c.add_body.ensures.reads.image (kept_of left) _ (queries_of left) _ call.result
+    c.in_ok-add_body-in-Compound.ensures.pages call.ensures.pages))
 
 pub add_body-returns-in-Select-clause-rows : goal.add_body-returns-in-Select-clause-rows
 add_body-returns-in-Select-clause-rows g t c =
@@ -237,3 +306,9 @@ pub body_rows-returns-clause-rows : goal.body_rows-returns-clause-rows
 body_rows-returns-clause-rows g t c =
     body_gives c.args.tables.now c.args.pager.now.state c.add_body.new.pager.state c.add_body.ensures.reads.image (body_of c.args.body.now) c.new-inner.result.kept.items
     c.new-inner.result.answers.items (inner_data c.add_body.new.inner) c.flat_rows.result c.new-inner.ensures.kept c.new-inner.ensures.answers c.in_ok-add_body.ensures.rows c.flat_rows.ensures.rows
+
+pub body_rows-returns-clause-pages : goal.body_rows-returns-clause-pages
+body_rows-returns-clause-pages g t c =
+    body_asks c.args.tables.now c.args.pager.now.state c.add_body.new.pager.state c.flat_rows.new.pager.state c.add_body.ensures.reads.image (body_of c.args.body.now)
+    c.new-inner.result.kept.items c.new-inner.result.answers.items (inner_data c.add_body.new.inner) c.flat_rows.result c.new-inner.ensures.kept
+    c.new-inner.ensures.answers c.in_ok-add_body.ensures.rows c.in_ok-add_body.ensures.pages c.flat_rows.ensures.pages

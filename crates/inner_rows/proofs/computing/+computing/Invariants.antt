@@ -5,6 +5,7 @@ use Rattle.body_trees.specs.BodyView.{inner_of, joined_of}
 use Rattle.inner_rows.specs.Computed.{AddsAsMany}
 use Rattle.inner_rows.specs.InnerView.{inner_data}
 use Rattle.inner_rows.proofs.AddingLemmas.{AddsWhere, first_among, first_asked}
+use Rattle.inner_rows.proofs.AskedLemmas.{AsksWhere}
 use Rattle.inner_rows.proofs.computing.+computing.Given as goal
 
 abbrev pub invariant-add_sources-loop-joined : goal.invariant-add_sources-loop-joined
@@ -13,6 +14,7 @@ invariant-add_sources-loop-joined g l = record {
   failures : l.pager.state.source.failures ≡ l.fn.pager.state.source.failures;
   many : AddsAsMany (first_among joined_of l.sources l.joined-index) [] (inner_data l.fn.inner) (inner_data l.inner);
   rows : AddsWhere l.tables l.fn.pager.state (first_among joined_of l.sources l.joined-index) [] (inner_data l.fn.inner) (inner_data l.inner);
+  asked : AsksWhere l.tables l.fn.pager.state (first_among joined_of l.sources l.joined-index) [] l.pager.state;
 }
 
 abbrev pub invariant-add_queries-loop-query : goal.invariant-add_queries-loop-query
@@ -21,4 +23,5 @@ invariant-add_queries-loop-query g l = record {
   failures : l.pager.state.source.failures ≡ l.fn.pager.state.source.failures;
   many : AddsAsMany [] (first_asked inner_of l.queries l.query-index) (inner_data l.fn.inner) (inner_data l.inner);
   rows : AddsWhere l.tables l.fn.pager.state [] (first_asked inner_of l.queries l.query-index) (inner_data l.fn.inner) (inner_data l.inner);
+  asked : AsksWhere l.tables l.fn.pager.state [] (first_asked inner_of l.queries l.query-index) l.pager.state;
 }

@@ -54,3 +54,8 @@ returns-clause-plan g c = λ steady on said typed runs.
     c.in_ok-flat.ensures ∙ ap (λ answers. flat_with (lists_of answers) (length tables) query) answers in
     plan_is_over (pages_seen c.args.pager.now.state) tables on said query (inner_data inner) are typed (planned_data c.in_ok-planned.planned)
     (subst (λ query. IsPlanFor query (planned_data c.in_ok-planned.planned)) flat c.in_ok-planned.ensures.plan)
+
+pub returns-clause-pages : goal.returns-clause-pages
+returns-clause-pages g c = λ steady on said typed runs.
+    let query = query_data c.args.query.now in
+    c.in_ok-add_body.ensures.pages steady on said (computable_parts (column_types c.args.tables.now) query.body (runs, (typed.0, typed.1.body)))

@@ -1,5 +1,5 @@
 use Rattle.image.specs.Pages.{pages_seen}
-use Rattle.query_plans.specs.Answers.{planned_data}
+use Rattle.query_plans.specs.Answers.{planned_data, work_of}
 use Rattle.inner_rows.proofs.rows.planned_rows.Goals as goal
 
 pub rows_of_run-requires-clause-planned : goal.rows_of_run-requires-clause-planned
@@ -8,3 +8,8 @@ rows_of_run-requires-clause-planned g c = c.in_ok-running.ensures.over c.args.so
 pub returns-clause-rows : goal.returns-clause-rows
 returns-clause-rows g c = λ steady on has.
     c.rows_of_run.ensures.rows steady (planned_data c.args.planned) (c.in_ok-running.ensures.given (pages_seen c.args.pager.now.state) c.args.sources.now) on has
+
+pub returns-clause-pages : goal.returns-clause-pages
+returns-clause-pages g c = λ steady on has.
+    c.rows_of_run.ensures.pages steady on (work_of on.w on.db on.sizes (planned_data c.args.planned)) has
+    (c.in_ok-running.ensures.ahead (pages_seen c.args.pager.now.state) c.args.sources.now on)

@@ -1,4 +1,4 @@
-use Rattle.std.proofs.Common.{◌∙◌, List, [], ◌∷◌, ◌++◌, map, refl}
+use Rattle.std.proofs.Common.{◌∙◌, true, false, ℕ, List, [], ◌∷◌, ◌++◌, map, refl}
 use Rattle.std.proofs.lemmas.Result.{err_from_is_err_and}
 use Rattle.std.proofs.lemmas.List.{map_push}
 use Rattle.values.specs.Datum.{datum_of}
@@ -6,7 +6,8 @@ use Rattle.values.specs.Row.{Row}
 use Rattle.pager.proofs.CallLemmas.{SameImage-none, SameImage-trans}
 use Rattle.operators.specs.Basis.{AreStored, Basis}
 use Rattle.query_plans.specs.Answers.{IsAnswerOf, PlannedData}
-use Rattle.running.specs.Given.{HasGiven, IsRowCause}
+use Rattle.running.specs.Given.{HasAhead, HasAsked, HasGiven, IsRowCause}
+use Rattle.scan.proofs.ComingLemmas.{Asks-none, Asks-then}
 use Rattle.sources.specs.SourceData.{rows_data}
 use Rattle.inner_rows.proofs.AddingLemmas.{at_first}
 use Rattle.inner_rows.proofs.rows.rows_of_run.Goals as goal
@@ -17,6 +18,7 @@ rows-init g c = record {
   failures = refl;
   over = c.requires.planned;
   given = λ steady planned has. rw c.new-rows.ensures.items has;
+  asked = λ steady on ahead has all. (ahead, all, Asks-none on.local _ ahead);
 }
 
 pub returns-in_err-next-clause-rows : goal.returns-in_err-next-clause-rows
@@ -39,6 +41,13 @@ rows-preserved g c = record {
       (λ pages. (planned : PlannedData) (given : List Row) → HasGiven pages c.args.sources.now planned c.rows.running given
       → HasGiven pages c.args.sources.now planned c.next.new.self (given ++ map datum_of c.next.new.row.items ∷ []))
       (rw c.if-branch.true at c.in_ok-next.ensures.rows) steady planned (rows_data c.rows.rows.items) (c.rows.invariant.given steady planned begun));
+  asked = λ steady on ahead has all.
+      let here = c.rows.invariant.asked steady on ahead has all in
+      let more = at_first c.args.pager.now.state c.rows.pager.state c.rows.invariant.image
+      (λ pages. (on : Basis) (ahead : ℕ) → AreStored pages c.args.sources.now on → HasAhead pages c.args.sources.now on c.rows.running ahead
+      → HasAsked pages c.args.sources.now on c.rows.pager.state ahead c.next.new.pager.state c.next.new.self true)
+      (rw c.if-branch.true at c.in_ok-next.ensures.pages) steady on here.0 has here.1 in
+      (more.0, more.1, Asks-then on.local _ ahead _ here.0 _ more.0 here.2 more.2);
 }
 
 pub returns-clause-rows : goal.returns-clause-rows
@@ -47,3 +56,12 @@ returns-clause-rows g c = λ steady planned begun on has.
     (λ pages. (planned : PlannedData) (given : List Row) → HasGiven pages c.args.sources.now planned c.rows.running given
     → (on : Basis) → AreStored pages c.args.sources.now on → IsAnswerOf on.w on.db planned given)
     (rw c.if-branch.false at c.in_ok-next.ensures.rows) steady planned (rows_data c.rows.rows.items) (c.rows.invariant.given steady planned begun) on has
+
+pub returns-clause-pages : goal.returns-clause-pages
+returns-clause-pages g c = λ steady on ahead has all.
+    let here = c.rows.invariant.asked steady on ahead has all in
+    let none = at_first c.args.pager.now.state c.rows.pager.state c.rows.invariant.image
+    (λ pages. (on : Basis) (ahead : ℕ) → AreStored pages c.args.sources.now on → HasAhead pages c.args.sources.now on c.rows.running ahead
+    → HasAsked pages c.args.sources.now on c.rows.pager.state ahead c.next.new.pager.state c.next.new.self false)
+    (rw c.if-branch.false at c.in_ok-next.ensures.pages) steady on here.0 has here.1 in
+    Asks-then on.local _ ahead _ here.0 _ 0 here.2 none

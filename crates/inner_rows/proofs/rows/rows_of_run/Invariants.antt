@@ -1,8 +1,10 @@
-use Rattle.std.proofs.Common.{◌≡◌, []}
+use Rattle.std.proofs.Common.{◌≡◌, ℕ, []}
 use Rattle.pager.specs.Calls.{SameImage}
 use Rattle.image.specs.Pages.{WhereSteady}
+use Rattle.operators.specs.Basis.{AreStored, Basis}
 use Rattle.query_plans.specs.Answers.{PlannedData}
-use Rattle.running.specs.Given.{HasGiven, IsRunOver, steps_left}
+use Rattle.running.specs.Given.{HasAhead, HasGiven, IsRunOver, steps_left}
+use Rattle.scan.specs.Coming.{Asks}
 use Rattle.sources.specs.SourceData.{rows_data}
 use Rattle.inner_rows.proofs.rows.rows_of_run.Given as goal
 
@@ -13,6 +15,8 @@ invariant-rows g l = record {
   over : IsRunOver l.sources l.running;
   given : WhereSteady l.fn.pager.state (λ pages. (planned : PlannedData) → HasGiven pages l.sources planned l.fn.running []
       → HasGiven pages l.sources planned l.running (rows_data l.rows.items));
+  asked : WhereSteady l.fn.pager.state (λ pages. (on : Basis) (ahead : ℕ) → AreStored pages l.sources on → HasAhead pages l.sources on l.fn.running ahead
+      → (left : ℕ) × HasAhead pages l.sources on l.running left × Asks on.local l.fn.pager.state ahead l.pager.state left);
 }
 
 abbrev pub decreases-rows : goal.decreases-rows
