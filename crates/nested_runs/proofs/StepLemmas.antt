@@ -11,6 +11,7 @@ use Rattle.inner_rows.proofs.KeptLemmas.{kept_are_stored}
 use Rattle.inner_rows.specs.InnerView.{kept_rows}
 use Rattle.inner_rows.specs.Over.{AreSaid, IsPlanOverKept, IsQueryCause, basis_over}
 use Rattle.inner_rows.specs.Runnable.{IsRunnableBody}
+use Rattle.inner_rows.specs.Work.{body_work}
 use Rattle.meaning.specs.Answer.{Begins, Permits}
 use Rattle.meaning.specs.Query.{QueryData}
 use Rattle.meaning.specs.Typed.{IsTyped}
@@ -18,9 +19,11 @@ use Rattle.nested_runs.specs.Steps.{HasGivenOf, HasSteppedRows, IsPermitted, Tak
 use Rattle.nested_runs.specs.declared.steps.NestedRun.{NestedRun}
 use Rattle.nested_runs.specs.declared.steps.NestedRun.TheVariants.{Giving, Waiting}
 use Rattle.operators.specs.Basis.{AreStored, Basis}
+use Rattle.pager.specs.PagerState.{PagerState}
 use Rattle.plans.specs.Plan.{once}
 use Rattle.query_plans.specs.Answers.{IsAnswerOf, PlannedData}
 use Rattle.running.specs.Given.{IsRowCause, rows_left}
+use Rattle.scan.specs.Coming.{Asks}
 use Rattle.sources.specs.SourceData.{rows_data, sources_of}
 use Rattle.tables.specs.ColumnTypes.{column_types}
 use Rattle.tables.specs.TableData.{TableData}
@@ -60,6 +63,14 @@ module _ (pages : Pages) (tables : List TableData) (query : QueryData) where
 
     pub stopped : (fault : Fault) → Gathers of (Err fault) → (on : Basis) → AreSaid pages tables on → IsQueryCause on query fault
     stopped fault says on said = here (Err fault) says on said typed runs
+
+    -- within what the query may ask for
+    pub waiting_asks : (start now : PagerState) → ((on : Basis) → AreSaid pages tables on → IsTyped (column_types tables) of → IsRunnableBody of.body
+        → Asks on.local start (body_work on.w on.db on.sizes of.body) now 0)
+        → (on : Basis) → AreSaid pages tables on → Asks on.local start (body_work on.w on.db on.sizes query.body) now 0
+    waiting_asks start now asks on said =
+        subst (λ (q : QueryData). (on : Basis) → AreSaid pages tables on → IsTyped (column_types tables) q → IsRunnableBody q.body
+        → Asks on.local start (body_work on.w on.db on.sizes q.body) now 0) same asks on said typed runs
 
 -- what a plan over tables and kept rows answers, the query permits; and why it stops, that does
 pub rows_of_plan : (pages : Pages) (tables : List TableData) (query : QueryData) (kept : List (Vec (Vec Value))) (planned : PlannedData) (on : Basis)

@@ -3,6 +3,7 @@ use Rattle.std.specs.Prelude.{◌≡◌, ◌^◌, ℕ, List, [], ◌∷◌, ◌+
 use Rattle.std.specs.Vec.Iter.{into_iter_len}
 use Rattle.image.specs.Pages.{Pages}
 use Rattle.inner_rows.specs.Over.{AreSaid}
+use Rattle.inner_rows.specs.Work.{body_work}
 use Rattle.meaning.specs.Answer.{Permits}
 use Rattle.meaning.specs.Query.{QueryData}
 use Rattle.nested_runs.specs.declared.steps.NestedRun.{NestedRun}
@@ -36,3 +37,8 @@ HasSteppedRows pages tables query run given (Some row) = HasGivenOf pages tables
 abbrev pub rows_ahead : NestedRun → ℕ
 rows_ahead (Waiting query) = 2 ^ 64
 rows_ahead (Giving left) = into_iter_len left
+
+-- how many pages it may still ask for: those of the whole query as long as it waits, and then none
+abbrev pub work_ahead : Basis → QueryData → NestedRun → ℕ
+work_ahead on query (Waiting waits) = body_work on.w on.db on.sizes query.body
+work_ahead on query (Giving left) = 0

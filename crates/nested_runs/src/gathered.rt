@@ -1,12 +1,14 @@
 //! The rows of a query with queries in it.
-ghost use Rattle.std.specs.Prelude.{[], All, IfErr, MatchResult};
+ghost use Rattle.std.specs.Prelude.{[], All, IfErr, MatchResult, OnOk};
 ghost use Rattle.image.specs.Pages.{WhereSteady};
 ghost use Rattle.inner_rows.specs.Over.{AreSaid, IsQueryCause};
 ghost use Rattle.inner_rows.specs.Runnable.{IsRunnableBody};
+ghost use Rattle.inner_rows.specs.Work.{body_work};
 ghost use Rattle.meaning.specs.Answer.{Permits};
 ghost use Rattle.meaning.specs.Typed.{IsTyped};
 ghost use Rattle.operators.specs.Basis.{Basis, IsOperatorFault};
 ghost use Rattle.pager.specs.Calls.{ReadsPages};
+ghost use Rattle.scan.specs.Coming.{Asks};
 ghost use Rattle.sources.specs.Coming.{IsRooted};
 ghost use Rattle.sources.specs.SourceData.{rows_data, sources_of};
 ghost use Rattle.statement_names.specs.NamedView.{query_data};
@@ -20,7 +22,7 @@ use std::alloc::Global;
 use tables::Table;
 use values::{Fault, Value};
 
-/// The rows of an answer, once the queries in it are computed. Its faults are those of an operator. (SELECT)
+/// The rows of an answer, once the queries in it are computed, each of them once. Its faults are those of an operator. (SELECT)
 pub(crate) fn answer_rows<S: Source>(
     alloc: Global,
     pager: &mut Pager<S>,
@@ -31,6 +33,9 @@ pub(crate) fn answer_rows<S: Source>(
     ensures rows { WhereSteady pager.old.state (λ pages. (on : Basis) → AreSaid pages tables.now on
         → IsTyped (column_types tables.now) (query_data query.now) → IsRunnableBody (query_data query.now).body
         → MatchResult result (λ rows. Permits on.w on.db (query_data query.now) (rows_data rows.items)) (IsQueryCause on (query_data query.now))) }
+    ensures pages { WhereSteady pager.old.state (λ pages. (on : Basis) → AreSaid pages tables.now on
+        → IsTyped (column_types tables.now) (query_data query.now) → IsRunnableBody (query_data query.now).body
+        → OnOk result (Asks on.local pager.old.state (body_work on.w on.db on.sizes (query_data query.now).body) pager.new.state 0)) }
     ensures only { IfErr result IsOperatorFault }
     ensures reads { ReadsPages result pager.old.state pager.new.state }
 {

@@ -1,15 +1,16 @@
 //! A query with queries in it that is stepped.
-ghost use Rattle.std.specs.Prelude.{◌<◌, [], All, IfErr, IfOk, List, MatchResult, OnSome};
+ghost use Rattle.std.specs.Prelude.{◌<◌, [], All, IfErr, IfOk, List, MatchResult, OnOk, OnSome};
 ghost use Rattle.std.specs.Vec.Iter.{into_iter_len};
 ghost use Rattle.image.specs.Pages.{WhereSteady};
 ghost use Rattle.inner_rows.specs.Over.{AreSaid, IsQueryCause};
 ghost use Rattle.inner_rows.specs.Runnable.{IsRunnableBody};
 ghost use Rattle.meaning.specs.Query.{QueryData};
 ghost use Rattle.meaning.specs.Typed.{IsTyped};
-ghost use Rattle.nested_runs.specs.Steps.{HasGivenOf, HasSteppedRows, TakesFirst, rows_ahead};
+ghost use Rattle.nested_runs.specs.Steps.{HasGivenOf, HasSteppedRows, TakesFirst, rows_ahead, work_ahead};
 ghost use Rattle.operators.specs.Basis.{Basis, IsOperatorFault};
 ghost use Rattle.pager.specs.Calls.{ReadsPages};
 ghost use Rattle.running.specs.Given.{rows_left};
+ghost use Rattle.scan.specs.Coming.{Asks};
 ghost use Rattle.sources.specs.Coming.{IsRooted};
 ghost use Rattle.sources.specs.SourceData.{sources_of};
 ghost use Rattle.tables.specs.ColumnTypes.{column_types};
@@ -44,9 +45,9 @@ fn next_row(left: &mut IntoIter<Vec<Value>>) -> Option<Row>
 }
 
 impl NestedRun {
-    /// The next row, or none where those that it gave are an answer. It isn't called again behind the last row or a fault. Its faults
-    /// are `ReadFailed`, `NoMemory`, `Overflow`, and `Changed`, which comes only where the source no longer has the bytes that were
-    /// checked.
+    /// The next row, or none where those that it gave are an answer. The first call computes each query once, and the others ask for no
+    /// page. It isn't called again behind the last row or a fault. Its faults are `ReadFailed`, `NoMemory`, `Overflow`, and `Changed`,
+    /// which comes only where the source no longer has the bytes that were checked.
     pub fn next<S: Source>(
         &mut self,
         alloc: Global,
@@ -58,6 +59,9 @@ impl NestedRun {
             → IsRunnableBody query.body → HasGivenOf pages tables.now query self.old given → MatchResult result
             (HasSteppedRows pages tables.now query self.new given)
             (λ e. (on : Basis) → AreSaid pages tables.now on → IsQueryCause on query e)) }
+        ensures pages { WhereSteady pager.old.state (λ pages. (query : QueryData) (given : List RowData) → IsTyped (column_types tables.now) query
+            → IsRunnableBody query.body → HasGivenOf pages tables.now query self.old given → (on : Basis) → AreSaid pages tables.now on
+            → OnOk result (Asks on.local pager.old.state (work_ahead on query self.old) pager.new.state (work_ahead on query self.new))) }
         ensures left { IfOk result (λ found. OnSome found (rows_ahead self.new < rows_ahead self.old)) }
         ensures only { IfErr result IsOperatorFault }
         ensures reads { ReadsPages result pager.old.state pager.new.state }

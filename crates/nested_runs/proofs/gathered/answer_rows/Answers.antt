@@ -1,12 +1,14 @@
-use Rattle.std.proofs.Common.{◌≡◌, ◌∙◌, All, ap, subst, sym}
+use Rattle.std.proofs.Common.{◌≡◌, ◌∙◌, All, OnOk, ap, subst, sym}
 use Rattle.std.proofs.lemmas.Result.{err_from_is_err_and}
 use Rattle.std.specs.Result.{MatchResult}
 use Rattle.image.specs.Pages.{Pages, pages_seen}
+use Rattle.inner_rows.proofs.AskedLemmas.{whole_asks}
 use Rattle.inner_rows.proofs.KeptLemmas.{kept_rooted}
 use Rattle.operators.specs.Basis.{AreStored, Basis}
 use Rattle.pager.specs.declared.header.Header.{Header}
-use Rattle.query_plans.specs.Answers.{IsAnswerOf, IsPlannedOver, planned_data}
+use Rattle.query_plans.specs.Answers.{IsAnswerOf, IsPlannedOver, planned_data, work_of}
 use Rattle.running.specs.Given.{IsRowCause}
+use Rattle.scan.specs.Coming.{Asks}
 use Rattle.scan.proofs.ComingLemmas.{seen_same}
 use Rattle.sources.specs.Coming.{IsRooted}
 use Rattle.sources.specs.SourceData.{rows_data, sources_of}
@@ -50,3 +52,20 @@ returns-clause-rows g c = λ steady on said typed runs.
     (seen_same c.args.pager.now.state c.kept_plan.new.pager.state image)
     (rw all at (c.planned_rows.ensures.rows (rw image.steady steady))) in
     rows_of_plan pages tables (query_data c.args.query.now) kept planned on said (c.in_ok-kept.ensures.plan steady on said typed runs) c.planned_rows.result rows
+
+pub returns-clause-pages : goal.returns-clause-pages
+returns-clause-pages g c = λ steady on said typed runs.
+    let tables = c.args.tables.now in
+    let kept = c.in_ok-kept.field-0.kept.items in
+    let planned = planned_data c.in_ok-kept.field-0.planned in
+    let start = c.args.pager.now.state in
+    let mid = c.kept_plan.new.pager.state in
+    let now = c.planned_rows.new.pager.state in
+    let image = c.kept_plan.ensures.reads.image in
+    let all : c.new-sources.result ≡ sources_of tables kept = c.new-sources.ensures ∙ ap (λ rows. sources_of tables rows) c.as_slice.ensures.value in
+    let asks : (on : Basis) → AreStored (pages_seen start) (sources_of tables kept) on → OnOk c.planned_rows.result (Asks on.local mid (work_of on.w on.db on.sizes planned) now 0) =
+    subst (λ (p : Pages). (on : Basis) → AreStored p (sources_of tables kept) on → OnOk c.planned_rows.result (Asks on.local mid (work_of on.w on.db on.sizes planned) now 0))
+    (seen_same start mid image)
+    (rw all at (c.planned_rows.ensures.pages (rw image.steady steady))) in
+    whole_asks tables start mid now on said (query_data c.args.query.now) kept planned (c.in_ok-kept.ensures.plan steady on said typed runs)
+    (c.in_ok-kept.ensures.pages steady on said typed runs) c.planned_rows.result asks

@@ -1,10 +1,13 @@
-use Rattle.std.proofs.Common.{◌≡◌, ◌∙◌, All, ap, subst, sym}
+use Rattle.std.proofs.Common.{◌≡◌, ◌∙◌, All, OnOk, ap, subst, sym}
 use Rattle.std.proofs.lemmas.Result.{err_from_is_err_and}
 use Rattle.image.specs.Pages.{Pages, pages_seen}
+use Rattle.inner_rows.proofs.AskedLemmas.{whole_asks}
 use Rattle.inner_rows.proofs.KeptLemmas.{kept_rooted}
+use Rattle.operators.specs.Basis.{AreStored, Basis}
 use Rattle.pager.specs.declared.header.Header.{Header}
-use Rattle.query_plans.specs.Answers.{IsPlannedOver, planned_data}
+use Rattle.query_plans.specs.Answers.{IsPlannedOver, planned_data, work_of}
 use Rattle.runs.proofs.GivenLemmas.{operator_fault}
+use Rattle.scan.specs.Coming.{Asks}
 use Rattle.scan.proofs.ComingLemmas.{seen_same}
 use Rattle.sources.specs.Coming.{IsRooted, IsStoredSource}
 use Rattle.sources.specs.SourceData.{sources_of}
@@ -56,3 +59,20 @@ returns-clause-rows g c = λ steady typed runs stored.
     (rw all at (c.write_answer.ensures.rows (rw image.steady steady))) in
     wrote_over pages tables (query_data c.args.query.now) kept planned (λ on said. c.in_ok-run.ensures.plan steady on said typed runs) old new c.write_answer.result
     (wrote (stored_behind pages tables kept stored))
+
+pub returns-clause-pages : goal.returns-clause-pages
+returns-clause-pages g c = λ steady on said typed runs.
+    let tables = c.args.tables.now in
+    let kept = c.in_ok-run.run'.kept.items in
+    let planned = planned_data c.in_ok-run.run'.planned in
+    let start = c.args.pager.now.state in
+    let mid = c.kept_plan.new.pager.state in
+    let now = c.write_answer.new.pager.state in
+    let image = c.kept_plan.ensures.reads.image in
+    let all : c.new-sources.result ≡ sources_of tables kept = c.new-sources.ensures ∙ ap (λ rows. sources_of tables rows) c.as_slice.ensures.value in
+    let asks : (on : Basis) → AreStored (pages_seen start) (sources_of tables kept) on → OnOk c.write_answer.result (Asks on.local mid (work_of on.w on.db on.sizes planned) now 0) =
+    subst (λ (p : Pages). (on : Basis) → AreStored p (sources_of tables kept) on → OnOk c.write_answer.result (Asks on.local mid (work_of on.w on.db on.sizes planned) now 0))
+    (seen_same start mid image)
+    (rw all at (c.write_answer.ensures.pages (rw image.steady steady))) in
+    whole_asks tables start mid now on said (query_data c.args.query.now) kept planned (c.in_ok-run.ensures.plan steady on said typed runs)
+    (c.in_ok-run.ensures.pages steady on said typed runs) c.write_answer.result asks
