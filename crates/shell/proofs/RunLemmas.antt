@@ -25,6 +25,8 @@ use Rattle.meaning.proofs.BodyLemmas.{AllZip-append}
 use Rattle.meaning.proofs.TypedLemmas.{Permits-typed}
 use Rattle.inner_rows.specs.Over.{AreSaid, IsQueryCause}
 use Rattle.inner_rows.specs.Runnable.{IsRunnableBody}
+use Rattle.inner_rows.specs.Work.{body_work}
+use Rattle.inner_rows.proofs.WorkLemmas.{body_is}
 use Rattle.nested_runs.specs.Steps.{IsPermitted}
 use Rattle.nested_runs.specs.Writes.{IsNestedCause, WritesPermitted}
 use Rattle.nested_runs.specs.Writes as nested
@@ -53,7 +55,7 @@ use Rattle.shell.proofs.RunnableLemmas.{settled_runs}
 use Rattle.shell.proofs.SettledLemmas.{fits_over, hits_over, permits_over, typed_over}
 use Rattle.shell.specs.Prepared.{IsPlannedFor, IsPreparedFor, RunsFor, settled_over}
 use Rattle.shell.specs.PreparedView.{PreparedData}
-use Rattle.shell.specs.Run.{HasRun, HasStopped, TookFew}
+use Rattle.shell.specs.Run.{HasRun, HasStopped, TookFew, TookOnce}
 use Rattle.shell.specs.State.{EngineState, IsEngineFault, IsReady, sources_over}
 use Rattle.shell.specs.Stepped.{HitsOver, IsBeginningOver, IsStepCause}
 use Rattle.shell.specs.Written.{HasBegun, HasWritten, IsRunOverSome}
@@ -282,7 +284,34 @@ module _ (pager : PagerState) (tables : List TableData) (query : QueryData) (typ
           unchained = λ local. let kept = asks.chains local in omega (arith, kept, chained);
         }
 
+    -- its SELECTs may ask for no fewer
+    pub took_once : (new : PagerState) (report : Report)
+        → ((on : Basis) → AreStored (pages_seen pager) (sources_over tables) on → Asks on.local pager (work_of on.w on.db on.sizes planned) new 0)
+        → report.asked ≡ new.asked - pager.asked → report.chained ≡ new.chained - pager.chained
+        → (on : Basis) → AreSaid (pages_of pager.source.bytes) (all_tables tables) on → TookOnce on (settled_over tables query) report
+    took_once new report few asked chained on said =
+        let took = took_few new report few asked chained on said.stored in
+        let settled = settled_over tables query in
+        let less = is.plan.few on.w on.db on.sizes (typed_wide (column_types (all_tables tables)) on.db said.fits settled (typed_over tables query typed)) in
+        let whole = body_is on.w on.db on.sizes settled.body in
+        record {
+          asked = let most = took.asked in omega (arith, most, less, whole);
+          unchained = took.unchained;
+        }
+
   -- ---- a query that has none before the queries in it are computed
+
+  pub nested_once : (new : PagerState) (report : Report)
+      → ((on : Basis) → AreSaid (pages_seen pager) (all_tables tables) on
+      → Asks on.local pager (body_work on.w on.db on.sizes (settled_over tables query).body) new 0)
+      → report.asked ≡ new.asked - pager.asked → report.chained ≡ new.chained - pager.chained
+      → (on : Basis) → AreSaid (pages_of pager.source.bytes) (all_tables tables) on → TookOnce on (settled_over tables query) report
+  nested_once new report each_once asked chained on said_of =
+      let asks = each_once on (subst (λ (p : Pages). AreSaid p (all_tables tables) on) same_pages said_of) in
+      record {
+        asked = let most = asks.pages in omega (arith, most, asked);
+        unchained = λ local. let kept = asks.chains local in omega (arith, kept, chained);
+      }
 
   said : (w : Datum) → IsStandIn w → AreSaid (pages_seen pager) (all_tables tables) (on w)
   unfolding on
@@ -397,17 +426,30 @@ module _ (pager : PagerState) (tables : List TableData) (prepared : PreparedData
       → HasWritten pages (all_tables tables) prepared.settled prepared.planned before after report.rows)
       → ((planned : PlannedData) → prepared.planned ≡ Some planned → WhereSteady pager (λ pages. (on : Basis) → AreStored pages (sources_over tables) on
       → Asks on.local pager (work_of on.w on.db on.sizes planned) new.pager 0))
+      → (prepared.planned ≡ None → WhereSteady pager (λ pages. (on : Basis) → AreSaid pages (all_tables tables) on
+      → IsTyped (column_types (all_tables tables)) prepared.settled → IsRunnableBody prepared.settled.body
+      → Asks on.local pager (body_work on.w on.db on.sizes prepared.settled.body) new.pager 0))
       → report.asked ≡ new.pager.asked - pager.asked → report.chained ≡ new.pager.chained - pager.chained
       → HasRun engine new prepared before after report
-  has_run new report before after wrote few asked chained = record {
+  has_run new report before after wrote few each_once asked chained = record {
     answer = λ steady. answered steady prepared.planned refl (wrote steady (stored steady));
     few = λ steady planned found on are_stored.
         took_few pager tables prepared.query is.typed ready steady planned (planned_for planned found) new.pager report (few planned found steady) asked chained
         on are_stored;
+    each_once = λ steady. took steady prepared.planned refl;
     asked = asked;
     chained = chained;
   }
     where
+      took : IsTrue pager.source.steady → (planned : Option PlannedData) → prepared.planned ≡ planned
+          → (on : Basis) → AreSaid (pages_of pager.source.bytes) (all_tables tables) on → TookOnce on (settled_over tables prepared.query) report
+      took steady (Some planned) found =
+          took_once pager tables prepared.query is.typed ready steady planned (planned_for planned found) new.pager report (few planned found steady) asked chained
+      took steady None found =
+          nested_once pager tables prepared.query is.typed ready steady new.pager report
+          (λ on said_of. subst (λ (q : QueryData). IsTyped (column_types (all_tables tables)) q → IsRunnableBody q.body
+          → Asks on.local pager (body_work on.w on.db on.sizes q.body) new.pager 0) is.settled (each_once found steady on said_of) typed_all runnable) asked chained
+
       answered : IsTrue pager.source.steady → (planned : Option PlannedData) → prepared.planned ≡ planned
           → HasWritten (pages_seen pager) (all_tables tables) prepared.settled planned before after report.rows
           → PrintsAnswer pager.source.bytes tables prepared.query report.rows before after

@@ -1,5 +1,5 @@
 //! Queries whose names are resolved, and what is run for them.
-ghost use Rattle.std.specs.Prelude.{◌≡◌, [], All, IfErr, IfOk, MatchResult, OnOk, Some, map, option_map, string_bytes};
+ghost use Rattle.std.specs.Prelude.{◌≡◌, [], All, IfErr, IfOk, MatchResult, None, OnOk, Some, map, option_map, string_bytes};
 ghost use Rattle.values.specs.Datum.{text};
 ghost use Rattle.values.specs.Fault.{Counts};
 ghost use Rattle.values.specs.Sink.{Writes};
@@ -10,10 +10,15 @@ ghost use Rattle.statement_names.specs.NamedView.{named_data, query_data};
 ghost use Rattle.scan.specs.Coming.{Asks};
 ghost use Rattle.sources.specs.Coming.{IsRooted, IsStoredSource};
 ghost use Rattle.sources.specs.SourceData.{sources_of};
+ghost use Rattle.inner_rows.specs.Over.{AreSaid};
+ghost use Rattle.inner_rows.specs.Runnable.{IsRunnableBody};
+ghost use Rattle.inner_rows.specs.Work.{body_work};
+ghost use Rattle.meaning.specs.Typed.{IsTyped};
 ghost use Rattle.operators.specs.Basis.{AreStored, Basis};
 ghost use Rattle.query_plans.specs.Answers.{PlannedData, planned_data, work_of};
 ghost use Rattle.runs.specs.Faults.{IsRunFault};
 ghost use Rattle.settled_sources.specs.Settled.{settled};
+ghost use Rattle.tables.specs.ColumnTypes.{column_types};
 ghost use Rattle.shell.specs.Prepared.{IsPlannedAs};
 ghost use Rattle.shell.specs.PreparedView.{prepared_data};
 ghost use Rattle.shell.specs.Stepped.{IsStartedFor, IsSteppingOf};
@@ -176,6 +181,9 @@ impl Prepared {
         ensures pages { (planned : PlannedData) → (prepared_data self.now).planned ≡ Some planned → WhereSteady pager.old.state (λ pages.
             (on : Basis) → AreStored pages (sources_of tables.now []) on
             → OnOk result (Asks on.local pager.old.state (work_of on.w on.db on.sizes planned) pager.new.state 0)) }
+        ensures each_once { (prepared_data self.now).planned ≡ None → WhereSteady pager.old.state (λ pages. (on : Basis) → AreSaid pages tables.now on
+            → IsTyped (column_types tables.now) (prepared_data self.now).settled → IsRunnableBody (prepared_data self.now).settled.body
+            → OnOk result (Asks on.local pager.old.state (body_work on.w on.db on.sizes (prepared_data self.now).settled.body) pager.new.state 0)) }
         ensures only { IfErr result IsRunFault }
         ensures reads { ReadsPages result pager.old.state pager.new.state }
         ensures writes { Counts Fault.WriteFailed result (W.facts out.old).failures (W.facts out.new).failures }

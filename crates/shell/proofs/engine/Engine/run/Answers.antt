@@ -38,4 +38,5 @@ returns-clause-outcome g c =
     rw (← c.self.view_is)
     (has_run c.self.inside.pager.state (checked_data c.self.inside.checked).tables (prepared_data c.args.prepared.now) c.self.invariant.ready
     (rw (← c.self.view_is) at c.requires) _ _ _ _ (rw all at c.in_ok-rows.ensures.rows) (rw all at c.in_ok-rows.ensures.pages)
+    (rw all at c.in_ok-rows.ensures.each_once)
     (rw (c.asked.ensures, c.asked-asked.ensures)) (rw (c.chained.ensures, c.chained-chained.ensures)))

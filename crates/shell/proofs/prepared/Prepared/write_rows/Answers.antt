@@ -38,3 +38,11 @@ pub returns-in-None-clause-pages : goal.returns-in-None-clause-pages
 returns-in-None-clause-pages g c = λ planned found.
     let is : option_map planned_data c.args.self.now.planned ≡ None = ap (option_map planned_data) c.in-None.is in
     absurd (let same = sym is ∙ found in cc)
+
+pub returns-in-Some-clause-each_once : goal.returns-in-Some-clause-each_once
+returns-in-Some-clause-each_once g c = λ none.
+    let is : option_map planned_data c.args.self.now.planned ≡ Some (planned_data c.in-Some.planned) = ap (option_map planned_data) c.in-Some.is in
+    absurd (let same = sym is ∙ none in cc)
+
+pub returns-in-None-clause-each_once : goal.returns-in-None-clause-each_once
+returns-in-None-clause-each_once g c = λ none. c.write_nested.ensures.pages
