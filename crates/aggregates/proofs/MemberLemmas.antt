@@ -6,7 +6,7 @@ use Rattle.values.specs.Datum.{Datum, datum_of, null}
 use Rattle.values.specs.Row.{Row}
 use Rattle.values.specs.declared.value.Value.{Value}
 use Rattle.expr.specs.Meaning.{eval}
-use Rattle.expr.specs.Operations.{is_null}
+use Rattle.operations.specs.Operations.{is_null}
 use Rattle.meaning.specs.Groups.{aggregate_value, measure, taken_values}
 use Rattle.meaning.specs.Query.{Aggregate, AggregateFunction}
 use Rattle.aggregates.specs.declared.running.Running.{Running}

@@ -10,7 +10,7 @@ use Rattle.values.specs.declared.value.Value.{Value}
 use Rattle.values.specs.declared.value.Value.TheVariants.{Null, Int, Text, Blob}
 use Rattle.values.specs.Order.{datum_cmp}
 use Rattle.values.specs.OrderLaws.{datum_cmp_total, datum_cmp-IsAntisymmetric}
-use Rattle.expr.specs.Operations.{is_null}
+use Rattle.operations.specs.Operations.{is_null}
 use Rattle.meaning.specs.Groups.{number, total}
 use Rattle.meaning.specs.Query.{AggregateFunction}
 use Rattle.meaning.specs.Sequence.{inserted, sorted, value_at}

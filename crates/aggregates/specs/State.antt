@@ -7,7 +7,7 @@ use Rattle.values.specs.Datum.{Datum, datum_of}
 use Rattle.values.specs.Order.{datum_cmp}
 use Rattle.values.specs.Row.{Row}
 use Rattle.expr.specs.Meaning.{eval}
-use Rattle.expr.specs.Operations.{is_null}
+use Rattle.operations.specs.Operations.{is_null}
 use Rattle.meaning.specs.Groups.{number, taken_values, total}
 use Rattle.meaning.specs.Query.{Aggregate, AggregateFunction}
 use Rattle.meaning.specs.Sequence.{sorted, value_at}

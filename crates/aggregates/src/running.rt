@@ -4,7 +4,7 @@ ghost use Rattle.std.specs.Int.{w128};
 ghost use Rattle.std.specs.Ordering.{flip_args};
 ghost use Rattle.values.specs.Datum.{Datum, datum_of};
 ghost use Rattle.values.specs.Order.{datum_cmp};
-ghost use Rattle.expr.specs.Operations.{settle};
+ghost use Rattle.operations.specs.Operations.{settle};
 ghost use Rattle.meaning.specs.Groups.{measure, number};
 ghost use Rattle.meaning.specs.Query as query;
 ghost use Rattle.query_trees.specs.SelectView.{aggregate_function_of};
@@ -94,7 +94,7 @@ fn greater_of(best: Option<Value>, value: Value) -> Value
 }
 
 /// A number as a value, where it has room in 64 bits.
-#[tactic(auto, unfolding(expr::specs::Operations::settle))]
+#[tactic(auto, unfolding(operations::specs::Operations::settle))]
 fn whole_number(number: i128) -> Result<Value, Fault>
     ensures value { IfOk result (λ v. (o : Option Datum) → settle o number ≡ Some (datum_of v)) }
     ensures overflow { result ≡ Err Fault.Overflow → settle None number ≡ None }

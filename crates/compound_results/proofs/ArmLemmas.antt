@@ -1,5 +1,5 @@
 -- What is said of one arm, and of arms one after another.
-use Rattle.std.proofs.Common.{◌≡◌, ◌∙◌, ◌+◌, inl, inr, Bool, List, ℕ, sym, ap, subst, arith}
+use Rattle.std.proofs.Common.{◌≡◌, ◌∙◌, ◌+◌, inl, inr, Bool, List, ℕ, sym, subst, arith}
 use Rattle.values.specs.Row.{Row}
 use Rattle.values.specs.declared.fault.Fault.{Fault}
 use Rattle.pager.specs.Calls.{SameImage}
@@ -55,17 +55,19 @@ module _ (start : PagerState) (sources : List SourceData) (left : ArmsData) (ope
         of on (inl read) = inl read
         of on (inr over) = inr (over.0, inr over.1)
 
-    -- the rows of both, joined
-    pub both_joined : (before beside rows : List Row) (now : PagerState) → rows ≡ joined_rows operator before beside
-        → WhereSteady start (λ pages. (on : Basis) → AreStored pages sources on → (before ≡ rows_of_arms on.w on.db left) × Asks on.local start (work_of_arms on.w on.db on.sizes left) mid 0)
-        → WhereSteady mid (λ pages. (on : Basis) → AreStored pages sources on → (beside ≡ arm_rows on.w on.db arm) × Asks on.local mid (work on.w on.db on.sizes arm.plan) now 0)
-        → WhereSteady start (λ pages. (on : Basis) → AreStored pages sources on → (rows ≡ rows_of_arms on.w on.db whole) × Asks on.local start (work_of_arms on.w on.db on.sizes whole) now 0)
-    both_joined before beside rows now is first second =
-        whole_says (λ on arms. (rows ≡ rows_of_arms on.w on.db arms) × Asks on.local start (work_of_arms on.w on.db on.sizes arms) now 0)
+    -- what is said of all rows, where this is said of those before the last and of the last's
+    pub both_joined : (First Second : Basis → Type 0) (Then : Basis → List Row → Type 0) (now : PagerState)
+        → ((on : Basis) → First on → Second on → Then on (joined_rows operator (rows_of_arms on.w on.db left) (arm_rows on.w on.db arm)))
+        → WhereSteady start (λ pages. (on : Basis) → AreStored pages sources on → First on × Asks on.local start (work_of_arms on.w on.db on.sizes left) mid 0)
+        → WhereSteady mid (λ pages. (on : Basis) → AreStored pages sources on → Second on × Asks on.local mid (work on.w on.db on.sizes arm.plan) now 0)
+        → WhereSteady start (λ pages. (on : Basis) → AreStored pages sources on
+        → Then on (rows_of_arms on.w on.db whole) × Asks on.local start (work_of_arms on.w on.db on.sizes whole) now 0)
+    both_joined First Second Then now goes_on first second =
+        whole_says (λ on arms. Then on (rows_of_arms on.w on.db arms) × Asks on.local start (work_of_arms on.w on.db on.sizes arms) now 0)
         (λ steady on has.
         let x = first steady on has in
         let y = at_start start mid image
-        (λ pages. (on : Basis) → AreStored pages sources on → (beside ≡ arm_rows on.w on.db arm) × Asks on.local mid (work on.w on.db on.sizes arm.plan) now 0) second steady on has in (
-          is ∙ ap (λ rows. joined_rows operator rows beside) x.0 ∙ ap (joined_rows operator (rows_of_arms on.w on.db left)) y.0,
+        (λ pages. (on : Basis) → AreStored pages sources on → Second on × Asks on.local mid (work on.w on.db on.sizes arm.plan) now 0) second steady on has in (
+          goes_on on x.0 y.0,
           Asks-both on.local start (work_of_arms on.w on.db on.sizes left) mid (work on.w on.db on.sizes arm.plan) now x.1 y.1,
         ))

@@ -1,5 +1,5 @@
 -- The rows of two SELECTs that an operator joins. (SELECT, "Compound Select Statements")
-use Rattle.std.specs.Prelude.{not, Bool, true, false, List, ◌++◌, filter, IsPermutation}
+use Rattle.std.specs.Prelude.{not, Bool, true, false, List, [], ◌∷◌, ◌++◌, filter, if◌then◌else◌, IsPermutation}
 use Rattle.std.specs.List.{list_any}
 use Rattle.values.specs.Row.{Row}
 use Rattle.meaning.specs.Query.{Operator, union, union_all, intersect, except}
@@ -14,6 +14,11 @@ has_row rows row = list_any (same_row row) rows
 abbrev pub filtered : Bool → List Row → List Row → List Row
 filtered true rows others = filter (has_row others) rows
 filtered false rows others = filter (λ row. not (has_row others row)) rows
+
+-- whether the row stays whose mark is the first
+abbrev pub is_kept : Bool → List Bool → Bool
+is_kept wanted [] = false
+is_kept wanted (mark ∷ marks) = if wanted then mark else not mark
 
 -- The rows of both sides, each once; all of them; each row of the left side once that the right side has, or that it hasn't.
 abbrev pub joined_rows : Operator → List Row → List Row → List Row

@@ -1,28 +1,35 @@
 //! The rows of each SELECT, joined.
-ghost use Rattle.std.specs.Prelude.{◌≡◌, All, IfErr, MatchResult, map};
+ghost use Rattle.std.specs.Prelude.{◌≡◌, ◌++◌, All, IfErr, IfSome, IsNone, List, MatchResult, map};
 ghost use Rattle.values.specs.Datum.{datum_of};
+ghost use Rattle.values.specs.Row.{Row as RowData};
 ghost use Rattle.pager.specs.Calls.{ReadsPages};
 ghost use Rattle.sources.specs.Coming.{IsRooted};
 ghost use Rattle.image.specs.Pages.{WhereSteady};
+ghost use Rattle.naming.specs.Statement.{operator_of};
 ghost use Rattle.plans.specs.Plan.{work};
 ghost use Rattle.plans.specs.PlanView.{plan_data};
 ghost use Rattle.scan.specs.Coming.{Asks};
 ghost use Rattle.operators.specs.Basis.{AreStored, Basis, IsOperatorFault};
 ghost use Rattle.operators.specs.Left.{IsPlanOf};
-ghost use Rattle.compound_results.specs.Arms.{ArePlannedOver, arm_data, arms_data, rows_of_arms, work_of_arms};
-ghost use Rattle.compound_results.specs.Arms as arming;
+ghost use Rattle.ordered_rows.specs.FirstView.{rows_data};
+ghost use Rattle.distinct_results.specs.Firsts.{firsts};
+ghost use Rattle.compound_results.specs.Arms.{ArePlannedOver, arm_data, arm_rows, arms_data, rows_of_arms, work_of_arms};
 ghost use Rattle.compound_results.specs.Compounds.{IsArmCause, IsArmsCause};
+ghost use Rattle.compound_results.specs.Joined.{filtered, joined_rows};
 
-use crate::gathered::gather;
-use crate::sets::{join, once_if};
+use crate::chained::is_union_all;
+use crate::gathered::{met_rows, push_rows, put_rows};
+use crate::sets::keep_marked;
+use distinct_rows::rows_of;
 use expr::Expr;
+use indexmap::IndexSet;
 use pager::{Pager, Source};
 use plans::Plan;
 use results::Results;
 use sources::Sources;
 use std::alloc::Global;
 use syntax::CompoundOperator;
-use values::{Fault, Value};
+use values::{Fault, Row, Value};
 
 /// What one of the SELECTs that are joined computes of the rows of a plan. (SELECT)
 #[derive(Drop)]
@@ -43,27 +50,109 @@ pub enum Arms {
     Joined(Box<Arms>, CompoundOperator, Arm),
 }
 
-/// The rows of one SELECT.
-fn arm_rows<S: Source>(
+/// Puts the rows of one SELECT behind others.
+pub(crate) fn push_arm<S: Source>(
     alloc: Global,
     pager: &mut Pager<S>,
     sources: &Sources<'_>,
     arm: &Arm,
-) -> Result<Vec<Vec<Value>>, Fault>
+    rows: &mut Vec<Vec<Value>>,
+) -> Result<(), Fault>
     requires roots { All (IsRooted pager.old.state.header) sources.now }
     requires planned { IsPlanOf sources.now (plan_data arm.now.plan) }
     ensures rows { WhereSteady pager.old.state (λ pages. (on : Basis) → AreStored pages sources.now on
         → MatchResult result
-        (λ rows. (map (λ row. map datum_of row.items) rows.items ≡ arming.arm_rows on.w on.db (arm_data arm.now))
+        (λ _. (rows_data rows.new.items ≡ rows_data rows.old.items ++ arm_rows on.w on.db (arm_data arm.now))
         × Asks on.local pager.old.state (work on.w on.db on.sizes (plan_data arm.now.plan)) pager.new.state 0)
         (IsArmCause on (arm_data arm.now))) }
     ensures only { IfErr result IsOperatorFault }
     ensures reads { ReadsPages result pager.old.state pager.new.state }
 {
     let results = Results::of_all(alloc, &arm.plan, arm.columns.as_slice())?;
-    let rows = gather(alloc, pager, sources, results)?;
-    let shown = once_if(alloc, rows, arm.distinct)?;
-    Ok(shown)
+    if !arm.distinct {
+        push_rows(alloc, pager, sources, results, rows)?;
+        return Ok(());
+    }
+    let mut set = IndexSet::new(alloc);
+    put_rows(alloc, pager, sources, results, &mut set)?;
+    let mut once = rows_of(alloc, set)?;
+    rows.append(&mut once)?;
+    Ok(())
+}
+
+/// Whether an operator leaves the rows on its left that its right side has, those that it hasn't, or all of them.
+fn kept_by(operator: CompoundOperator) -> Option<bool>
+    ensures some { IfSome result (λ wanted. (left rows : List RowData) → filtered wanted (firsts left) rows ≡ firsts (joined_rows (operator_of operator) left rows)) }
+    ensures none { IsNone result → (left rows : List RowData) → firsts (left ++ rows) ≡ firsts (joined_rows (operator_of operator) left rows) }
+{
+    match operator {
+        CompoundOperator::UnionAll => None,
+        CompoundOperator::Union => None,
+        CompoundOperator::Intersect => Some(true),
+        CompoundOperator::Except => Some(false),
+    }
+}
+
+/// Makes of rows, each once, what an operator makes of them and of those of the SELECT on its right, each once.
+fn join_arm<S: Source>(
+    alloc: Global,
+    pager: &mut Pager<S>,
+    sources: &Sources<'_>,
+    operator: CompoundOperator,
+    arm: &Arm,
+    set: &mut IndexSet<Row>,
+) -> Result<(), Fault>
+    requires roots { All (IsRooted pager.old.state.header) sources.now }
+    requires planned { IsPlanOf sources.now (plan_data arm.now.plan) }
+    ensures rows { WhereSteady pager.old.state (λ pages. (on : Basis) → AreStored pages sources.now on
+        → MatchResult result
+        (λ _. ((left : List RowData) → set.old.keys ≡ firsts left
+        → set.new.keys ≡ firsts (joined_rows (operator_of operator) left (arm_rows on.w on.db (arm_data arm.now))))
+        × Asks on.local pager.old.state (work on.w on.db on.sizes (plan_data arm.now.plan)) pager.new.state 0)
+        (IsArmCause on (arm_data arm.now))) }
+    ensures only { IfErr result IsOperatorFault }
+    ensures reads { ReadsPages result pager.old.state pager.new.state }
+{
+    let results = Results::of_all(alloc, &arm.plan, arm.columns.as_slice())?;
+    let Some(wanted) = kept_by(operator) else {
+        put_rows(alloc, pager, sources, results, set)?;
+        return Ok(());
+    };
+    let marks = met_rows(alloc, pager, sources, results, set)?;
+    keep_marked(set, marks.as_slice(), wanted);
+    Ok(())
+}
+
+/// The rows of SELECTs, each joined to those before it, and each row once.
+fn arms_once<S: Source>(
+    alloc: Global,
+    pager: &mut Pager<S>,
+    sources: &Sources<'_>,
+    arms: &Arms,
+) -> Result<IndexSet<Row>, Fault>
+    requires roots { All (IsRooted pager.old.state.header) sources.now }
+    requires planned { ArePlannedOver sources.now (arms_data arms.now) }
+    ensures rows { WhereSteady pager.old.state (λ pages. (on : Basis) → AreStored pages sources.now on
+        → MatchResult result
+        (λ set. (set.keys ≡ firsts (rows_of_arms on.w on.db (arms_data arms.now)))
+        × Asks on.local pager.old.state (work_of_arms on.w on.db on.sizes (arms_data arms.now)) pager.new.state 0)
+        (IsArmsCause on (arms_data arms.now))) }
+    ensures only { IfErr result IsOperatorFault }
+    ensures reads { ReadsPages result pager.old.state pager.new.state }
+{
+    match arms {
+        Arms::One(arm) => {
+            let mut set = IndexSet::new(alloc);
+            let operator = CompoundOperator::Union;
+            join_arm(alloc, pager, sources, operator, arm, &mut set)?;
+            Ok(set)
+        }
+        Arms::Joined(left, operator, arm) => {
+            let mut set = arms_once(alloc, pager, sources, left)?;
+            join_arm(alloc, pager, sources, *operator, arm, &mut set)?;
+            Ok(set)
+        }
+    }
 }
 
 /// The rows of SELECTs, each joined to those before it.
@@ -84,11 +173,19 @@ pub(crate) fn arms_rows<S: Source>(
     ensures reads { ReadsPages result pager.old.state pager.new.state }
 {
     match arms {
-        Arms::One(arm) => arm_rows(alloc, pager, sources, arm),
+        Arms::One(arm) => {
+            let mut rows = Vec::new(alloc);
+            push_arm(alloc, pager, sources, arm, &mut rows)?;
+            Ok(rows)
+        }
         Arms::Joined(left, operator, arm) => {
-            let before = arms_rows(alloc, pager, sources, left)?;
-            let beside = arm_rows(alloc, pager, sources, arm)?;
-            let rows = join(alloc, *operator, before, beside)?;
+            if !is_union_all(*operator) {
+                let set = arms_once(alloc, pager, sources, arms)?;
+                let once = rows_of(alloc, set)?;
+                return Ok(once);
+            }
+            let mut rows = arms_rows(alloc, pager, sources, left)?;
+            push_arm(alloc, pager, sources, arm, &mut rows)?;
             Ok(rows)
         }
     }

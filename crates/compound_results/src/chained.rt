@@ -24,7 +24,7 @@ use syntax::CompoundOperator;
 use values::{Fault, Value};
 
 /// Whether all rows of both sides are given.
-fn is_union_all(operator: CompoundOperator) -> bool
+pub(crate) fn is_union_all(operator: CompoundOperator) -> bool
     ensures { IsTrue result ↔ operator_of operator ≡ union_all }
 {
     matches!(operator, CompoundOperator::UnionAll)

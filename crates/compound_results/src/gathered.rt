@@ -1,6 +1,6 @@
-//! Result rows, gathered.
-ghost use Rattle.std.specs.Prelude.{◌≡◌, ℕ, All, IfErr, List, MatchResult, map};
-ghost use Rattle.values.specs.Datum.{Datum, datum_of};
+//! The rows of a stream: kept, or looked up among others.
+ghost use Rattle.std.specs.Prelude.{◌≡◌, ◌++◌, ℕ, All, IfErr, List, MatchResult, map};
+ghost use Rattle.values.specs.Row.{Row as RowData};
 ghost use Rattle.pager.specs.Calls.{ReadsPages};
 ghost use Rattle.sources.specs.Coming.{IsRooted};
 ghost use Rattle.image.specs.Pages.{WhereSteady};
@@ -9,36 +9,99 @@ ghost use Rattle.scan.specs.Coming.{Asks};
 ghost use Rattle.operators.specs.Basis.{AreStored, Basis, IsOperatorFault};
 ghost use Rattle.operators.specs.Left.{IsPlanOf, plan_of};
 ghost use Rattle.results.specs.Coming.{IsComing, IsResultCause};
+ghost use Rattle.ordered_rows.specs.FirstView.{rows_data};
+ghost use Rattle.distinct_results.specs.Firsts.{firsts};
+ghost use Rattle.compound_results.specs.Joined.{has_row};
 
+use crate::sets::{mark_row, no_marks, put_row};
+use indexmap::IndexSet;
 use pager::{Pager, Source};
 use results::Results;
 use sources::Sources;
 use std::alloc::Global;
-use values::{Fault, Value};
+use values::{Fault, Row, Value};
 
-/// The rows that are still to come.
-pub(crate) fn gather<S: Source>(
+/// Puts the rows that are still to come behind others.
+pub(crate) fn push_rows<S: Source>(
     alloc: Global,
     pager: &mut Pager<S>,
     sources: &Sources<'_>,
     results: Results,
-) -> Result<Vec<Vec<Value>>, Fault>
+    rows: &mut Vec<Vec<Value>>,
+) -> Result<(), Fault>
     requires roots { All (IsRooted pager.old.state.header) sources.now }
     requires planned { IsPlanOf sources.now (plan_of results.op) }
-    ensures rows { WhereSteady pager.old.state (λ pages. (on : Basis) (rest : List (List Datum)) (ahead : ℕ) → AreStored pages sources.now on
+    ensures rows { WhereSteady pager.old.state (λ pages. (on : Basis) (rest : List RowData) (ahead : ℕ) → AreStored pages sources.now on
         → IsComing pages sources.now on results rest ahead
         → MatchResult result
-        (λ rows. (map (λ row. map datum_of row.items) rows.items ≡ rest) × Asks on.local pager.old.state ahead pager.new.state 0)
+        (λ _. (rows_data rows.new.items ≡ rows_data rows.old.items ++ rest) × Asks on.local pager.old.state ahead pager.new.state 0)
         (IsResultCause on (map term results.columns.items))) }
     ensures only { IfErr result IsOperatorFault }
     ensures reads { ReadsPages result pager.old.state pager.new.state }
 {
     let mut results = results;
     let mut row = Vec::new(alloc);
-    let mut rows = Vec::new(alloc);
     'rows: while results.next(alloc, pager, sources, &mut row)? {
         rows.push(row)?;
         row = Vec::new(alloc);
     }
-    Ok(rows)
+    Ok(())
+}
+
+/// Puts those of the rows that are still to come into a set that it hasn't yet.
+pub(crate) fn put_rows<S: Source>(
+    alloc: Global,
+    pager: &mut Pager<S>,
+    sources: &Sources<'_>,
+    results: Results,
+    set: &mut IndexSet<Row>,
+) -> Result<(), Fault>
+    requires roots { All (IsRooted pager.old.state.header) sources.now }
+    requires planned { IsPlanOf sources.now (plan_of results.op) }
+    ensures rows { WhereSteady pager.old.state (λ pages. (on : Basis) (rest : List RowData) (ahead : ℕ) → AreStored pages sources.now on
+        → IsComing pages sources.now on results rest ahead
+        → MatchResult result
+        (λ _. ((seen : List RowData) → set.old.keys ≡ firsts seen → set.new.keys ≡ firsts (seen ++ rest))
+        × Asks on.local pager.old.state ahead pager.new.state 0)
+        (IsResultCause on (map term results.columns.items))) }
+    ensures only { IfErr result IsOperatorFault }
+    ensures reads { ReadsPages result pager.old.state pager.new.state }
+{
+    let mut results = results;
+    let mut row = Vec::new(alloc);
+    'rows: while results.next(alloc, pager, sources, &mut row)? {
+        row = put_row(alloc, set, row)?;
+        // So that a row that is kept has no more memory than its values.
+        row.clear();
+    }
+    Ok(())
+}
+
+/// Which rows of a set are equal to one of the rows that are still to come. None of these is kept.
+pub(crate) fn met_rows<S: Source>(
+    alloc: Global,
+    pager: &mut Pager<S>,
+    sources: &Sources<'_>,
+    results: Results,
+    set: &IndexSet<Row>,
+) -> Result<Vec<bool>, Fault>
+    requires roots { All (IsRooted pager.old.state.header) sources.now }
+    requires planned { IsPlanOf sources.now (plan_of results.op) }
+    ensures rows { WhereSteady pager.old.state (λ pages. (on : Basis) (rest : List RowData) (ahead : ℕ) → AreStored pages sources.now on
+        → IsComing pages sources.now on results rest ahead
+        → MatchResult result
+        (λ marks. (marks.items ≡ map (has_row rest) set.now.keys) × Asks on.local pager.old.state ahead pager.new.state 0)
+        (IsResultCause on (map term results.columns.items))) }
+    ensures only { IfErr result IsOperatorFault }
+    ensures reads { ReadsPages result pager.old.state pager.new.state }
+{
+    let mut results = results;
+    let mut marks = no_marks(alloc, set)?;
+    let mut row = Vec::new(alloc);
+    'rows: while results.next(alloc, pager, sources, &mut row)? {
+        let met = Row::from(row);
+        mark_row(set, &met, &mut marks);
+        row = met.into_values();
+    }
+    Ok(marks)
 }

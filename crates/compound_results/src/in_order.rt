@@ -48,6 +48,8 @@ fn push_arms<S: Source>(
     let mut row = Vec::new(alloc);
     'rows: while arms.next(alloc, pager, sources, &mut row)? {
         row = first.push(alloc, order, row)?;
+        // So that a row that is kept has no more memory than its values.
+        row.clear();
     }
     Ok(())
 }

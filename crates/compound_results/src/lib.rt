@@ -1,13 +1,15 @@
-//! The rows of SELECTs that UNION, UNION ALL, INTERSECT and EXCEPT join from left to right: those of each SELECT are gathered,
-//! joined to those before them, put in order by result columns, and cut by LIMIT and OFFSET. Where UNION ALL alone joins SELECTs
-//! without DISTINCT and nothing is put in order, they are given one by one instead, as they are computed, and none is kept. It
-//! promises that the rows are a list that the query permits, whatever stands for results out of range, with NULLs equal where rows
-//! are compared; that `Overflow` comes only where the plan or a result column of a SELECT reaches one; and that no more pages are
-//! asked for than the plans' work, and of rows that are given one by one none behind the last that LIMIT leaves.
+//! The rows of SELECTs that UNION, UNION ALL, INTERSECT and EXCEPT join from left to right: those of each SELECT are pulled and
+//! joined to those before it one by one, then put in order by result columns, and cut by LIMIT and OFFSET. Of the rows on the left
+//! equal ones are kept once where UNION, INTERSECT or EXCEPT follows, and of the rows on the right of INTERSECT and EXCEPT none is
+//! kept. Where UNION ALL alone joins SELECTs without DISTINCT, they are given one by one instead, as they are computed, and none is
+//! kept; or, where ORDER BY puts them in order, the first of them that LIMIT and OFFSET look at. It promises that the rows are a list
+//! that the query permits, whatever stands for results out of range, with NULLs equal where rows are compared; that `Overflow` comes
+//! only where the plan or a result column of a SELECT reaches one; and that no more pages are asked for than the plans' work, and of
+//! rows that are given one by one none behind the last that LIMIT leaves.
 //!
-//! The modules, in the order in which data passes them: `gathered` (the rows of a stream), `sets` (rows, each once, and those
-//! that others have), `arms` (the rows of each SELECT, joined), `chained` (rows that are given one by one), `in_order` (these in
-//! order), `compound` (the rows in order) and `laws` of the definitions.
+//! The modules, in the order in which data passes them: `sets` (rows, each once, and marks of those that were met), `gathered` (the
+//! rows of a stream), `arms` (those of each SELECT, joined), `chained` (rows that are given one by one), `in_order` (these in order),
+//! `compound` (the rows in order) and `laws` of the definitions.
 #![tactic(auto)]
 
 mod arms;

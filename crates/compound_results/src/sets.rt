@@ -1,118 +1,72 @@
-//! Rows, each once, and those that others have.
-ghost use Rattle.std.specs.Prelude.{◌≡◌, IfOk, map};
+//! Rows, each once, and marks of those that were met.
+ghost use Rattle.std.specs.Prelude.{◌≡◌, ◌++◌, ◌∷◌, [], IfOk, List, OnOk, drop, map};
+ghost use Rattle.std.specs.List.{IsDistinct};
 ghost use Rattle.values.specs.Datum.{datum_of};
-ghost use Rattle.naming.specs.Statement.{operator_of};
-ghost use Rattle.distinct_results.specs.Firsts.{firsts};
-ghost use Rattle.compound_results.specs.Arms.{each_once_if};
+ghost use Rattle.values.specs.Row.{Row as RowData};
+ghost use Rattle.indexmap.specs.IndexSet.{insert_key};
+ghost use Rattle.meaning.specs.Times.{same_row};
+ghost use Rattle.compound_results.specs.Joined.{has_row, is_kept};
 ghost use Rattle.compound_results.specs.Joined as joining;
 
 use indexmap::IndexSet;
 use std::alloc::{AllocError, Global};
-use syntax::CompoundOperator;
 use values::{Row, Value};
 
-/// These rows, each once, where they first stand.
-fn set_of(alloc: Global, rows: Vec<Vec<Value>>) -> Result<IndexSet<Row>, AllocError>
-    ensures { IfOk result (λ set. set.keys ≡ firsts (map (λ row. map datum_of row.items) rows.items)) }
-{
-    let mut set = IndexSet::new(alloc);
-    for values in rows {
-        let _new = set.insert(Row::from(values))?;
-    }
-    Ok(set)
-}
-
-/// These rows, each once, where they first stand.
-fn each_once(alloc: Global, rows: Vec<Vec<Value>>) -> Result<Vec<Vec<Value>>, AllocError>
-    ensures { IfOk result (λ once. map (λ row. map datum_of row.items) once.items ≡ firsts (map (λ row. map datum_of row.items) rows.items)) }
-{
-    let set = set_of(alloc, rows)?;
-    let mut once = Vec::new(alloc);
-    for row in set {
-        once.push(row.into_values())?;
-    }
-    Ok(once)
-}
-
-/// These rows, each once where that is wanted.
-pub(crate) fn once_if(
+/// Puts a row into a set. Where the set has it already, its memory comes back.
+pub(crate) fn put_row(
     alloc: Global,
-    rows: Vec<Vec<Value>>,
-    distinct: bool,
-) -> Result<Vec<Vec<Value>>, AllocError>
-    ensures { IfOk result (λ shown. map (λ row. map datum_of row.items) shown.items
-        ≡ each_once_if distinct (map (λ row. map datum_of row.items) rows.items)) }
+    set: &mut IndexSet<Row>,
+    values: Vec<Value>,
+) -> Result<Vec<Value>, AllocError>
+    ensures { OnOk result (set.new.keys ≡ insert_key same_row set.old.keys (map datum_of values.items)) }
 {
-    if !distinct {
-        return Ok(rows);
+    let row = Row::from(values);
+    if set.contains(&row) {
+        return Ok(row.into_values());
     }
-    let once = each_once(alloc, rows)?;
-    Ok(once)
+    set.insert(row)?;
+    Ok(Vec::new(alloc))
 }
 
-/// Of these rows those that are in a set, or those that aren't, as it is wanted.
-fn filtered(
-    alloc: Global,
-    rows: Vec<Vec<Value>>,
-    set: &IndexSet<Row>,
-    wanted: bool,
-) -> Result<Vec<Vec<Value>>, AllocError>
-    ensures { IfOk result (λ kept. map (λ row. map datum_of row.items) kept.items
-        ≡ joining.filtered wanted (map (λ row. map datum_of row.items) rows.items) set.now.keys) }
+/// A mark for each row of a set, of which none was met.
+pub(crate) fn no_marks(alloc: Global, set: &IndexSet<Row>) -> Result<Vec<bool>, AllocError>
+    ensures marks { IfOk result (λ marks. marks.items ≡ map (has_row []) set.now.keys) }
+    ensures once { IfOk result (λ _. IsDistinct same_row set.now.keys) }
 {
-    let mut kept = Vec::new(alloc);
-    for values in rows {
-        let row = Row::from(values);
-        if set.contains(&row) == wanted {
-            kept.push(row.into_values())?;
-        }
-    }
-    Ok(kept)
+    let marks = vec![in alloc; false; set.len()]?;
+    Ok(marks)
 }
 
-/// Of these rows those that are in a set, or those that aren't, as it is wanted, each once.
-fn filtered_once(
-    alloc: Global,
-    rows: Vec<Vec<Value>>,
-    set: &IndexSet<Row>,
-    wanted: bool,
-) -> Result<Vec<Vec<Value>>, AllocError>
-    ensures { IfOk result (λ once. map (λ row. map datum_of row.items) once.items
-        ≡ firsts (joining.filtered wanted (map (λ row. map datum_of row.items) rows.items) set.now.keys)) }
+/// Marks the row of a set that this one is equal to, if there is one; NULLs count as equal.
+pub(crate) fn mark_row(set: &IndexSet<Row>, row: &Row, marks: &mut Vec<bool>)
+    requires { IsDistinct same_row set.now.keys }
+    ensures { (rows : List RowData) → marks.old.items ≡ map (has_row rows) set.now.keys
+        → marks.new.items ≡ map (has_row (rows ++ row.now ∷ [])) set.now.keys }
 {
-    let kept = filtered(alloc, rows, set, wanted)?;
-    let once = each_once(alloc, kept)?;
-    Ok(once)
-}
-
-/// What an operator makes of the rows on its left and on its right; NULLs count as equal.
-pub(crate) fn join(
-    alloc: Global,
-    operator: CompoundOperator,
-    left: Vec<Vec<Value>>,
-    right: Vec<Vec<Value>>,
-) -> Result<Vec<Vec<Value>>, AllocError>
-    ensures { IfOk result (λ rows. map (λ row. map datum_of row.items) rows.items
-        ≡ joining.joined_rows (operator_of operator) (map (λ row. map datum_of row.items) left.items) (map (λ row. map datum_of row.items) right.items)) }
-{
-    let mut left = left;
-    let mut right = right;
-    match operator {
-        CompoundOperator::UnionAll => {
-            left.append(&mut right)?;
-            Ok(left)
-        }
-        CompoundOperator::Union => {
-            left.append(&mut right)?;
-            each_once(alloc, left)
-        }
-        CompoundOperator::Intersect => {
-            let set = set_of(alloc, right)?;
-            filtered_once(alloc, left, &set, true)
-        }
-        CompoundOperator::Except => {
-            let set = set_of(alloc, right)?;
-            filtered_once(alloc, left, &set, false)
+    if let Some(at) = set.get_index_of(row) {
+        if at < marks.len() {
+            marks[at] = true;
         }
     }
+}
+
+/// Leaves in a set the rows that are marked, or those that aren't, as it is wanted.
+pub(crate) fn keep_marked(set: &mut IndexSet<Row>, marks: &[bool], wanted: bool)
+    ensures { (others : List RowData) → marks.now ≡ map (has_row others) set.old.keys → set.new.keys ≡ joining.filtered wanted set.old.keys others }
+{
+    let mut rest = marks;
+    set.retain(
+        move |_row: &Row| -> bool
+            ensures answer { result ≡ is_kept wanted rest.entry.now }
+            ensures behind { rest.exit.now ≡ drop 1 rest.entry.now }
+        {
+            match rest.split_first() {
+                Some((mark, others)) => {
+                    rest = others;
+                    if wanted { *mark } else { !*mark }
+                }
+                None => false,
+            }
+        },
+    );
 }

@@ -45,6 +45,8 @@ pub(crate) fn push_distinct<S: Source>(
     let mut row = Vec::new(alloc);
     'rows: while results.next(alloc, pager, sources, &mut row)? {
         row = first.push(alloc, order, row)?;
+        // So that a row that is kept has no more memory than its values.
+        row.clear();
     }
     Ok(())
 }

@@ -1,11 +1,7 @@
-pub mod Operations
-pub mod Functions
-pub mod Like
 pub mod Term
 pub mod View
 pub mod Meaning
 pub mod Contract
-pub mod Faults
 pub mod Conjuncts
 pub mod Laws
 pub mod Reaches

@@ -2,13 +2,13 @@
 ghost use Rattle.std.specs.Prelude.{◌≡◌, ◌⊎◌, ◌++◌, map, Err, IfErr, IfOk, OnOk};
 ghost use Rattle.values.specs.Datum.{Datum, datum_of};
 ghost use Rattle.expr.specs.Meaning.{eval, Overflows};
-ghost use Rattle.expr.specs.Operations.{truth};
+ghost use Rattle.operations.specs.Operations.{truth};
 ghost use Rattle.expr.specs.View.{term, arm_terms};
 ghost use Rattle.expr.specs.Conjuncts.{conjuncts, keeps};
 
-use crate::operations::truth;
 use crate::tree::case_of;
-use crate::{Arm, Comparison, Expr, eval};
+use crate::{Arm, Expr, eval};
+use operations::{Comparison, truth};
 use std::alloc::{AllocError, Global};
 use values::{Fault, Value};
 

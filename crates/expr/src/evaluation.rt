@@ -3,19 +3,19 @@ ghost use Rattle.std.specs.Prelude.{◌≡◌, ◌⊎◌, Some, None, Err, map, 
 ghost use Rattle.std.specs.Option.{option_and_then, option_copied};
 ghost use Rattle.std.specs.Cow.{cow_value};
 ghost use Rattle.values.specs.Datum.{Datum, datum_of, null};
-ghost use Rattle.expr.specs.Functions.{call_of};
-ghost use Rattle.expr.specs.Like.{like_of};
-ghost use Rattle.expr.specs.Operations.{any_equal, arithmetic_of, comparison, concat_of, condition, null_if_equal, same, truth};
+ghost use Rattle.operations.specs.Functions.{call_of};
+ghost use Rattle.operations.specs.Like.{like_of};
+ghost use Rattle.operations.specs.Operations.{any_equal, arithmetic_of, comparison, concat_of, condition, null_if_equal, same, truth};
 ghost use Rattle.expr.specs.View.{term};
 ghost use Rattle.expr.specs.Meaning.{eval, Overflows, and_then, both, compared, or_else, or_otherwise, run_all, run_first, run_arms};
-ghost use Rattle.expr.specs.Contract.{ComputesAs, Computes, trees, arm_trees, value_on};
+ghost use Rattle.operations.specs.Contract.{ComputesAs, Computes};
+ghost use Rattle.expr.specs.Contract.{trees, arm_trees, value_on};
 
-use crate::like_operator::like;
-use crate::operations::{
-    Stop, and3, arithmetic, comparison, concat, from_condition, is_null, is_same, null_if_equal,
-    or3, truth,
+use crate::{Arm, Expr};
+use operations::{
+    Arithmetic, Comparison, Function, Stop, and3, arithmetic, call, comparison, concat,
+    from_condition, is_null, is_same, like, null_if_equal, or3, truth,
 };
-use crate::{Arithmetic, Arm, Comparison, Expr, Function, functions};
 use std::alloc::Global;
 use std::borrow::Cow;
 use values::{Fault, Value};
@@ -89,7 +89,7 @@ impl<'a> Evaluator<'a> {
     fn function_of(&self, f: Function, a: &'a Expr) -> Result<Value, Stop>
         ensures { Computes result (option_and_then (call_of None f) (value_on self.now.row.now a.now)) }
     {
-        functions::call(self.alloc, f, &*self.operand(a)?)
+        call(self.alloc, f, &*self.operand(a)?)
     }
 
     // An operation on two values, most of which stand in the tree or in the row.

@@ -2,7 +2,6 @@
 ghost use Rattle.expr.specs.Columns.{DependsOnColumns};
 ghost use Rattle.expr.specs.Laws.{ConjunctsAreLeaves, StandsForAll, IsTotal, KeepsConjuncts, AddsNoOverflow};
 ghost use Rattle.expr.specs.Filled.{AnswersAreBags, FilledHasType, FillsConjuncts};
-ghost use Rattle.expr.specs.Like.{TestIsRelation};
 ghost use Rattle.expr.specs.Reaches.{ReachedIsNone};
 ghost use Rattle.expr.specs.TermType.{TypesAreFound};
 ghost use Rattle.expr.specs.Types.{ConjunctsAreTyped, EvalHasType, TypesOfExamples, ValuesHaveTypes};
@@ -30,11 +29,6 @@ pub fn adds_no_overflow()
 /// Whatever stands for results out of range, one is reached exactly where there is no value.
 pub fn reached_is_none()
     ensures { ReachedIsNone }
-{}
-
-/// The test by which LIKE is computed holds exactly where its relation does.
-pub fn like_is_relation()
-    ensures { TestIsRelation }
 {}
 
 /// No conjunct is an AND or a BETWEEN.

@@ -3,23 +3,20 @@
 //! reached; that a typed expression's value has its type or is NULL; that a condition is true exactly where each of its
 //! conjuncts is; and that two expressions are told apart exactly where their trees differ.
 //!
-//! The modules, in the order in which data passes them: `tree` (expressions), `equality` (of two of them), `operations`
-//! (on values), `functions` (the scalar functions), `like_operator` (LIKE), `evaluation` (the value on a row),
-//! `conditions` (a condition split at AND), `names` (the columns that are named), and `laws`.
+//! The modules, in the order in which data passes them: `tree` (expressions), `equality` (of two of them),
+//! `evaluation` (the value on a row), `conditions` (a condition split at AND), `names` (the columns that are named), and
+//! `laws`.
 #![tactic(auto)]
 
 mod conditions;
 mod equality;
 mod evaluation;
-mod functions;
 pub mod laws;
-mod like_operator;
 mod names;
-mod operations;
 mod tree;
 
 pub use conditions::{conjuncts, copy, is_true};
 pub use equality::same_tree;
 pub use evaluation::eval;
 pub use names::columns;
-pub use tree::{Arithmetic, Arm, Comparison, Expr, Function};
+pub use tree::{Arm, Expr};

@@ -3,45 +3,9 @@ ghost use Rattle.std.specs.Prelude.{◌≡◌, IfOk, map};
 ghost use Rattle.expr.specs.Term.{choice, choice_of, iif, if_null};
 ghost use Rattle.expr.specs.View.{term, arms as arms_of, arm_terms};
 
+use operations::{Arithmetic, Comparison, Function};
 use std::alloc::{AllocError, Global};
 use values::Value;
-
-/// An operation on two whole numbers. (SQL Language Expressions, "Operators, and Parse-Affecting Attributes")
-#[derive(Clone, Copy, Debug, PartialEq, Eq)]
-pub enum Arithmetic {
-    Add,
-    Sub,
-    Mul,
-    Div,
-    Rem,
-    BitAnd,
-    BitOr,
-}
-
-/// A comparison of two values. (Datatypes In SQLite, "Comparison Expressions")
-#[derive(Clone, Copy, Debug, PartialEq, Eq)]
-pub enum Comparison {
-    Eq,
-    Ne,
-    Lt,
-    Le,
-    Gt,
-    Ge,
-}
-
-/// A function of one value; `-x`, `~x` and `NOT x` are among them. (Built-In Scalar SQL Functions)
-#[derive(Clone, Copy, Debug, PartialEq, Eq)]
-pub enum Function {
-    Neg,
-    BitNot,
-    Not,
-    Abs,
-    Length,
-    Lower,
-    Upper,
-    Hex,
-    TypeOf,
-}
 
 /// An expression over the columns of one row. (SQL Language Expressions)
 #[cycle(tree)]

@@ -8,7 +8,7 @@ ghost use Rattle.syntax.specs.declared.expr.Function.TheVariants as w;
 
 use crate::cases::{bare_case, when_then};
 use crate::operators::call;
-use expr::Function;
+use operations::Function;
 use query_trees::Term;
 use statement_trees::{Behind, Over};
 use std::alloc::Global;

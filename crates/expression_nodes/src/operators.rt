@@ -4,7 +4,7 @@ ghost use Rattle.expr.specs.Term as t;
 ghost use Rattle.naming.specs.Expression as spec;
 ghost use Rattle.query_trees.specs.TermView.{term};
 
-use expr::{Arithmetic, Comparison, Function};
+use operations::{Arithmetic, Comparison, Function};
 use query_trees::Term;
 use std::alloc::{AllocError, Global};
 use syntax::{BinaryOperator, PostfixOperator, PrefixOperator};

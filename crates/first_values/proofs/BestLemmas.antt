@@ -9,7 +9,7 @@ use Rattle.values.specs.Datum.{Datum, datum_of, null}
 use Rattle.values.specs.declared.value.Value.{Value}
 use Rattle.values.specs.declared.value.Value.TheVariants.{Null, Int, Text, Blob}
 use Rattle.values.specs.OrderLaws.{datum_cmp_total}
-use Rattle.expr.specs.Operations.{is_null}
+use Rattle.operations.specs.Operations.{is_null}
 use Rattle.meaning.specs.Sequence.{value_at}
 use Rattle.first_values.specs.declared.best.Side.{Side}
 use Rattle.first_values.specs.declared.best.Side.TheVariants.{Least, Greatest}

@@ -4,7 +4,7 @@ use Rattle.std.specs.Ordering.{flip_args, is_lt}
 use Rattle.std.specs.declared.cmp.Ordering.{Ordering}
 use Rattle.values.specs.Datum.{Datum}
 use Rattle.values.specs.Order.{datum_cmp}
-use Rattle.expr.specs.Operations.{is_null}
+use Rattle.operations.specs.Operations.{is_null}
 use Rattle.meaning.specs.Sequence.{value_at}
 use Rattle.first_values.specs.declared.best.Side.{Side}
 use Rattle.first_values.specs.declared.best.Side.TheVariants as sides

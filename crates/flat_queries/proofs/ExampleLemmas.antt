@@ -1,6 +1,6 @@
 -- The examples, computed.
 use Rattle.std.proofs.Common.{refl}
-use Rattle.expr.specs.Operations.{comparison, condition, is_null, same, settle, test_of, truth}
+use Rattle.operations.specs.Operations.{comparison, condition, is_null, same, settle, test_of, truth}
 use Rattle.meaning.proofs.AnswerLemmas.{permitted_as}
 use Rattle.meaning.specs.Examples.{items}
 use Rattle.values.specs.Datum.{Datum}

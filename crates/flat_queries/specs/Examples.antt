@@ -1,6 +1,6 @@
 -- Queries over two tables, and the same without the queries in them.
 use Rattle.std.specs.Prelude.{◌≡◌, List, [], ◌∷◌}
-use Rattle.expr.specs.declared.tree.Comparison.TheVariants.{Eq, Gt}
+use Rattle.operations.specs.declared.kinds.Comparison.TheVariants.{Eq, Gt}
 use Rattle.expr.specs.Filled.{literals}
 use Rattle.expr.specs.Term.{among, answer, column, compare, literal}
 use Rattle.meaning.specs.Answer.{Permits}

@@ -1,7 +1,7 @@
 -- Keys compared with keys that are moved along the order.
 use Rattle.std.proofs.Common.{◌≡◌, ◌+ℤ◌, ◌-ℤ◌, Bool, true, false, ℤ, Ordering, Less, Equal, Greater, List, [], ◌∷◌, drop, map, if◌then◌else◌, refl, sym, ap, Some, slice_get}
 use Rattle.std.specs.Ordering.{int_cmp, nat_cmp, ordering_then}
-use Rattle.expr.specs.Operations.{is_null}
+use Rattle.operations.specs.Operations.{is_null}
 use Rattle.values.specs.Datum.{Datum, datum_of, null, int, text, blob}
 use Rattle.values.specs.Order.{datum_cmp}
 use Rattle.values.specs.declared.value.Value.{Value}

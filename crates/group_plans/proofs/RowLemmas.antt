@@ -8,7 +8,7 @@ use Rattle.values.specs.Datum.{Datum, null}
 use Rattle.values.specs.Row.{Row}
 use Rattle.expr.specs.Conjuncts.{keeps}
 use Rattle.expr.specs.Meaning.{eval}
-use Rattle.expr.specs.Operations.{is_null, truth}
+use Rattle.operations.specs.Operations.{is_null, truth}
 use Rattle.expr.specs.Term.{Term}
 use Rattle.expr.proofs.BagLemmas.{IsPermutation-filter}
 use Rattle.meaning.specs.Body.{answers_in, values_over}

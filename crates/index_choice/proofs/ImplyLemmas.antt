@@ -7,12 +7,12 @@ use Rattle.std.proofs.lemmas.Bool.{eqb-true, ltb-false, ltb-true}
 use Rattle.std.specs.declared.cmp.Ordering.{Ordering}
 use Rattle.values.specs.Datum.{Datum, null, int, text, blob}
 use Rattle.values.specs.Order.{datum_cmp}
-use Rattle.expr.specs.declared.tree.Comparison.{Comparison}
-use Rattle.expr.specs.declared.tree.Function.TheVariants.{Not}
+use Rattle.operations.specs.declared.kinds.Comparison.{Comparison}
+use Rattle.operations.specs.declared.kinds.Function.TheVariants.{Not}
 use Rattle.expr.specs.Conjuncts.{is_true}
-use Rattle.expr.specs.Functions.{call_of}
+use Rattle.operations.specs.Functions.{call_of}
 use Rattle.expr.specs.Meaning.{compared, run}
-use Rattle.expr.specs.Operations.{condition, same, test_of, truth}
+use Rattle.operations.specs.Operations.{condition, same, test_of, truth}
 use Rattle.expr.specs.Term.{Term, call, column, compare, is, literal}
 use Rattle.key_ranges.specs.Ranges.{holds, is_null}
 use Rattle.index_choice.specs.ColumnBounds.{column_of}

@@ -3,8 +3,8 @@ use Rattle.std.specs.Prelude.{◌≡◌, Bool, true, false, ℕ, List, [], ◌++
 use Rattle.std.specs.List.{Contains}
 use Rattle.std.specs.Ordering.{is_eq}
 use Rattle.values.specs.Datum.{Datum, null}
-use Rattle.expr.specs.declared.tree.Comparison.{Comparison}
-use Rattle.expr.specs.declared.tree.Comparison.TheVariants.{Eq, Ne, Lt, Le, Gt, Ge}
+use Rattle.operations.specs.declared.kinds.Comparison.{Comparison}
+use Rattle.operations.specs.declared.kinds.Comparison.TheVariants.{Eq, Ne, Lt, Le, Gt, Ge}
 use Rattle.expr.specs.Conjuncts.{is_true}
 use Rattle.expr.specs.Meaning.{run}
 use Rattle.expr.specs.Term.{Term, column, compare}

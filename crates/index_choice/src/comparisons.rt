@@ -4,7 +4,8 @@ ghost use Rattle.expr.specs.View.{term};
 ghost use Rattle.index_choice.specs.ColumnBounds.{bounds_of, column_bound, column_of, turned};
 ghost use Rattle.index_choice.specs.View.{bound_term};
 
-use expr::{Comparison, Expr};
+use expr::Expr;
+use operations::Comparison;
 
 /// The side on which a column is bounded: by `=`, by `>` or `>=`, by `<` or `<=`.
 #[derive(Clone, Copy, Debug, PartialEq, Eq)]

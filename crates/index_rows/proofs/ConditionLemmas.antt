@@ -3,7 +3,7 @@ use Rattle.std.proofs.Common.{◌≡◌, ◌∙◌, Bool, false, List, Option, N
 use Rattle.values.specs.Datum.{Datum, null}
 use Rattle.expr.specs.Conjuncts.{is_true, keeps}
 use Rattle.expr.specs.Meaning.{Overflows, eval, exact}
-use Rattle.expr.specs.Operations.{truth}
+use Rattle.operations.specs.Operations.{truth}
 use Rattle.expr.specs.Term.{Term}
 use Rattle.expr.proofs.AnswerLemmas.{for_every}
 

@@ -14,8 +14,9 @@ ghost use Rattle.statement_trees.specs.TreeView.{expr_of};
 ghost use Rattle.syntax.specs.ExprTree.{trees_of};
 
 use crate::places::place_of;
-use expr::{Comparison, Expr, Function};
+use expr::Expr;
 use expr_types::type_of;
+use operations::{Comparison, Function};
 use schema::is_same_name;
 use statement_trees::Expr as Tree;
 use std::alloc::{AllocError, Global};

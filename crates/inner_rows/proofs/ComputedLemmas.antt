@@ -3,6 +3,7 @@ use Rattle.std.proofs.Common.{◌≡◌, inl, inr, List, [], ◌∷◌, ◌++◌
 use Rattle.std.specs.List.{AllZip}
 use Rattle.std.proofs.lemmas.List.{length-append, map-append}
 use Rattle.std.proofs.lemmas.List.Elements.{All-contains, Contains-append_left, Contains-append_right, Contains-push}
+use Rattle.expr.proofs.BagLemmas.{IsPermutation-same}
 use Rattle.values.specs.Database.{Database}
 use Rattle.values.specs.Datum.{Datum}
 use Rattle.values.specs.Row.{Row}
@@ -12,11 +13,11 @@ use Rattle.flat_queries.proofs.PartLemmas.{plain_hits, queries_hit, sources_hit}
 use Rattle.flat_queries.specs.Flat.{kept_of}
 use Rattle.flat_queries.specs.FlatWith.{answer_from, body_in, queries_of}
 use Rattle.meaning.proofs.ElementLemmas.{AllZip-both}
-use Rattle.meaning.specs.Body.{answer_of, body_rows, source_rows}
+use Rattle.meaning.specs.Body.{answer_of, source_rows}
 use Rattle.meaning.specs.Hits.{BodyHits, HitsOrdered, SourceHits}
-use Rattle.meaning.specs.Query.{Body, InnerQuery, Key, QueryData, Source, derived}
+use Rattle.meaning.specs.Query.{Body, InnerQuery, Key, QueryData, Source, derived, exists, values_of}
 use Rattle.operators.specs.Basis.{Basis}
-use Rattle.inner_rows.specs.Computed.{AddsAsMany, AddsRows, AreComputedRows}
+use Rattle.inner_rows.specs.Computed.{AddsAsMany, AddsRows, AreComputedRows, AreRowsFor}
 use Rattle.inner_rows.specs.InnerView.{InnerData}
 use Rattle.inner_rows.specs.Over.{IsBodyCause, IsInnerCause, IsQueryCause, SomeHits}
 
@@ -77,13 +78,17 @@ module _ (w : Datum) (db : Database) where
     answers = subst (λ (queries : List InnerQuery). AllZip IsPermutation (map (answer_of w db) queries) answers) (sym (append-nil asked)) are.answers;
   }
 
+  rows_answer : (query : InnerQuery) (rows : List Row) → AreRowsFor w db query rows → IsPermutation (answer_of w db query) (answer_from query rows)
+  rows_answer (values_of of) rows same = answer_alike w db (values_of of) rows same
+  rows_answer (exists of) rows some = IsPermutation-same _ _ some
+
   pub adds_query : (query : InnerQuery) (kept : List (List Row)) (answers : List (List Datum)) (rows : List Row) (values : List Datum)
-      → IsPermutation (body_rows w db (body_in query)) rows → values ≡ answer_from query rows
+      → AreRowsFor w db query rows → values ≡ answer_from query rows
       → AddsRows w db [] (query ∷ []) (record { kept = kept; answers = answers }) (record { kept = kept; answers = answers ++ values ∷ [] })
-  adds_query query kept answers rows values same is before asked are = record {
+  adds_query query kept answers rows values are_rows is before asked are = record {
     kept = subst (λ (sources : List Source). AllZip IsPermutation (map (source_rows w db) sources) kept) (sym (append-nil before)) are.kept;
     answers = zip_both (answer_of w db) asked (query ∷ []) answers (values ∷ []) are.answers
-        (subst (IsPermutation (answer_of w db query)) (sym is) (answer_alike w db query rows same), tt);
+        (subst (IsPermutation (answer_of w db query)) (sym is) (rows_answer query rows are_rows), tt);
   }
 
 -- ---- why it stops

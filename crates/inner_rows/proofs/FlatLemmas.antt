@@ -1,7 +1,7 @@
 -- The plan of a query without the queries in it, over their rows.
 use Rattle.std.proofs.Common.{◌≡◌, ◌∙◌, ◌≤◌, inl, inr, ℕ, List, [], ◌∷◌, ◌++◌, Vec, Global, Result, length, map, take, refl, sym, ap, subst, arith, IsPermutation}
-use Rattle.std.specs.Result.{MatchResult}
-use Rattle.std.proofs.lemmas.Result.{MatchResult-weaker}
+use Rattle.std.specs.Result.{IfErr, MatchResult}
+use Rattle.std.proofs.lemmas.Result.{IfErr-weaker, MatchResult-weaker}
 use Rattle.std.specs.List.{AllZip}
 use Rattle.std.proofs.lemmas.List.{length-map}
 use Rattle.std.proofs.lemmas.List.Elements.{All-nil}
@@ -44,10 +44,11 @@ use Rattle.select_plans.specs.Columns.{HaveColumns}
 use Rattle.settled_sources.proofs.TypeLemmas.{typed_within}
 use Rattle.settled_sources.specs.Within.{IsBodyWithin}
 use Rattle.sources.specs.SourceData.{rows_data, sources_of}
-use Rattle.inner_rows.specs.Computed.{AreComputedRows}
+use Rattle.inner_rows.specs.Computed.{AreComputedRows, AreSomeWhere}
 use Rattle.inner_rows.specs.InnerView.{InnerData, kept_rows}
-use Rattle.inner_rows.specs.Over.{AreSaid, IsBodyCause, IsPlanOverKept, IsQueryCause, basis_over, over_kept}
+use Rattle.inner_rows.specs.Over.{AreSaid, BeginsAnswer, IsBodyCause, IsPlanOverKept, IsQueryCause, basis_over, over_kept}
 use Rattle.inner_rows.specs.Runnable.{IsComputableBody, IsRunnableBody}
+use Rattle.inner_rows.proofs.FirstLemmas.{some_alike}
 use Rattle.inner_rows.proofs.KeptLemmas.{Lists, kept_are_stored, kept_have_columns, tables_count}
 use Rattle.inner_rows.proofs.RunnableLemmas.{flat_is_served}
 use Rattle.inner_rows.proofs.WorkLemmas.{selects_fewer}
@@ -152,6 +153,11 @@ module _ (pages : Pages) (tables : List TableData) (on : Basis) (of : Body) wher
       → IsAnswerOf on.w (over_kept on.db kept) planned rows → IsPermutation (body_rows on.w on.db of) rows
   rows_are kept planned is rows answer = plain_rows on.w on.db of rows (is.permits rows answer)
 
+  begun_are : (kept : List (List Row)) (planned : PlannedData) → IsPlanOverKept on (plain of) kept planned → (plan : PlanData) (rows : List Row)
+      → BeginsAnswer (basis_over tables on kept plan) planned rows → AreSomeWhere (body_rows on.w on.db of) rows
+  begun_are kept planned is plan rows begun =
+      some_alike (body_rows on.w on.db of) (rows ++ begun.rest) (rows_are kept planned is (rows ++ begun.rest) begun.answer) ∙ begun.some
+
   pub cause_is : (kept : List (List Row)) (planned : PlannedData) → IsPlanOverKept on (plain of) kept planned → (plan : PlanData) (e : Fault)
       → IsRowCause (basis_over tables on kept plan) planned e → IsBodyCause on of e
   cause_is kept planned is plan e (inl read) = inl read
@@ -178,6 +184,18 @@ module _ (pages : Pages) (tables : List TableData) (on : Basis) (said : AreSaid 
       (λ rows. rows_are pages tables on of (kept_rows kept) planned over (rows_data rows.items))
       (cause_is pages tables on of (kept_rows kept) planned over once)
 
+  -- the first of them is one where the body has some
+  pub row_given : (planned : PlannedData) → IsPlanFor (flat_with answers (length tables) (plain of)) planned
+      → (result : Result (Vec (Vec Value Global) Global) Fault)
+      → ((on : Basis) → AreStored pages (sources_of tables kept) on
+      → MatchResult result (λ rows. BeginsAnswer on planned (rows_data rows.items)) (IsRowCause on planned))
+      → MatchResult result (λ rows. AreSomeWhere (body_rows on.w on.db of) (rows_data rows.items)) (IsBodyCause on of)
+  row_given planned is result gives =
+      let over = plan_is_over pages tables on said (plain of) inner are typed_plain planned is in
+      MatchResult-weaker result (gives (basis_over tables on (kept_rows kept) once) (kept_are_stored pages tables kept on once said))
+      (λ rows. begun_are pages tables on of (kept_rows kept) planned over once (rows_data rows.items))
+      (cause_is pages tables on of (kept_rows kept) planned over once)
+
   -- within what its SELECTs may ask for
   pub rows_asked : (planned : PlannedData) → IsPlanFor (flat_with answers (length tables) (plain of)) planned
       → work_of on.w (over_kept on.db (kept_rows kept)) (take (length tables) on.sizes) planned ≤ selects_work on.w on.db on.sizes of
@@ -187,11 +205,13 @@ module _ (pages : Pages) (tables : List TableData) (on : Basis) (said : AreSaid 
       (tables_count pages tables on said) over.few
 
   -- and there is one
-  pub plan_found : (e : Fault) → ((catalog : List (List Ty)) → HaveColumns catalog (sources_of tables kept) → IsTyped catalog (flat_with answers (length tables) (plain of))
-      → HaveServedForm (flat_with answers (length tables) (plain of)).body → e ≡ NoMemory) → IsBodyCause on of e
-  plan_found e only =
+  pub plan_found : {T : Type 0} (result : Result T Fault)
+      → ((catalog : List (List Ty)) → HaveColumns catalog (sources_of tables kept) → IsTyped catalog (flat_with answers (length tables) (plain of))
+      → HaveServedForm (flat_with answers (length tables) (plain of)).body → IfErr result (λ e. e ≡ NoMemory))
+      → IfErr result (IsBodyCause on of)
+  plan_found result only =
       let found = flat_is_planned pages tables on said (plain of) inner are typed_plain kept refl runs.0 in
-      inl (inr (only found.0 found.1 found.2 found.3))
+      IfErr-weaker result (λ e. e ≡ NoMemory) (IsBodyCause on of) (λ e is. inl (inr is)) (only found.0 found.1 found.2 found.3)
 
 -- ---- a whole query
 

@@ -2,6 +2,7 @@ pub mod WithinLemmas
 pub mod RunnableLemmas
 pub mod KeptLemmas
 pub mod ComputedLemmas
+pub mod FirstLemmas
 pub mod FlatLemmas
 pub mod AddingLemmas
 pub mod PushLemmas

@@ -1,6 +1,5 @@
 -- One list of rows, or of values, behind those that there are.
-use Rattle.std.proofs.Common.{◌≡◌, List, [], ◌∷◌, ◌++◌, Vec, Global, Result, map, sym, subst, IsPermutation}
-use Rattle.std.specs.Result.{MatchResult}
+use Rattle.std.proofs.Common.{◌≡◌, List, [], ◌∷◌, ◌++◌, Vec, Global, map, sym, subst, IsPermutation}
 use Rattle.std.proofs.lemmas.List.{map_push}
 use Rattle.std.proofs.lemmas.List.Elements.{All-head}
 use Rattle.values.specs.Database.{Database}
@@ -20,7 +19,7 @@ use Rattle.meaning.specs.Body.{body_rows}
 use Rattle.meaning.specs.Query.{Body, InnerQuery, derived}
 use Rattle.operators.specs.Basis.{Basis}
 use Rattle.sources.specs.SourceData.{rows_data}
-use Rattle.inner_rows.specs.Computed.{AddsAsMany, AddsRows, AreComputedRows}
+use Rattle.inner_rows.specs.Computed.{AddsAsMany, AddsRows, AreComputedRows, AreRowsFor}
 use Rattle.inner_rows.specs.InnerView.{InnerData, kept_rows}
 use Rattle.inner_rows.specs.Over.{AreSaid, IsBodyCause}
 use Rattle.inner_rows.specs.Runnable.{AreComputable, IsComputable, IsComputableBody}
@@ -67,11 +66,11 @@ module _ (kept : Lists) (answers : List (Vec Value Global)) where
         subst (λ (all : List (List Datum)). AddsAsMany [] (query ∷ []) held (record { kept = kept_rows kept; answers = all })) (sym values_behind)
         (many_query query (kept_rows kept) (lists_of answers) (map datum_of values.items))
 
-    pub adds_values : (w : Datum) (db : Database) (query : InnerQuery) (rows : List Row) → IsPermutation (body_rows w db (body_in query)) rows
+    pub adds_values : (w : Datum) (db : Database) (query : InnerQuery) (rows : List Row) → AreRowsFor w db query rows
         → map datum_of values.items ≡ answer_from query rows → AddsRows w db [] (query ∷ []) held with_values
-    adds_values w db query rows same is =
+    adds_values w db query rows are is =
         subst (λ (all : List (List Datum)). AddsRows w db [] (query ∷ []) held (record { kept = kept_rows kept; answers = all })) (sym values_behind)
-        (adds_query w db query (kept_rows kept) (lists_of answers) rows (map datum_of values.items) same is)
+        (adds_query w db query (kept_rows kept) (lists_of answers) rows (map datum_of values.items) are is)
 
 -- ---- where the pages stay
 
@@ -95,7 +94,7 @@ module _ (tables : List TableData) (start : PagerState) where
   derived_stops of e stops = λ steady on said all. cause_source on of e (stops steady on said (one_derived of all))
 
   pub query_adds : (query : InnerQuery) (kept : Lists) (answers : List (Vec Value Global)) (rows : Vec (Vec Value Global) Global) (values : Vec Value Global)
-      → GivesWhere (body_in query) (λ on. IsPermutation (body_rows on.w on.db (body_in query)) (rows_data rows.items))
+      → GivesWhere (body_in query) (λ on. AreRowsFor on.w on.db query (rows_data rows.items))
       → map datum_of values.items ≡ answer_from query (rows_data rows.items)
       → AddsWhere tables start [] (query ∷ []) (held kept answers) (with_values kept answers values)
   query_adds query kept answers rows values gives is = λ steady on said all.
@@ -113,16 +112,14 @@ rows_held w db kept answers none nothing =
     (subst (λ (all : List (Vec Value Global)). AreComputedRows w db [] [] (held [] all)) (sym nothing) (rows_none w db))
 
 module _ (tables : List TableData) (start now : PagerState) (stays : SameImage start now) (of : Body) where
-  pub body_gives : (kept : Lists) (answers : List (Vec Value Global)) (new : InnerData) (result : Result (Vec (Vec Value Global) Global) Fault) → kept ≡ [] → answers ≡ []
+  pub body_gives : (Says : Basis → Type 0) (kept : Lists) (answers : List (Vec Value Global)) (new : InnerData) → kept ≡ [] → answers ≡ []
       → AddsWhere tables start (kept_of of) (queries_of of) (held kept answers) new
-      → GivesWhere tables now of (λ on. AreComputedRows on.w on.db (kept_of of) (queries_of of) new
-      → MatchResult result (λ rows. IsPermutation (body_rows on.w on.db of) (rows_data rows.items)) (IsBodyCause on of))
-      → GivesWhere tables start of (λ on. MatchResult result (λ rows. IsPermutation (body_rows on.w on.db of) (rows_data rows.items)) (IsBodyCause on of))
-  body_gives kept answers new result none nothing adds gives = λ steady on said runs.
+      → GivesWhere tables now of (λ on. AreComputedRows on.w on.db (kept_of of) (queries_of of) new → Says on)
+      → GivesWhere tables start of Says
+  body_gives Says kept answers new none nothing adds gives = λ steady on said runs.
       at_first start now stays
-      (λ pages. (on : Basis) → AreSaid pages tables on → IsComputableBody (column_types tables) of → AreComputedRows on.w on.db (kept_of of) (queries_of of) new
-      → MatchResult result (λ rows. IsPermutation (body_rows on.w on.db of) (rows_data rows.items)) (IsBodyCause on of)) gives
-      steady on said runs
+      (λ pages. (on : Basis) → AreSaid pages tables on → IsComputableBody (column_types tables) of → AreComputedRows on.w on.db (kept_of of) (queries_of of) new → Says on)
+      gives steady on said runs
       (adds steady on said (computable_parts (column_types tables) of runs) [] [] (rows_held on.w on.db kept answers none nothing))
 
   pub body_stops : (e : Fault) → StopsWhere tables start (kept_of of) (queries_of of) e → GivesWhere tables start of (λ on. IsBodyCause on of e)

@@ -1,6 +1,6 @@
 -- The worked queries, computed.
 use Rattle.std.proofs.Common.{refl}
-use Rattle.expr.specs.Operations.{comparison, condition, is_null, same, settle, test_of, truth}
+use Rattle.operations.specs.Operations.{comparison, condition, is_null, same, settle, test_of, truth}
 use Rattle.values.specs.Datum.{Datum}
 use Rattle.inner_rows.specs.WorkExamples.{AskFor, worked_pages}
 

@@ -4,8 +4,9 @@ use Rattle.std.specs.Prelude.{◌≡◌, ◌+◌, ◌++◌, List, length, map, I
 use Rattle.std.specs.List.{AllZip}
 use Rattle.values.specs.Database.{Database}
 use Rattle.values.specs.Datum.{Datum}
-use Rattle.meaning.specs.Body.{answer_of, source_rows}
-use Rattle.meaning.specs.Query.{InnerQuery, Source}
+use Rattle.values.specs.Row.{Row}
+use Rattle.meaning.specs.Body.{answer_of, body_rows, one_if_some, source_rows}
+use Rattle.meaning.specs.Query.{InnerQuery, Source, exists, values_of}
 use Rattle.inner_rows.specs.InnerView.{InnerData}
 
 -- as many rows and values were put behind others as there are of these sources and queries
@@ -13,7 +14,17 @@ pub record AddsAsMany (sources : List Source) (queries : List InnerQuery) (old n
   pub kept : length new.kept ≡ length old.kept + length sources
   pub answers : length new.answers ≡ length old.answers + length queries
 
+-- these are some where those are some
+abbrev pub AreSomeWhere : List Row → List Row → Type 0
+AreSomeWhere those these = one_if_some those ≡ one_if_some these
+
 module _ (w : Datum) (db : Database) where
+  -- The values of a query can be told from these rows: behind IN they are its rows, in whichever order; behind EXISTS they are some
+  -- where it has some.
+  abbrev pub AreRowsFor : InnerQuery → List Row → Type 0
+  AreRowsFor (values_of body) rows = IsPermutation (body_rows w db body) rows
+  AreRowsFor (exists body) rows = AreSomeWhere (body_rows w db body) rows
+
   -- the rows of each of these sources, and the values of each of these queries, of each in whichever order
   pub record AreComputedRows (sources : List Source) (queries : List InnerQuery) (inner : InnerData) : Type 0 where
     pub kept : AllZip IsPermutation (map (source_rows w db) sources) inner.kept

@@ -20,6 +20,7 @@ use Rattle.flat_queries.specs.FlatWith.{body_in}
 use Rattle.plans.specs.Plan.{PlanData}
 use Rattle.sources.specs.SourceData.{sources_of}
 use Rattle.operators.specs.Basis.{AreStored, Basis}
+use Rattle.inner_rows.specs.Computed.{AreSomeWhere}
 use Rattle.inner_rows.specs.InnerView.{kept_rows}
 use Rattle.query_plans.specs.Answers.{HitsOf, IsAnswerOf, PlannedData, work_of}
 
@@ -54,6 +55,12 @@ pub record IsPlanOverKept (on : Basis) (query : QueryData) (kept : List (List Ro
   pub permits : (answer : List Row) → IsAnswerOf on.w (over_kept on.db kept) planned answer → Permits on.w on.db query answer
   pub hits : HitsOf on.w (over_kept on.db kept) planned → Hits on.w on.db query
   pub few : work_of on.w (over_kept on.db kept) (take (length on.db.tables) on.sizes) planned ≤ selects_work on.w on.db on.sizes query.body
+
+-- These rows begin an answer of a plan, and are some where it has some.
+pub record BeginsAnswer (on : Basis) (planned : PlannedData) (rows : List Row) : Type 0 where
+  pub rest : List Row
+  pub answer : IsAnswerOf on.w on.db planned (rows ++ rest)
+  pub some : AreSomeWhere (rows ++ rest) rows
 
 -- ---- why a run stops: reading failed, or something leaves 64 bits
 

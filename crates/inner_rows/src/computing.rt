@@ -1,19 +1,21 @@
 //! The rows of each query.
-ghost use Rattle.std.specs.Prelude.{◌≡◌, [], All, IfErr, IsPermutation, MatchResult, OnOk, length, map};
+ghost use Rattle.std.specs.Prelude.{◌≡◌, ◌⊎◌, [], All, IfErr, IfOk, IsPermutation, MatchResult, OnOk, length, map};
 ghost use Rattle.pager.specs.Calls.{ReadsPages};
-ghost use Rattle.image.specs.Pages.{WhereSteady};
+ghost use Rattle.image.specs.Pages.{Pages, WhereSteady};
 ghost use Rattle.body_trees.specs.BodyView.{body_of, inner_of, joined_of, source_of, tables_of};
 ghost use Rattle.compound_plans.specs.Work.{selects_work};
-ghost use Rattle.flat_bodies.specs.FlatView.{kept_among};
+ghost use Rattle.flat_bodies.specs.FlatView.{kept_among, lists_of};
 ghost use Rattle.flat_queries.specs.Flat.{kept_in, kept_of, kept_source};
-ghost use Rattle.flat_queries.specs.FlatWith.{body_in, queries_in, queries_of};
-ghost use Rattle.inner_rows.specs.Computed.{AddsAsMany, AddsRows, AreComputedRows};
+ghost use Rattle.flat_queries.specs.FlatWith.{body_in, flat_with, queries_in, queries_of};
+ghost use Rattle.flat_queries.specs.Parts.{plain};
+ghost use Rattle.inner_rows.specs.Computed.{AddsAsMany, AddsRows, AreComputedRows, AreRowsFor, AreSomeWhere};
 ghost use Rattle.inner_rows.specs.InnerView.{inner_data};
 ghost use Rattle.inner_rows.specs.Over.{AreSaid, IsBodyCause, IsInnerCause};
 ghost use Rattle.inner_rows.specs.Runnable.{AreComputable, IsComputableBody};
 ghost use Rattle.inner_rows.specs.Work.{body_work, parts_work};
 ghost use Rattle.meaning.specs.Body.{body_rows};
 ghost use Rattle.operators.specs.Basis.{Basis, IsOperatorFault};
+ghost use Rattle.query_plans.specs.Answers.{IsPlanFor, IsPlannedOver, planned_data};
 ghost use Rattle.scan.specs.Coming.{Asks};
 ghost use Rattle.sources.specs.Coming.{IsRooted};
 ghost use Rattle.sources.specs.SourceData.{rows_data, sources_of};
@@ -22,14 +24,36 @@ ghost use Rattle.tables.specs.ColumnTypes.{column_types};
 use crate::flat::flat_plain;
 use crate::inner::InnerRows;
 use crate::planning::plan_over;
-use crate::rows::planned_rows;
+use crate::rows::{planned_row, planned_rows};
 use body_trees::{Body, InnerQuery, Joined, Source, Tables};
 use flat_bodies::answer;
 use pager::Pager;
+use query_plans::Planned;
 use sources::Sources;
 use std::alloc::Global;
 use tables::Table;
 use values::{Fault, Value};
+
+/// The plan of a query, over the tables and the rows of the queries in it. Its faults are `NoMemory`, and `Changed`, which a query
+/// that can be computed doesn't give.
+fn flat_plan(
+    alloc: Global,
+    tables: &[Table],
+    body: &Body,
+    inner: &InnerRows,
+) -> Result<Planned, Fault>
+    requires kept { length inner.now.kept.items ≡ length (kept_of (body_of body.now)) }
+    requires answers { length inner.now.answers.items ≡ length (queries_of (body_of body.now)) }
+    ensures plan { IfOk result (λ p. IsPlanFor (flat_with (lists_of inner.now.answers.items) (length tables.now) (plain (body_of body.now))) (planned_data p)) }
+    ensures over { IfOk result (λ p. IsPlannedOver (sources_of tables.now inner.now.kept.items) (planned_data p)) }
+    ensures cause { (pages : Pages) (on : Basis) → AreSaid pages tables.now on → IsComputableBody (column_types tables.now) (body_of body.now)
+        → AreComputedRows on.w on.db (kept_of (body_of body.now)) (queries_of (body_of body.now)) (inner_data inner.now)
+        → IfErr result (IsBodyCause on (body_of body.now)) }
+    ensures only { IfErr result (λ e. (e ≡ Fault.NoMemory) ⊎ (e ≡ Fault.Changed)) }
+{
+    let query = flat_plain(alloc, inner.answers.as_slice(), tables.len(), body)?;
+    plan_over(alloc, tables, inner.kept.as_slice(), &query)
+}
 
 /// The rows of a query, behind those of the queries in it.
 fn flat_rows<S: pager::Source>(
@@ -54,11 +78,37 @@ fn flat_rows<S: pager::Source>(
     ensures only { IfErr result IsOperatorFault }
     ensures reads { ReadsPages result pager.old.state pager.new.state }
 {
-    let kept = inner.kept.as_slice();
-    let query = flat_plain(alloc, inner.answers.as_slice(), tables.len(), body)?;
-    let planned = plan_over(alloc, tables, kept, &query)?;
-    let sources = Sources::new(tables, kept);
+    let planned = flat_plan(alloc, tables, body, inner)?;
+    let sources = Sources::new(tables, inner.kept.as_slice());
     planned_rows(alloc, pager, &sources, planned)
+}
+
+/// One row of a query where it has rows, behind those of the queries in it.
+fn flat_row<S: pager::Source>(
+    alloc: Global,
+    pager: &mut Pager<S>,
+    tables: &[Table],
+    body: &Body,
+    inner: &InnerRows,
+) -> Result<Vec<Vec<Value>>, Fault>
+    requires roots { All (IsRooted pager.old.state.header) (sources_of tables.now []) }
+    requires kept { length inner.now.kept.items ≡ length (kept_of (body_of body.now)) }
+    requires answers { length inner.now.answers.items ≡ length (queries_of (body_of body.now)) }
+    ensures rows { WhereSteady pager.old.state (λ pages. (on : Basis) → AreSaid pages tables.now on
+        → IsComputableBody (column_types tables.now) (body_of body.now)
+        → AreComputedRows on.w on.db (kept_of (body_of body.now)) (queries_of (body_of body.now)) (inner_data inner.now)
+        → MatchResult result (λ rows. AreSomeWhere (body_rows on.w on.db (body_of body.now)) (rows_data rows.items))
+        (IsBodyCause on (body_of body.now))) }
+    ensures pages { WhereSteady pager.old.state (λ pages. (on : Basis) → AreSaid pages tables.now on
+        → IsComputableBody (column_types tables.now) (body_of body.now)
+        → AreComputedRows on.w on.db (kept_of (body_of body.now)) (queries_of (body_of body.now)) (inner_data inner.now)
+        → OnOk result (Asks on.local pager.old.state (selects_work on.w on.db on.sizes (body_of body.now)) pager.new.state 0)) }
+    ensures only { IfErr result IsOperatorFault }
+    ensures reads { ReadsPages result pager.old.state pager.new.state }
+{
+    let planned = flat_plan(alloc, tables, body, inner)?;
+    let sources = Sources::new(tables, inner.kept.as_slice());
+    planned_row(alloc, pager, &sources, planned)
 }
 
 #[cycle(computing)]
@@ -82,6 +132,29 @@ fn body_rows<S: pager::Source>(
     let mut inner = InnerRows::new(alloc);
     add_body(alloc, pager, tables, body, &mut inner)?;
     flat_rows(alloc, pager, tables, body, &inner)
+}
+
+#[cycle(computing)]
+fn body_row<S: pager::Source>(
+    alloc: Global,
+    pager: &mut Pager<S>,
+    tables: &[Table],
+    body: &Body,
+) -> Result<Vec<Vec<Value>>, Fault>
+    requires roots { All (IsRooted pager.old.state.header) (sources_of tables.now []) }
+    ensures rows { WhereSteady pager.old.state (λ pages. (on : Basis) → AreSaid pages tables.now on
+        → IsComputableBody (column_types tables.now) (body_of body.now)
+        → MatchResult result (λ rows. AreSomeWhere (body_rows on.w on.db (body_of body.now)) (rows_data rows.items))
+        (IsBodyCause on (body_of body.now))) }
+    ensures pages { WhereSteady pager.old.state (λ pages. (on : Basis) → AreSaid pages tables.now on
+        → IsComputableBody (column_types tables.now) (body_of body.now)
+        → OnOk result (Asks on.local pager.old.state (body_work on.w on.db on.sizes (body_of body.now)) pager.new.state 0)) }
+    ensures only { IfErr result IsOperatorFault }
+    ensures reads { ReadsPages result pager.old.state pager.new.state }
+{
+    let mut inner = InnerRows::new(alloc);
+    add_body(alloc, pager, tables, body, &mut inner)?;
+    flat_row(alloc, pager, tables, body, &inner)
 }
 
 /// Puts the rows of the queries in a query behind others.
@@ -229,6 +302,7 @@ fn add_queries<S: pager::Source>(
     Ok(())
 }
 
+// EXISTS is answered by one row.
 #[cycle(computing)]
 fn query_rows<S: pager::Source>(
     alloc: Global,
@@ -239,7 +313,7 @@ fn query_rows<S: pager::Source>(
     requires roots { All (IsRooted pager.old.state.header) (sources_of tables.now []) }
     ensures rows { WhereSteady pager.old.state (λ pages. (on : Basis) → AreSaid pages tables.now on
         → IsComputableBody (column_types tables.now) (body_in (inner_of query.now))
-        → MatchResult result (λ rows. IsPermutation (body_rows on.w on.db (body_in (inner_of query.now))) (rows_data rows.items))
+        → MatchResult result (λ rows. AreRowsFor on.w on.db (inner_of query.now) (rows_data rows.items))
         (IsBodyCause on (body_in (inner_of query.now)))) }
     ensures pages { WhereSteady pager.old.state (λ pages. (on : Basis) → AreSaid pages tables.now on
         → IsComputableBody (column_types tables.now) (body_in (inner_of query.now))
@@ -249,6 +323,6 @@ fn query_rows<S: pager::Source>(
 {
     match query {
         InnerQuery::Values(body) => body_rows(alloc, pager, tables, body),
-        InnerQuery::Exists(body) => body_rows(alloc, pager, tables, body),
+        InnerQuery::Exists(body) => body_row(alloc, pager, tables, body),
     }
 }

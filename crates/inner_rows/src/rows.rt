@@ -2,6 +2,7 @@
 ghost use Rattle.std.specs.Prelude.{[], ℕ, All, IfErr, MatchResult, OnOk};
 ghost use Rattle.pager.specs.Calls.{ReadsPages};
 ghost use Rattle.image.specs.Pages.{WhereSteady};
+ghost use Rattle.inner_rows.specs.Over.{BeginsAnswer};
 ghost use Rattle.operators.specs.Basis.{AreStored, Basis, IsOperatorFault};
 ghost use Rattle.query_plans.specs.Answers.{IsAnswerOf, IsPlannedOver, PlannedData, planned_data, work_of};
 ghost use Rattle.running.specs.Given.{HasAhead, HasGiven, IsRowCause, IsRunOver};
@@ -62,4 +63,32 @@ pub fn planned_rows<S: Source>(
 {
     let mut running = Running::open(alloc, planned)?;
     rows_of_run(alloc, pager, sources, &mut running)
+}
+
+/// One row that a plan gives, or none where it gives none: no row behind the first is asked for. Its faults are those of an operator.
+pub(crate) fn planned_row<S: Source>(
+    alloc: Global,
+    pager: &mut Pager<S>,
+    sources: &Sources<'_>,
+    planned: Planned,
+) -> Result<Vec<Vec<Value>>, Fault>
+    requires roots { All (IsRooted pager.old.state.header) sources.now }
+    requires planned { IsPlannedOver sources.now (planned_data planned) }
+    ensures rows { WhereSteady pager.old.state (λ pages. (on : Basis) → AreStored pages sources.now on → MatchResult result
+        (λ rows. BeginsAnswer on (planned_data planned) (rows_data rows.items))
+        (IsRowCause on (planned_data planned))) }
+    ensures pages { WhereSteady pager.old.state (λ pages. (on : Basis) → AreStored pages sources.now on
+        → OnOk result (Asks on.local pager.old.state (work_of on.w on.db on.sizes (planned_data planned)) pager.new.state 0)) }
+    ensures only { IfErr result IsOperatorFault }
+    ensures reads { ReadsPages result pager.old.state pager.new.state }
+{
+    let mut running = Running::open(alloc, planned)?;
+    let mut first = Vec::new(alloc);
+    let found = running.next(alloc, pager, sources, &mut first)?;
+    let mut begun = Vec::new(alloc);
+    if !found {
+        return Ok(begun);
+    }
+    begun.push(first)?;
+    Ok(begun)
 }

@@ -1,8 +1,8 @@
 -- The examples, computed.
 use Rattle.std.proofs.Common.{◌≡◌, List, [], ◌∷◌, map, refl, inr, lit<, arith}
 use Rattle.values.specs.Datum.{Datum}
-use Rattle.expr.specs.Functions.{call_of}
-use Rattle.expr.specs.Operations.{settle, same, is_null, truth, condition, test_of, comparison, arithmetic_of, of_integers}
+use Rattle.operations.specs.Functions.{call_of}
+use Rattle.operations.specs.Operations.{settle, same, is_null, truth, condition, test_of, comparison, arithmetic_of, of_integers}
 use Rattle.expr.specs.Term.{column}
 use Rattle.meaning.specs.Examples.{Examples, Show, by_column, catalog, compound_examples, group_examples, inner_examples, item_types, items, join_examples, running_sum, up, window_examples}
 use Rattle.meaning.specs.Typed.{HasTypes, IsKeyTerm, IsTerm}

@@ -8,7 +8,7 @@ use Rattle.std.proofs.lemmas.List.Sorted.{IsPermutation-cons, IsPermutation-midd
 use Rattle.values.specs.Datum.{Datum, null}
 use Rattle.values.specs.Order.{datum_cmp}
 use Rattle.values.specs.OrderLaws.{datum_cmp_total, datum_cmp-IsAntisymmetric}
-use Rattle.expr.specs.Operations.{is_null, settle}
+use Rattle.operations.specs.Operations.{is_null, settle}
 use Rattle.expr.specs.Term.{Term}
 use Rattle.meaning.specs.Query.{Aggregate, AggregateFunction, Grouping, Window, WindowCall}
 use Rattle.values.specs.Row.{Row}

@@ -3,7 +3,7 @@ use Rattle.std.proofs.Common.{◌≡◌, Bool, true, false, List, [], ◌∷◌,
 use Rattle.std.specs.List.{filter}
 use Rattle.std.proofs.lemmas.List.Sorted.{IsPermutation-map}
 use Rattle.values.specs.Datum.{Datum}
-use Rattle.expr.specs.Operations.{truth}
+use Rattle.operations.specs.Operations.{truth}
 use Rattle.expr.specs.Term.{Term}
 use Rattle.meaning.specs.Query.{Body, Key, QueryData, Source, always, compound, of_columns, only, select}
 use Rattle.values.specs.Row.{Row}

@@ -13,7 +13,7 @@ use Rattle.values.specs.Order.{datum_cmp}
 use Rattle.values.specs.Row.{Row}
 use Rattle.values.specs.declared.value.Ty.{Ty}
 use Rattle.values.specs.declared.value.Ty.TheVariants.{Int}
-use Rattle.expr.specs.Operations.{is_null, settle}
+use Rattle.operations.specs.Operations.{is_null, settle}
 use Rattle.expr.specs.Term.{Term}
 use Rattle.expr.specs.Types.{HasType, IsOfType}
 use Rattle.expr.specs.Filled.{filled}

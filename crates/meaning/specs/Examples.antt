@@ -1,13 +1,13 @@
 -- Two tables, CREATE TABLE item(id INTEGER PRIMARY KEY, name TEXT NOT NULL, qty INT) STRICT and CREATE TABLE sale(item INT,
 -- n INT) STRICT, and queries over them with what they show.
 use Rattle.std.specs.Prelude.{ℕ, ℤ, true, false, List, [], ◌∷◌, Option, Some, None, pos, negsuc, codes}
-use Rattle.expr.specs.declared.tree.Comparison.TheVariants.{Eq, Gt, Lt}
-use Rattle.expr.specs.declared.tree.Arithmetic.TheVariants.{Add}
+use Rattle.operations.specs.declared.kinds.Comparison.TheVariants.{Eq, Gt, Lt}
+use Rattle.operations.specs.declared.kinds.Arithmetic.TheVariants.{Add}
 use Rattle.values.specs.declared.value.Ty.{Ty}
 use Rattle.values.specs.declared.value.Ty.TheVariants.{Int, Text}
 use Rattle.values.specs.Datum.{Datum, null, int, text}
 use Rattle.expr.specs.Term.{Term, literal, column, compare, is, and, among, answer, arithmetic, call, if_null}
-use Rattle.expr.specs.declared.tree.Function.TheVariants.{Not}
+use Rattle.operations.specs.declared.kinds.Function.TheVariants.{Not}
 use Rattle.meaning.specs.Query.{Aggregate, AggregateFunction, Body, Direction, Edge, Exclusion, Frame, FrameUnit, From, Key, KeyTerm, Operator, QueryData, Source, Window, WindowFunction, always, compound, derived, filtered, full, inner, joined, left, nothing, of_columns, only, right, select, table, values_of, exists, with_inner}
 use Rattle.values.specs.Row.{Row}
 use Rattle.values.specs.Database.{Database}

@@ -3,7 +3,7 @@ use Rattle.std.specs.Prelude.{◌+ℤ◌, ℤ, pos, not, List, [], ◌∷◌, �
 use Rattle.std.specs.Ordering.{flip_args}
 use Rattle.values.specs.Datum.{Datum, null, int}
 use Rattle.values.specs.Order.{datum_cmp}
-use Rattle.expr.specs.Operations.{is_null, settle}
+use Rattle.operations.specs.Operations.{is_null, settle}
 use Rattle.expr.specs.Term.{Term}
 use Rattle.meaning.specs.Query.{Aggregate, AggregateFunction, Grouping}
 use Rattle.values.specs.Row.{Row}

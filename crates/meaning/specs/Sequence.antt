@@ -6,7 +6,7 @@ use Rattle.std.specs.declared.cmp.Ordering.TheVariants.{Equal}
 use Rattle.values.specs.Datum.{Datum, null}
 use Rattle.values.specs.Order.{datum_cmp}
 use Rattle.values.specs.Row.{Row}
-use Rattle.expr.specs.Operations.{is_null}
+use Rattle.operations.specs.Operations.{is_null}
 use Rattle.meaning.specs.Query.{Direction}
 
 -- the value at a place of a row, and NULL past its end

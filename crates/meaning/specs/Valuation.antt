@@ -4,7 +4,7 @@ use Rattle.values.specs.Datum.{Datum}
 use Rattle.expr.specs.Conjuncts.{keeps}
 use Rattle.expr.specs.Filled.{filled}
 use Rattle.expr.specs.Meaning.{eval}
-use Rattle.expr.specs.Operations.{truth}
+use Rattle.operations.specs.Operations.{truth}
 use Rattle.expr.specs.Term.{Term}
 use Rattle.values.specs.Row.{Row}
 

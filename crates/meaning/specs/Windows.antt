@@ -5,7 +5,7 @@ use Rattle.std.specs.Ordering.{is_eq, is_lt, on, then_cmp}
 use Rattle.std.specs.declared.cmp.Ordering.{Ordering}
 use Rattle.values.specs.Datum.{Datum, null, int}
 use Rattle.values.specs.Order.{row_cmp}
-use Rattle.expr.specs.Operations.{settle}
+use Rattle.operations.specs.Operations.{settle}
 use Rattle.meaning.specs.Query.{Direction, SortTerm, FrameUnit, Edge, Exclusion, Frame, Window, WindowFunction, WindowCall}
 use Rattle.values.specs.Row.{Row}
 use Rattle.meaning.specs.Sequence.{value_at, keys_cmp, sorted}

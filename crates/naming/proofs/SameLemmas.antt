@@ -7,12 +7,12 @@ use Rattle.values.specs.Datum.{Datum}
 use Rattle.values.specs.Order.{datum_cmp}
 use Rattle.values.specs.OrderLaws.{datum_cmp_total, datum_cmp-IsAntisymmetric}
 use Rattle.expr.specs.Term.{Term, Terms, Arms}
-use Rattle.expr.specs.declared.tree.Arithmetic.{Arithmetic}
-use Rattle.expr.specs.declared.tree.Arithmetic.TheVariants as a
-use Rattle.expr.specs.declared.tree.Comparison.{Comparison}
-use Rattle.expr.specs.declared.tree.Comparison.TheVariants as c
-use Rattle.expr.specs.declared.tree.Function.{Function}
-use Rattle.expr.specs.declared.tree.Function.TheVariants as g
+use Rattle.operations.specs.declared.kinds.Arithmetic.{Arithmetic}
+use Rattle.operations.specs.declared.kinds.Arithmetic.TheVariants as a
+use Rattle.operations.specs.declared.kinds.Comparison.{Comparison}
+use Rattle.operations.specs.declared.kinds.Comparison.TheVariants as c
+use Rattle.operations.specs.declared.kinds.Function.{Function}
+use Rattle.operations.specs.declared.kinds.Function.TheVariants as g
 use Rattle.meaning.specs.Query.{Aggregate, AggregateFunction, Body, Direction, Edge, Exclusion, Frame, FrameUnit, From, Grouping, InnerQuery, JoinKind, Operator, Select, SortTerm, Source, Window, WindowCall, WindowFunction}
 use Rattle.naming.specs.Laws.{SameIsEqual}
 use Rattle.naming.specs.Same.{aggregate_place, are_same, are_same_arms, are_same_terms, arithmetic_place, comparison_place, exclusion_place, function_place, is_same_aggregate, is_same_body, is_same_bool, is_same_call, is_same_direction, is_same_edge, is_same_frame, is_same_from, is_same_function, is_same_grouping, is_same_inner, is_same_option, is_same_select, is_same_sort, is_same_source, is_same_term, is_same_window, join_place, operator_place, unit_place}

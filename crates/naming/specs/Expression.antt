@@ -9,10 +9,10 @@ use Rattle.values.specs.declared.fault.Fault.{Fault}
 use Rattle.values.specs.declared.fault.Fault.TheVariants.{WrongPlace}
 use Rattle.expr.specs.Term.{Term, Terms, literal, call, arithmetic, concat, compare, is, and, or, between, among, coalesce, choice, choice_of, if_null, iif, null_if, like}
 use Rattle.expr.specs.View.{terms, arms}
-use Rattle.expr.specs.declared.tree.Arithmetic.TheVariants as a
-use Rattle.expr.specs.declared.tree.Comparison.TheVariants as c
-use Rattle.expr.specs.declared.tree.Function.{Function}
-use Rattle.expr.specs.declared.tree.Function.TheVariants as g
+use Rattle.operations.specs.declared.kinds.Arithmetic.TheVariants as a
+use Rattle.operations.specs.declared.kinds.Comparison.TheVariants as c
+use Rattle.operations.specs.declared.kinds.Function.{Function}
+use Rattle.operations.specs.declared.kinds.Function.TheVariants as g
 use Rattle.syntax.specs.ExprTree.{ExprTree, ExprTrees, MaybeExpr, ArmTrees, BehindTree, OverTree, QueryTree}
 use Rattle.syntax.specs.declared.expr.BinaryOperator.{BinaryOperator}
 use Rattle.syntax.specs.declared.expr.BinaryOperator.TheVariants as b

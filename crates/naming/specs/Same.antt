@@ -3,12 +3,12 @@ use Rattle.std.specs.Prelude.{Bool, true, false, ◌&&◌, ℕ, List, [], ◌∷
 use Rattle.std.specs.Ordering.{is_eq}
 use Rattle.values.specs.Order.{datum_cmp}
 use Rattle.expr.specs.Term.{Term, Terms, Arms, literal, column, call, arithmetic, concat, compare, is, and, or, between, among, coalesce, choice, choice_of, null_if, like, none, more, answer, no_arms, arm}
-use Rattle.expr.specs.declared.tree.Arithmetic.{Arithmetic}
-use Rattle.expr.specs.declared.tree.Arithmetic.TheVariants as a
-use Rattle.expr.specs.declared.tree.Comparison.{Comparison}
-use Rattle.expr.specs.declared.tree.Comparison.TheVariants as c
-use Rattle.expr.specs.declared.tree.Function.{Function}
-use Rattle.expr.specs.declared.tree.Function.TheVariants as g
+use Rattle.operations.specs.declared.kinds.Arithmetic.{Arithmetic}
+use Rattle.operations.specs.declared.kinds.Arithmetic.TheVariants as a
+use Rattle.operations.specs.declared.kinds.Comparison.{Comparison}
+use Rattle.operations.specs.declared.kinds.Comparison.TheVariants as c
+use Rattle.operations.specs.declared.kinds.Function.{Function}
+use Rattle.operations.specs.declared.kinds.Function.TheVariants as g
 use Rattle.meaning.specs.Query.{Aggregate, AggregateFunction, Body, Direction, Edge, Exclusion, Frame, FrameUnit, From, Grouping, InnerQuery, JoinKind, Operator, Select, SortTerm, Source, Window, WindowCall, WindowFunction}
 
 -- the places of the operators in their lists

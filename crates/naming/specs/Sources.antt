@@ -5,7 +5,7 @@ use Rattle.std.specs.Str.{str_eq_ignore_ascii_case}
 use Rattle.values.specs.declared.fault.Fault.{Fault}
 use Rattle.values.specs.declared.fault.Fault.TheVariants.{DuplicateName, UnknownTable}
 use Rattle.expr.specs.Term.{Term, and, compare}
-use Rattle.expr.specs.declared.tree.Comparison.TheVariants.{Eq}
+use Rattle.operations.specs.declared.kinds.Comparison.TheVariants.{Eq}
 use Rattle.syntax.specs.ExprTree.{OnTree}
 use Rattle.syntax.specs.Tree.{Name}
 use Rattle.syntax.specs.declared.query.Join.{Join}

@@ -2,7 +2,7 @@
 use Rattle.std.specs.Prelude.{false, true, pos, List, [], ◌∷◌, codes, Some, None}
 use Rattle.values.specs.Datum.{int, null}
 use Rattle.expr.specs.Term.{among, answer, coalesce, column, compare, literal, more, none}
-use Rattle.expr.specs.declared.tree.Comparison.TheVariants.{Eq, Gt}
+use Rattle.operations.specs.declared.kinds.Comparison.TheVariants.{Eq, Gt}
 use Rattle.syntax.specs.ExprTree.{ExprTree, MaybeExpr, BehindTree, FromTree, OnTree, OverTree, ResultTree, SourceTree, plain_count}
 use Rattle.syntax.specs.StatementTree.{StatementTree}
 use Rattle.syntax.specs.declared.expr.BinaryOperator.TheVariants.{Greater}

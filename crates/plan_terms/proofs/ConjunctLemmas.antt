@@ -5,7 +5,7 @@ use Rattle.std.proofs.lemmas.List.Elements.{All-append, All-cons, All-head, All-
 use Rattle.values.specs.Datum.{Datum}
 use Rattle.expr.specs.Columns.{columns_of}
 use Rattle.expr.specs.Conjuncts.{conjuncts}
-use Rattle.expr.specs.declared.tree.Comparison.TheVariants.{Ge, Le}
+use Rattle.operations.specs.declared.kinds.Comparison.TheVariants.{Ge, Le}
 use Rattle.expr.specs.Filled.{filled}
 use Rattle.expr.specs.Term.{Term, literal, column, call, arithmetic, concat, compare, is, and, or, between, among, coalesce, choice, choice_of, null_if, like}
 use Rattle.expr.proofs.FilledLemmas.{fills_conjuncts}

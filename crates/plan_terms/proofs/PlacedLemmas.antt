@@ -8,7 +8,7 @@ use Rattle.values.specs.Datum.{Datum}
 use Rattle.values.specs.Row.{Row}
 use Rattle.expr.specs.Columns.{columns_of, columns_of_all, columns_of_arms}
 use Rattle.expr.specs.Filled.{filled, filled_all, filled_arms, filled_firsts, literals}
-use Rattle.expr.specs.Functions.{call_of}
+use Rattle.operations.specs.Functions.{call_of}
 use Rattle.expr.specs.Meaning.{or_otherwise, run, run_all, run_arms, run_first}
 use Rattle.expr.specs.Term.{Term, Terms, Arms, literal, column, call, arithmetic, concat, compare, is, and, or, between, among, coalesce, choice, choice_of, null_if, like, none, answer, more, no_arms, arm}
 use Rattle.meaning.specs.OneTable.{shown}

@@ -1,7 +1,6 @@
 //! Values of expressions, as SQLite answers for them.
-use expr::{
-    Arithmetic, Arm, Comparison, Expr, Function, columns, conjuncts, copy, eval, is_true, same_tree,
-};
+use expr::{Arm, Expr, columns, conjuncts, copy, eval, is_true, same_tree};
+use operations::{Arithmetic, Comparison, Function};
 use std::alloc::{AllocError, Global};
 use std::test::Fail;
 use values::{Fault, Value, ValueRef};

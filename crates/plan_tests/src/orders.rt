@@ -1,9 +1,10 @@
 //! The least order of worked sources, and of two hundred tables of counts by a second answerer.
 use crate::joined_tables::TABLES;
-use expr::{Comparison, Expr};
+use expr::Expr;
 use index_choice::{Conjunct, Key, Source, TreeCounts};
 use itertools::Itertools;
 use join_order::{Joined, Pricing, least_order};
+use operations::Comparison;
 use std::alloc::{AllocError, Global};
 use std::test::Fail;
 

@@ -1,7 +1,8 @@
 //! The paths of worked tables, with what they are expected to cost and to give.
 
-use expr::{Comparison, Expr, Function};
+use expr::Expr;
 use index_choice::{Conjunct, Key, Path, Source, TreeCounts, best, implying, paths};
+use operations::{Comparison, Function};
 use std::alloc::{AllocError, Global};
 use std::test::Fail;
 use values::Value;

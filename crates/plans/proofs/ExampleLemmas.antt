@@ -1,9 +1,9 @@
 -- The examples, computed.
 use Rattle.std.proofs.Common.{◌≡◌, false, [], ◌∷◌, map, refl}
 use Rattle.values.specs.Datum.{Datum}
-use Rattle.expr.specs.declared.tree.Comparison.TheVariants.{Eq, Lt}
+use Rattle.operations.specs.declared.kinds.Comparison.TheVariants.{Eq, Lt}
 use Rattle.expr.specs.Conjuncts.{conjuncts}
-use Rattle.expr.specs.Operations.{comparison, condition, is_null, same, settle, test_of, truth}
+use Rattle.operations.specs.Operations.{comparison, condition, is_null, same, settle, test_of, truth}
 use Rattle.expr.specs.Term.{column, compare, literal}
 use Rattle.meaning.specs.Body as body
 use Rattle.meaning.specs.Body.{values_over}

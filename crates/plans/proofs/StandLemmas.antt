@@ -9,7 +9,7 @@ use Rattle.values.specs.Row.{Row}
 use Rattle.expr.specs.Columns.{Agree, columns_of}
 use Rattle.expr.specs.Conjuncts.{conjuncts, is_true, keeps}
 use Rattle.expr.specs.Meaning.{eval, run}
-use Rattle.expr.specs.Operations.{truth}
+use Rattle.operations.specs.Operations.{truth}
 use Rattle.expr.specs.Term.{Term}
 use Rattle.expr.proofs.ColumnLemmas.{depends_on_columns}
 use Rattle.expr.proofs.ConjunctLemmas.{keeps_conjuncts}

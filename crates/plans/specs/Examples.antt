@@ -1,6 +1,6 @@
 -- Plans over the two tables of the examples of queries, with their rows and their work.
 use Rattle.std.specs.Prelude.{Bool, ℕ, true, false, List, [], ◌∷◌, codes}
-use Rattle.expr.specs.declared.tree.Comparison.TheVariants.{Eq, Lt}
+use Rattle.operations.specs.declared.kinds.Comparison.TheVariants.{Eq, Lt}
 use Rattle.expr.specs.Term.{Term, column, compare, literal}
 use Rattle.values.specs.Datum.{null, text}
 use Rattle.values.specs.Row.{Row}

@@ -1,6 +1,6 @@
 //! Terms: expressions whose names are places.
 
-use expr::{Arithmetic, Comparison, Function};
+use operations::{Arithmetic, Comparison, Function};
 use values::Value;
 
 /// An expression over the columns of one row and the answers of inner queries. (SQL Language Expressions)

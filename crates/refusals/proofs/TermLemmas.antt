@@ -3,7 +3,7 @@ use Rattle.std.proofs.Common.{◌≡◌, List, [], ◌∷◌, ◌++◌, Option, 
 use Rattle.values.specs.declared.fault.Fault.{Fault}
 use Rattle.values.specs.declared.fault.Fault.TheVariants.{WrongPlace}
 use Rattle.expr.specs.Term.{Term}
-use Rattle.expr.specs.declared.tree.Function.{Function}
+use Rattle.operations.specs.declared.kinds.Function.{Function}
 use Rattle.syntax.specs.ExprTree.{ArmTrees, BehindTree, ExprTree, ExprTrees, MaybeExpr, OverTree}
 use Rattle.syntax.specs.declared.expr.Function as written
 use Rattle.syntax.specs.declared.expr.Function.TheVariants as w

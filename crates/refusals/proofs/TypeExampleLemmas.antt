@@ -6,8 +6,8 @@ use Rattle.values.specs.declared.value.Ty.{Ty}
 use Rattle.values.specs.declared.value.Ty.TheVariants.{Blob, Int, Null, Text}
 use Rattle.expr.specs.Term.{Term, arithmetic, call, column, literal}
 use Rattle.expr.specs.Types.{FitsAt, FitsType}
-use Rattle.expr.specs.declared.tree.Arithmetic.TheVariants.{Add}
-use Rattle.expr.specs.declared.tree.Function.TheVariants.{Length}
+use Rattle.operations.specs.declared.kinds.Arithmetic.TheVariants.{Add}
+use Rattle.operations.specs.declared.kinds.Function.TheVariants.{Length}
 use Rattle.meaning.specs.Query.{of_columns}
 use Rattle.meaning.specs.Typed.{BodyHasTypes, IsTerm}
 use Rattle.refusals.specs.Clashes.{AreAtOdds, HasClash, IsAmong, IsClash, Misfits}

@@ -3,7 +3,7 @@ use Rattle.std.proofs.Common.{Bool, true, false, ℕ, ◌<◌, List, [], ◌∷�
 use Rattle.values.specs.declared.fault.Fault.TheVariants.{WrongPlace}
 use Rattle.expr.specs.Term.{Term, column}
 use Rattle.expr.specs.View.{arms, terms}
-use Rattle.expr.specs.declared.tree.Function.{Function}
+use Rattle.operations.specs.declared.kinds.Function.{Function}
 use Rattle.syntax.specs.ExprTree.{ArmTrees, BehindTree, ExprTree, ExprTrees, MaybeExpr, OverTree}
 use Rattle.syntax.specs.declared.expr.BinaryOperator.{BinaryOperator}
 use Rattle.syntax.specs.declared.expr.BinaryOperator.TheVariants as b

@@ -3,8 +3,8 @@ use Rattle.std.specs.Prelude.{pos, [], ◌∷◌}
 use Rattle.values.specs.Datum.{int, null, text}
 use Rattle.values.specs.declared.value.Ty.TheVariants.{Int, Null, Text}
 use Rattle.expr.specs.Term.{Term, arithmetic, arm, call, choice, choice_of, column, concat, literal, no_arms}
-use Rattle.expr.specs.declared.tree.Arithmetic.TheVariants.{Add}
-use Rattle.expr.specs.declared.tree.Function.TheVariants.{Length}
+use Rattle.operations.specs.declared.kinds.Arithmetic.TheVariants.{Add}
+use Rattle.operations.specs.declared.kinds.Function.TheVariants.{Length}
 use Rattle.meaning.specs.Query.{Body, From, of_columns}
 use Rattle.meaning.specs.Typed.{BodyHasTypes}
 use Rattle.refusals.specs.Clashes.{AreAtOdds, HasClash, IsClash, Misfits}

@@ -12,6 +12,6 @@ pub mod laws;
 mod limits;
 mod stream;
 
-pub use columns::push_results;
+pub use columns::put_results;
 pub use limits::Slice;
 pub use stream::{Results, Selection};

@@ -13,7 +13,7 @@ ghost use Rattle.operators.specs.Basis.{AreStored, Basis, GivesRowOrNone, IsOper
 ghost use Rattle.operators.specs.Left.{IsPlanOf, plan_of, steps};
 ghost use Rattle.results.specs.Coming.{IsComing, IsResultCause, answer_of, result_rows, selection_data};
 
-use crate::columns::push_results;
+use crate::columns::put_results;
 use crate::limits::Slice;
 use expr::Expr;
 use operators::{Op, copies};
@@ -111,8 +111,7 @@ impl Results {
                 return Ok(false);
             }
             if self.slice.gives() {
-                out.clear();
-                push_results(alloc, self.columns.as_slice(), self.row.as_slice(), out)?;
+                put_results(alloc, self.columns.as_slice(), self.row.as_slice(), out)?;
                 return Ok(true);
             }
         }

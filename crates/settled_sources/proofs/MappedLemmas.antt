@@ -4,7 +4,7 @@ use Rattle.std.specs.List.{filter, flat_map}
 use Rattle.std.proofs.lemmas.List.{map-append}
 use Rattle.values.specs.Datum.{Datum, null}
 use Rattle.values.specs.Row.{Row}
-use Rattle.expr.specs.Operations.{settle}
+use Rattle.operations.specs.Operations.{settle}
 use Rattle.expr.specs.Term.{Term}
 use Rattle.meaning.proofs.GroupLemmas.{map-map, map_agree}
 use Rattle.meaning.proofs.ScanLemmas.{map-identity}

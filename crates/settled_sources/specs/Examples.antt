@@ -1,6 +1,6 @@
 -- A query over the schema's table, at two depths, and the same over one table more.
 use Rattle.std.specs.Prelude.{◌≡◌, [], ◌∷◌, codes}
-use Rattle.expr.specs.declared.tree.Comparison.TheVariants.{Gt}
+use Rattle.operations.specs.declared.kinds.Comparison.TheVariants.{Gt}
 use Rattle.expr.specs.Term.{among, answer, column, compare, literal}
 use Rattle.meaning.specs.Answer.{Permits}
 use Rattle.meaning.specs.Examples.{in_order, items, plain, whole}

@@ -4,4 +4,5 @@ pub mod RunnableLemmas
 pub mod NameLemmas
 pub mod PreparedLemmas
 pub mod ServedLemmas
+pub mod AheadLemmas
 pub mod SteppedLemmas

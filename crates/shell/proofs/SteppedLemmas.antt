@@ -27,7 +27,7 @@ use Rattle.statement_texts.specs.StatementTexts.{IsAllowed, IsRefusedStatement, 
 use Rattle.syntax.specs.StatementTree.{StatementTree}
 use Rattle.tables.specs.ColumnTypes.{column_types}
 use Rattle.tables.specs.TableData.{TableData}
-use Rattle.shell.specs.Prepared.{IsPlannedFor, IsPreparedFor, RunsFor, settled_over}
+use Rattle.shell.specs.Prepared.{IsPlannedFor, IsPreparedFor, settled_over}
 use Rattle.shell.specs.PreparedView.{PreparedData}
 use Rattle.shell.specs.State.{EngineState, IsReady, sources_over}
 use Rattle.shell.specs.Steps.{PlanSteps, TakesStep}
@@ -36,16 +36,12 @@ use Rattle.shell.specs.declared.stepped.Started.{Started}
 use Rattle.shell.specs.declared.stepped.Statement.{Statement}
 use Rattle.shell.specs.declared.stepped.Stepping.{Stepping}
 use Rattle.shell.specs.declared.stepped.Stepping.TheVariants.{Planned, Nested}
+use Rattle.shell.proofs.AheadLemmas.{plan_found, started_asks}
 use Rattle.shell.proofs.SettledLemmas.{typed_over}
 use Rattle.shell.proofs.RunnableLemmas.{settled_runs}
 use Rattle.shell.proofs.RunLemmas.{answer_over, beginning_over, nested_begun, nested_cause, nested_permitted, step_cause}
 
 -- ---- a statement before its first row
-
--- the plan that is run is for the query
-plan_found : (tables : List TableData) (prepared : PreparedData) (planned : PlannedData) → IsPreparedFor tables prepared → prepared.planned ≡ Some planned
-    → IsPlannedFor tables prepared.query planned
-plan_found tables prepared planned is same = subst (λ (p : Option PlannedData). RunsFor tables prepared.query p) same is.runs
 
 started_given : (engine : EngineState) (prepared : PreparedData) → IsPreparedFor engine.tables prepared → (stepping : Stepping)
     → IsSteppingOf prepared.settled prepared.planned stepping → HasGivenBy engine prepared.query [] stepping
@@ -81,6 +77,7 @@ has_started engine text tree named prepared started spelt within resolves unexpl
     gave = started_given engine prepared is started.statement.stepping found.opened;
   };
   over = started_over engine.tables prepared is started.statement.stepping found.opened;
+  pages = started_asks engine prepared is started.statement started.statement.stepping refl found.opened;
 }
 
 -- memory ran out

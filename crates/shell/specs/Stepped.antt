@@ -1,11 +1,13 @@
 -- Statements that are stepped, a row at a time. (SELECT; EXPLAIN QUERY PLAN)
-use Rattle.std.specs.Prelude.{◌≡◌, ◌⊎◌, ⊤, true, false, IsTrue, ℕ, List, [], ◌∷◌, ◌++◌, Option, Some, None, Result, Ok, Err, map, string_bytes}
+use Rattle.std.specs.Prelude.{◌≡◌, ◌≤◌, ◌⊎◌, ⊤, true, false, IfOk, IsTrue, ℕ, List, [], ◌∷◌, ◌++◌, OnSome, Option, Some, None, Result, Ok, Err, map, string_bytes}
 use Rattle.values.specs.Datum.{Datum}
 use Rattle.values.specs.Row.{Row}
 use Rattle.values.specs.declared.fault.Fault.{Fault}
 use Rattle.values.specs.declared.fault.Fault.TheVariants.{Overflow, WrongPlace}
 use Rattle.pager.specs.Calls.{IsReadFault}
-use Rattle.image.specs.Pages.{Pages, pages_seen}
+use Rattle.image.specs.Pages.{Pages, pages_of, pages_seen}
+use Rattle.inner_rows.specs.Over.{AreSaid}
+use Rattle.inner_rows.specs.Work.{body_work}
 use Rattle.meaning.specs.Answer.{Begins, IsStandIn}
 use Rattle.meaning.specs.Hits.{Hits}
 use Rattle.meaning.specs.Query.{QueryData}
@@ -14,10 +16,12 @@ use Rattle.naming.specs.Statement.{Named}
 use Rattle.nested_runs.specs.Steps.{HasGivenOf}
 use Rattle.nested_runs.specs.Steps as nested
 use Rattle.nested_runs.specs.declared.steps.NestedRun.{NestedRun}
+use Rattle.operators.specs.Basis.{Basis}
 use Rattle.query_plans.specs.Answers.{PlannedData}
-use Rattle.running.specs.Given.{HasGiven, IsOpenedRun, IsRunOver, steps_left}
+use Rattle.running.specs.Given.{HasAhead, HasGiven, IsOpenedRun, IsRunOver, steps_left}
 use Rattle.running.specs.declared.rows.Running.{Running}
-use Rattle.sources.specs.SourceData.{SourceData}
+use Rattle.scan.specs.Coming.{Asks}
+use Rattle.sources.specs.SourceData.{SourceData, sources_of}
 use Rattle.statement_texts.specs.StatementTexts.{IsRefusedStatement}
 use Rattle.syntax.specs.Tree.{Name}
 use Rattle.table_copies.specs.Whole.{all_tables}
@@ -101,6 +105,25 @@ pub record HasGivenSoFar (engine : EngineState) (query : QueryData) (statement :
   pub typed : IsTyped (column_types engine.tables) query
   pub gave : HasGivenBy engine query given statement.stepping
 
+-- so many pages are ahead of what is run of a query
+abbrev pub IsAhead : Pages → List TableData → Basis → QueryData → Stepping → ℕ → Type 0
+IsAhead pages tables on query (Planned running) ahead = HasAhead pages (sources_of tables []) on running ahead
+IsAhead pages tables on query (Nested run) ahead = ahead ≡ nested.work_ahead on query run
+
+-- of tables of which this is said, a statement of a query may still ask for no more pages than these, whatever else asks for pages in between
+pub record MayAsk (image : List ℕ) (tables : List TableData) (on : Basis) (query : QueryData) (statement : Statement) (most : ℕ) : Type 0 where
+  pub ahead : ℕ
+  pub is_ahead : IsAhead (pages_of image) (all_tables tables) on (settled_over tables query) statement.stepping ahead
+  pub within : ahead ≤ most
+
+-- Of the pages that a statement may still ask for, a step asks for some, and the others are left for the steps behind it, whatever is said
+-- of the tables that are stored, the schema's own behind them; and for none of overflow chains where no cell has one.
+abbrev pub StaysWithin : EngineState → EngineState → QueryData → Statement → Statement → Result (Option Row) Fault → Type 0
+StaysWithin old new query was statement result = IsTrue old.pager.source.steady → (on : Basis) → AreSaid (pages_of old.pager.source.bytes) (all_tables old.tables) on
+    → (most : ℕ) → MayAsk old.pager.source.bytes old.tables on query was most
+    → IfOk result (λ found. (left : ℕ) × Asks on.local old.pager most new.pager left
+    × OnSome found (MayAsk new.pager.source.bytes new.tables on query statement left))
+
 -- the plan of a query that was prepared was opened
 pub record IsPlanOpened (planned : Option PlannedData) (running : Running) : Type 0 where
   pub plan : PlannedData
@@ -121,12 +144,15 @@ pub record IsStartedFor (prepared : PreparedData) (started : Started) : Type 0 w
   pub names : map (λ name. string_bytes name) started.names.items ≡ prepared.names
   pub opened : IsSteppingOf prepared.settled prepared.planned started.statement.stepping
 
--- a statement before its first row, with the names of its result columns
+-- A statement before its first row, with the names of its result columns. It may ask for no more pages than the query's joins and those of
+-- each query in it may ask for, each query once.
 pub record HasStarted (engine : EngineState) (text : List ℕ) (started : Started) : Type 0 where
   pub query : QueryData
   pub means : IsStatement engine.tables text query (map (λ name. string_bytes name) started.names.items)
   pub stands : HasGivenSoFar engine query started.statement []
   pub over : IsSteppedOver engine.tables started.statement
+  pub pages : (on : Basis) → AreSaid (pages_of engine.pager.source.bytes) (all_tables engine.tables) on
+      → MayAsk engine.pager.source.bytes engine.tables on query started.statement (body_work on.w on.db on.sizes (settled_over engine.tables query).body)
 
 -- one row more was given, and an answer may begin with all that were
 pub record HasGivenRow (old new : EngineState) (query : QueryData) (given : List Row) (statement : Statement) (row : Row) : Type 0 where

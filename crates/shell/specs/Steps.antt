@@ -1,5 +1,5 @@
 -- A step of a plan, and of a query with queries in it. (SELECT)
-use Rattle.std.specs.Prelude.{List, [], ◌∷◌, ◌++◌, MatchResult, Option, Some, None, Result, Ok, Err}
+use Rattle.std.specs.Prelude.{⊤, true, false, ℕ, List, [], ◌∷◌, ◌++◌, MatchResult, OnOk, Option, Some, None, Result, Ok, Err}
 use Rattle.values.specs.Row.{Row}
 use Rattle.values.specs.declared.fault.Fault.{Fault}
 use Rattle.pager.specs.PagerState.{PagerState}
@@ -8,11 +8,12 @@ use Rattle.inner_rows.specs.Over.{AreSaid, IsQueryCause}
 use Rattle.inner_rows.specs.Runnable.{IsRunnableBody}
 use Rattle.meaning.specs.Query.{QueryData}
 use Rattle.meaning.specs.Typed.{IsTyped}
-use Rattle.nested_runs.specs.Steps.{HasGivenOf, HasSteppedRows}
+use Rattle.nested_runs.specs.Steps.{HasGivenOf, HasSteppedRows, work_ahead}
 use Rattle.operators.specs.Basis.{AreStored, Basis}
 use Rattle.query_plans.specs.Answers.{IsAnswerOf, PlannedData}
-use Rattle.running.specs.Given.{HasGiven, IsRowCause}
+use Rattle.running.specs.Given.{HasAhead, HasAsked, HasGiven, IsRowCause}
 use Rattle.running.specs.declared.rows.Running.{Running}
+use Rattle.scan.specs.Coming.{Asks}
 use Rattle.sources.specs.SourceData.{SourceData, sources_of}
 use Rattle.tables.specs.ColumnTypes.{column_types}
 use Rattle.tables.specs.TableData.{TableData}
@@ -36,3 +37,21 @@ TakesStep pager tables (Nested old) (Nested new) result =
     (λ fault. (on : Basis) → AreSaid pages tables on → IsQueryCause on query fault))
 TakesStep pager tables (Planned old) (Nested new) result = ⊥
 TakesStep pager tables (Nested old) (Planned new) result = ⊥
+
+-- of the pages that were ahead of a plan some were asked for, and the others are
+abbrev pub PlanAsks : Pages → List SourceData → Basis → PagerState → ℕ → PagerState → Running → Result (Option Row) Fault → Type 0
+PlanAsks pages sources on old ahead new running (Ok (Some row)) = HasAsked pages sources on old ahead new running true
+PlanAsks pages sources on old ahead new running (Ok None) = HasAsked pages sources on old ahead new running false
+PlanAsks pages sources on old ahead new running (Err fault) = ⊤
+
+-- so it is of what is run over these tables
+abbrev pub AsksStep : PagerState → List TableData → Stepping → PagerState → Stepping → Result (Option Row) Fault → Type 0
+AsksStep pager tables (Planned old) then (Planned new) result =
+    WhereSteady pager (λ pages. (on : Basis) (ahead : ℕ) → AreStored pages (sources_of tables []) on → HasAhead pages (sources_of tables []) on old ahead
+    → PlanAsks pages (sources_of tables []) on pager ahead then new result)
+AsksStep pager tables (Nested old) then (Nested new) result =
+    WhereSteady pager (λ pages. (query : QueryData) (given : List Row) → IsTyped (column_types tables) query → IsRunnableBody query.body
+    → HasGivenOf pages tables query old given → (on : Basis) → AreSaid pages tables on
+    → OnOk result (Asks on.local pager (work_ahead on query old) then (work_ahead on query new)))
+AsksStep pager tables (Planned old) then (Nested new) result = ⊥
+AsksStep pager tables (Nested old) then (Planned new) result = ⊥

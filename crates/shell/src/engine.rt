@@ -10,7 +10,7 @@ ghost use Rattle.shell.specs.Prepared.{IsPreparedFor, Means, RefusesText};
 ghost use Rattle.shell.specs.PreparedView.{prepared_data};
 ghost use Rattle.shell.specs.Run.{HasRun, HasStopped};
 ghost use Rattle.shell.specs.State.{IsOpenedOver, IsEngineFault, ReadsTables};
-ghost use Rattle.shell.specs.Stepped.{HasStarted, HasSteppedStatement, IsSteppedOver, IsUnstarted, HasGivenSoFar, rows_ahead};
+ghost use Rattle.shell.specs.Stepped.{HasStarted, HasSteppedStatement, IsSteppedOver, IsUnstarted, HasGivenSoFar, StaysWithin, rows_ahead};
 
 use crate::{Prepared, Started, Statement};
 use integrity::{Checked, check};
@@ -150,7 +150,8 @@ impl<S: Source> Engine<S> {
     }
 
     /// Gives the next row of a statement of this engine, or none where the rows that it gave are an answer; whatever was asked of
-    /// the engine in between. It isn't called again behind the last row or an error. (SELECT)
+    /// the engine in between; all calls together ask for no more pages than the statement may. It isn't called again behind the last
+    /// row or an error. (SELECT)
     ///
     /// # Errors
     ///
@@ -160,6 +161,8 @@ impl<S: Source> Engine<S> {
         requires { IsSteppedOver self.old.tables statement.old }
         ensures rows { (query : QueryData) (given : List RowData) → HasGivenSoFar self.old query statement.old given
             → HasSteppedStatement self.old self.new query given statement.new result }
+        ensures pages { (query : QueryData) (given : List RowData) → HasGivenSoFar self.old query statement.old given
+            → StaysWithin self.old self.new query statement.old statement.new result }
         ensures over { IsSteppedOver self.new.tables statement.new }
         ensures left { IfOk result (λ found. OnSome found (rows_ahead self.new.tables statement.new < rows_ahead self.old.tables statement.old)) }
         ensures only { IfErr result IsOperatorFault }

@@ -1,15 +1,15 @@
 //! Statements that are stepped, a row at a time.
-ghost use Rattle.std.specs.Prelude.{◌<◌, [], All, IfErr, IfOk, List, OnSome};
+ghost use Rattle.std.specs.Prelude.{◌<◌, ℕ, [], All, IfErr, IfOk, List, OnSome};
 ghost use Rattle.values.specs.Row.{Row as RowData};
 ghost use Rattle.pager.specs.Calls.{ReadsPages};
 ghost use Rattle.image.specs.Pages.{WhereSteady};
-ghost use Rattle.operators.specs.Basis.{IsOperatorFault};
+ghost use Rattle.operators.specs.Basis.{AreStored, Basis, IsOperatorFault};
 ghost use Rattle.query_plans.specs.Answers.{PlannedData};
-ghost use Rattle.running.specs.Given.{HasGiven, IsRunOver, steps_left};
+ghost use Rattle.running.specs.Given.{HasAhead, HasGiven, IsRunOver, steps_left};
 ghost use Rattle.sources.specs.Coming.{IsRooted};
 ghost use Rattle.sources.specs.SourceData.{sources_of};
 ghost use Rattle.shell.specs.Stepped.{IsSteppingOver, steps_ahead};
-ghost use Rattle.shell.specs.Steps.{PlanSteps, TakesStep};
+ghost use Rattle.shell.specs.Steps.{AsksStep, PlanAsks, PlanSteps, TakesStep};
 
 use nested_runs::NestedRun;
 use pager::{Pager, Source};
@@ -55,6 +55,9 @@ fn next_planned<S: Source>(
     ensures rows { WhereSteady pager.old.state (λ pages. (planned : PlannedData) (given : List RowData)
         → HasGiven pages (sources_of tables.now []) planned running.old given
         → PlanSteps pages (sources_of tables.now []) planned given running.new result) }
+    ensures pages { WhereSteady pager.old.state (λ pages. (on : Basis) (ahead : ℕ) → AreStored pages (sources_of tables.now []) on
+        → HasAhead pages (sources_of tables.now []) on running.old ahead
+        → PlanAsks pages (sources_of tables.now []) on pager.old.state ahead pager.new.state running.new result) }
     ensures over { IsRunOver (sources_of tables.now []) running.new }
     ensures left { IfOk result (λ found. OnSome found (steps_left (sources_of tables.now []) running.new < steps_left (sources_of tables.now []) running.old)) }
     ensures only { IfErr result IsOperatorFault }
@@ -81,6 +84,7 @@ impl Stepping {
         requires roots { All (IsRooted pager.old.state.header) (sources_of tables.now []) }
         requires over { IsSteppingOver (sources_of tables.now []) self.old }
         ensures rows { TakesStep pager.old.state tables.now self.old self.new result }
+        ensures pages { AsksStep pager.old.state tables.now self.old pager.new.state self.new result }
         ensures over { IsSteppingOver (sources_of tables.now []) self.new }
         ensures left { IfOk result (λ found. OnSome found (steps_ahead (sources_of tables.now []) self.new < steps_ahead (sources_of tables.now []) self.old)) }
         ensures only { IfErr result IsOperatorFault }

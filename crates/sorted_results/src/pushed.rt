@@ -44,6 +44,8 @@ pub fn push_rows<S: Source>(
     let mut row = Vec::new(alloc);
     'rows: while results.next(alloc, pager, sources, &mut row)? {
         row = first.push(alloc, order, row)?;
+        // So that a row that is kept has no more memory than its values.
+        row.clear();
     }
     Ok(())
 }

@@ -3,9 +3,10 @@ use Rattle.std.proofs.Common.{◌≡◌, ℕ, true, false, List, [], ◌∷◌, 
 use mathlib.Core.Logic.{inl, inr}
 use Rattle.std.proofs.lemmas.Bool.{cond-true, cond-false, eqb-true, and_parts}
 use Rattle.tokens.proofs.FormLemmas.{chosen, run_complete, run_sound}
-use Rattle.tokens.specs.Bytes.{is_space, is_not}
+use Rattle.byte_runs.specs.Bytes.{is_space, is_not}
 use Rattle.tokens.specs.Lexeme.{Closes, Blank, ends_comment}
-use Rattle.tokens.specs.Reading.{run_of, tail, after_comment, line_comment, block_comment, blank}
+use Rattle.byte_runs.specs.Runs.{run_of}
+use Rattle.tokens.specs.Reading.{tail, after_comment, line_comment, block_comment, blank}
 
 pub closes_complete : {bs after : List ℕ} → Closes bs after → after_comment bs ≡ Some after
 closes_complete Closes.here = refl

@@ -2,8 +2,8 @@
 use Rattle.std.proofs.Common.{◌≡◌, ℕ, zero, suc, Bool, false, ◌&&◌, ◌+◌, ◌-◌, ◌<◌, ◌≤◌, List, [], ◌∷◌, length, drop, get_or, Some, None, nat_eq, refl, ap, ◌∙◌, arith, length-drop}
 use Rattle.std.proofs.lemmas.Bool.Decides.{nat_tests}
 use Rattle.std.proofs.lemmas.Bool.{cond-true, cond-false, eq-eqb, and_from, and_right}
-use Rattle.tokens.proofs.RunLemmas.{next}
-use Rattle.tokens.specs.Bytes.{is_not, first_is}
+use Rattle.byte_runs.proofs.RunLemmas.{next}
+use Rattle.byte_runs.specs.Bytes.{is_not, first_is}
 use Rattle.tokens.specs.Lexeme.{ends_comment}
 use Rattle.tokens.specs.Reading.{after_comment, tail}
 

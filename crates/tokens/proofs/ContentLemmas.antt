@@ -5,10 +5,10 @@ use Rattle.std.proofs.lemmas.Bool.{eq-eqb}
 use Rattle.std.proofs.lemmas.Str.{IsCharBoundary-after_ascii}
 use Rattle.std.specs.Str.{IsUtf8, IsCharBoundary}
 use Rattle.tokens.proofs.LexemeLemmas.{is_it}
-use Rattle.tokens.proofs.RunLemmas.{next, no_bytes, taken_more}
-use Rattle.tokens.specs.Bytes.{is_not, hex_value}
+use Rattle.byte_runs.proofs.RunLemmas.{next, no_bytes, taken_more}
+use Rattle.byte_runs.specs.Bytes.{is_not, hex_value}
 use Rattle.tokens.specs.Content.{undoubled, unhex}
-use Rattle.tokens.specs.Reading.{Taken, run_of, cons_taken}
+use Rattle.byte_runs.specs.Runs.{Taken, run_of, cons_taken}
 
 abbrev joined : ℕ → Taken → List ℕ
 joined q r = r.0 ++ undoubled q false r.1

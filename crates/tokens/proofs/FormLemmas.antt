@@ -2,10 +2,11 @@
 use Rattle.std.proofs.Common.{◌≡◌, ℕ, Bool, true, false, not, suc, ◌+◌, ◌*◌, ◌%◌, ◌⊎◌, List, [], ◌∷◌, length, Option, Some, None, cond, nat_eq, refl, sym, ap, ◌∙◌, subst, arith}
 use mathlib.Core.Logic.{inl, inr}
 use Rattle.std.proofs.lemmas.Bool.{cond-true, cond-false, eqb-true, eq-eqb}
-use Rattle.tokens.specs.Bytes.{is_hex_digit, hex_value}
+use Rattle.byte_runs.specs.Bytes.{is_hex_digit, hex_value}
 use Rattle.tokens.specs.Content.{undoubled, unhex}
 use Rattle.tokens.specs.Lexeme.{Run, Stops, Quoted, Hex}
-use Rattle.tokens.specs.Reading.{Taken, cons_taken, run_of, stops, cons_some, quoted, closed}
+use Rattle.byte_runs.specs.Runs.{Taken, cons_taken, run_of, cons_some, quoted}
+use Rattle.tokens.specs.Reading.{stops, closed}
 
 -- which way a test went
 pub chosen : {A : Type 0} (b : Bool) (x y z : A) → cond b x y ≡ z → ((b ≡ true) × (x ≡ z)) ⊎ ((b ≡ false) × (y ≡ z))

@@ -5,7 +5,7 @@ use Rattle.std.proofs.lemmas.Bool.{or_left}
 use Rattle.std.specs.Str.{IsUtf8, IsCharBoundary}
 use Rattle.tokens.proofs.BlankLemmas.{blank_sound}
 use Rattle.tokens.proofs.LexemeLemmas.{sound}
-use Rattle.tokens.specs.Bytes.{is_digit, begins_word, is_in_word}
+use Rattle.byte_runs.specs.Bytes.{is_digit, begins_word, is_in_word}
 use Rattle.tokens.specs.Lexeme.{Lexeme, Run, Quoted, Hex, Closes, Begins, Blank}
 use Rattle.tokens.specs.Reading.{token, blank}
 use Rattle.tokens.specs.Sign.{spelling}

@@ -6,11 +6,12 @@ use Rattle.std.proofs.lemmas.Bool.{cond-true, cond-false, eqb-true, eq-eqb, lt-l
 use Rattle.std.specs.Prelude.{pos}
 use Rattle.tokens.proofs.FormLemmas.{chosen, run_complete, run_sound, stops_true, true_stops, quoted_complete, quoted_sound, closed_complete, hex_complete, hex_sound}
 use Rattle.tokens.proofs.SignLemmas.{sign_complete, sign_sound}
-use Rattle.tokens.specs.Bytes.{is_digit, begins_word, is_in_word, joins_number, decimal, is_hex_digit, is_x, is_not, first_is}
+use Rattle.byte_runs.specs.Bytes.{is_digit, begins_word, is_in_word, joins_number, decimal, is_hex_digit, is_x, is_not, first_is}
 use Rattle.tokens.specs.Content.{unhex, content_of}
 use Rattle.tokens.specs.Keyword.{keyword_of}
 use Rattle.tokens.specs.Lexeme.{Lexeme, Run, Stops, Begins, begins_blob}
-use Rattle.tokens.specs.Reading.{Taken, Found, run_of, stops, quoted, closed, text, name, blob, number, named, word, sign_at, tail, sign, behind, token}
+use Rattle.byte_runs.specs.Runs.{Taken, run_of, quoted}
+use Rattle.tokens.specs.Reading.{Found, stops, closed, text, name, blob, number, named, word, sign_at, tail, sign, behind, token}
 use Rattle.tokens.specs.Sign.{spelling, joins}
 use Rattle.tokens.specs.declared.keyword.Grammar.{Grammar}
 use Rattle.tokens.specs.declared.keyword.Keyword.{Keyword}

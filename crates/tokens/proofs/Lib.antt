@@ -3,8 +3,6 @@ pub mod SignLemmas
 pub mod LexemeLemmas
 pub mod BlankLemmas
 pub mod ReadLemmas
-pub mod RunLemmas
-pub mod CutLemmas
 pub mod CommentLemmas
 pub mod NumberLemmas
 pub mod LeavesLemmas

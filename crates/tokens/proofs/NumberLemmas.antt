@@ -2,8 +2,8 @@
 use Rattle.std.proofs.Common.{◌≡◌, ℕ, ◌+◌, ◌*◌, ◌-◌, ◌<◌, ◌≤◌, ◌^◌, List, [], ◌∷◌, length, drop, get_or, fold, Option, Some, None, nat_lt, sym, ap, ◌∙◌, arith}
 use Rattle.std.proofs.lemmas.Bool.{cond-false, le-ltb}
 use Rattle.std.specs.Prelude.{ℤ, pos, if◌then◌else◌}
-use Rattle.tokens.proofs.RunLemmas.{next}
-use Rattle.tokens.specs.Bytes.{with_digit}
+use Rattle.byte_runs.proofs.RunLemmas.{next}
+use Rattle.byte_runs.specs.Bytes.{with_digit}
 
 grows : (n : ℕ) (xs : List ℕ) → n ≤ fold with_digit n xs
 grows n [] = omega arith

@@ -5,7 +5,7 @@ use Rattle.std.proofs.lemmas.List.{append-nil}
 use Rattle.std.proofs.lemmas.Bool.{eqb-true, or_cases}
 use Rattle.tokens.proofs.BlankLemmas.{blank_complete, blank_sound}
 use Rattle.tokens.proofs.LexemeLemmas.{complete, sound}
-use Rattle.tokens.specs.Bytes.{is_space}
+use Rattle.byte_runs.specs.Bytes.{is_space}
 use Rattle.tokens.specs.Lexeme.{Lexeme, Blank, Begins}
 use Rattle.tokens.specs.Reading.{token, blank}
 use Rattle.tokens.specs.Tokens.{Placed, between, Reads, Tokens, StopsAt}

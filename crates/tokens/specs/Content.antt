@@ -1,7 +1,7 @@
 -- What a token of the program says: its lexeme, and what stands between its quotes.
 use Rattle.std.specs.Prelude.{ℕ, Bool, true, false, ◌+◌, ◌*◌, List, [], ◌∷◌, nat_eq, if◌then◌else◌}
 use Rattle.std.specs.Str.{str_eq_ignore_ascii_case}
-use Rattle.tokens.specs.Bytes.{hex_value}
+use Rattle.byte_runs.specs.Bytes.{hex_value}
 use Rattle.tokens.specs.Lexeme.{Lexeme}
 use Rattle.tokens.specs.Tokens.{Placed}
 use Rattle.tokens.specs.declared.token.Quoting.{Quoting}

@@ -1,7 +1,7 @@
 -- Which bytes are a token, and which stand between tokens. Each rule says what may not follow, so that a token is as
 -- long as can be.
 use Rattle.std.specs.Prelude.{◌≡◌, ℕ, Bool, true, false, ◌&&◌, ◌<◌, ◌+◌, ◌*◌, ◌^◌, ℤ, pos, List, [], ◌∷◌, ◌++◌, nat_eq, Some, None}
-use Rattle.tokens.specs.Bytes.{is_digit, begins_word, is_in_word, joins_number, decimal, is_hex_digit, hex_value, is_x, is_space, is_not, first_is}
+use Rattle.byte_runs.specs.Bytes.{is_digit, begins_word, is_in_word, joins_number, decimal, is_hex_digit, hex_value, is_x, is_space, is_not, first_is}
 use Rattle.tokens.specs.Keyword.{keyword_of}
 use Rattle.tokens.specs.Sign as sign
 use Rattle.tokens.specs.declared.keyword.Grammar.{Grammar}

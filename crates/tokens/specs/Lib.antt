@@ -1,5 +1,3 @@
-pub mod Bytes
-pub mod Class
 pub mod Keyword
 pub mod Sign
 pub mod Lexeme

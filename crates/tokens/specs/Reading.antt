@@ -1,7 +1,8 @@
 -- What a reader that goes from left to right makes of bytes. No public clause cites it: proofs show that it finds what
 -- the definitions of `Lexeme` say, and nothing else.
 use Rattle.std.specs.Prelude.{ℕ, Bool, true, false, not, ◌&&◌, ◌%◌, ◌^◌, pos, List, [], ◌∷◌, length, Option, Some, None, nat_eq, nat_lt, if◌then◌else◌}
-use Rattle.tokens.specs.Bytes.{is_digit, begins_word, is_in_word, joins_number, decimal, is_hex_digit, is_space, is_not}
+use Rattle.byte_runs.specs.Bytes.{is_digit, begins_word, is_in_word, joins_number, decimal, is_hex_digit, is_space, is_not}
+use Rattle.byte_runs.specs.Runs.{Taken, quoted, run_of}
 use Rattle.tokens.specs.Content.{undoubled, unhex, content_of}
 use Rattle.tokens.specs.Keyword.{keyword_of}
 use Rattle.tokens.specs.Lexeme.{Lexeme, begins_blob, ends_comment}
@@ -12,33 +13,9 @@ use Rattle.tokens.specs.declared.sign.Sign.TheVariants as s
 use Rattle.tokens.specs.declared.token.Quoting.{Quoting}
 use Rattle.tokens.specs.declared.token.Quoting.TheVariants as q
 
-abbrev pub Taken : Type 0
-Taken = List ℕ × List ℕ
-
-abbrev pub cons_taken : ℕ → Taken → Taken
-cons_taken b r = (b ∷ r.0, r.1)
-
--- the longest run, and what is behind it
-abbrev pub run_of : (ℕ → Bool) → List ℕ → Taken
-run_of p [] = ([], [])
-run_of p (b ∷ bs) = if p b then cons_taken b (run_of p bs) else ([], b ∷ bs)
-
 abbrev pub stops : (ℕ → Bool) → List ℕ → Bool
 stops p [] = true
 stops p (b ∷ bs) = not (p b)
-
-abbrev pub cons_some : ℕ → Option Taken → Option Taken
-cons_some b None = None
-cons_some b (Some r) = Some (cons_taken b r)
-
--- what stands before the closing quote, as it is written, and what is behind; `passed` says whether a quote was just
--- passed, which a second one doubles
-abbrev pub quoted : ℕ → Bool → List ℕ → Option Taken
-quoted quote false [] = None
-quoted quote true [] = Some ([], [])
-quoted quote false (b ∷ bs) = if nat_eq b quote then quoted quote true bs else cons_some b (quoted quote false bs)
-quoted quote true (b ∷ bs) =
-    if nat_eq b quote then cons_some quote (cons_some quote (quoted quote false bs)) else Some ([], b ∷ bs)
 
 -- what stands before a closing byte, if one comes
 abbrev pub closed : Taken → Option Taken

@@ -1,10 +1,10 @@
 //! Spaces and comments.
 ghost use Rattle.std.specs.Prelude.{◌≡◌, ◌<◌, ◌≤◌, ◌+◌, ◌-◌, drop, length, slice_index, IfSome, option_map};
-ghost use Rattle.tokens.specs.Bytes as bytes;
+ghost use Rattle.byte_runs.specs.Bytes as bytes;
+ghost use Rattle.byte_runs.specs.Runs as runs;
 ghost use Rattle.tokens.specs.Reading as spec;
 
-use crate::cuts::{after_first, split_before};
-use crate::runs::{Class, run_len};
+use byte_runs::{Class, after_first, run_len, split_before};
 
 /// Whether a byte is a space: also a tab, line feed, form feed or carriage return.
 fn is_space(byte: u8) -> bool
@@ -32,7 +32,7 @@ fn comment_end(text: &[u8]) -> Option<usize>
 /// What is behind a comment that began with `--`: its end is a line feed or the end of the text.
 #[tactic(auto, using(crate::proofs::CommentLemmas::line_feed))]
 fn after_line_comment(comment: &str) -> &str
-    ensures { result.now ≡ (spec.run_of (bytes.is_not 10) comment.now).1 }
+    ensures { result.now ≡ (runs.run_of (bytes.is_not 10) comment.now).1 }
 {
     let len = run_len(comment.as_bytes(), Class::Not(b'\n'));
     split_before(comment, len).1

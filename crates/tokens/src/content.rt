@@ -1,11 +1,10 @@
 //! What is written between quotes, as the value that it stands for.
 ghost use Rattle.std.specs.Prelude.{◌≡◌, ◌<◌, ◌≤◌, ◌++◌, length, false, true, string_bytes, IfOk};
-ghost use Rattle.tokens.specs.Bytes as bytes;
+ghost use Rattle.byte_runs.specs.Bytes as bytes;
 ghost use Rattle.tokens.specs.Content.{content_of, is_bare_word, lexeme_of, undoubled, unhex};
 
-use crate::cuts::{after_first, split_before};
-use crate::runs::{Class, run_len};
 use crate::{Quoting, TokenKind};
+use byte_runs::{Class, after_first, run_len, split_before};
 use std::alloc::{AllocError, Global};
 
 impl TokenKind<'_> {

@@ -1,14 +1,14 @@
 //! The token at the front of a text.
 ghost use Rattle.std.specs.Prelude.{◌≡◌, ◌<◌, ◌^◌, length, not, false, pos, nat_lt, if◌then◌else◌, option_map, Some, None};
-ghost use Rattle.tokens.specs.Bytes as bytes;
+ghost use Rattle.byte_runs.specs.Bytes as bytes;
+ghost use Rattle.byte_runs.specs.Runs as runs;
 ghost use Rattle.tokens.specs.Content.{lexeme_of};
 ghost use Rattle.tokens.specs.Reading as spec;
 ghost use Rattle.tokens.specs.Reading.{behind, sign_of};
 
-use crate::cuts::{after_first, split_before};
-use crate::runs::{Class, begins_word, quoted_len, run_len};
 use crate::sign::sign_at_front;
 use crate::{Grammar, Quoting, Sign, TokenKind};
+use byte_runs::{Class, after_first, begins_word, quoted_len, run_len, split_before};
 
 /// The number that digits are, unless it leaves 63 bits.
 #[tactic(auto, using(crate::proofs::NumberLemmas::too_large))]
@@ -37,7 +37,7 @@ fn joins_number(text: &[u8]) -> bool
 
 /// A number, where a digit stands.
 fn number(text: &str) -> Option<(TokenKind<'_>, &str)>
-    ensures { option_map (λ r. (lexeme_of r.0, r.1.now)) result ≡ spec.number (spec.run_of bytes.is_digit text.now) }
+    ensures { option_map (λ r. (lexeme_of r.0, r.1.now)) result ≡ spec.number (runs.run_of bytes.is_digit text.now) }
 {
     let len = run_len(text.as_bytes(), Class::Digit);
     let (digits, behind) = text.as_bytes().split_at(len);
@@ -51,7 +51,7 @@ fn number(text: &str) -> Option<(TokenKind<'_>, &str)>
 
 /// A reserved word or a name without quotes, where one begins.
 fn word(grammar: Grammar, text: &str) -> (TokenKind<'_>, &str)
-    ensures { Some (lexeme_of result.0, result.1.now) ≡ spec.word grammar (spec.run_of bytes.is_in_word text.now) }
+    ensures { Some (lexeme_of result.0, result.1.now) ≡ spec.word grammar (runs.run_of bytes.is_in_word text.now) }
 {
     let len = run_len(text.as_bytes(), Class::Word);
     let (word, after) = split_before(text, len);
@@ -65,7 +65,7 @@ fn word(grammar: Grammar, text: &str) -> (TokenKind<'_>, &str)
 #[tactic(auto, using(crate::proofs::CommentLemmas::behind))]
 fn split_quoted(text: &str, quote: u8) -> Option<(&str, &str)>
     requires { quote < 128 }
-    ensures { option_map (λ r. (r.0.now, r.1.now)) result ≡ spec.quoted quote false text.now }
+    ensures { option_map (λ r. (r.0.now, r.1.now)) result ≡ runs.quoted quote false text.now }
 {
     let len = quoted_len(text.as_bytes(), quote)?;
     let (inside, rest) = split_before(text, len);
@@ -75,7 +75,7 @@ fn split_quoted(text: &str, quote: u8) -> Option<(&str, &str)>
 /// What stands before the first byte like this, and what is behind it.
 fn split_closed(text: &str, closing: u8) -> Option<(&str, &str)>
     requires { closing < 128 }
-    ensures { option_map (λ r. (r.0.now, r.1.now)) result ≡ spec.closed (spec.run_of (bytes.is_not closing) text.now) }
+    ensures { option_map (λ r. (r.0.now, r.1.now)) result ≡ spec.closed (runs.run_of (bytes.is_not closing) text.now) }
 {
     let len = run_len(text.as_bytes(), Class::Not(closing));
     if len == text.len() {
@@ -106,7 +106,7 @@ fn text<'a>(split: Option<(&'a str, &'a str)>) -> Option<(TokenKind<'a>, &'a str
 
 /// The pairs of hex digits up to a closing quote.
 fn blob(text: &str) -> Option<(TokenKind<'_>, &str)>
-    ensures { option_map (λ r. (lexeme_of r.0, r.1.now)) result ≡ spec.blob (spec.run_of bytes.is_hex_digit text.now) }
+    ensures { option_map (λ r. (lexeme_of r.0, r.1.now)) result ≡ spec.blob (runs.run_of bytes.is_hex_digit text.now) }
 {
     let len = run_len(text.as_bytes(), Class::HexDigit);
     match text.as_bytes().split_at(len).1 {

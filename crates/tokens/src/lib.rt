@@ -4,18 +4,16 @@
 //! stand in double quotes, brackets or backquotes, and a comment has to be closed.
 //!
 //! The modules, in the order in which data passes them: `reading` (all tokens of a text), `blank` (spaces and comments),
-//! `lexer` (the token at the front), `runs` and `cuts` (of which it is made), `keyword` and `sign` (the words and signs),
+//! `lexer` (the token at the front), `keyword` and `sign` (the words and signs),
 //! `token` (what is handed out), `content` (what stands between quotes, as the value that it stands for), and `laws`.
 #![tactic(auto)]
 
 mod blank;
 mod content;
-mod cuts;
 mod keyword;
 pub mod laws;
 mod lexer;
 mod reading;
-mod runs;
 mod sign;
 mod token;
 

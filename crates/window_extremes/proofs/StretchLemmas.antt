@@ -7,7 +7,7 @@ use Rattle.std.proofs.lemmas.Nat.{pow_below}
 use Rattle.std.proofs.Math.Nat.{pow-suc}
 use Rattle.values.specs.Datum.{Datum, datum_of, null}
 use Rattle.values.specs.declared.value.Value.{Value}
-use Rattle.expr.specs.Operations.{is_null}
+use Rattle.operations.specs.Operations.{is_null}
 use Rattle.meaning.specs.Sequence.{value_at}
 use Rattle.first_values.specs.Best.{IsBest}
 use Rattle.first_values.specs.declared.best.Side.{Side}

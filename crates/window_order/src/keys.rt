@@ -9,7 +9,7 @@ use syntax::Direction;
 use values::{Value, compare};
 
 /// Where NULL stands beside other values.
-#[tactic(auto, unfolding(expr::specs::Operations::is_null))]
+#[tactic(auto, unfolding(operations::specs::Operations::is_null))]
 fn rank(nulls_first: bool, value: &Value) -> u8
     ensures { result ≡ null_rank nulls_first (datum_of value.now) }
 {

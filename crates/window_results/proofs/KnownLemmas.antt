@@ -7,7 +7,7 @@ use Rattle.std.proofs.lemmas.List.{get_or-map, length-map}
 use Rattle.values.specs.Datum.{Datum, datum_of, null}
 use Rattle.values.specs.Row.{Row}
 use Rattle.expr.specs.Meaning.{Overflows}
-use Rattle.expr.specs.Operations.{settle}
+use Rattle.operations.specs.Operations.{settle}
 use Rattle.expr.specs.Term.{Term}
 use Rattle.meaning.specs.Groups.{measure}
 use Rattle.meaning.specs.Query.{Window, WindowFunction}

@@ -2,7 +2,7 @@
 use Rattle.std.specs.Prelude.{◌≡◌, ◌+◌, ◌-◌, ℕ, pos, nat_le, nat_lt, if◌then◌else◌, List, filter, length, map, Option, Some}
 use Rattle.values.specs.Datum.{Datum, datum_of}
 use Rattle.values.specs.Row.{Row}
-use Rattle.expr.specs.Operations.{settle}
+use Rattle.operations.specs.Operations.{settle}
 use Rattle.meaning.specs.Query.{Direction, Frame, WindowFunction}
 use Rattle.meaning.specs.Sequence.{value_at}
 use Rattle.meaning.specs.Valuation.{Valuation}

@@ -2,7 +2,7 @@
 ghost use Rattle.std.specs.Prelude.{◌≡◌, ◌<◌, ◌≤◌, ◌⊎◌, ◌+◌, ℕ, All, Any, Err, IfErr, IfOk, None, OnOk, Option, Some, length, map, pos};
 ghost use Rattle.values.specs.Datum.{Datum, datum_of};
 ghost use Rattle.expr.specs.Meaning.{Overflows, eval};
-ghost use Rattle.expr.specs.Operations.{settle};
+ghost use Rattle.operations.specs.Operations.{settle};
 ghost use Rattle.meaning.specs.Hits.{function_terms};
 ghost use Rattle.meaning.specs.Query as query;
 ghost use Rattle.meaning.specs.Valuation.{Valuation};

@@ -5,7 +5,7 @@ use Rattle.std.proofs.lemmas.List.{drop-take, get_or_append_left, get_or_push, l
 use Rattle.std.proofs.lemmas.List.Elements.{All-drop, All-from_get_or, All-head, All-tail, All-take}
 use Rattle.values.specs.Datum.{Datum, datum_of, null, int, text, blob}
 use Rattle.values.specs.declared.value.Value.{Value}
-use Rattle.expr.specs.Operations.{is_null, settle}
+use Rattle.operations.specs.Operations.{is_null, settle}
 use Rattle.meaning.specs.Query.{AggregateFunction}
 use Rattle.meaning.specs.Groups.{measure, number, total}
 use Rattle.frames.specs.declared.ranges.Ranges.{Ranges}

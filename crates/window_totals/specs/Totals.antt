@@ -1,7 +1,7 @@
 -- Totals and counts of the first values of a list. (Built-in Aggregate Functions)
 use Rattle.std.specs.Prelude.{◌≡◌, ◌<◌, ◌≤◌, ◌≤ℤ◌, ◌+◌, ◌+ℤ◌, ◌*◌, ◌^◌, ℕ, ℤ, pos, not, List, filter, length, slice_index, slice_index_or, take}
 use Rattle.values.specs.Datum.{Datum, null}
-use Rattle.expr.specs.Operations.{is_null}
+use Rattle.operations.specs.Operations.{is_null}
 use Rattle.meaning.specs.Groups.{number, total}
 
 -- the values that aggregates take

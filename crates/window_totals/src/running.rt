@@ -43,7 +43,7 @@ fn number_of(value: &Value) -> i128
 }
 
 /// 1 of a value that isn't NULL.
-#[tactic(auto, unfolding(expr::specs::Operations::is_null))]
+#[tactic(auto, unfolding(operations::specs::Operations::is_null))]
 fn counted(value: &Value) -> usize
     ensures count { result ≡ length (kept (datum_of value.now ∷ [])) }
     ensures one { result ≤ 1 }

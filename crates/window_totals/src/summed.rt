@@ -1,7 +1,7 @@
 //! Aggregates of the values in ranges.
 ghost use Rattle.std.specs.Prelude.{◌≡◌, ◌≤◌, ◌≤ℤ◌, ◌+ℤ◌, ◌*◌, ◌-◌, ◌^◌, Err, IfErr, IfOk, None, Option, Some, length, map, pos, slice_range};
 ghost use Rattle.values.specs.Datum.{Datum, datum_of};
-ghost use Rattle.expr.specs.Operations.{settle};
+ghost use Rattle.operations.specs.Operations.{settle};
 ghost use Rattle.meaning.specs.Groups.{measure, total};
 ghost use Rattle.meaning.specs.Query as query;
 ghost use Rattle.frames.specs.Ranges.{AreInside};
@@ -13,7 +13,7 @@ use frames::Ranges;
 use values::{Fault, Value};
 
 /// A number as a value, where it has room in 64 bits; else `Overflow`.
-#[tactic(auto, unfolding(expr::specs::Operations::settle))]
+#[tactic(auto, unfolding(operations::specs::Operations::settle))]
 pub fn whole_number(number: i128) -> Result<Value, Fault>
     ensures value { IfOk result (λ v. (o : Option Datum) → settle o number ≡ Some (datum_of v)) }
     ensures overflow { result ≡ Err Fault.Overflow → settle None number ≡ None }

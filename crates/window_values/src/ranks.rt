@@ -1,7 +1,7 @@
 //! Numbers of a place of a sequence.
 ghost use Rattle.std.specs.Prelude.{◌≡◌, ◌<◌, ◌+◌, Err, IfErr, IfOk, None, Option, Some, length, pos};
 ghost use Rattle.values.specs.Datum.{Datum, datum_of};
-ghost use Rattle.expr.specs.Operations.{settle};
+ghost use Rattle.operations.specs.Operations.{settle};
 ghost use Rattle.meaning.specs.Windows.{earlier, peer_group, row_at};
 ghost use Rattle.meaning.specs.Windows as windows;
 ghost use Rattle.window_order.specs.Placed.{keys_in, ways_in};

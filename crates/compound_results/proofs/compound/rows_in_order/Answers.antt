@@ -1,4 +1,4 @@
-use Rattle.std.proofs.Common.{◌≡◌, List, IsPermutation, refl, subst}
+use Rattle.std.proofs.Common.{List, IsPermutation, refl, subst}
 use Rattle.std.proofs.lemmas.List.Sorted.{IsPermutation-map}
 use Rattle.values.specs.Row.{Row}
 use Rattle.ordered_rows.specs.FirstView.{rows_data}

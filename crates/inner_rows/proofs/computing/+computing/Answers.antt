@@ -1,4 +1,5 @@
-use Rattle.std.proofs.Common.{◌≡◌, ◌∙◌, [], ◌++◌, All, OnOk, append-nil, arith, length, map, rules, subst, sym, ap}
+use Rattle.std.proofs.Common.{◌≡◌, ◌∙◌, [], ◌++◌, All, OnOk, append-nil, arith, length, map, rules, subst, sym, ap, IsPermutation}
+use Rattle.std.specs.Result.{MatchResult}
 use Rattle.std.proofs.lemmas.List.{take_all}
 use Rattle.std.proofs.lemmas.List.Elements.{All-head}
 use Rattle.std.proofs.lemmas.Result.{err_from_is_err_and}
@@ -8,13 +9,16 @@ use Rattle.body_trees.specs.declared.bodies.Body.TheViews.{the_lemmas}
 use Rattle.body_trees.specs.declared.bodies.Joined.{out-Joined}
 use Rattle.body_trees.specs.declared.bodies.Single.{out-Single}
 use Rattle.body_trees.specs.declared.bodies.Tables.{out-Tables}
+use Rattle.meaning.specs.Body.{body_rows}
 use Rattle.meaning.specs.Query as q
 use Rattle.naming.specs.Statement.{operator_of, with_answers}
 use Rattle.flat_bodies.specs.FlatView.{kept_among}
 use Rattle.flat_queries.specs.Flat.{kept_in, kept_of, kept_source}
 use Rattle.flat_queries.specs.FlatWith.{queries_in, queries_of}
 use Rattle.pager.proofs.CallLemmas.{SameImage-trans}
-use Rattle.inner_rows.specs.Computed.{AddsAsMany}
+use Rattle.inner_rows.specs.Computed.{AddsAsMany, AreSomeWhere}
+use Rattle.inner_rows.specs.Over.{IsBodyCause}
+use Rattle.sources.specs.SourceData.{rows_data}
 use Rattle.tables.specs.ColumnTypes.{column_types}
 use Rattle.inner_rows.specs.InnerView.{inner_data}
 use Rattle.inner_rows.specs.Runnable.{IsComputable}
@@ -304,11 +308,37 @@ body_rows-returns-in_err-add_body-clause-rows g t c =
 
 pub body_rows-returns-clause-rows : goal.body_rows-returns-clause-rows
 body_rows-returns-clause-rows g t c =
-    body_gives c.args.tables.now c.args.pager.now.state c.add_body.new.pager.state c.add_body.ensures.reads.image (body_of c.args.body.now) c.new-inner.result.kept.items
-    c.new-inner.result.answers.items (inner_data c.add_body.new.inner) c.flat_rows.result c.new-inner.ensures.kept c.new-inner.ensures.answers c.in_ok-add_body.ensures.rows c.flat_rows.ensures.rows
+    let of = body_of c.args.body.now in
+    body_gives c.args.tables.now c.args.pager.now.state c.add_body.new.pager.state c.add_body.ensures.reads.image of
+    (λ on. MatchResult c.flat_rows.result (λ rows. IsPermutation (body_rows on.w on.db of) (rows_data rows.items)) (IsBodyCause on of))
+    c.new-inner.result.kept.items c.new-inner.result.answers.items (inner_data c.add_body.new.inner) c.new-inner.ensures.kept c.new-inner.ensures.answers
+    c.in_ok-add_body.ensures.rows c.flat_rows.ensures.rows
 
 pub body_rows-returns-clause-pages : goal.body_rows-returns-clause-pages
 body_rows-returns-clause-pages g t c =
     body_asks c.args.tables.now c.args.pager.now.state c.add_body.new.pager.state c.flat_rows.new.pager.state c.add_body.ensures.reads.image (body_of c.args.body.now)
     c.new-inner.result.kept.items c.new-inner.result.answers.items (inner_data c.add_body.new.inner) c.flat_rows.result c.new-inner.ensures.kept
     c.new-inner.ensures.answers c.in_ok-add_body.ensures.rows c.in_ok-add_body.ensures.pages c.flat_rows.ensures.pages
+
+-- ---- one of them
+
+pub body_row-returns-in_err-add_body-clause-rows : goal.body_row-returns-in_err-add_body-clause-rows
+body_row-returns-in_err-add_body-clause-rows g t c =
+    let p = err_from_is_err_and c.from_residual.result c.from_residual.ensures.1 in
+    rw (p.1, p.2)
+    (body_stops c.args.tables.now c.args.pager.now.state c.add_body.new.pager.state c.add_body.ensures.reads.image (body_of c.args.body.now) c.in_err-add_body.field-0.0
+    c.in_err-add_body.ensures.rows)
+
+pub body_row-returns-clause-rows : goal.body_row-returns-clause-rows
+body_row-returns-clause-rows g t c =
+    let of = body_of c.args.body.now in
+    body_gives c.args.tables.now c.args.pager.now.state c.add_body.new.pager.state c.add_body.ensures.reads.image of
+    (λ on. MatchResult c.flat_row.result (λ rows. AreSomeWhere (body_rows on.w on.db of) (rows_data rows.items)) (IsBodyCause on of))
+    c.new-inner.result.kept.items c.new-inner.result.answers.items (inner_data c.add_body.new.inner) c.new-inner.ensures.kept c.new-inner.ensures.answers
+    c.in_ok-add_body.ensures.rows c.flat_row.ensures.rows
+
+pub body_row-returns-clause-pages : goal.body_row-returns-clause-pages
+body_row-returns-clause-pages g t c =
+    body_asks c.args.tables.now c.args.pager.now.state c.add_body.new.pager.state c.flat_row.new.pager.state c.add_body.ensures.reads.image (body_of c.args.body.now)
+    c.new-inner.result.kept.items c.new-inner.result.answers.items (inner_data c.add_body.new.inner) c.flat_row.result c.new-inner.ensures.kept
+    c.new-inner.ensures.answers c.in_ok-add_body.ensures.rows c.in_ok-add_body.ensures.pages c.flat_row.ensures.pages

@@ -1,41 +1,27 @@
-use Rattle.std.proofs.Common.{◌≡◌, OnOk, length, rules, subst, sym}
+use Rattle.std.proofs.Common.{◌≡◌, OnOk, rules, subst}
 use Rattle.std.specs.Result.{MatchResult}
 use Rattle.std.proofs.lemmas.Result.{err_from_is_err_and}
 use Rattle.body_trees.specs.BodyView.{body_of}
 use Rattle.flat_bodies.specs.FlatView.{lists_of}
-use Rattle.flat_queries.specs.FlatWith.{flat_with}
-use Rattle.flat_queries.specs.Parts.{plain}
 use Rattle.image.specs.Pages.{pages_seen}
-use Rattle.meaning.specs.Typed.{IsTyped}
 use Rattle.operators.specs.Basis.{AreStored, Basis}
-use Rattle.query_plans.specs.Answers.{IsAnswerOf, IsPlanFor, planned_data, work_of}
-use Rattle.query_plans.specs.Served.{HaveServedForm}
+use Rattle.query_plans.specs.Answers.{IsAnswerOf, planned_data, work_of}
 use Rattle.running.specs.Given.{IsRowCause}
 use Rattle.scan.specs.Coming.{Asks}
-use Rattle.select_plans.specs.Columns.{HaveColumns}
 use Rattle.sources.specs.SourceData.{rows_data, sources_of}
-use Rattle.statement_names.specs.NamedView.{query_data}
 use Rattle.inner_rows.proofs.AskedLemmas.{plan_asks}
-use Rattle.inner_rows.proofs.FlatLemmas.{plan_found, rows_asked, rows_given}
+use Rattle.inner_rows.proofs.FlatLemmas.{rows_asked, rows_given}
 use Rattle.inner_rows.proofs.KeptLemmas.{kept_rooted}
 use Rattle.inner_rows.proofs.computing.flat_rows.Goals as goal
 
 pub planned_rows-requires-clause-roots : goal.planned_rows-requires-clause-roots
 planned_rows-requires-clause-roots g c =
-    rw c.new-sources.ensures (kept_rooted c.args.pager.now.state.header c.args.tables.now c.as_slice-kept.result.now c.requires.roots)
+    rw c.new-sources.ensures (kept_rooted c.args.pager.now.state.header c.args.tables.now c.as_slice.result.now c.requires.roots)
 
 pub returns-in_err-planned-clause-rows : goal.returns-in_err-planned-clause-rows
 returns-in_err-planned-clause-rows g c = λ steady on said runs are.
-    let of = body_of c.args.body.now in
-    let inner = c.args.inner.now in
-    let tables = c.args.tables.now in
-    let p = err_from_is_err_and c.from_residual-in_err-planned.result c.from_residual-in_err-planned.ensures.1 in
-    let flat : query_data c.in_ok-query.query ≡ flat_with (lists_of inner.answers.items) (length tables) (plain of) = search rules in
-    let kept : c.as_slice-kept.result.now ≡ inner.kept.items = search rules in
-    rw (p.1, p.2)
-    (plan_found (pages_seen c.args.pager.now.state) tables on said of runs inner.kept.items (lists_of inner.answers.items) are c.in_err-planned.field-0.0
-    (λ catalog have typed served. c.in_err-planned.ensures.typed catalog (subst (λ kept. HaveColumns catalog (sources_of tables kept)) (sym kept) have)
-    (subst (λ query. IsTyped catalog query) (sym flat) typed) (subst (λ query. HaveServedForm query.body) (sym flat) served)))
+    let p = err_from_is_err_and c.from_residual.result c.from_residual.ensures.1 in
+    rw (p.1, p.2) (c.in_err-planned.ensures.cause (pages_seen c.args.pager.now.state) on said runs are)
 
 pub returns-clause-rows : goal.returns-clause-rows
 returns-clause-rows g c = λ steady on said runs are.
@@ -43,12 +29,9 @@ returns-clause-rows g c = λ steady on said runs are.
     let inner = c.args.inner.now in
     let tables = c.args.tables.now in
     let planned = planned_data c.in_ok-planned.planned in
-    let pages = pages_seen c.args.pager.now.state in
-    let flat : query_data c.in_ok-query.query ≡ flat_with (lists_of inner.answers.items) (length tables) (plain of) = search rules in
     let over : c.new-sources.result ≡ sources_of tables inner.kept.items = search rules in
-    rows_given pages tables on said of runs inner.kept.items (lists_of inner.answers.items) are planned
-    (subst (λ query. IsPlanFor query planned) flat c.in_ok-planned.ensures.plan) c.planned_rows.result
-    (subst (λ sources. (on : Basis) → AreStored pages sources on
+    rows_given (pages_seen c.args.pager.now.state) tables on said of runs inner.kept.items (lists_of inner.answers.items) are planned c.in_ok-planned.ensures.plan c.planned_rows.result
+    (subst (λ sources. (on : Basis) → AreStored (pages_seen c.args.pager.now.state) sources on
     → MatchResult c.planned_rows.result (λ rows. IsAnswerOf on.w on.db planned (rows_data rows.items)) (IsRowCause on planned)) over (c.planned_rows.ensures.rows steady))
 
 pub returns-clause-pages : goal.returns-clause-pages
@@ -60,11 +43,9 @@ returns-clause-pages g c = λ steady on said runs are.
     let pages = pages_seen c.args.pager.now.state in
     let start = c.args.pager.now.state in
     let now = c.planned_rows.new.pager.state in
-    let flat : query_data c.in_ok-query.query ≡ flat_with (lists_of inner.answers.items) (length tables) (plain of) = search rules in
     let over : c.new-sources.result ≡ sources_of tables inner.kept.items = search rules in
     plan_asks pages tables on said of inner.kept.items planned
-    (rows_asked pages tables on said of runs inner.kept.items (lists_of inner.answers.items) are planned
-    (subst (λ query. IsPlanFor query planned) flat c.in_ok-planned.ensures.plan))
+    (rows_asked pages tables on said of runs inner.kept.items (lists_of inner.answers.items) are planned c.in_ok-planned.ensures.plan)
     start now c.planned_rows.result
     (subst (λ sources. (on : Basis) → AreStored pages sources on
     → OnOk c.planned_rows.result (Asks on.local start (work_of on.w on.db on.sizes planned) now 0)) over (c.planned_rows.ensures.pages steady))

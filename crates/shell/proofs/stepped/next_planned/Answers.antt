@@ -22,3 +22,13 @@ pub returns-clause-rows : goal.returns-clause-rows
 returns-clause-rows g c =
     let some : c.in_ok-found.found ≡ true = search rules in
     rw (c.new-sources.ensures, some, ← c.from.ensures) at c.in_ok-found.ensures.rows
+
+pub returns-then-not-found-clause-pages : goal.returns-then-not-found-clause-pages
+returns-then-not-found-clause-pages g c =
+    let none : c.in_ok-found.found ≡ false = search rules in
+    rw (c.new-sources.ensures, none) at c.in_ok-found.ensures.pages
+
+pub returns-clause-pages : goal.returns-clause-pages
+returns-clause-pages g c =
+    let some : c.in_ok-found.found ≡ true = search rules in
+    rw (c.new-sources.ensures, some) at c.in_ok-found.ensures.pages

@@ -1,6 +1,6 @@
 use Rattle.std.proofs.Common.{◌≡◌, ◌<◌, ◌^◌, drop, fold}
 use Rattle.tokens.proofs.lexer.decimal.Given as goal
-use Rattle.tokens.specs.Bytes.{with_digit, decimal}
+use Rattle.byte_runs.specs.Bytes.{with_digit, decimal}
 
 abbrev pub invariant-loop-digit : goal.invariant-loop-digit
 invariant-loop-digit l = record {

@@ -2,7 +2,7 @@ use Rattle.std.proofs.Common.{◌≡◌, ◌∙◌, ◌+◌, length, pos, Option
 use Rattle.std.proofs.lemmas.Result.{IfOk-weaker}
 use Rattle.values.specs.Datum.{Datum, datum_of}
 use Rattle.values.specs.declared.value.Value.{Value}
-use Rattle.expr.specs.Operations.{settle}
+use Rattle.operations.specs.Operations.{settle}
 use Rattle.meaning.specs.Windows as windows
 use Rattle.window_order.specs.Placed.{keys_in}
 use Rattle.window_results.proofs.KnownLemmas.{no_buckets}

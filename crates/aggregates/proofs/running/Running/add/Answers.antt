@@ -1,5 +1,5 @@
 use Rattle.std.proofs.lemmas.List.{append-nil}
-use Rattle.expr.specs.Operations.{is_null}
+use Rattle.operations.specs.Operations.{is_null}
 use Rattle.aggregates.proofs.StateLemmas.{taken_whole}
 use Rattle.aggregates.proofs.running.Running.add.Goals as goal
 

@@ -23,22 +23,22 @@ returns-then-not-branch-clause-rows g c = λ steady on rest ahead has coming.
     c.rows.invariant.rows steady on rest ahead has coming c.next.new.self (map datum_of c.next.new.row.items) c.next.new.pager.state
     (rw c.if-not-branch.true at c.in_ok-next.ensures.rows)
 
-pub returns-in_err-push_results-clause-rows : goal.returns-in_err-push_results-clause-rows
-returns-in_err-push_results-clause-rows g c = λ steady on rest ahead has coming.
-    let p = err_from_is_err_and c.from_residual-in_err-push_results.result c.from_residual-in_err-push_results.ensures.1 in
+pub returns-in_err-put_results-clause-rows : goal.returns-in_err-put_results-clause-rows
+returns-in_err-put_results-clause-rows g c = λ steady on rest ahead has coming.
+    let p = err_from_is_err_and c.from_residual-in_err-put_results.result c.from_residual-in_err-put_results.ensures.1 in
     rw (p.1, p.2)
-    (subst (λ columns. IsResultCause on columns c.in_err-push_results.field-0.0) c.rows.invariant.columns
+    (subst (λ columns. IsResultCause on columns c.in_err-put_results.field-0.0) c.rows.invariant.columns
     (column_cause _ c.rows.pager.state c.rows.invariant.image c.args.sources.now c.args.self.now c.rows.self.op (map datum_of c.rows.self.row.items) (map term c.rows.self.columns.items) c.rows.self.slice
     c.rows.invariant.rows steady on rest ahead has coming c.next.new.self (map datum_of c.next.new.row.items) c.next.new.pager.state
-    (rw c.if-not-branch.false at c.in_ok-next.ensures.rows) _ c.in_err-push_results.ensures.only
-    (λ is. rw (c.as_slice.ensures.value, c.as_slice-then-gives.ensures.value) at (c.in_err-push_results.ensures.overflow (cc is)))))
+    (rw c.if-not-branch.false at c.in_ok-next.ensures.rows) _ c.in_err-put_results.ensures.only
+    (λ is. rw (c.as_slice.ensures.value, c.as_slice-then-gives.ensures.value) at (c.in_err-put_results.ensures.overflow (cc is)))))
 
 pub returns-then-gives-clause-rows : goal.returns-then-gives-clause-rows
 returns-then-gives-clause-rows g c = λ steady on rest ahead has coming.
     row_given _ c.rows.pager.state c.rows.invariant.image c.args.sources.now c.args.self.now c.rows.self.op (map datum_of c.rows.self.row.items) (map term c.rows.self.columns.items) c.rows.self.slice
     c.rows.invariant.rows steady on rest ahead has coming c.next.new.self (map datum_of c.next.new.row.items) c.next.new.pager.state
-    (rw c.if-not-branch.false at c.in_ok-next.ensures.rows) (map datum_of c.push_results.new.out.items) c.gives.new.self
-    (rw (c.as_slice.ensures.value, c.as_slice-then-gives.ensures.value, c.clear.ensures.items) at (c.in_ok-push_results.ensures.values on.w))
+    (rw c.if-not-branch.false at c.in_ok-next.ensures.rows) (map datum_of c.put_results.new.out.items) c.gives.new.self
+    (rw (c.as_slice.ensures.value, c.as_slice-then-gives.ensures.value) at (c.in_ok-put_results.ensures.values on.w))
     (c.gives.ensures.given c.if-gives.true)
 
 pub rows-preserved : goal.rows-preserved

@@ -1,6 +1,7 @@
 use Rattle.std.proofs.Common.{◌∙◌, All, List, [], ap, refl, subst, sym}
 use Rattle.integrity.specs.CheckedView.{checked_data}
 use Rattle.operators.proofs.BasisLemmas.{tables_are_rooted}
+use Rattle.shell.proofs.AheadLemmas.{stays_within}
 use Rattle.shell.proofs.SteppedLemmas.{stepped}
 use Rattle.shell.specs.Stepped.{IsSteppingOver}
 use Rattle.sources.specs.Coming.{IsRooted}
@@ -27,3 +28,11 @@ returns-clause-rows g c = λ query given stands.
     rw (← c.self.view_is)
     (stepped c.self.inside.pager.state (checked_data c.self.inside.checked).tables c.self.invariant.ready query given behind.typed
     c.args.statement.now.stepping behind.gave _ c.next.new.self _ refl c.next.result c.next.ensures.reads.image refl (rw all at c.next.ensures.rows))
+
+pub returns-clause-pages : goal.returns-clause-pages
+returns-clause-pages g c = λ query given stands.
+    let all = c.as_slice.ensures.value ∙ c.self.invariant.all_are in
+    let behind = rw (← c.self.view_is) at stands in
+    rw (← c.self.view_is)
+    (stays_within c.self.inside.pager.state (checked_data c.self.inside.checked).tables c.self.invariant.ready query given behind.typed _ c.next.ensures.reads.image refl
+    _ _ c.args.statement.now.stepping refl behind.gave c.next.new.self refl c.next.result (rw all at c.next.ensures.pages))

@@ -3,7 +3,7 @@ use Rattle.std.specs.Int.{w128}
 use Rattle.std.proofs.lemmas.Int.{ints}
 use Rattle.std.proofs.lemmas.Result.{IfOk-weaker}
 use Rattle.values.specs.Datum.{datum_of}
-use Rattle.expr.specs.Operations.{settle}
+use Rattle.operations.specs.Operations.{settle}
 use Rattle.meaning.specs.Groups.{total}
 use Rattle.frames.specs.Slices.{slices}
 use Rattle.window_totals.specs.Totals.{kept}

@@ -1,0 +1,5 @@
+pub mod Operations
+pub mod Functions
+pub mod Like
+pub mod Contract
+pub mod Faults
