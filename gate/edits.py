@@ -288,7 +288,8 @@ def main() -> int:
     order = sorted((it for it in crates if chosen[it]), key=lambda it: (bool(turn) and not turn.has_changed(it), -it.count(rb"\n")))
     slots = threading.Semaphore(words.lanes)
     trials = [Trial(it, chosen[it], slots, kept_work(it) if words.kept else None, words.until) for it in order]
-    with ThreadPoolExecutor(len(trials) or 1) as pool:
+    # A crate's kept work stays on the disk until its last edit is tried: few crates are begun at once, as many as the slots need.
+    with ThreadPoolExecutor(words.lanes + 2) as pool:
         outcomes = [it for tried in pool.map(Trial.run, trials) for it in tried]
     # What failed stands at the end, where it is seen first.
     for it in sorted(outcomes, key=lambda it: not it.refused):
