@@ -130,6 +130,9 @@ def check_whole(is_all: bool, total: Sum, began: float) -> None:
         for edits in TOP.glob("crates/*/must-fail"):
             shutil.copytree(edits, copy / edits.relative_to(TOP))
         if not status:
+            # The edits begin with nothing that the proofs kept, and need the disk.
+            for kept in copy.glob(f"crates/*/{rt.rtlib.KEPT[1]}"):
+                shutil.rmtree(kept)
             chosen = [] if is_all else [*turn(), "--until", str(began + 60 * MINUTES)]
             edits = Part("edits", ["python3", "gate/edits.py", *chosen], copy, {"EDITS_ROOM": room})
             run_beside([edits, *scripts(copy, {}, [])], total)
