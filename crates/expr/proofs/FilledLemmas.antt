@@ -16,6 +16,7 @@ use Rattle.expr.specs.Types.{ArmsHaveTypes, FitsType, HasType, HaveType, IsOfTyp
 use Rattle.expr.specs.Filled.{filled, filled_all, filled_arms, filled_firsts, literals, AnswersAreBags, FilledHasType, FillsConjuncts}
 use Rattle.expr.proofs.TypeLemmas.{fits_type}
 use Rattle.expr.proofs.BagLemmas.{along_permutation}
+use Rattle.expr.proofs.MemberLemmas.{run_literals}
 
 pub fills_conjuncts : FillsConjuncts
 fills_conjuncts answers (and a b) =
@@ -35,10 +36,6 @@ fills_conjuncts answers (choice rest e) = refl
 fills_conjuncts answers (choice_of x rest e) = refl
 fills_conjuncts answers (null_if a b) = refl
 fills_conjuncts answers (like a b) = refl
-
-run_literals : (o : Option Datum) (row : List Datum) (vs : List Datum) → run_all o row (literals vs) ≡ Some vs
-run_literals o row [] = refl
-run_literals o row (v ∷ vs) = ap (both (λ x xs. Some (x ∷ xs)) (Some v)) (run_literals o row vs)
 
 or3_turned : (a b c : Option Bool) → or3 a (or3 b c) ≡ or3 b (or3 a c)
 or3_turned (Some true) (Some true) c = refl

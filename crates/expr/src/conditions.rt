@@ -41,6 +41,7 @@ pub fn copy(alloc: Global, e: &Expr) -> Result<Expr, AllocError>
             boxed(alloc, b)?,
         )),
         Expr::In(x, items) => Ok(Expr::In(boxed(alloc, x)?, copy_all(alloc, items)?)),
+        Expr::Member(x, set) => Ok(Expr::Member(boxed(alloc, x)?, set.copied(alloc)?)),
         Expr::Coalesce(items) => Ok(Expr::Coalesce(copy_all(alloc, items)?)),
         Expr::Case(operand, arms, otherwise) => {
             let arms = copy_arms(alloc, arms)?;

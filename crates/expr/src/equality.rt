@@ -3,6 +3,7 @@ ghost use Rattle.std.specs.Prelude.{◌≡◌, ◌↔◌, IsTrue};
 ghost use Rattle.expr.specs.Contract.{trees, arm_trees};
 ghost use Rattle.expr.specs.View.{term};
 
+use crate::members::{are_members, same_members};
 use crate::{Arm, Expr};
 
 /// Whether two expressions are one tree, node by node.
@@ -29,8 +30,17 @@ pub fn same_tree(a: &Expr, b: &Expr) -> bool
         Expr::Between(x, z, s) => {
             matches!(b, Expr::Between(y, w, t) if same_tree(x, y) && same_tree(z, w) && same_tree(s, t))
         }
-        Expr::In(x, items) =>
-            matches!(b, Expr::In(y, others) if same_tree(x, y) && same_trees(items, others)),
+        Expr::In(x, items) => match b {
+            Expr::In(y, others) => same_tree(x, y) && same_trees(items, others),
+            // the values may stand in a set
+            Expr::Member(y, set) => same_tree(x, y) && are_members(items, set),
+            _ => false,
+        },
+        Expr::Member(x, set) => match b {
+            Expr::In(y, items) => same_tree(x, y) && are_members(items, set),
+            Expr::Member(y, other) => same_tree(x, y) && same_members(set, other),
+            _ => false,
+        },
         Expr::Coalesce(items) => matches!(b, Expr::Coalesce(others) if same_trees(items, others)),
         Expr::Case(None, arms, e) => {
             matches!(b, Expr::Case(None, others, f) if same_arms(arms, others) && same_tree(e, f))

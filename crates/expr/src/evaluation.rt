@@ -6,8 +6,10 @@ ghost use Rattle.values.specs.Datum.{Datum, datum_of, null};
 ghost use Rattle.operations.specs.Functions.{call_of};
 ghost use Rattle.operations.specs.Like.{like_of};
 ghost use Rattle.operations.specs.Operations.{any_equal, arithmetic_of, comparison, concat_of, condition, null_if_equal, same, truth};
+ghost use Rattle.expr.specs.Filled.{literals};
+ghost use Rattle.expr.specs.Term.{among};
 ghost use Rattle.expr.specs.View.{term};
-ghost use Rattle.expr.specs.Meaning.{eval, Overflows, and_then, both, compared, or_else, or_otherwise, run_all, run_first, run_arms};
+ghost use Rattle.expr.specs.Meaning.{eval, exact, Overflows, and_then, both, compared, or_else, or_otherwise, run_all, run_first, run_arms};
 ghost use Rattle.operations.specs.Contract.{ComputesAs, Computes};
 ghost use Rattle.expr.specs.Contract.{trees, arm_trees, value_on};
 
@@ -18,6 +20,7 @@ use operations::{
 };
 use std::alloc::Global;
 use std::borrow::Cow;
+use value_sets::ValueSet;
 use values::{Fault, Value};
 
 /// The value of an expression on a row, whatever stands for results out of range; `Overflow` exactly where an
@@ -59,6 +62,7 @@ impl<'a> Evaluator<'a> {
             Expr::Or(a, b) => self.disjunction(a, b),
             Expr::Between(x, a, b) => self.between(x, a, b),
             Expr::In(x, items) => self.among(x, items),
+            Expr::Member(x, set) => self.member(x, set),
             Expr::Coalesce(items) => self.first_value(items),
             Expr::Case(None, arms, otherwise) => self.choice(arms, otherwise),
             Expr::Case(Some(x), arms, otherwise) => self.choice_of(x, arms, otherwise),
@@ -181,6 +185,15 @@ impl<'a> Evaluator<'a> {
     {
         let x = self.operand(x)?;
         Ok(from_condition(self.any_equal(&*x, items)?))
+    }
+
+    // IN a list of values.
+    #[cycle(eval)]
+    #[tactic(auto, using(crate::proofs::MemberLemmas::run_literals))]
+    fn member(&self, x: &'a Expr, set: &'a ValueSet) -> Result<Value, Stop>
+        ensures { Computes result (exact (among (term x.now) (literals set.now)) (map datum_of self.now.row.now)) }
+    {
+        Ok(from_condition(set.any_equal(&*self.operand(x)?)))
     }
 
     // A CASE without an operand.

@@ -3,8 +3,8 @@
 //! reached; that a typed expression's value has its type or is NULL; that a condition is true exactly where each of its
 //! conjuncts is; and that two expressions are told apart exactly where their trees differ.
 //!
-//! The modules, in the order in which data passes them: `tree` (expressions), `equality` (of two of them),
-//! `evaluation` (the value on a row), `conditions` (a condition split at AND), `names` (the columns that are named), and
+//! The modules, in the order in which data passes them: `tree` (expressions), `members` (lists of literals, and sets of
+//! values), `equality` (of two expressions), `evaluation` (the value on a row), `conditions` (a condition split at AND), `names` (the columns that are named), and
 //! `laws`.
 #![tactic(auto)]
 
@@ -12,6 +12,7 @@ mod conditions;
 mod equality;
 mod evaluation;
 pub mod laws;
+mod members;
 mod names;
 mod tree;
 

@@ -39,6 +39,7 @@ pub fn columns(expr: &Expr, out: &mut Vec<usize>) -> Result<(), AllocError>
             columns(x, out)?;
             columns_in_all(items, out)
         }
+        Expr::Member(x, _) => columns(x, out),
         Expr::Coalesce(items) => columns_in_all(items, out),
         Expr::Case(None, arms, otherwise) => {
             columns_in_arms(arms, out)?;

@@ -5,6 +5,7 @@ ghost use Rattle.expr.specs.View.{term, arms as arms_of, arm_terms};
 
 use operations::{Arithmetic, Comparison, Function};
 use std::alloc::{AllocError, Global};
+use value_sets::ValueSet;
 use values::Value;
 
 /// An expression over the columns of one row. (SQL Language Expressions)
@@ -24,6 +25,8 @@ pub enum Expr {
     /// The value, the lower bound, the upper bound.
     Between(Box<Expr>, Box<Expr>, Box<Expr>),
     In(Box<Expr>, Vec<Expr>),
+    /// IN a list of values, which is the same as IN of their literals.
+    Member(Box<Expr>, ValueSet),
     /// The first that is not NULL; `ifnull` is this of two.
     Coalesce(Vec<Expr>),
     NullIf(Box<Expr>, Box<Expr>),

@@ -1,13 +1,16 @@
 //! The type of an expression.
-ghost use Rattle.std.specs.Prelude.{◌≡◌, [], slice_get};
+ghost use Rattle.std.specs.Prelude.{◌≡◌, [], List, map, slice_get};
+ghost use Rattle.values.specs.Datum.{datum_of};
+ghost use Rattle.values.specs.declared.value.Ty.{Ty};
 ghost use Rattle.expr.specs.Contract.{arm_trees, trees};
+ghost use Rattle.expr.specs.Filled.{literals};
 ghost use Rattle.expr.specs.TermType as spec;
 ghost use Rattle.expr.specs.TermType.{type_of_term, type_of_terms};
 ghost use Rattle.expr.specs.View.{term};
 
 use crate::joining::{behind, giving, one_of, type_of_call, wanted};
 use expr::{Arm, Expr};
-use values::Ty;
+use values::{Ty, Value};
 
 /// The type of the column at this place.
 fn column_type(columns: &[Ty], place: usize) -> Option<Ty>
@@ -46,6 +49,10 @@ pub fn type_of(columns: &[Ty], expr: &Expr) -> Option<Ty>
             Ty::Int,
             one_of(type_of(columns, x), type_of_all(columns, items)),
         ),
+        Expr::Member(x, set) => giving(
+            Ty::Int,
+            one_of(type_of(columns, x), type_of_values(set.values())),
+        ),
         Expr::Coalesce(items) => type_of_all(columns, items),
         Expr::Case(None, arms, otherwise) => behind(
             wanted(Ty::Int, type_of_whens(columns, arms)),
@@ -66,6 +73,17 @@ fn type_of_all(columns: &[Ty], items: &[Expr]) -> Option<Ty>
     let mut ty = Some(Ty::Null);
     for item in items {
         ty = one_of(ty, type_of(columns, item));
+    }
+    ty
+}
+
+/// The one type of all of these values.
+fn type_of_values(values: &[Value]) -> Option<Ty>
+    ensures { (columns : List Ty) → result ≡ type_of_terms columns [] (literals (map datum_of values.now)) }
+{
+    let mut ty = Some(Ty::Null);
+    for value in values {
+        ty = one_of(ty, Some(value.ty()));
     }
     ty
 }

@@ -4,7 +4,8 @@ use Rattle.std.specs.List.{position_or_len, prefix_len}
 use Rattle.std.specs.Option.{option_and_then}
 use Rattle.std.proofs.lemmas.Bool.{eq-eqb, eqb-true, false≢true, ltb-false}
 use Rattle.std.proofs.lemmas.List.Elements.{All-cons, All-head, All-nil, All-tail}
-use Rattle.values.specs.Datum.{Datum}
+use Rattle.values.specs.Datum.{Datum, datum_of}
+use Rattle.values.specs.declared.value.Value.{Value}
 use Rattle.values.specs.Row.{Row}
 use Rattle.expr.specs.Columns.{columns_of, columns_of_all, columns_of_arms}
 use Rattle.expr.specs.Filled.{filled, filled_all, filled_arms, filled_firsts, literals}
@@ -205,6 +206,17 @@ placed_stands read inner t over answers few o row =
 pub placed_all-trees : (read : List ℕ) (items : List tree.Term) → terms (map (λ t. placed read (term t)) items) ≡ placed_all read (trees items)
 placed_all-trees read [] = refl
 placed_all-trees read (t ∷ items) = ap (more (placed read (term t))) (placed_all-trees read items)
+
+-- ---- literals alone
+
+pub literal_terms : (values : List Value) → terms (map (λ v. literal (datum_of v)) values) ≡ literals (map datum_of values)
+literal_terms [] = refl
+literal_terms (v ∷ values) = ap (more (literal (datum_of v))) (literal_terms values)
+
+-- no column is in them
+pub placed_literals : (read : List ℕ) (vs : List Datum) → placed_all read (literals vs) ≡ literals vs
+placed_literals read [] = refl
+placed_literals read (v ∷ vs) = ap (more (literal v)) (placed_literals read vs)
 
 -- WHEN and THEN over the columns that are read
 abbrev pub placed_arm : List ℕ → tree_arm.Arm → Term × Term

@@ -1,6 +1,8 @@
 //! A term over the columns that are read.
-ghost use Rattle.std.specs.Prelude.{◌≡◌, ◌==◌, IfOk, map, position};
-ghost use Rattle.expr.specs.Term.{choice_of};
+ghost use Rattle.std.specs.Prelude.{◌≡◌, ◌==◌, IfOk, IfSome, map, position};
+ghost use Rattle.values.specs.Datum.{datum_of};
+ghost use Rattle.expr.specs.Filled.{literals};
+ghost use Rattle.expr.specs.Term.{among, choice_of};
 ghost use Rattle.expr.specs.View as expressions;
 ghost use Rattle.plan_terms.specs.Names.{arm_trees, trees};
 ghost use Rattle.plan_terms.specs.Placed.{place_in, placed, placed_all, placed_arms};
@@ -9,6 +11,8 @@ ghost use Rattle.query_trees.specs.TermView.{term};
 use expr::{Arm, Expr};
 use query_trees::{Arm as TermArm, Term};
 use std::alloc::{AllocError, Global};
+use value_sets::ValueSet;
+use values::Value;
 
 /// The place of a column among those that are read, if it is one of them.
 fn place_among(read: &[usize], column: usize) -> Option<usize>
@@ -30,6 +34,28 @@ fn case_of(operand: Box<Expr>, arms: Vec<Arm>, otherwise: Box<Expr>) -> Expr
         (expressions.arms (map expressions.arm_terms arms.items)) (expressions.term otherwise.value) }
 {
     Expr::Case(Some(operand), arms, otherwise)
+}
+
+/// The values of terms that are literals alone.
+fn literal_values(alloc: Global, items: &[Term]) -> Result<Option<Vec<Value>>, AllocError>
+    ensures { IfOk result (λ found. IfSome found (λ values. trees items.now ≡ literals (map datum_of values.items))) }
+{
+    let mut values = Vec::new(alloc);
+    for item in items {
+        let Term::Literal(value) = item else {
+            return Ok(None);
+        };
+        values.push(value.as_ref().to_value(alloc)?)?;
+    }
+    Ok(Some(values))
+}
+
+/// IN these values.
+fn member(alloc: Global, x: Box<Expr>, values: Vec<Value>) -> Result<Expr, AllocError>
+    ensures { IfOk result (λ e. expressions.term e ≡ among (expressions.term x.value) (literals (map datum_of values.items))) }
+{
+    let set = ValueSet::new(alloc, values)?;
+    Ok(Expr::Member(x, set))
 }
 
 #[cycle(place)]
@@ -66,7 +92,7 @@ pub(crate) fn place(alloc: Global, read: &[usize], t: &Term) -> Result<Expr, All
             boxed(alloc, read, low)?,
             boxed(alloc, read, high)?,
         )),
-        Term::In(x, items) => Ok(Expr::In(boxed(alloc, read, x)?, place_all(alloc, read, items)?)),
+        Term::In(x, items) => place_items(alloc, read, boxed(alloc, read, x)?, items),
         Term::InAnswer(x, _) => Ok(Expr::In(boxed(alloc, read, x)?, Vec::new(alloc))),
         Term::Coalesce(items) => Ok(Expr::Coalesce(place_all(alloc, read, items)?)),
         Term::NullIf(x, y) => Ok(Expr::NullIf(boxed(alloc, read, x)?, boxed(alloc, read, y)?)),
@@ -82,6 +108,23 @@ pub(crate) fn place(alloc: Global, read: &[usize], t: &Term) -> Result<Expr, All
                 }
             }
         }
+    }
+}
+
+/// IN a list of terms: of literals alone, such as the values of an inner query, in a set.
+#[cycle(place)]
+#[tactic(auto, using(crate::proofs::PlacedLemmas::placed_literals))]
+fn place_items(
+    alloc: Global,
+    read: &[usize],
+    x: Box<Expr>,
+    items: &[Term],
+) -> Result<Expr, AllocError>
+    ensures { IfOk result (λ e. expressions.term e ≡ among (expressions.term x.value) (placed_all read.now (trees items.now))) }
+{
+    match literal_values(alloc, items)? {
+        Some(values) => Ok(member(alloc, x, values)?),
+        None => Ok(Expr::In(x, place_all(alloc, read, items)?)),
     }
 }
 

@@ -3,6 +3,7 @@ use expr::{Arm, Expr, columns, conjuncts, copy, eval, is_true, same_tree};
 use operations::{Arithmetic, Comparison, Function};
 use std::alloc::{AllocError, Global};
 use std::test::Fail;
+use value_sets::ValueSet;
 use values::{Fault, Value, ValueRef};
 
 type Literal = ValueRef<'static>;
@@ -22,6 +23,8 @@ enum Term {
     Two(Infix, Literal, Literal),
     Call(Function, Literal),
     In(Literal, &'static [Literal]),
+    /// The same, in a set.
+    Member(Literal, &'static [Literal]),
     IfNull(Literal, Literal),
     Iif(Literal, Literal, Literal),
     /// A CASE of one arm.
@@ -33,7 +36,7 @@ const NULL: Literal = ValueRef::Null;
 const LEAST: Literal = ValueRef::Int(i64::MIN);
 
 /// Expressions, and their values; none where a result leaves 64 bits.
-const VALUES: [(Term, Option<Literal>); 29] = [
+const VALUES: [(Term, Option<Literal>); 38] = [
     (
         Term::Two(
             Infix::Arithmetic(Arithmetic::Add),
@@ -111,6 +114,43 @@ const VALUES: [(Term, Option<Literal>); 29] = [
         Term::In(ValueRef::Int(1), &[ValueRef::Int(1), NULL]),
         Some(ValueRef::Int(1)),
     ),
+    (Term::Member(NULL, &[]), Some(ValueRef::Int(0))),
+    (Term::Member(ValueRef::Int(1), &[]), Some(ValueRef::Int(0))),
+    (Term::Member(NULL, &[ValueRef::Int(1)]), Some(NULL)),
+    (Term::Member(NULL, &[NULL]), Some(NULL)),
+    (
+        Term::Member(ValueRef::Int(1), &[ValueRef::Int(2), NULL]),
+        Some(NULL),
+    ),
+    (
+        Term::Member(
+            ValueRef::Int(1),
+            &[NULL, ValueRef::Int(3), ValueRef::Int(1), ValueRef::Int(3)],
+        ),
+        Some(ValueRef::Int(1)),
+    ),
+    (
+        Term::Member(
+            ValueRef::Int(2),
+            &[ValueRef::Int(3), ValueRef::Int(1), LEAST],
+        ),
+        Some(ValueRef::Int(0)),
+    ),
+    (
+        Term::Member(
+            ValueRef::Text("b"),
+            &[
+                ValueRef::Text("c"),
+                ValueRef::Text("a"),
+                ValueRef::Text("b"),
+            ],
+        ),
+        Some(ValueRef::Int(1)),
+    ),
+    (
+        Term::Member(ValueRef::Int(1), &[ValueRef::Text("1")]),
+        Some(ValueRef::Int(0)),
+    ),
     (Term::Call(Function::Not, NULL), Some(NULL)),
     (Term::Two(Infix::Is, NULL, NULL), Some(ValueRef::Int(1))),
     (Term::IfNull(NULL, ValueRef::Int(2)), Some(ValueRef::Int(2))),
@@ -177,6 +217,14 @@ fn list(alloc: Global, values: &[Literal]) -> Result<Vec<Expr>, AllocError> {
     Ok(list)
 }
 
+fn member(alloc: Global, value: Literal, items: &[Literal]) -> Result<Expr, AllocError> {
+    let mut values = Vec::new(alloc);
+    for item in items {
+        values.push(item.to_value(alloc)?)?;
+    }
+    Ok(Expr::Member(literal(alloc, value)?, ValueSet::new(alloc, values)?))
+}
+
 fn two(infix: Infix, left: Box<Expr>, right: Box<Expr>) -> Expr {
     match infix {
         Infix::Arithmetic(operation) => Expr::Arithmetic(operation, left, right),
@@ -215,6 +263,7 @@ fn build(alloc: Global, term: Term) -> Result<Expr, AllocError> {
         }
         Term::Call(function, value) => Ok(Expr::Call(function, literal(alloc, value)?)),
         Term::In(value, items) => Ok(Expr::In(literal(alloc, value)?, list(alloc, items)?)),
+        Term::Member(value, items) => member(alloc, value, items),
         Term::IfNull(first, second) => if_null(alloc, first, second),
         Term::Iif(when, then, other) => iif(alloc, when, then, other),
         Term::Case(when, then, other) => case(alloc, when, then, other),
@@ -322,5 +371,20 @@ fn trees(rt: HostRuntime) -> Result<(), Fail> {
     let shorter = Term::In(NULL, &[ValueRef::Int(2), NULL]);
     let longer = Term::In(NULL, &[ValueRef::Int(2), NULL, NULL]);
     assert!(rt; !are_one(alloc, shorter, longer)? && are_one(alloc, longer, longer)?);
+    Ok(())
+}
+
+#[test]
+fn sets(rt: HostRuntime) -> Result<(), Fail> {
+    let alloc = rt.alloc();
+    let list = Term::In(NULL, &[ValueRef::Int(2), NULL]);
+    let set = Term::Member(NULL, &[ValueRef::Int(2), NULL]);
+    let turned = Term::Member(NULL, &[NULL, ValueRef::Int(2)]);
+    assert!(rt;
+        are_one(alloc, list, set)? && are_one(alloc, set, list)? && are_one(alloc, set, set)?
+    );
+    assert!(rt; !are_one(alloc, set, turned)? && !are_one(alloc, list, turned)?);
+    let copied = copy(alloc, &build(alloc, set)?)?;
+    assert!(rt; same_tree(&copied, &build(alloc, set)?));
     Ok(())
 }

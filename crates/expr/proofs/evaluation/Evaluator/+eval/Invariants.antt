@@ -92,6 +92,9 @@ decreases-between l = 5 * max (the_size l.x.now) (max (the_size l.a.now) (the_si
 abbrev pub decreases-among : goal.decreases-among
 decreases-among l = 5 * max (the_size l.x.now) (most (λ x. the_size x) l.items.now) + 3
 
+abbrev pub decreases-member : goal.decreases-member
+decreases-member l = 5 * the_size l.x.now + 2
+
 abbrev pub decreases-choice : goal.decreases-choice
 decreases-choice l = 5 * max (most (λ x. arm.the_size x) l.arms.now) (the_size l.otherwise.now) + 3
 

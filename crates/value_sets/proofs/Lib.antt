@@ -1,0 +1,2 @@
+pub mod AmongLemmas
+pub mod EqualLemmas
