@@ -4,8 +4,8 @@
 //! conjuncts is; and that two expressions are told apart exactly where their trees differ.
 //!
 //! The modules, in the order in which data passes them: `tree` (expressions), `members` (lists of literals, and sets of
-//! values), `equality` (of two expressions), `evaluation` (the value on a row), `conditions` (a condition split at AND), `names` (the columns that are named), and
-//! `laws`.
+//! values), `equality` (of two expressions), `evaluation` (the value on a row), `conditions` (a condition split at AND),
+//! `names` (the columns that are named), and `laws`.
 #![tactic(auto)]
 
 mod conditions;
