@@ -2,7 +2,7 @@
 ghost use Rattle.std.specs.Prelude.{◌≡◌, ◌==◌, IfOk, IfSome, map, position};
 ghost use Rattle.values.specs.Datum.{datum_of};
 ghost use Rattle.expr.specs.Filled.{literals};
-ghost use Rattle.expr.specs.Term.{among, choice_of};
+ghost use Rattle.expr.specs.Term.{choice_of};
 ghost use Rattle.expr.specs.View as expressions;
 ghost use Rattle.plan_terms.specs.Names.{arm_trees, trees};
 ghost use Rattle.plan_terms.specs.Placed.{place_in, placed, placed_all, placed_arms};
@@ -38,7 +38,7 @@ fn case_of(operand: Box<Expr>, arms: Vec<Arm>, otherwise: Box<Expr>) -> Expr
 
 /// The values of terms that are literals alone.
 fn literal_values(alloc: Global, items: &[Term]) -> Result<Option<Vec<Value>>, AllocError>
-    ensures { IfOk result (λ found. IfSome found (λ values. trees items.now ≡ literals (map datum_of values.items))) }
+    ensures { IfOk result (λ found. IfSome found (λ values. (read : _) → placed_all read (trees items.now) ≡ literals (map datum_of values.items))) }
 {
     let mut values = Vec::new(alloc);
     for item in items {
@@ -50,12 +50,14 @@ fn literal_values(alloc: Global, items: &[Term]) -> Result<Option<Vec<Value>>, A
     Ok(Some(values))
 }
 
-/// IN these values.
-fn member(alloc: Global, x: Box<Expr>, values: Vec<Value>) -> Result<Expr, AllocError>
-    ensures { IfOk result (λ e. expressions.term e ≡ among (expressions.term x.value) (literals (map datum_of values.items))) }
+/// The set of the values of terms that are literals alone, such as those of an inner query's answer.
+fn literal_set(alloc: Global, items: &[Term]) -> Result<Option<ValueSet>, AllocError>
+    ensures { IfOk result (λ found. IfSome found (λ set. (read : _) → placed_all read (trees items.now) ≡ literals set)) }
 {
-    let set = ValueSet::new(alloc, values)?;
-    Ok(Expr::Member(x, set))
+    match literal_values(alloc, items)? {
+        Some(values) => Ok(Some(ValueSet::new(alloc, values)?)),
+        None => Ok(None),
+    }
 }
 
 #[cycle(place)]
@@ -92,7 +94,10 @@ pub(crate) fn place(alloc: Global, read: &[usize], t: &Term) -> Result<Expr, All
             boxed(alloc, read, low)?,
             boxed(alloc, read, high)?,
         )),
-        Term::In(x, items) => place_items(alloc, read, boxed(alloc, read, x)?, items),
+        Term::In(x, items) => match literal_set(alloc, items)? {
+            Some(set) => Ok(Expr::Member(boxed(alloc, read, x)?, set)),
+            None => Ok(Expr::In(boxed(alloc, read, x)?, place_all(alloc, read, items)?)),
+        },
         Term::InAnswer(x, _) => Ok(Expr::In(boxed(alloc, read, x)?, Vec::new(alloc))),
         Term::Coalesce(items) => Ok(Expr::Coalesce(place_all(alloc, read, items)?)),
         Term::NullIf(x, y) => Ok(Expr::NullIf(boxed(alloc, read, x)?, boxed(alloc, read, y)?)),
@@ -102,29 +107,9 @@ pub(crate) fn place(alloc: Global, read: &[usize], t: &Term) -> Result<Expr, All
             let otherwise = boxed(alloc, read, otherwise)?;
             match operand {
                 None => Ok(Expr::Case(None, arms, otherwise)),
-                Some(x) => {
-                    let x = boxed(alloc, read, x)?;
-                    Ok(case_of(x, arms, otherwise))
-                }
+                Some(x) => Ok(case_of(boxed(alloc, read, x)?, arms, otherwise)),
             }
         }
-    }
-}
-
-/// IN a list of terms: of literals alone, such as the values of an inner query, in a set.
-#[cycle(place)]
-#[tactic(auto, using(crate::proofs::PlacedLemmas::placed_literals))]
-fn place_items(
-    alloc: Global,
-    read: &[usize],
-    x: Box<Expr>,
-    items: &[Term],
-) -> Result<Expr, AllocError>
-    ensures { IfOk result (λ e. expressions.term e ≡ among (expressions.term x.value) (placed_all read.now (trees items.now))) }
-{
-    match literal_values(alloc, items)? {
-        Some(values) => Ok(member(alloc, x, values)?),
-        None => Ok(Expr::In(x, place_all(alloc, read, items)?)),
     }
 }
 
