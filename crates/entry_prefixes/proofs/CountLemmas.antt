@@ -5,10 +5,12 @@ use Rattle.std.proofs.lemmas.Bool.{cases_lt}
 use Rattle.std.proofs.lemmas.List.{length_push}
 use Rattle.std.proofs.lemmas.Option.{slice_get-get_or, slice_get_within}
 use Rattle.values.specs.Row.{Row}
+use Rattle.records.specs.Record.{IsRecord}
 use Rattle.tree_walk.specs.Counts.{counted}
 use Rattle.wanted_entries.specs.Unique.{Agree, AreApart, HasNoNull, IsNotUnique, IsRunCount, none, one, same, more}
 use Rattle.entry_prefixes.specs.declared.counting.Prefixes.{Prefixes}
 use Rattle.entry_prefixes.specs.Counting.{EndsWith, HasRuns, IsCounted}
+use Rattle.entry_prefixes.specs.Last.{IsLast, LastData}
 use Rattle.entry_prefixes.proofs.AgreeLemmas.{agree_fewer}
 
 -- what a list with one more element at its end has at a place
@@ -304,3 +306,11 @@ module _ (rows : List Row) (row : Row) (last : Option Row) (old new : Prefixes) 
       by_last : (o : Option Row) → last ≡ o → IsCounted (rows ++ row ∷ []) new
       by_last None e = first_counted e (zero_is e) (untold e)
       by_last (Some entry) e = later_counted entry e (agree entry e) (differ entry e) (tells entry e)
+
+-- what is known of the record of the entry before
+pub no_last : (last : LastData) (entry : Option Row) → IsLast last entry → entry ≡ None → last.is_some ≡ false
+no_last last entry is absent = subst (λ (o : Option Row). IsLast last o) absent is
+
+pub some_last : (last : LastData) (entry : Option Row) → IsLast last entry → (row : Row) → entry ≡ Some row
+    → (last.is_some ≡ true) × IsRecord last.bytes row
+some_last last entry is row there = subst (λ (o : Option Row). IsLast last o) there is

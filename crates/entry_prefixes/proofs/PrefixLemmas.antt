@@ -1,44 +1,84 @@
 -- The entries of an index that a cursor has given, each of which was held against the one before it.
-use Rattle.std.proofs.Common.{◌≡◌, ◌+◌, ◌<◌, ◌≤◌, ℕ, suc, Bool, true, false, IsTrue, Contains, List, [], ◌∷◌, ◌++◌, Option, None, Some, length, map, slice_get, refl, sym, ◌∙◌, ap, subst, arith, append-nil}
+use Rattle.std.proofs.Common.{◌≡◌, ◌+◌, ◌<◌, ◌≤◌, ℕ, suc, Bool, true, false, IsTrue, Contains, List, [], ◌∷◌, ◌++◌, Option, None, Some, append_assoc, drop, length, map, slice_get, refl, sym, ◌∙◌, ap, subst, arith, append-nil}
 use Rattle.std.proofs.lemmas.List.Elements.{Contains-append_left}
 use Rattle.std.proofs.lemmas.Option.{slice_get_read}
 use Rattle.values.specs.Row.{Row}
 use Rattle.values.specs.declared.fault.Fault.{Fault}
 use Rattle.values.specs.declared.fault.Fault.TheVariants.{BadDepth, BadPage, Finished, NoMemory, ReadFailed}
 use Rattle.pager.specs.PagerState.{PagerState}
+use Rattle.pager.specs.Calls.{AsksChainsOnly, SameImage}
+use Rattle.pager.proofs.CallLemmas.{SameImage-trans}
 use Rattle.image.specs.Cell.{CellData}
-use Rattle.image.specs.Pages.{IsNumber, WhereSteady, pages_seen}
+use Rattle.image.specs.Pages.{IsNumber, Pages, pages_seen}
 use Rattle.image.specs.Shape.{places_under, size_under}
 use Rattle.image.specs.Tree.{Place}
 use Rattle.image.specs.declared.kind.TreeKind.TheVariants.{Index}
 use Rattle.image.proofs.ListLemmas.{get_contains}
+use Rattle.btree.proofs.SeenLemmas.{same_pages, still_steady}
 use Rattle.wanted_entries.specs.Unique.{AreApart, IsNotUnique}
 use Rattle.wanted_entries.proofs.NeighbourLemmas.{count_of, unique_of}
 use Rattle.wanted_entries.proofs.OrderLemmas.{together}
+use Rattle.index_entries.specs.Entries.{HasRecord}
 use Rattle.tree_walk.specs.declared.counts.TreeCounts.{TreeCounts}
 use Rattle.index_walk.specs.declared.tree.EntryWidths.{EntryWidths}
 use Rattle.index_walk.specs.Checked.{IsCheckedIndex}
 use Rattle.cursor.specs.declared.cursor.Cursor.{Cursor}
-use Rattle.cursor.specs.Calls.{IsStepFault}
+use Rattle.cursor.specs.Calls.{HasStepped, IsOpenedAt, IsStepFault}
 use Rattle.cursor.specs.Left.{all_left, steps_left}
+use Rattle.cursor.specs.Listing.{IsAt}
 use Rattle.cursor.specs.Search.{IsIndexFault, IsSearchableIndex}
-use Rattle.entry_rows.proofs.ListedLemmas.{Begins, IsListed, Listing, Tells, begins, ended}
+use Rattle.entry_rows.proofs.ListedLemmas.{Begins, IsListed, Tells, begins, ended, has_values}
 use Rattle.entry_prefixes.specs.declared.counting.Prefixes.{Prefixes}
-use Rattle.entry_prefixes.specs.Counting.{EndsWith, IsCounted}
+use Rattle.entry_prefixes.specs.Counting.{CountsEntry, EndsWith, IsCounted}
+use Rattle.entry_prefixes.specs.Last.{IsLast, LastData}
 use Rattle.entry_prefixes.specs.Prefixes.{HasPrefixes}
 use Rattle.entry_prefixes.proofs.CountLemmas.{behind}
 use Rattle.entry_prefixes.proofs.EntryLemmas.{holds_entries, long_entry, searchable, stand, values}
 use Rattle.entry_prefixes.proofs.ListLemmas.{mapped_at}
 
--- what the loop keeps
-pub record Following (start now : PagerState) (root width : ℕ) (cursor : Cursor) (last : Option Row) (prefixes : Prefixes) : Type 0 where
+-- what is known of the entries so far, of an index whose places have these values
+pub record FollowsIn (start now : PagerState) (root : ℕ) (cursor : Cursor) (last : LastData) (prefixes : Prefixes) (values : Place → Row) (levels : ℕ) : Type 0 where
   pub rows : List Row
-  pub listing : Listing start now root cursor rows
+  pub before : Option Row
+  pub listed : IsListed (pages_seen start) values levels root cursor now.asked (start.asked + size_under (pages_seen start) levels root) rows
+  pub ends : EndsWith rows before
+  pub last_is : IsLast last before
+  pub counted : IsCounted rows prefixes
+
+-- what the loop keeps
+pub record Following (start now : PagerState) (root width : ℕ) (cursor : Cursor) (last : LastData) (prefixes : Prefixes) : Type 0 where
+  pub stays : SameImage start now
+  pub failures : now.source.failures ≡ start.source.failures
   pub root_is : cursor.root ≡ root
-  pub ends : EndsWith rows last
   pub long : length prefixes.distinct.items ≡ width
-  pub counted : WhereSteady start (λ pages. (widths : EntryWidths) (descends : List Bool) (counts : TreeCounts) → width ≤ widths.key → IsNumber pages root
-      → IsCheckedIndex pages widths descends root counts → IsCounted rows prefixes)
+  pub follows : IsTrue start.source.steady → (widths : EntryWidths) (descends : List Bool) (counts : TreeCounts) → width ≤ widths.key
+      → (number : IsNumber (pages_seen start) root) (checked : IsCheckedIndex (pages_seen start) widths descends root counts)
+      → FollowsIn start now root cursor last prefixes (values (pages_seen start) widths descends root counts number checked) counts.levels
+
+-- before the first entry
+pub opened : (start now : PagerState) (root width : ℕ) (cursor : Cursor) (last : LastData) (prefixes : Prefixes) → SameImage start now
+    → now.source.failures ≡ start.source.failures → IsOpenedAt start now Index root cursor → length prefixes.distinct.items ≡ width
+    → last.is_some ≡ false → IsCounted [] prefixes → Following start now root width cursor last prefixes
+opened start now root width cursor last prefixes stays failures is long none counted = record {
+  stays = stays;
+  failures = failures;
+  root_is = is.root_is;
+  long = long;
+  follows = λ steady widths descends counts enough number checked. record {
+    rows = [];
+    before = None;
+    listed = record {
+      given = [];
+      rest = places_under (pages_seen start) Index counts.levels root;
+      whole = refl;
+      at = is.lists steady counts.levels (searchable (pages_seen start) widths descends root counts number checked).tree;
+      rows_are = refl;
+    };
+    ends = refl;
+    last_is = none;
+    counted = counted;
+  };
+}
 
 -- the fault of a step of a cursor that hasn't ended
 pub step_fault : (cursor : Cursor) (fault : Fault) → 0 < steps_left cursor → IsStepFault cursor fault → IsIndexFault cursor.root fault
@@ -49,25 +89,34 @@ step_fault cursor (BadPage n) left is = tt
 step_fault cursor (BadDepth n) left is = is
 step_fault cursor fault left is = absurd is
 
+map_push : (values : Place → Row) (given : List Place) (place : Place) → map values (given ++ place ∷ []) ≡ map values given ++ values place ∷ []
+map_push values [] place = refl
+map_push values (first ∷ given) place = ap (λ (l : List Row). values first ∷ l) (map_push values given place)
+
 -- over a steady source, and an index that was checked
-module _ (start now : PagerState) (root width : ℕ) (cursor : Cursor) (last : Option Row) (prefixes : Prefixes)
+module _ (start now : PagerState) (root width : ℕ) (cursor : Cursor) (last : LastData) (prefixes : Prefixes)
     (f : Following start now root width cursor last prefixes) (steady : IsTrue start.source.steady)
     (widths : EntryWidths) (descends : List Bool) (counts : TreeCounts) (enough : width ≤ widths.key) (number : IsNumber (pages_seen start) root)
     (checked : IsCheckedIndex (pages_seen start) widths descends root counts) where
-  abbrev pub seen_values : Place → Row
+  abbrev seen_values : Place → Row
   seen_values = values (pages_seen start) widths descends root counts number checked
 
   abbrev all : List Place
   all = places_under (pages_seen start) Index counts.levels root
 
-  pub seen_search : IsSearchableIndex (pages_seen start) descends seen_values counts.levels root
+  abbrev budget : ℕ
+  budget = start.asked + size_under (pages_seen start) counts.levels root
+
+  seen_search : IsSearchableIndex (pages_seen start) descends seen_values counts.levels root
   seen_search = searchable (pages_seen start) widths descends root counts number checked
 
-  abbrev pub listed : IsListed (pages_seen start) seen_values counts.levels root cursor now.asked
-      (start.asked + size_under (pages_seen start) counts.levels root) f.rows
-  listed = f.listing.lists steady descends seen_values counts.levels seen_search
+  abbrev here : FollowsIn start now root cursor last prefixes seen_values counts.levels
+  here = f.follows steady widths descends counts enough number checked
 
-  long_given : (row : Row) → Contains f.rows row → widths.key ≤ length row
+  abbrev listed : IsListed (pages_seen start) seen_values counts.levels root cursor now.asked budget here.rows
+  listed = here.listed
+
+  long_given : (row : Row) → Contains here.rows row → widths.key ≤ length row
   long_given row h =
       let there = subst (λ (l : List Row). Contains l row) listed.rows_are h in
       let x = mapped_at seen_values listed.given there.0 row (slice_get_read (map seen_values listed.given) (length (map seen_values listed.given)) there.0 row refl there.1 (sym there.2)) in
@@ -75,16 +124,19 @@ module _ (start now : PagerState) (root width : ℕ) (cursor : Cursor) (last : O
       (long_entry (pages_seen start) widths descends root counts number checked x.x
       (subst (λ (l : List Place). Contains l x.x) listed.whole (Contains-append_left listed.given listed.rest x.x (get_contains listed.given there.0 x.x x.at))))
 
-  pub long_last : (one : Row) → last ≡ Some one → length prefixes.distinct.items ≤ length one
-  long_last one is =
-      let ends = subst (λ (o : Option Row). EndsWith f.rows o) is f.ends in
-      let long = long_given one (get_contains f.rows (length ends.0) one
+  long_before : (one : Row) → here.before ≡ Some one → length prefixes.distinct.items ≤ length one
+  long_before one is =
+      let ends = subst (λ (o : Option Row). EndsWith here.rows o) is here.ends in
+      let long = long_given one (get_contains here.rows (length ends.0) one
       (subst (λ (l : List Row). slice_get l (length ends.0) ≡ Some one) (sym ends.1) (behind ends.0 one []))) in
       let wide = f.long in
       omega (arith, long, wide, enough)
 
+  pub never : ((pages : Pages) (levels : ℕ) (places : List Place) (asked budget : ℕ) → IsAt pages Index levels cursor places asked budget → ⊥) → ⊥
+  never none = none _ _ _ _ _ listed.at
+
   -- the cursor is past the last entry
-  all_given : Tells cursor None → f.rows ≡ map seen_values all
+  all_given : Tells cursor None → here.rows ≡ map seen_values all
   all_given told =
       let none : listed.rest ≡ [] = ended (pages_seen start) listed.rest (told _ _ _ _ _ listed.at) in
       let whole : listed.given ≡ all = sym (append-nil listed.given) ∙ ap (λ (r : List Place). listed.given ++ r) (sym none) ∙ listed.whole in
@@ -94,7 +146,7 @@ module _ (start now : PagerState) (root width : ℕ) (cursor : Cursor) (last : O
   has_prefixes told =
       let rows = map seen_values all in
       let order = stand (pages_seen start) widths descends root counts number checked in
-      let are = subst (λ (l : List Row). IsCounted l prefixes) (all_given told) (f.counted steady widths descends counts enough number checked) in
+      let are = subst (λ (l : List Row). IsCounted l prefixes) (all_given told) here.counted in
       record {
         entries = rows;
         entries_are = holds_entries (pages_seen start) widths descends root counts number checked;
@@ -115,18 +167,55 @@ module _ (start now : PagerState) (root width : ℕ) (cursor : Cursor) (last : O
       by_told false e not = absurd (not e)
 
   -- the cursor is at an entry
-  module _ (cell : CellData) (told : Tells cursor (Some cell)) (row : Row) where
-    abbrev pub first : Begins (pages_seen start) listed.rest cell
+  module _ (cell : CellData) (told : Tells cursor (Some cell)) where
+    abbrev first : Begins (pages_seen start) listed.rest cell
     first = begins (pages_seen start) listed.rest cell (told _ _ _ _ _ listed.at)
 
     splits : listed.given ++ first.place ∷ first.more ≡ all
     splits = ap (λ (r : List Place). listed.given ++ r) (sym first.is) ∙ listed.whole
 
-    pub long_row : row ≡ seen_values first.place → length prefixes.distinct.items ≤ length row
-    long_row is =
-        let among = get_contains all (length listed.given) first.place
-        (subst (λ (l : List Place). slice_get l (length listed.given) ≡ Some first.place) splits (behind listed.given first.place first.more)) in
+    among : Contains all first.place
+    among = get_contains all (length listed.given) first.place
+        (subst (λ (l : List Place). slice_get l (length listed.given) ≡ Some first.place) splits (behind listed.given first.place first.more))
+
+    long_first : length prefixes.distinct.items ≤ length (seen_values first.place)
+    long_first =
         let long = long_entry (pages_seen start) widths descends root counts number checked first.place among in
-        let same = ap length is in
         let wide = f.long in
-        omega (arith, long, same, wide, enough)
+        omega (arith, long, wide, enough)
+
+    -- its record, as the pager sees it
+    pub has_record : HasRecord (pages_seen now) cell (seen_values first.place)
+    has_record = subst (λ (p : Pages). HasRecord p cell (seen_values first.place)) (sym (same_pages _ _ f.stays))
+        (has_values (pages_seen start) descends seen_values counts.levels root seen_search first.place cell among first.entry)
+
+    module _ (read : PagerState) (chains : AsksChainsOnly now read) where
+      -- overflow pages leave the cursor where it stands
+      pub still_at : IsAt (pages_seen read) Index counts.levels cursor listed.rest read.asked budget
+      still_at =
+          subst (λ (a : ℕ). IsAt (pages_seen read) Index counts.levels cursor listed.rest a budget) (sym chains.unasked)
+          (subst (λ (p : Pages). IsAt p Index counts.levels cursor listed.rest now.asked budget)
+          (sym (same_pages _ _ (SameImage-trans _ _ _ f.stays chains.image))) listed.at)
+
+      -- and so the entry is counted, and the cursor stands at the next one
+      pub one_more : (then : PagerState) (next : Cursor) (after : LastData) (more : Prefixes)
+          → CountsEntry prefixes more last after (seen_values first.place) → HasStepped read then cursor next
+          → FollowsIn start then root next after more seen_values counts.levels
+      one_more then next after more is stepped =
+          let stays = SameImage-trans _ _ _ f.stays chains.image in
+          let gone = (stepped.lists (still_steady _ _ stays steady) Index counts.levels listed.rest _ still_at).0 in
+          record {
+            rows = here.rows ++ seen_values first.place ∷ [];
+            before = Some (seen_values first.place);
+            listed = record {
+              given = listed.given ++ first.place ∷ [];
+              rest = drop 1 listed.rest;
+              whole = append_assoc listed.given (first.place ∷ []) (drop 1 listed.rest)
+                  ∙ ap (λ (r : List Place). listed.given ++ r) (ap (λ (r : List Place). first.place ∷ drop 1 r) first.is ∙ sym first.is) ∙ listed.whole;
+              at = subst (λ (p : Pages). IsAt p Index counts.levels next (drop 1 listed.rest) then.asked budget) (same_pages _ _ stays) gone;
+              rows_are = ap (λ (l : List Row). l ++ seen_values first.place ∷ []) listed.rows_are ∙ sym (map_push seen_values listed.given first.place);
+            };
+            ends = (here.rows, refl);
+            last_is = is.last_is;
+            counted = is.counted here.rows here.before here.ends here.last_is long_before long_first here.counted;
+          }

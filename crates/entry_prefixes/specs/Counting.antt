@@ -1,9 +1,10 @@
 -- What is counted of the first entries of an index, in their order.
-use Rattle.std.specs.Prelude.{◌≡◌, ◌++◌, ◌∷◌, [], ℕ, suc, IsTrue, List, length, Option, None, Some, slice_get}
+use Rattle.std.specs.Prelude.{◌≡◌, ◌≤◌, ◌++◌, ◌∷◌, [], ℕ, suc, IsTrue, List, length, Option, None, Some, slice_get}
 use Rattle.values.specs.Row.{Row}
 use Rattle.tree_walk.specs.Counts.{counted}
 use Rattle.wanted_entries.specs.Unique.{AreApart, IsNotUnique, IsRunCount}
 use Rattle.entry_prefixes.specs.declared.counting.Prefixes.{Prefixes}
+use Rattle.entry_prefixes.specs.Last.{IsLast, LastData}
 
 -- the last of some entries
 abbrev pub EndsWith : List Row → Option Row → Type 0
@@ -20,3 +21,10 @@ pub record IsCounted (rows : List Row) (prefixes : Prefixes) : Type 0 where
   pub counts : (columns count : ℕ) → slice_get prefixes.distinct.items columns ≡ Some count → HasRuns rows (suc columns) count
   pub repeated : IsTrue prefixes.repeats → IsNotUnique (length prefixes.distinct.items) rows
   pub apart : ¬ IsTrue prefixes.repeats → AreApart (length prefixes.distinct.items) rows
+
+-- one entry more was counted behind any others that end with the last one, and is the last one now
+pub record CountsEntry (old new : Prefixes) (before after : LastData) (row : Row) : Type 0 where
+  pub last_is : IsLast after (Some row)
+  pub counted : (rows : List Row) (last : Option Row) → EndsWith rows last → IsLast before last
+      → ((one : Row) → last ≡ Some one → length old.distinct.items ≤ length one)
+      → length old.distinct.items ≤ length row → IsCounted rows old → IsCounted (rows ++ row ∷ []) new

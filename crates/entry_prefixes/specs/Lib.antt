@@ -1,4 +1,5 @@
 pub mod Entries
 pub mod Repeats
+pub mod Last
 pub mod Counting
 pub mod Prefixes

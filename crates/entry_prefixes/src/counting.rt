@@ -1,13 +1,15 @@
 //! What is counted of entries.
-ghost use Rattle.std.specs.Prelude.{◌≡◌, ◌<◌, ◌≤◌, ◌+◌, ◌↔◌, ◌++◌, ◌∷◌, [], ℕ, IfOk, IsFalse, IsTrue, List, length, None, Some, slice_get, suc, take};
+ghost use Rattle.std.specs.Prelude.{◌≡◌, ◌<◌, ◌≤◌, ◌+◌, ◌↔◌, ◌++◌, ◌∷◌, [], ℕ, false, true, IfOk, IsFalse, IsTrue, List, length, Option, Some, slice_get, suc, take};
 ghost use Rattle.values.specs.Row.{Row};
+ghost use Rattle.records.specs.Record.{IsRecord};
 ghost use Rattle.wanted_entries.specs.Unique.{Agree, HasNoNull};
 ghost use Rattle.tree_walk.specs.Counts.{counted};
 ghost use Rattle.entry_prefixes.specs.Counting.{EndsWith, IsCounted};
+ghost use Rattle.entry_prefixes.specs.Last.{IsLast};
 
 use crate::agreement::{is_full, shared_columns};
+use crate::last::LastRecord;
 use std::alloc::{AllocError, Global};
-use values::Row;
 
 /// What the entries of an index show. Counts stay at the greatest number.
 #[derive(Debug, Drop)]
@@ -19,30 +21,31 @@ pub struct Prefixes {
 }
 
 /// In how many of so many first columns an entry agrees with the one before it, where there is one.
-fn shared_with(last: &Option<Row>, row: &Row, width: usize) -> usize
+fn shared_with(last: &LastRecord, bytes: &[u8], width: usize) -> usize
     ensures most { result ≤ width }
-    ensures first { last.now ≡ None → result ≡ 0 }
-    ensures agree { (one : Row) → last.now ≡ Some one → width ≤ length one → width ≤ length row.now → Agree result one row.now }
-    ensures differ { (one : Row) → last.now ≡ Some one → width ≤ length one → width ≤ length row.now → result < width
-        → ¬ Agree (suc result) one row.now }
+    ensures first { last.now.is_some ≡ false → result ≡ 0 }
+    ensures agree { last.now.is_some ≡ true → (one row : Row) → IsRecord last.now.bytes one → width ≤ length one
+        → IsRecord bytes.now row → width ≤ length row → Agree result one row }
+    ensures differ { last.now.is_some ≡ true → (one row : Row) → IsRecord last.now.bytes one → width ≤ length one
+        → IsRecord bytes.now row → width ≤ length row → result < width → ¬ Agree (suc result) one row }
 {
-    match last {
-        Some(one) => shared_columns(one, row, width),
-        None => 0,
+    if !last.is_some() {
+        return 0;
     }
+    shared_columns(last.bytes(), bytes, width)
 }
 
 /// Whether an entry that agrees in so many of its first columns with the one before it agrees in so many as are indexed, and
 /// none of these is NULL.
-fn repeats_last(last: &Option<Row>, row: &Row, shared: usize, width: usize) -> bool
-    ensures first { last.now ≡ None → IsFalse result }
-    ensures later { (one : Row) → last.now ≡ Some one → width ≤ length row.now
-        → IsTrue result ↔ ((shared ≡ width) × HasNoNull (take width row.now)) }
+fn repeats_last(last: &LastRecord, bytes: &[u8], shared: usize, width: usize) -> bool
+    ensures first { last.now.is_some ≡ false → IsFalse result }
+    ensures later { last.now.is_some ≡ true → (row : Row) → IsRecord bytes.now row → width ≤ length row
+        → IsTrue result ↔ ((shared ≡ width) × HasNoNull (take width row)) }
 {
-    match last {
-        Some(_) => shared == width && is_full(row, width),
-        None => false,
+    if !last.is_some() {
+        return false;
     }
+    shared == width && is_full(bytes, width)
 }
 
 /// Counts an entry that differs from the one before it behind so many columns.
@@ -70,17 +73,17 @@ impl Prefixes {
         })
     }
 
-    /// Counts an entry that stands behind some others, of which this is the last.
-    pub(crate) fn add(&mut self, last: &Option<Row>, row: &Row)
+    /// Counts an entry that stands behind some others, of which this is the last, where these bytes are its record.
+    pub(crate) fn add(&mut self, last: &LastRecord, bytes: &[u8])
         ensures long { length self.new.distinct.items ≡ length self.old.distinct.items }
-        ensures counted { (rows : List Row) → EndsWith rows last.now
-            → ((one : Row) → last.now ≡ Some one → length self.old.distinct.items ≤ length one)
-            → length self.old.distinct.items ≤ length row.now
-            → IsCounted rows self.old → IsCounted (rows ++ row.now ∷ []) self.new }
+        ensures counted { (rows : List Row) (before : Option Row) (row : Row) → EndsWith rows before → IsLast last.now before
+            → IsRecord bytes.now row → ((one : Row) → before ≡ Some one → length self.old.distinct.items ≤ length one)
+            → length self.old.distinct.items ≤ length row
+            → IsCounted rows self.old → IsCounted (rows ++ row ∷ []) self.new }
     {
         let width = self.distinct.len();
-        let shared = shared_with(last, row, width);
-        if repeats_last(last, row, shared, width) {
+        let shared = shared_with(last, bytes, width);
+        if repeats_last(last, bytes, shared, width) {
             self.repeats = true;
         }
         count_from(self.distinct.as_mut_slice(), shared);

@@ -1,20 +1,49 @@
 //! All entries of an index.
-ghost use Rattle.std.specs.Prelude.{◌≡◌, ◌≤◌, Bool, IfErr, List, MatchResult};
-ghost use Rattle.pager.specs.Calls.{IsReadFault, ReadsPages};
+ghost use Rattle.std.specs.Prelude.{◌≡◌, ◌≤◌, Bool, IfErr, List, MatchResult, length};
+ghost use Rattle.values.specs.Row.{Row};
+ghost use Rattle.pager.specs.Calls.{IsReadFault, ReadsChainPages, ReadsPages};
 ghost use Rattle.image.specs.Pages.{IsNumber, WhereSteady};
+ghost use Rattle.btree.specs.Views.{cell_data};
+ghost use Rattle.index_entries.specs.Entries.{HasRecord, IsCompareFault};
 ghost use Rattle.tree_walk.specs.declared.counts.TreeCounts.{TreeCounts};
 ghost use Rattle.index_walk.specs.declared.tree.EntryWidths.{EntryWidths};
 ghost use Rattle.index_walk.specs.Checked.{IsCheckedIndex};
 ghost use Rattle.cursor.specs.Search.{IsIndexFault};
+ghost use Rattle.entry_prefixes.specs.Counting.{CountsEntry};
 ghost use Rattle.entry_prefixes.specs.Prefixes.{HasPrefixes};
 
 use crate::counting::Prefixes;
+use crate::last::LastRecord;
+use btree::{Cell, payload};
 use cursor::Cursor;
-use entry_rows::entry_row;
 use image::TreeKind;
 use pager::{Pager, Source};
 use std::alloc::Global;
-use values::{Fault, Row};
+use values::Fault;
+
+/// Counts an entry of page `n`, whose record is the last one then. Its values are looked at in place.
+fn count_entry<S: Source>(
+    alloc: Global,
+    pager: &mut Pager<S>,
+    cell: &Cell<'_>,
+    n: u32,
+    prefixes: &mut Prefixes,
+    last: &mut LastRecord,
+) -> Result<(), Fault>
+    ensures long { length prefixes.new.distinct.items ≡ length prefixes.old.distinct.items }
+    ensures counted { WhereSteady pager.old.state (λ pages. (row : Row) → HasRecord pages (cell_data cell.now) row
+        → MatchResult result (λ _. CountsEntry prefixes.old prefixes.new last.old last.new row) IsReadFault) }
+    ensures only { IfErr result (IsCompareFault n) }
+    ensures reads { ReadsChainPages result pager.old.state pager.new.state }
+{
+    let Some(bytes) = payload(alloc, pager, cell)? else {
+        return Err(Fault::BadChain(n));
+    };
+    let held = bytes.as_slice();
+    prefixes.add(last, held);
+    last.put(held)?;
+    Ok(())
+}
 
 /// What the entries of the index that has this root show of their first columns, so many, where its tree was checked, by keys of
 /// as many values at least. Each entry is held against the one before it alone: entries that agree in their first values stand
@@ -36,7 +65,7 @@ pub fn read_prefixes<S: Source>(
     ensures reads { ReadsPages result pager.old.state pager.new.state }
 {
     let mut prefixes = Prefixes::none(alloc, width)?;
-    let mut last: Option<Row> = None;
+    let mut last = LastRecord::new(alloc);
     let mut cursor = Cursor::first(alloc, pager, TreeKind::Index, root)?;
     loop {
         // An entry that was checked is there again, unless the source has changed.
@@ -46,9 +75,7 @@ pub fn read_prefixes<S: Source>(
         let Some(cell) = entry else {
             return Ok(prefixes);
         };
-        let row = entry_row(alloc, pager, &cell, root)?;
-        prefixes.add(&last, &row);
-        last = Some(row);
+        count_entry(alloc, pager, &cell, root, &mut prefixes, &mut last)?;
         cursor.next(pager)?;
     }
 }

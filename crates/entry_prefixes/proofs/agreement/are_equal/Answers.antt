@@ -1,6 +1,10 @@
-use Rattle.values.specs.Datum.{datum_of}
+use Rattle.std.proofs.Common.{◌≡◌, rules}
+use Rattle.values.specs.Datum.{datum_of_ref}
+use Rattle.values.specs.Order.{datum_cmp}
 use Rattle.entry_prefixes.proofs.AgreeLemmas.{equality}
 use Rattle.entry_prefixes.proofs.agreement.are_equal.Goals as goal
 
 pub returns : goal.returns
-returns c = equality (datum_of c.args.one.now) (datum_of c.args.other.now) c.compare.result c.is_eq.result c.compare.ensures c.is_eq.ensures
+returns c =
+    let order : c.cmp.result ≡ datum_cmp (datum_of_ref c.args.one) (datum_of_ref c.args.other) = search rules in
+    equality (datum_of_ref c.args.one) (datum_of_ref c.args.other) c.cmp.result c.is_eq.result order c.is_eq.ensures

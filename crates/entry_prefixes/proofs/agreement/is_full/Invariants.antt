@@ -1,6 +1,5 @@
-use Rattle.std.proofs.Common.{◌≢◌, ◌<◌, ℕ, Some, slice_get}
-use Rattle.values.specs.Datum.{null}
+use Rattle.entry_prefixes.proofs.FieldLemmas.{GivenSoFar}
 use Rattle.entry_prefixes.proofs.agreement.is_full.Given as goal
 
-abbrev pub invariant-loop-i : goal.invariant-loop-i
-invariant-loop-i l = (at : ℕ) → at < l.i → slice_get l.entry at ≢ Some null
+abbrev pub invariant-loop-passed : goal.invariant-loop-passed
+invariant-loop-passed l = GivenSoFar l.bytes l.width l._passed l.fields

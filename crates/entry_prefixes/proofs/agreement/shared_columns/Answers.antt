@@ -1,17 +1,44 @@
-use Rattle.std.proofs.Common.{◌≡◌, ◌∙◌, suc, false, true, sym, arith}
-use Rattle.entry_prefixes.proofs.AgreeLemmas.{agree_at, agree_of, same_there}
+use Rattle.std.proofs.Common.{◌≡◌, ℕ, arith, refl, rules, subst}
+use Rattle.wanted_entries.specs.Unique.{Agree}
+use Rattle.entry_prefixes.proofs.FieldLemmas.{agree_next, differ_next}
 use Rattle.entry_prefixes.proofs.agreement.shared_columns.Goals as goal
 
-pub returns-then-not-are_equal-clause-agree : goal.returns-then-not-are_equal-clause-agree
-returns-then-not-are_equal-clause-agree c = λ long too. agree_of c.args.one.now c.args.other.now c.loop-i.i c.loop-i.invariant
+pub returns-in_default-clause-agree : goal.returns-in_default-clause-agree
+returns-in_default-clause-agree c = λ x y one long other too. refl
 
-pub returns-then-not-are_equal-clause-differ : goal.returns-then-not-are_equal-clause-differ
-returns-then-not-are_equal-clause-differ c = λ long too less agree.
-    let same = agree_at c.args.one.now c.args.other.now (suc c.loop-i.i) agree c.loop-i.i (omega arith) in
-    let t = c.are_equal.ensures.1 (same_there c.args.one.now c.args.other.now c.loop-i.i _ _ c.value.ensures c.value-in-loop-i.ensures same) in
-    let e : false ≡ true = sym c.if-not-are_equal.true ∙ t in
-    cc
+pub returns-in_default-new-clause-agree : goal.returns-in_default-new-clause-agree
+returns-in_default-new-clause-agree c = λ x y one long other too. refl
+
+pub returns-in_default-clause-differ : goal.returns-in_default-clause-differ
+returns-in_default-clause-differ c = λ x y one long other too less. absurd (c.in_default.ensures.none x one)
+
+pub returns-in_default-new-clause-differ : goal.returns-in_default-new-clause-differ
+returns-in_default-new-clause-differ c = λ x y one long other too less. absurd (c.in_default-new.ensures.none y other)
+
+pub loop-i-init : goal.loop-i-init
+loop-i-init c = λ x y one long other too. record {
+  agree = refl;
+  one_is = (c.in-Some.ensures.found x).1 one;
+  other_is = (c.in-Some-new.ensures.found y).1 other;
+}
+
+pub returns-then-not-do_next_agree-clause-agree : goal.returns-then-not-do_next_agree-clause-agree
+returns-then-not-do_next_agree-clause-agree c = λ x y one long other too. (c.loop-i.invariant x y one long other too).agree
+
+pub returns-then-not-do_next_agree-clause-differ : goal.returns-then-not-do_next_agree-clause-differ
+returns-then-not-do_next_agree-clause-differ c = λ x y one long other too less.
+    differ_next x y c.loop-i.i c.loop-i.first c.loop-i.second (c.loop-i.invariant x y one long other too) (omega (arith, long, c.loop-i-test.true)) (omega (arith, too, c.loop-i-test.true))
+    (c.do_next_agree.ensures.differ c.if-not-do_next_agree.true)
+
+pub loop-i-preserved : goal.loop-i-preserved
+loop-i-preserved c = λ x y one long other too.
+    agree_next x y c.loop-i.i c.loop-i.first c.loop-i.second (c.loop-i.invariant x y one long other too) (omega (arith, long, c.loop-i-test.true)) (omega (arith, too, c.loop-i-test.true))
+    c.do_next_agree.new.one c.do_next_agree.new.other (c.do_next_agree.ensures.agree c.if-not-do_next_agree.false)
 
 pub returns-clause-agree : goal.returns-clause-agree
-returns-clause-agree c = λ long too.
-    agree_of c.args.one.now c.args.other.now c.args.width (λ at less. c.loop-i.invariant at (let end = c.loop-i-test.false in omega (arith, less, end)))
+returns-clause-agree c = λ x y one long other too.
+    let all : c.loop-i.i ≡ c.args.width = search rules in
+    subst (λ (n : ℕ). Agree n x y) all (c.loop-i.invariant x y one long other too).agree
+
+pub returns-clause-differ : goal.returns-clause-differ
+returns-clause-differ c = λ x y one long other too less. absurd (omega (arith, less))
