@@ -71,8 +71,9 @@ fn write_joined<S: Source, W: Sink>(
     ensures writes { Counts Fault.WriteFailed result (W.facts out.old).failures (W.facts out.new).failures }
 {
     let rows = compound_rows(alloc, pager, sources, compound)?;
-    write_lines(rows.as_slice(), out)?;
-    Ok(rows.len() as u64)
+    let count = rows.len();
+    write_lines(rows, out)?;
+    Ok(count as u64)
 }
 
 /// Writes the rows of SELECTs that are joined as lines, as they are computed where no row depends on others, and else once all are,

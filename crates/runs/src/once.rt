@@ -74,6 +74,7 @@ pub(crate) fn write_sorted_distinct<S: Source, W: Sink>(
     ensures writes { Counts Fault.WriteFailed result (W.facts out.old).failures (W.facts out.new).failures }
 {
     let rows = sorted_distinct_rows(alloc, pager, sources, selection)?;
-    write_lines(rows.as_slice(), out)?;
-    Ok(rows.len() as u64)
+    let count = rows.len();
+    write_lines(rows, out)?;
+    Ok(count as u64)
 }

@@ -56,10 +56,11 @@ pub(crate) fn write_selection<S: Source, W: Sink>(
     Ok(count)
 }
 
-/// Writes rows as lines. Its one fault is `WriteFailed`, after a beginning of the rows' text.
-pub(crate) fn write_lines<W: Sink>(rows: &[Vec<Value>], out: &mut W) -> Result<(), Fault>
+/// Writes rows as lines, each of which is let go as soon as it is written, while its memory is still at hand: rows in order lie
+/// far apart. Its one fault is `WriteFailed`, after a beginning of the rows' text.
+pub(crate) fn write_lines<W: Sink>(rows: Vec<Vec<Value>>, out: &mut W) -> Result<(), Fault>
     ensures only { IfErr result (λ e. e ≡ Fault.WriteFailed) }
-    ensures writes { Writes (flat_map (λ row. row_text (map datum_of row.items)) rows.now) result (W.facts out.old) (W.facts out.new) }
+    ensures writes { Writes (flat_map (λ row. row_text (map datum_of row.items)) rows.items) result (W.facts out.old) (W.facts out.new) }
 {
     for row in rows {
         values_text(row.as_slice(), out)?;
@@ -87,6 +88,7 @@ pub(crate) fn write_sorted<S: Source, W: Sink>(
     ensures writes { Counts Fault.WriteFailed result (W.facts out.old).failures (W.facts out.new).failures }
 {
     let rows = sorted_rows(alloc, pager, sources, selection)?;
-    write_lines(rows.as_slice(), out)?;
-    Ok(rows.len() as u64)
+    let count = rows.len();
+    write_lines(rows, out)?;
+    Ok(count as u64)
 }

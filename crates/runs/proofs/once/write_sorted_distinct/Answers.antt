@@ -24,15 +24,15 @@ returns-in_err-write_lines-clause-rows g c = λ steady.
     rw (p.1, p.2)
     (sorted_cut true c.args.pager.now.state c.sorted_distinct_rows.new.pager.state c.args.sources.now (sorted_distinct_data c.args.selection.now) steady
     (map (λ row. map datum_of row.items) c.in_ok-rows.rows.items) c.in_ok-rows.ensures.rows _ _ _ c.in_err-write_lines.ensures.only
-    (rw (rows_text-map (λ row. map datum_of row.items) c.in_ok-rows.rows.items, ← c.as_slice.ensures.value) c.in_err-write_lines.ensures.writes))
+    (rw (rows_text-map (λ row. map datum_of row.items) c.in_ok-rows.rows.items) c.in_err-write_lines.ensures.writes))
 
 pub returns-clause-rows : goal.returns-clause-rows
 returns-clause-rows g c = λ steady.
-    let counted : c.len.result ≡ length c.in_ok-rows.rows.items = search rules in
-    let few : c.len.result ≤ 2 ^ 64 - 1 = search rules in
+    let counted : c.len-count.result ≡ length c.in_ok-rows.rows.items = search rules in
+    let few : c.len-count.result ≤ 2 ^ 64 - 1 = search rules in
     sorted_answer true c.args.pager.now.state c.sorted_distinct_rows.new.pager.state c.args.sources.now (sorted_distinct_data c.args.selection.now) steady
     (map (λ row. map datum_of row.items) c.in_ok-rows.rows.items) c.in_ok-rows.ensures.rows _ _ _
-    (rw (rows_text-map (λ row. map datum_of row.items) c.in_ok-rows.rows.items, ← c.as_slice.ensures.value) c.in_ok-write_lines.ensures.writes)
+    (rw (rows_text-map (λ row. map datum_of row.items) c.in_ok-rows.rows.items) c.in_ok-write_lines.ensures.writes)
     (rows_counted _ c.in_ok-rows.rows.items _ counted few)
 
 pub returns-clause-pages : goal.returns-clause-pages

@@ -1,4 +1,4 @@
-use Rattle.std.proofs.Common.{map, take, Ok}
+use Rattle.std.proofs.Common.{map, Ok}
 use Rattle.std.specs.List.{flat_map}
 use Rattle.values.specs.Datum.{datum_of}
 use Rattle.values.specs.Sink.{Writes}
@@ -7,4 +7,4 @@ use Rattle.runs.proofs.selections.write_lines.Given as goal
 
 abbrev pub invariant-loop-row : goal.invariant-loop-row
 invariant-loop-row g l =
-    Writes (flat_map (λ row. row_text (map datum_of row.items)) (take l.row-index l.rows)) (Ok (tt {0})) (g.W.Sink.facts l.initial.out) (g.W.Sink.facts l.out)
+    Writes (flat_map (λ row. row_text (map datum_of row.items)) l.yielded) (Ok (tt {0})) (g.W.Sink.facts l.initial.out) (g.W.Sink.facts l.out)
