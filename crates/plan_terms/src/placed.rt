@@ -38,7 +38,8 @@ fn case_of(operand: Box<Expr>, arms: Vec<Arm>, otherwise: Box<Expr>) -> Expr
 
 /// The values of terms that are literals alone.
 fn literal_values(alloc: Global, items: &[Term]) -> Result<Option<Vec<Value>>, AllocError>
-    ensures { IfOk result (λ found. IfSome found (λ values. (read : _) → placed_all read (trees items.now) ≡ literals (map datum_of values.items))) }
+    ensures { IfOk result (λ found. IfSome found (λ values. (read : _)
+        → placed_all read (trees items.now) ≡ literals (map datum_of values.items))) }
 {
     let mut values = Vec::new(alloc);
     for item in items {
@@ -52,7 +53,8 @@ fn literal_values(alloc: Global, items: &[Term]) -> Result<Option<Vec<Value>>, A
 
 /// The set of the values of terms that are literals alone, such as those of an inner query's answer.
 fn literal_set(alloc: Global, items: &[Term]) -> Result<Option<ValueSet>, AllocError>
-    ensures { IfOk result (λ found. IfSome found (λ set. (read : _) → placed_all read (trees items.now) ≡ literals set)) }
+    ensures { IfOk result (λ found. IfSome found (λ set. (read : _)
+        → placed_all read (trees items.now) ≡ literals set)) }
 {
     match literal_values(alloc, items)? {
         Some(values) => Ok(Some(ValueSet::new(alloc, values)?)),
