@@ -25,6 +25,7 @@ PLAIN = [
     Statement("count and sum of all rows", "SELECT count(*), sum(a) FROM item", 0.6, apart=True),
     Statement("GROUP BY with a thousand keys", "SELECT a % 1000, count(*), sum(b) FROM item GROUP BY a % 1000", 0.5, apart=True),
     Statement("GROUP BY with a million keys", "SELECT a, count(*), max(b) FROM item GROUP BY a", 0.5, apart=True),
+    Statement("IN a query of a thousand values", "SELECT id FROM item WHERE a IN (SELECT id FROM item WHERE id <= 1000)", 1.0),
     Statement("UNION of two halves", "SELECT a FROM item WHERE id % 2 = 0 UNION SELECT a FROM item WHERE id % 2 = 1", 0.5),
 ]
 
