@@ -1,13 +1,12 @@
 -- IN a list of literals.
-use Rattle.std.proofs.Common.{◌≡◌, ◌↔◌, ◌≤◌, ◌==◌, ◌++◌, ◌∙◌, ℕ, Bool, List, [], ◌∷◌, IsTrue, None, Option, Some, drop, length, map, option_map, refl, sym, ap}
+use Rattle.std.proofs.Common.{◌≡◌, ◌↔◌, ◌≤◌, ◌==◌, ◌++◌, ◌∙◌, ℕ, Bool, List, [], ◌∷◌, IsTrue, Option, Some, drop, length, map, refl, ap}
 use Rattle.std.proofs.lemmas.List.{append-nil}
 use Rattle.values.specs.Datum.{Datum, datum_of}
 use Rattle.values.specs.declared.value.Value.{Value}
-use Rattle.operations.specs.Operations.{any_equal, condition}
 use Rattle.expr.specs.Columns.{columns_of, columns_of_all}
 use Rattle.expr.specs.Contract.{trees}
 use Rattle.expr.specs.Filled.{literals}
-use Rattle.expr.specs.Meaning.{both, run, run_all}
+use Rattle.expr.specs.Meaning.{both, run_all}
 use Rattle.expr.specs.Term.{Term, among}
 use Rattle.expr.specs.declared.tree.Expr.{Expr}
 use Rattle.expr.proofs.SameLemmas.{ends_alike}
@@ -15,17 +14,6 @@ use Rattle.expr.proofs.SameLemmas.{ends_alike}
 pub run_literals : (o : Option Datum) (row : List Datum) (vs : List Datum) → run_all o row (literals vs) ≡ Some vs
 run_literals o row [] = refl
 run_literals o row (v ∷ vs) = ap (both (λ x xs. Some (x ∷ xs)) (Some v)) (run_literals o row vs)
-
-both_known : (m : Option Datum) (vs : List Datum)
-    → both (λ v items. Some (condition (any_equal v items))) m (Some vs) ≡ option_map (λ v. condition (any_equal v vs)) m
-both_known None vs = refl
-both_known (Some v) vs = refl
-
--- the value is that of a test against the values
-pub run_member : (o : Option Datum) (row : List Datum) (t : Term) (vs : List Datum)
-    → run o row (among t (literals vs)) ≡ option_map (λ v. condition (any_equal v vs)) (run o row t)
-run_member o row t vs =
-    ap (both (λ v items. Some (condition (any_equal v items))) (run o row t)) (run_literals o row vs) ∙ both_known (run o row t) vs
 
 no_columns : (vs : List Datum) → columns_of_all (literals vs) ≡ []
 no_columns [] = refl

@@ -3,7 +3,7 @@ use Rattle.expr.specs.Columns.{columns_of, columns_of_all, columns_of_arms}
 use Rattle.expr.specs.Contract.{arm_trees}
 use Rattle.expr.specs.Filled.{literals}
 use Rattle.expr.specs.View.{term}
-use Rattle.expr.specs.declared.tree.Expr.TheFolds.{fold-roll-Arm, fold-roll-Expr, fold_out-Arm, fold_out-Expr}
+use Rattle.expr.specs.declared.tree.Expr.TheFolds.{fold-roll-Expr, fold_out-Expr}
 use Rattle.expr.specs.declared.tree.Expr.TheViews.{the_lemmas}
 use Rattle.expr.proofs.MemberLemmas.{member_columns}
 use Rattle.expr.proofs.names.+columns.Goals as goal
