@@ -69,6 +69,7 @@ fn append_chain<S: Source>(
 /// # Errors
 ///
 /// `ReadFailed` and `NoMemory`, and none where all of it stands in the cell.
+#[inline(always)]
 pub fn payload<'p, S: Source>(
     alloc: Global,
     pager: &mut Pager<S>,

@@ -118,6 +118,7 @@ fn place_of(at: usize, level: Level, page: &[u8], i: u32) -> u16
 impl<'p> PageView<'p> {
     /// The page of these used bytes, which is page `n` of a tree of this kind; `None` where its header says that it is
     /// none, or where its cell places leave it.
+    #[inline(always)]
     pub fn read(kind: TreeKind, n: u32, used: &'p [u8]) -> Option<PageView<'p>>
         ensures found { IfSome result (IsViewOf kind n used.now) }
         ensures none { 480 ≤ length used.now → length used.now ≤ 65536 → IfNone result ((level : Level) → ¬ HasHeaderAt (header_at n) kind level used.now) }
@@ -190,6 +191,7 @@ impl<'p> PageView<'p> {
 
     /// Entry i of a page of an index, with a payload of at most `most` bytes; `None` where none is there. On an interior
     /// page it stands behind the left child.
+    #[inline(always)]
     pub fn entry(&self, most: u64, i: u32) -> Option<Cell<'p>>
         requires { TellsOfCell self.now Index self.now.level i }
         ensures found { IfSome result (λ cell. IsEntryCell self.now.at most self.now.level self.now.page i (cell_data cell)) }
@@ -243,7 +245,7 @@ impl<'p> PageView<'p> {
 
 /// Page `number` of a table's tree, of which so many bytes are used; `None` where it is shorter or its header says that it
 /// is none.
-#[inline]
+#[inline(always)]
 pub fn view_of(page: &Page, number: u32, usable: usize) -> Option<PageView<'_>>
     ensures found { IfSome result (λ view. IsViewOf Table number (take usable page.now) view × (usable ≤ length page.now)) }
     ensures none { 480 ≤ usable → usable ≤ 65536 → usable ≤ length page.now
@@ -253,7 +255,7 @@ pub fn view_of(page: &Page, number: u32, usable: usize) -> Option<PageView<'_>>
 }
 
 /// The same of a tree of this kind.
-#[inline]
+#[inline(always)]
 pub fn view_in(kind: TreeKind, page: &Page, number: u32, usable: usize) -> Option<PageView<'_>>
     ensures found { IfSome result (λ view. IsViewOf kind number (take usable page.now) view × (usable ≤ length page.now)) }
     ensures none { 480 ≤ usable → usable ≤ 65536 → usable ≤ length page.now

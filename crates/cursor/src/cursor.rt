@@ -46,6 +46,7 @@ pub struct Frame {
 }
 
 /// Asks for a page and reads its header. Its faults are `ReadFailed`, `NoMemory` and `BadPage` of this page.
+#[inline(always)]
 fn read_frame<S: Source>(pager: &mut Pager<S>, kind: TreeKind, number: u32) -> Result<Frame, Fault>
     requires { IsPageNumber pager.old.state number }
     ensures number { IfOk result (λ frame. frame.number ≡ number) }
@@ -94,6 +95,7 @@ fn child_of(kind: TreeKind, frame: &Frame, usable: usize, i: u32, pages: u32) ->
 
 /// The cell that a frame stands at, with a payload of at most `most` bytes: a cell of a table's leaf, or of any page of
 /// an index.
+#[inline(always)]
 fn cell_of(kind: TreeKind, frame: &Frame, usable: usize, most: u64) -> Option<Cell<'_>>
     ensures found { (image : Pages) → Holds image frame.now → image.usable ≡ usable → image.size ≡ most
         → IfSome result (λ cell. IsEntryAt image kind (place_at frame.now.number frame.now.at) (cell_data cell)) }
@@ -606,6 +608,7 @@ impl Cursor {
 
     /// The cell that the cursor stands at, or none past the last. Its faults are `Finished` after a fault of `next`, and
     /// `BadPage` where the page has no cell there, which no sound tree gives.
+    #[inline(always)]
     pub fn entry(&self) -> Result<Option<Cell<'_>>, Fault>
         ensures entry { (image : Pages) (kind : TreeKind) (levels : ℕ) (places : List Place) (asked budget : ℕ)
             → IsAt image kind levels self.now places asked budget

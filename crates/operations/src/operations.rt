@@ -112,6 +112,7 @@ fn of_integers(op: Arithmetic, x: i64, y: i64) -> Result<Value, Stop>
 }
 
 /// An operation on two numbers; NULL where a side is none.
+#[inline(always)]
 #[tactic(auto, unfolding(crate::specs::Operations::arithmetic_of))]
 pub fn arithmetic(op: Arithmetic, a: &Value, b: &Value) -> Result<Value, Stop>
     ensures { Computes result (arithmetic_of None op (datum_of a.now) (datum_of b.now)) }
@@ -138,6 +139,7 @@ fn test(op: Comparison, r: Ordering) -> bool
 }
 
 /// A comparison, unknown where a side is NULL.
+#[inline(always)]
 #[tactic(auto, unfolding(crate::specs::Operations::comparison))]
 pub fn comparison(op: Comparison, a: &Value, b: &Value) -> Option<bool>
     ensures { result ≡ comparison op (datum_of a.now) (datum_of b.now) }

@@ -48,7 +48,7 @@ impl<'p> FieldReader<'p> {
 
     /// Reads the next field; a text or a blob is a slice of the record's bytes. `None` where there is none, or one that
     /// is no value; the reader stays then.
-    #[inline]
+    #[inline(always)]
     pub fn read(&mut self) -> Option<ValueRef<'p>>
         ensures found { IfSome result (λ value. (first : Datum) (others : List Datum)
             → AreUnread self.old (first ∷ others) ↔ ((first ≡ datum_of_ref value) × AreUnread self.new others)) }

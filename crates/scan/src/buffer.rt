@@ -6,6 +6,7 @@ use std::alloc::{AllocError, Global};
 use values::{Value, ValueRef};
 
 /// Puts a value over another; a text or a blob in the memory of the one that was there.
+#[inline(always)]
 fn put_over(alloc: Global, slot: &mut Value, value: ValueRef<'_>) -> Result<(), AllocError>
     ensures { IfOk result (λ _. datum_of slot.new ≡ datum_of_ref value.entry) }
 {
@@ -26,7 +27,7 @@ fn put_over(alloc: Global, slot: &mut Value, value: ValueRef<'_>) -> Result<(), 
 }
 
 /// Puts a value at a place of a row, over the one that is there, or behind the others.
-#[inline]
+#[inline(always)]
 pub fn put_value(
     alloc: Global,
     row: &mut Vec<Value>,

@@ -39,6 +39,7 @@ pub fn payload_of<'p, S: Source>(
 
 /// Puts the values that a reader gives of these columns into the places of a row from `at` on, over what stands there. Its faults
 /// are `NoMemory`, and `Changed` where the payload is no row.
+#[inline(always)]
 pub fn put_columns(
     alloc: Global,
     reader: &mut ValueReader<'_>,

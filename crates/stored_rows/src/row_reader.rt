@@ -108,7 +108,7 @@ impl<'p> RowReader<'p> {
     /// The value of a column, counted from 0; a text or a blob is a slice of the payload, or of the column's DEFAULT where
     /// the row is older. `None` where the payload is no such row. Columns that are asked for in their order are found in
     /// one walk along the record; for a column before the last one the walk begins anew.
-    #[inline]
+    #[inline(always)]
     pub fn value(&mut self, column: usize) -> Option<ValueRef<'p>>
         requires { column < length self.old.table.columns }
         ensures found { IfSome result (λ value. (row : Row) → IsReading self.old row

@@ -35,7 +35,7 @@ impl<'p> ValueReader<'p> {
     /// A reader of the row that these bytes of a payload are, which has this rowid where its table has rowids; `None` where they
     /// are none. (Database File Format, section 2.3 "Representation Of SQL Tables", and section 2.4 "Representation Of WITHOUT
     /// ROWID Tables")
-    #[inline]
+    #[inline(always)]
     pub fn new(table: &'p Table, rowid: Option<i64>, payload: &'p [u8]) -> Option<ValueReader<'p>>
         ensures found { IfSome result (λ reader. (table_read reader ≡ table.now)
             × ((row : Row) → IsAnyRecord table.now rowid payload.now row → IsReadingRow reader row)) }
@@ -56,7 +56,7 @@ impl<'p> ValueReader<'p> {
     /// The value of a column, counted from 0; a text or a blob is a slice of the payload, or of the column's DEFAULT where
     /// the row is older. `None` where the payload is no such row. Columns that are asked for in the order of the record are
     /// found in one walk along it; for one before the last the walk begins anew.
-    #[inline]
+    #[inline(always)]
     pub fn value(&mut self, column: usize) -> Option<ValueRef<'p>>
         requires { column < length (table_read self.old).columns }
         ensures found { IfSome result (λ value. (row : Row) → IsReadingRow self.old row
