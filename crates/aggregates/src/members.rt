@@ -1,5 +1,5 @@
 //! The aggregates of a group.
-ghost use Rattle.std.specs.Prelude.{◌≡◌, ◌⊎◌, ◌++◌, [], ◌∷◌, Any, Err, IfErr, IfOk, OnOk, List, length, map, None};
+ghost use Rattle.std.specs.Prelude.{◌≡◌, ◌⊎◌, ◌++◌, [], ◌∷◌, Any, Err, IfErr, IfOk, OnOk, List, map, None};
 ghost use Rattle.values.specs.Datum.{Datum, datum_of};
 ghost use Rattle.values.specs.Row.{Row};
 ghost use Rattle.expr.specs.Meaning.{Overflows, eval};

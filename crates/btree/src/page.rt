@@ -5,7 +5,7 @@ ghost use Rattle.image.specs.declared.kind.Level.{Level};
 ghost use Rattle.image.specs.declared.kind.Level.TheVariants.{Leaf, Interior};
 ghost use Rattle.image.specs.Cell.{CellData};
 ghost use Rattle.pager.specs.Header.{field};
-ghost use Rattle.image.specs.Layout.{HasHeaderAt, cell_count, cell_place, child, flag, flag_of, header_at, header_size, right_child};
+ghost use Rattle.image.specs.Layout.{HasHeaderAt, cell_count, cell_place, child, flag, flag_of, header_at, header_size};
 ghost use Rattle.btree.specs.Bytes.{HasKeyOf, IsDividerCell, IsEntryCell, IsRowCell, LacksChild};
 ghost use Rattle.btree.specs.ViewData.{IsViewOf, TellsOfCell};
 ghost use Rattle.btree.specs.Views.{cell_data};

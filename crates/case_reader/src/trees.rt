@@ -1,6 +1,6 @@
 //! The trees of these phrases.
 ghost use Rattle.statement_trees.specs.TreeView.{arm_of, expr_of};
-ghost use Rattle.std.specs.Prelude.{◌≡◌, IfOk, option_map};
+ghost use Rattle.std.specs.Prelude.{◌≡◌, IfOk};
 ghost use Rattle.syntax.specs.ExprTree.{ExprTree, arms_of};
 ghost use Rattle.window_reader.specs.Views.{arms_of_vec, present_of};
 

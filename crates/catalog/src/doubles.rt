@@ -1,5 +1,5 @@
 //! Names that two tables or indexes have.
-ghost use Rattle.std.specs.Prelude.{◌≡◌, ◌↔◌, IfNone, IfSome, IsTrue, List, ℕ};
+ghost use Rattle.std.specs.Prelude.{◌↔◌, IfNone, IfSome, IsTrue, List, ℕ};
 ghost use Rattle.std.specs.List.{Any};
 ghost use Rattle.catalog.specs.Says.{Doubled, HasTree};
 ghost use Rattle.catalog.specs.Taken.{HasName, RepeatsName, TakesName};

@@ -1,7 +1,7 @@
 //! The rows of each SELECT, joined.
 ghost use Rattle.std.specs.Prelude.{◌≡◌, ◌++◌, All, IfErr, IfSome, IsNone, List, MatchResult, map};
 ghost use Rattle.values.specs.Datum.{datum_of};
-ghost use Rattle.values.specs.Row.{Row as RowData};
+ghost use Rattle.values.specs.Row.{Row as RowData, rows_data};
 ghost use Rattle.pager.specs.Calls.{ReadsPages};
 ghost use Rattle.sources.specs.Coming.{IsRooted};
 ghost use Rattle.image.specs.Pages.{WhereSteady};
@@ -11,7 +11,6 @@ ghost use Rattle.plans.specs.PlanView.{plan_data};
 ghost use Rattle.scan.specs.Coming.{Asks};
 ghost use Rattle.operators.specs.Basis.{AreStored, Basis, IsOperatorFault};
 ghost use Rattle.operators.specs.Left.{IsPlanOf};
-ghost use Rattle.ordered_rows.specs.FirstView.{rows_data};
 ghost use Rattle.distinct_results.specs.Firsts.{firsts};
 ghost use Rattle.compound_results.specs.Arms.{ArePlannedOver, arm_data, arm_rows, arms_data, rows_of_arms, work_of_arms};
 ghost use Rattle.compound_results.specs.Compounds.{IsArmCause, IsArmsCause};

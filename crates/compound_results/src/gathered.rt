@@ -1,6 +1,6 @@
 //! The rows of a stream: kept, or looked up among others.
 ghost use Rattle.std.specs.Prelude.{◌≡◌, ◌++◌, ℕ, All, IfErr, List, MatchResult, map};
-ghost use Rattle.values.specs.Row.{Row as RowData};
+ghost use Rattle.values.specs.Row.{Row as RowData, rows_data};
 ghost use Rattle.pager.specs.Calls.{ReadsPages};
 ghost use Rattle.sources.specs.Coming.{IsRooted};
 ghost use Rattle.image.specs.Pages.{WhereSteady};
@@ -9,7 +9,6 @@ ghost use Rattle.scan.specs.Coming.{Asks};
 ghost use Rattle.operators.specs.Basis.{AreStored, Basis, IsOperatorFault};
 ghost use Rattle.operators.specs.Left.{IsPlanOf, plan_of};
 ghost use Rattle.results.specs.Coming.{IsComing, IsResultCause};
-ghost use Rattle.ordered_rows.specs.FirstView.{rows_data};
 ghost use Rattle.distinct_results.specs.Firsts.{firsts};
 ghost use Rattle.compound_results.specs.Joined.{has_row};
 

@@ -1,13 +1,13 @@
 //! The rows of SELECTs that UNION ALL joins, put in order.
 ghost use Rattle.std.specs.Prelude.{◌≡◌, ◌++◌, ℕ, All, IfErr, List, MatchResult, OnOk};
-ghost use Rattle.values.specs.Row.{Row};
+ghost use Rattle.values.specs.Row.{Row, rows_data};
 ghost use Rattle.pager.specs.Calls.{ReadsPages};
 ghost use Rattle.sources.specs.Coming.{IsRooted};
 ghost use Rattle.image.specs.Pages.{WhereSteady};
 ghost use Rattle.scan.specs.Coming.{Asks};
 ghost use Rattle.operators.specs.Basis.{AreStored, Basis, IsOperatorFault};
 ghost use Rattle.ordered_rows.specs.Firsts.{BeginsAll};
-ghost use Rattle.ordered_rows.specs.FirstView.{FewAreKept, KeepsFirst, rows_data};
+ghost use Rattle.ordered_rows.specs.FirstView.{FewAreKept, KeepsFirst};
 ghost use Rattle.ordered_rows.specs.Keys.{comes_before};
 ghost use Rattle.compound_results.specs.Arms.{ArePlannedOver, arms_data, rows_of_arms, work_of_arms};
 ghost use Rattle.compound_results.specs.Chains.{AreAll};

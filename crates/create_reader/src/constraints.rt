@@ -1,5 +1,5 @@
 //! Constraints of tables.
-ghost use Rattle.std.specs.Prelude.{◌≡◌, ◌<◌, ◌≤◌, IfOk, length};
+ghost use Rattle.std.specs.Prelude.{◌<◌, IfOk, length};
 ghost use Rattle.create_reader.specs.CreateReading as spec;
 ghost use Rattle.phrases.specs.Steps.{HasFound};
 ghost use Rattle.phrases.specs.Texts.{lexemes_of};

@@ -1,5 +1,5 @@
 //! The columns of keys.
-ghost use Rattle.std.specs.Prelude.{◌≡◌, ◌<◌, ◌≤◌, IfOk, length, map, option_map, string_bytes};
+ghost use Rattle.std.specs.Prelude.{◌<◌, ◌≤◌, IfOk, length, map, option_map, string_bytes};
 ghost use Rattle.create_reader.specs.CreateReading as spec;
 ghost use Rattle.phrases.specs.Steps as steps;
 ghost use Rattle.phrases.specs.Steps.{HasFound};

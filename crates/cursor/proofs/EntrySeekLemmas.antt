@@ -5,7 +5,7 @@ use Rattle.std.specs.declared.cmp.Ordering.{Ordering}
 use Rattle.std.specs.declared.cmp.Ordering.TheVariants.{Less, Equal, Greater}
 use Rattle.values.specs.Datum.{Datum}
 use Rattle.values.specs.declared.fault.Fault.{Fault}
-use Rattle.values.specs.declared.fault.Fault.TheVariants.{ReadFailed, NoMemory, BadPage, BadChain, BadRecord, FloatValue, BadText, BadDepth}
+use Rattle.values.specs.declared.fault.Fault.TheVariants.{ReadFailed, NoMemory, BadPage, BadDepth}
 use Rattle.pager.specs.Calls.{IsReadFault}
 use Rattle.image.specs.declared.kind.TreeKind.TheVariants.{Index}
 use Rattle.image.specs.declared.kind.Level.{Level}
@@ -22,7 +22,7 @@ use Rattle.key_ranges.specs.Ranges.{key_cmp}
 use Rattle.key_ranges.proofs.RunLemmas.{before_too, key_after, key_never}
 use Rattle.index_entries.specs.declared.columns.IndexKey.{IndexKey}
 use Rattle.btree.specs.ViewData.{IsViewOf, ViewData}
-use Rattle.index_entries.specs.Entries.{AreValuesOf, IsCompareFault, IsViewIn}
+use Rattle.index_entries.specs.Entries.{AreValuesOf, IsViewIn}
 use Rattle.index_entries.specs.Sought.{comes_before, sought}
 use Rattle.cursor.specs.Search.{AreEntriesSought, BlamesEntry, IsIndexFault, IsSearchableIndex, entry_order}
 use Rattle.cursor.specs.Calls.{IsCursorFault}

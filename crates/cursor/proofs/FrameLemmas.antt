@@ -1,7 +1,6 @@
 -- What a frame knows of its page.
 use Rattle.std.proofs.Common.{◌≡◌, ℕ, List, Option, None, Some, ◌+◌, ◌<◌, ◌≤◌, length, take, drop, refl, sym, ◌∙◌, ap, subst, arith, length-drop, length-take}
-use Rattle.std.specs.Prelude.{IfNone, IfOk, IfSome, IsFalse, IsSome, Result, Ok, Err}
-use Rattle.std.specs.Option.{is_some}
+use Rattle.std.specs.Prelude.{IfNone, IfOk, IfSome, IsSome, Result, Ok, Err}
 use Rattle.image.specs.Shape.{place_at}
 use Rattle.image.specs.declared.kind.TreeKind.{TreeKind}
 use Rattle.image.specs.declared.kind.TreeKind.TheVariants.{Table, Index}

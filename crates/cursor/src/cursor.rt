@@ -11,7 +11,7 @@ ghost use Rattle.values.specs.Datum.{Datum};
 ghost use Rattle.image.specs.Cell.{CellData};
 ghost use Rattle.image.specs.Entries.{IsAtPlace};
 ghost use Rattle.image.specs.Pages.{Pages, IsNumber, WhereSteady, pages_seen};
-ghost use Rattle.image.specs.Shape.{IsTreeAt, most_levels, place_at, size_under};
+ghost use Rattle.image.specs.Shape.{most_levels, place_at, size_under};
 ghost use Rattle.image.specs.Search.{IsBoundary, row_before};
 ghost use Rattle.image.specs.Tree.{Place, HasEntries, HasHeader, IsEntryAt, IsNamedChild, IsPageOf, child_at, count_at};
 ghost use Rattle.cursor.specs.Calls.{GivesEntry, HasDepth, HasFailed, HasStepped, IsCursorFault, IsDepthFault, IsDescentFault, IsEntryFault, IsOpenedAt, IsOpeningFault};

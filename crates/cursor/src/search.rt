@@ -1,5 +1,5 @@
 //! Searches in a page.
-ghost use Rattle.std.specs.Prelude.{◌≡◌, ◌<◌, ◌≤◌, ℕ, ℤ, IfSome, IsSome};
+ghost use Rattle.std.specs.Prelude.{◌≡◌, ◌<◌, ℕ, ℤ, IfSome, IsSome};
 ghost use Rattle.image.specs.declared.kind.TreeKind.{TreeKind};
 ghost use Rattle.image.specs.Layout.{cell_count};
 ghost use Rattle.image.specs.Search.{IsBoundaryOf, row_before};

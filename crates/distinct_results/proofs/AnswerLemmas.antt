@@ -1,5 +1,5 @@
 -- Rows that were put in order are an answer.
-use Rattle.std.proofs.Common.{◌≡◌, ◌∙◌, Bool, ℕ, ℤ, List, [], is_lt, map, Option, sym, ap, subst, IsPermutation}
+use Rattle.std.proofs.Common.{◌≡◌, ◌∙◌, ℕ, ℤ, List, [], is_lt, map, Option, sym, ap, subst, IsPermutation}
 use Rattle.values.specs.Datum.{Datum}
 use Rattle.values.specs.Row.{Row}
 use Rattle.expr.specs.Meaning.{eval}

@@ -8,7 +8,7 @@ use Rattle.values.specs.Row.{Row}
 use Rattle.expr.specs.Meaning.{eval}
 use Rattle.expr.specs.Term.{Term}
 use Rattle.meaning.specs.Answer.{Ascends, Permits, limited, skipped, slice}
-use Rattle.meaning.specs.Body.{Output, body_rows, distinct, key_value, output, outputs, plain_outputs, values_over}
+use Rattle.meaning.specs.Body.{Output, body_rows, distinct, key_value, output, outputs, plain_outputs, values_over, computed_rows}
 use Rattle.meaning.specs.Query.{Body, From, Key, KeyTerm, QueryData, Select, compound, select}
 use Rattle.meaning.specs.Times.{once}
 use Rattle.meaning.specs.Valuation.{Valuation, term_values}
@@ -16,7 +16,7 @@ use Rattle.meaning.proofs.ScanLemmas.{unordered_permitted}
 use Rattle.meaning.proofs.TimesLemmas.{IsPermutation-once}
 use Rattle.plans.specs.Plan.{PlanData, rows_of}
 use Rattle.results.specs.Coming.{result_rows}
-use Rattle.results.specs.Permitted.{SeesRows, computed_rows}
+use Rattle.results.specs.Permitted.{SeesRows}
 use Rattle.results.proofs.PermittedLemmas.{results_are}
 use Rattle.distinct_results.specs.Firsts.{firsts}
 use Rattle.distinct_results.specs.Sorted.{IsShownInOrder}

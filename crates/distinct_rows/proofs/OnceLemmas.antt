@@ -1,5 +1,5 @@
 -- The first different elements in order, kept while they come.
-use Rattle.std.proofs.Common.{◌≡◌, ◌∙◌, ◌+◌, ◌-◌, ◌||◌, ◌⊎◌, inl, inr, ◌<◌, ◌≤◌, All, Bool, true, false, ℕ, zero, suc, List, [], ◌∷◌, ◌++◌, Option, Some, None, drop, get_or, length, map, take, append-nil, append_assoc, if◌then◌else◌, refl, sym, ap, subst, arith, ⊎_elim, IsPermutation, IsSortedBy}
+use Rattle.std.proofs.Common.{◌≡◌, ◌∙◌, ◌+◌, ◌-◌, ◌||◌, ◌⊎◌, inl, inr, ◌≤◌, All, Bool, true, false, ℕ, zero, suc, List, [], ◌∷◌, ◌++◌, Option, drop, length, take, append-nil, append_assoc, if◌then◌else◌, refl, sym, ap, subst, arith, ⊎_elim, IsPermutation, IsSortedBy}
 use Rattle.std.specs.Cmp.{IsStrictWeakOrder}
 use Rattle.std.specs.List.{list_any}
 use Rattle.std.proofs.lemmas.Bool.{cases_Bool, false≢true}
@@ -12,7 +12,7 @@ use Rattle.meaning.specs.Times.{same_row}
 use Rattle.meaning.proofs.TimesLemmas.{same_row-reads}
 use Rattle.ordered_rows.specs.declared.order.ResultKey.{ResultKey}
 use Rattle.ordered_rows.specs.Keys.{comes_before}
-use Rattle.ordered_rows.specs.Firsts.{BeginsAll, IsBehind, IsKeptOf, KeepsOf, at_most}
+use Rattle.ordered_rows.specs.Firsts.{BeginsAll, IsBehind, IsKeptOf, at_most}
 use Rattle.ordered_rows.proofs.FirstLemmas.{IsBehind-more, IsKeptOf-push, IsKeptOf-same, KeepsOf-begins, KeepsOf-cut, KeepsOf-none, KeepsOf-pass, comes_before_order}
 use Rattle.distinct_rows.specs.Firsts.{firsts}
 use Rattle.distinct_rows.specs.OnceView.{KeepsFirmly, KeepsOnce, first_of, more_of}

@@ -3,8 +3,8 @@ ghost use Rattle.std.specs.Prelude.{◌≡◌, ◌++◌, ◌∷◌, [], IfOk, Is
 ghost use Rattle.std.specs.List.Sorted.{IsSortedBy};
 ghost use Rattle.values.specs.Datum.{Datum, datum_of};
 ghost use Rattle.ordered_rows.specs.declared.order.ResultKey.{ResultKey as KeyData};
+ghost use Rattle.values.specs.Row.{rows_data};
 ghost use Rattle.ordered_rows.specs.Firsts.{BeginsAll, HasRoom, IsBehind, at_most};
-ghost use Rattle.ordered_rows.specs.FirstView.{rows_data};
 ghost use Rattle.ordered_rows.specs.Keys.{comes_before};
 ghost use Rattle.distinct_rows.specs.Firsts.{firsts};
 ghost use Rattle.distinct_rows.specs.OnceView.{FewAreKeptOnce, KeepsOnce, first_of, more_of};

@@ -1,6 +1,6 @@
 //! The rows of a set.
+ghost use Rattle.values.specs.Row.{rows_data};
 ghost use Rattle.std.specs.Prelude.{◌≡◌, IfOk};
-ghost use Rattle.ordered_rows.specs.FirstView.{rows_data};
 
 use indexmap::IndexSet;
 use std::alloc::{AllocError, Global};

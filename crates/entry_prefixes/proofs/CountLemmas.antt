@@ -5,8 +5,8 @@ use Rattle.std.proofs.lemmas.Bool.{cases_lt}
 use Rattle.std.proofs.lemmas.List.{length_push}
 use Rattle.std.proofs.lemmas.Option.{slice_get-get_or, slice_get_within}
 use Rattle.values.specs.Row.{Row}
+use Rattle.values.specs.Bounds.{counted}
 use Rattle.records.specs.Record.{IsRecord}
-use Rattle.tree_walk.specs.Counts.{counted}
 use Rattle.wanted_entries.specs.Unique.{Agree, AreApart, HasNoNull, IsNotUnique, IsRunCount, none, one, same, more}
 use Rattle.entry_prefixes.specs.declared.counting.Prefixes.{Prefixes}
 use Rattle.entry_prefixes.specs.Counting.{EndsWith, HasRuns, IsCounted}

@@ -1,7 +1,7 @@
 -- What is counted of the first entries of an index, in their order.
 use Rattle.std.specs.Prelude.{◌≡◌, ◌≤◌, ◌++◌, ◌∷◌, [], ℕ, suc, IsTrue, List, length, Option, None, Some, slice_get}
+use Rattle.values.specs.Bounds.{counted}
 use Rattle.values.specs.Row.{Row}
-use Rattle.tree_walk.specs.Counts.{counted}
 use Rattle.wanted_entries.specs.Unique.{AreApart, IsNotUnique, IsRunCount}
 use Rattle.entry_prefixes.specs.declared.counting.Prefixes.{Prefixes}
 use Rattle.entry_prefixes.specs.Last.{IsLast, LastData}

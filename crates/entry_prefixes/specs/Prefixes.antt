@@ -2,8 +2,8 @@
 -- "Unique Indexes")
 use Rattle.std.specs.Prelude.{◌≡◌, ◌↔◌, ℕ, suc, IsTrue, List, length, Some, slice_get}
 use Rattle.values.specs.Row.{Row}
+use Rattle.values.specs.Bounds.{counted}
 use Rattle.image.specs.Pages.{Pages}
-use Rattle.tree_walk.specs.Counts.{counted}
 use Rattle.wanted_entries.specs.Unique.{IsNotUnique, IsPrefixCount}
 use Rattle.entry_prefixes.specs.declared.counting.Prefixes.{Prefixes}
 use Rattle.entry_prefixes.specs.Entries.{HoldsEntries}

@@ -2,8 +2,8 @@
 ghost use Rattle.std.specs.Prelude.{◌≡◌, ◌<◌, ◌≤◌, ◌+◌, ◌↔◌, ◌++◌, ◌∷◌, [], ℕ, false, true, IfOk, IsFalse, IsTrue, List, length, Option, Some, slice_get, suc, take};
 ghost use Rattle.values.specs.Row.{Row};
 ghost use Rattle.records.specs.Record.{IsRecord};
+ghost use Rattle.values.specs.Bounds.{counted};
 ghost use Rattle.wanted_entries.specs.Unique.{Agree, HasNoNull};
-ghost use Rattle.tree_walk.specs.Counts.{counted};
 ghost use Rattle.entry_prefixes.specs.Counting.{EndsWith, IsCounted};
 ghost use Rattle.entry_prefixes.specs.Last.{IsLast};
 

@@ -6,7 +6,8 @@ ghost use Rattle.naming.specs.Expression as spec;
 ghost use Rattle.naming.specs.Outcome.{both};
 ghost use Rattle.query_trees.specs.Outcome.{Gives};
 ghost use Rattle.query_trees.specs.TermView.{arm_terms, term};
-ghost use Rattle.statement_trees.specs.TreeView.{arm_of, expr_of, maybe_of};
+ghost use Rattle.syntax.specs.ExprView.{maybe_of};
+ghost use Rattle.statement_trees.specs.TreeView.{arm_of, expr_of};
 ghost use Rattle.syntax.specs.ExprTree.{arms_of, trees_of};
 
 use crate::leaves::{among_answer, or_null, without_operands};

@@ -4,7 +4,8 @@ ghost use Rattle.std.specs.List.{flat_map};
 ghost use Rattle.expression_parts.specs.Found.{found_in};
 ghost use Rattle.grammar.specs.Reading.{definitions_of, results_of, terms_of};
 ghost use Rattle.naming.specs.Parts as spec;
-ghost use Rattle.statement_trees.specs.TreeView.{core_of, definition_of, expr_of, joined_of, maybe_from, maybe_of, on_of, result_of, sources_of, term_of};
+ghost use Rattle.syntax.specs.ExprView.{maybe_of};
+ghost use Rattle.statement_trees.specs.TreeView.{core_of, definition_of, expr_of, joined_of, maybe_from, on_of, result_of, sources_of, term_of};
 ghost use Rattle.syntax.specs.ExprTree.{trees_of};
 
 use crate::expressions::{all_parts, parts, terms_parts, window_parts};

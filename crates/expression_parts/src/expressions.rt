@@ -3,7 +3,8 @@ ghost use Rattle.std.specs.Prelude.{◌≡◌, ◌++◌, ◌∷◌, [], OnOk, ma
 ghost use Rattle.expression_parts.specs.Found.{found_in};
 ghost use Rattle.grammar.specs.Reading.{terms_of};
 ghost use Rattle.naming.specs.Parts as spec;
-ghost use Rattle.statement_trees.specs.TreeView.{arm_of, behind_of, expr_of, maybe_of, over_of, term_of, window_of};
+ghost use Rattle.syntax.specs.ExprView.{maybe_of};
+ghost use Rattle.statement_trees.specs.TreeView.{arm_of, behind_of, expr_of, over_of, term_of, window_of};
 ghost use Rattle.syntax.specs.ExprTree.{arms_of, trees_of};
 
 use statement_trees::{Arm, Behind, Expr, Over, Term, Window};

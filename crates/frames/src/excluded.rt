@@ -1,5 +1,5 @@
 //! What EXCLUDE takes out of a frame.
-ghost use Rattle.std.specs.Prelude.{◌≡◌, ◌<◌, ◌≤◌, ◌==◌, length};
+ghost use Rattle.std.specs.Prelude.{◌<◌, ◌≤◌, ◌==◌, length};
 ghost use Rattle.meaning.specs.Windows.{are_peers, excludes};
 ghost use Rattle.query_trees.specs.SelectView.{exclusion_of};
 ghost use Rattle.window_order.specs.Placed.{keys_in, ways_in};

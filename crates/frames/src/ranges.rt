@@ -1,5 +1,5 @@
 //! The frame of a row as ranges of places.
-ghost use Rattle.std.specs.Prelude.{◌≡◌, ◌<◌, length, not};
+ghost use Rattle.std.specs.Prelude.{◌<◌, length, not};
 ghost use Rattle.meaning.specs.Windows.{after_edge, before_edge, in_frame, unless};
 ghost use Rattle.meaning.specs.Windows as windows;
 ghost use Rattle.query_trees.specs.SelectView.{edge_of, frame_of, unit_of};

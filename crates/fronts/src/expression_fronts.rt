@@ -1,5 +1,5 @@
 //! What stands at the front of the tokens of an expression.
-ghost use Rattle.std.specs.Prelude.{◌≡◌, ◌<◌, ◌≤◌, length, IfOk, option_map};
+ghost use Rattle.std.specs.Prelude.{◌≡◌, ◌<◌};
 ghost use Rattle.fronts.specs.ExpressionFronts.{following_of, inside_of, joint_of, membership_of, opening_of};
 ghost use Rattle.grammar.specs.Fronts as spec;
 ghost use Rattle.grammar.specs.Reading as reading;

@@ -1,13 +1,12 @@
 -- What was read is spelt: each phrase of a statement but expressions with operators, where its inner phrases are.
-use Rattle.std.proofs.Common.{◌≡◌, Bool, true, false, ℕ, zero, suc, ◌<◌, ◌≤◌, max, List, [], ◌∷◌, length, Option, Some, None, Ok, Err, refl, sym, ap, ◌∙◌, arith, subst}
+use Rattle.std.proofs.Common.{◌≡◌, Bool, true, false, ℕ, ◌∷◌, Option, Some, None, Ok, refl, sym, ap, ◌∙◌, arith, subst}
 use Rattle.tokens.specs.Lexeme.{Lexeme}
 use Rattle.std.specs.Prelude.{not}
 use Rattle.tokens.specs.declared.keyword.Keyword.{Keyword}
 use Rattle.tokens.specs.declared.keyword.Keyword.TheVariants as k
 use Rattle.tokens.specs.declared.sign.Sign.TheVariants as s
-use Rattle.phrases.specs.Lists.{AfterComma, Listed, Many}
-use Rattle.phrases.specs.Outcomes.{Outcome, Read, Refusal, ◌>>=◌, needed, read, series}
-use Rattle.phrases.specs.Steps.{Rest, after_close, after_comma, after_keyword, after_open, name}
+use Rattle.phrases.specs.Outcomes.{Outcome, Read, needed, read}
+use Rattle.phrases.specs.Steps.{Rest, after_close, after_comma, after_keyword, name}
 use Rattle.phrases.proofs.OutcomeLemmas.{bind_ok, ok_inj, some_inj}
 use Rattle.phrases.proofs.StepLemmas.{at_keyword, at_sign, names}
 use Rattle.syntax.specs.ExprTree.{
@@ -29,13 +28,11 @@ use Rattle.syntax.specs.ExprTree.{
   WindowTree,
 }
 use Rattle.syntax.specs.Tree.{Name}
-use Rattle.syntax.specs.declared.query.Direction.{Direction}
 use Rattle.syntax.specs.declared.query.Edge.{Edge}
 use Rattle.syntax.specs.declared.query.Edge.TheVariants as v
-use Rattle.syntax.specs.declared.query.Frame.{Frame}
 use Rattle.syntax.specs.declared.query.FrameUnit.{FrameUnit}
-use Rattle.grammar.specs.Clauses.{Aliases, Directs, Edges, Excludes, Frames, Names, PlacesNulls, Spans, Titles, Turns, Units}
-use Rattle.grammar.specs.Fronts.{after_group_by, after_order_by, after_partition_by, binds, exclusion, nulls, turn, unit_at}
+use Rattle.grammar.specs.Clauses.{Aliases, Directs, Edges, Excludes, Frames, Names, PlacesNulls, Spans, Turns, Units}
+use Rattle.grammar.specs.Fronts.{after_group_by, after_order_by, after_partition_by, exclusion, nulls, turn, unit_at}
 use Rattle.grammar.specs.Queries.{
   Expresses,
   ExpressesAll,
@@ -89,7 +86,7 @@ use Rattle.grammar.specs.Reading.{
   window_at,
   windowed,
 }
-use Rattle.grammar.proofs.SoundSteps.{Before, Both, Finds, Phrase, Sound, Within, sound_behind, sound_both, sound_closed, sound_flat, sound_less, sound_made, sound_needed, sound_optional, sound_series}
+use Rattle.grammar.proofs.SoundSteps.{Before, Both, Finds, Phrase, Sound, Within, sound_behind, sound_both, sound_closed, sound_flat, sound_made}
 
 -- Steps
 

@@ -1,5 +1,5 @@
 -- What was read as an expression is one.
-use Rattle.std.proofs.Common.{◌≡◌, Bool, true, false, ℕ, zero, suc, ◌<◌, ◌≤◌, max, List, [], ◌∷◌, length, Option, Some, None, Ok, Err, leb, ltb, refl, sym, ap, ◌∙◌, arith, subst}
+use Rattle.std.proofs.Common.{◌≡◌, Bool, true, ℕ, zero, suc, ◌<◌, ◌≤◌, max, List, ◌∷◌, length, Option, Some, None, Ok, Err, leb, ltb, refl, sym, ap, ◌∙◌, arith, subst}
 use mathlib.Core.Logic.{inl, inr}
 use Rattle.std.proofs.lemmas.Bool.{cases_lt, cond-false, cond-true, le-leb, le-ltb, lt-leb, lt-ltb}
 use Rattle.tokens.specs.Lexeme.{Lexeme}
@@ -8,25 +8,22 @@ use Rattle.tokens.specs.declared.sign.Sign.TheVariants as s
 use Rattle.tokens.specs.declared.token.Quoting.{Quoting}
 use Rattle.tokens.specs.declared.token.Quoting.TheVariants as q
 use Rattle.phrases.specs.Outcomes.{Outcome, Read, Refusal, ◌>>=◌, kept_if, needed, read}
-use Rattle.phrases.specs.Steps.{Rest, after_close, after_comma, after_keyword, after_open, name}
+use Rattle.phrases.specs.Steps.{Rest, after_close, after_keyword, after_open, name}
 use Rattle.phrases.proofs.OutcomeLemmas.{bind_ok, ok_inj, some_inj}
 use Rattle.phrases.proofs.StepLemmas.{at_keyword, at_sign, kept, names, needed_some, needs_sign}
-use Rattle.syntax.specs.ExprTree.{ArmTrees, BehindTree, CoreTree, ExprTree, ExprTrees, MaybeExpr, QueryTree, arms_of, trees_of}
+use Rattle.syntax.specs.ExprTree.{BehindTree, ExprTree, ExprTrees, MaybeExpr, trees_of}
 use Rattle.syntax.specs.Functions.{function_of, takes, takes_number}
 use Rattle.syntax.specs.Tree.{Name}
-use Rattle.syntax.specs.declared.expr.BinaryOperator.{BinaryOperator}
 use Rattle.syntax.specs.declared.expr.Function.{Function}
 use Rattle.syntax.specs.declared.expr.Function.TheVariants as f
-use Rattle.syntax.specs.declared.expr.PostfixOperator.{PostfixOperator}
-use Rattle.syntax.specs.declared.expr.PrefixOperator.{PrefixOperator}
 use Rattle.grammar.specs.Fronts.{Following, Inside, Joint, Membership, Opening, binds, following, inside, joint, level_of_joint, membership, opening}
-use Rattle.grammar.specs.Operators.{Follows, IsLiteral, MaybeNot, Precedes, Stands, level_of, level_of_prefix}
-use Rattle.grammar.specs.Queries.{Expresses, ExpressesAll, ExpressesElse, ExpressesOperand, Queries, Selects, StandsBehind, nowhere}
-use Rattle.grammar.specs.Reading.{Inner, a_name, arguments, arms, behind, both, called, choice, chosen, climb, closed, counted, expr, expr_by, extended, extended_at, flat, function_at, inner, joined, list, loosely, made, members, named, one, operand, operand_at, operand_of_case, otherwise, some, starred}
+use Rattle.grammar.specs.Operators.{MaybeNot, level_of, level_of_prefix}
+use Rattle.grammar.specs.Queries.{Expresses, ExpressesAll, ExpressesOperand, Queries, StandsBehind, nowhere}
+use Rattle.grammar.specs.Reading.{Inner, a_name, arguments, arms, behind, both, called, choice, chosen, climb, closed, counted, expr, expr_by, extended, extended_at, flat, inner, joined, list, loosely, made, members, named, one, operand, operand_at, operand_of_case, otherwise, some}
 use Rattle.grammar.proofs.Shape.{count_trees, level_small, loose, prefix_large}
 use Rattle.grammar.proofs.SoundFronts.{Continues, HasMembers, Holds, IsFollowed, Opens, continues, followed, has_members, holds, opens}
-use Rattle.grammar.proofs.SoundParts.{AllOf, AreArms, Enclosed, IsElse, enclosed_within, SoundInner, Stopped, arms_sound, behind_sound, list_sound, one_sound, operand_sound, otherwise_sound, some_sound}
-use Rattle.grammar.proofs.SoundSteps.{Before, Both, Finds, Phrase, Sound, Within, sound_both, sound_closed, sound_flat, sound_less, sound_made}
+use Rattle.grammar.proofs.SoundParts.{AllOf, AreArms, IsElse, enclosed_within, SoundInner, Stopped, arms_sound, behind_sound, list_sound, one_sound, operand_sound, otherwise_sound, some_sound}
+use Rattle.grammar.proofs.SoundSteps.{Before, Both, Phrase, Sound, Within, sound_both, sound_closed, sound_flat, sound_less, sound_made}
 use Rattle.grammar.proofs.Turns.{climb_stops, extended_full, extended_room}
 
 is_loose : (ts us : Rest) → loosely ts ≡ Some us → (ts ≡ us) × (binds ts ≤ 4)

@@ -1,5 +1,5 @@
 -- What was read is spelt: the parts of expressions, windows and what stands behind a call, where inner phrases are.
-use Rattle.std.proofs.Common.{◌≡◌, Bool, true, false, ℕ, zero, suc, ◌<◌, ◌≤◌, max, List, [], ◌∷◌, length, Option, Some, None, Ok, Err, leb, refl, sym, ap, ◌∙◌, arith, subst}
+use Rattle.std.proofs.Common.{◌≡◌, Bool, true, false, ℕ, suc, ◌<◌, ◌≤◌, max, List, [], ◌∷◌, length, Option, Some, None, Ok, Err, leb, refl, sym, ap, ◌∙◌, arith, subst}
 use mathlib.Core.Logic.{inl, inr}
 use Rattle.std.proofs.lemmas.Bool.{cases_lt, cond-false, cond-true, le-leb, lt-leb}
 use Rattle.tokens.specs.Lexeme.{Lexeme}
@@ -10,7 +10,7 @@ use Rattle.phrases.specs.Outcomes.{Outcome, Read, Refusal, ◌>>=◌, needed, re
 use Rattle.phrases.specs.Steps.{Rest, after_close, after_comma, after_keyword, after_open}
 use Rattle.phrases.proofs.OutcomeLemmas.{bind_ok, fits, fits_in, ok_inj}
 use Rattle.phrases.proofs.StepLemmas.{at_keyword, at_sign}
-use Rattle.syntax.specs.ExprTree.{ArmTrees, BehindTree, CoreTree, ExprTree, ExprTrees, MaybeExpr, OverTree, QueryTree, TermTrees, WindowTree, arms_of, trees_of}
+use Rattle.syntax.specs.ExprTree.{CoreTree, ExprTree, ExprTrees, MaybeExpr, OverTree, QueryTree, TermTrees, WindowTree, arms_of, trees_of}
 use Rattle.syntax.specs.declared.query.Direction.{Direction}
 use Rattle.syntax.specs.declared.query.Frame.{Frame}
 use Rattle.grammar.specs.Clauses.{Directs, Frames}
@@ -21,7 +21,7 @@ use Rattle.grammar.specs.Reading.{Inner, alone, arm, arms, behind, both, closed,
 use Rattle.grammar.proofs.Complete.{complete}
 use Rattle.grammar.proofs.Shape.{loose}
 use Rattle.grammar.proofs.Sound.{Flat, direction_sound, finds_comma, finds_keyword, finds_order, finds_partition, frame_sound}
-use Rattle.grammar.proofs.SoundSteps.{Before, Both, Finds, Phrase, Sound, Within, sound_behind, sound_both, sound_closed, sound_flat, sound_less, sound_made, sound_needed, sound_optional, sound_series}
+use Rattle.grammar.proofs.SoundSteps.{Before, Both, Phrase, Sound, Within, sound_behind, sound_both, sound_closed, sound_flat, sound_less, sound_made, sound_needed, sound_optional, sound_series}
 use Rattle.grammar.proofs.Turns.{climb_stops}
 
 -- what was read within one more construct

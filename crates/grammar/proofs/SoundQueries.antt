@@ -1,5 +1,5 @@
 -- What was read as a query is one.
-use Rattle.std.proofs.Common.{◌≡◌, Bool, true, false, ℕ, zero, suc, ◌<◌, ◌≤◌, max, List, [], ◌∷◌, length, Option, Some, None, Ok, Err, leb, ltb, refl, sym, ap, ◌∙◌, arith, subst}
+use Rattle.std.proofs.Common.{◌≡◌, Bool, true, ℕ, zero, suc, ◌≤◌, max, List, [], ◌∷◌, length, Option, Some, None, Ok, Err, ltb, refl, sym, ap, ◌∙◌, arith, subst}
 use mathlib.Core.Logic.{inl, inr}
 use Rattle.std.proofs.lemmas.Bool.{cases_lt, cond-false, cond-true, le-ltb, lt-ltb}
 use Rattle.tokens.specs.Lexeme.{Lexeme}
@@ -7,17 +7,17 @@ use Rattle.tokens.specs.declared.keyword.Keyword.TheVariants as k
 use Rattle.tokens.specs.declared.sign.Sign.TheVariants as s
 use Rattle.tokens.specs.declared.token.Quoting.{Quoting}
 use Rattle.phrases.specs.Lists.{AfterComma, Listed, Many}
-use Rattle.phrases.specs.Outcomes.{Outcome, Read, Refusal, ◌>>=◌, needed, read, series}
+use Rattle.phrases.specs.Outcomes.{Read, Refusal, ◌>>=◌, needed, read, series}
 use Rattle.phrases.specs.Steps.{Rest, after_close, after_comma, after_keyword, after_open, name}
 use Rattle.phrases.proofs.OutcomeLemmas.{bind_ok, ok_inj, some_inj}
 use Rattle.phrases.proofs.StepLemmas.{at_keyword, at_sign, needed_some}
-use Rattle.syntax.specs.ExprTree.{CoreTree, DefinitionTrees, ExprTree, ExprTrees, FromTree, MaybeExpr, NameTree, OnTree, QueryTree, ResultTree, ResultTrees, SourceTree, WindowTree}
+use Rattle.syntax.specs.ExprTree.{CoreTree, DefinitionTrees, ExprTrees, FromTree, MaybeExpr, NameTree, OnTree, QueryTree, ResultTree, ResultTrees, SourceTree, WindowTree}
 use Rattle.syntax.specs.Tree.{Name}
 use Rattle.syntax.specs.declared.query.CompoundOperator.{CompoundOperator}
 use Rattle.grammar.specs.Clauses.{Aliases, Compounds, Names, Quantifies, Titles, Wants, may_have}
 use Rattle.grammar.specs.Fronts.{after_group_by, compound, quantifier}
 use Rattle.grammar.specs.Queries.{Defines, DefinesAll, Expresses, ExpressesAll, Froms, Groups, Havings, IsResult, IsSource, Ons, Queries, Results, Selects, Wheres, Windows, nowhere}
-use Rattle.grammar.specs.Reading.{Inner, a_name, a_source, absent_on, alias, both, closed, compounded, compounds, condition, core, counted, definition, definitions, definitions_of, from, groups, having, made, names, next_core, on, on_at, one, optional, parts, query_by, result, results, results_of, selected, some, source_at, using_at, title, value, window, windows}
+use Rattle.grammar.specs.Reading.{Inner, a_name, a_source, absent_on, alias, both, closed, compounded, compounds, condition, core, counted, definition, definitions, definitions_of, from, groups, having, made, names, next_core, on, on_at, one, parts, query_by, result, results, results_of, selected, some, source_at, using_at, title, value, window, windows}
 use Rattle.grammar.proofs.Sound.{Flat, alias_sound, finds_comma, finds_group, finds_keyword, name_sound}
 use Rattle.grammar.proofs.SoundParts.{SoundInner, condition_sound, enclosed_within, having_sound, one_sound, some_sound, window_sound}
 use Rattle.grammar.proofs.SoundSteps.{Before, Both, Phrase, Sound, Within, sound_behind, sound_both, sound_closed, sound_flat, sound_less, sound_made, sound_optional, sound_series}

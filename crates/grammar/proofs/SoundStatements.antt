@@ -1,16 +1,16 @@
 -- What was read as a statement is one: the sources of FROM, levels, WITH, the end.
-use Rattle.std.proofs.Common.{◌≡◌, Bool, true, false, ℕ, zero, suc, ◌<◌, ◌≤◌, max, ℤ, List, [], ◌∷◌, length, Option, Some, None, Ok, Err, refl, sym, ap, ◌∙◌, arith, subst}
+use Rattle.std.proofs.Common.{◌≡◌, Bool, true, ℕ, zero, suc, ◌≤◌, max, ℤ, List, [], ◌∷◌, length, Option, Some, None, Ok, Err, refl, sym, ap, ◌∙◌, arith, subst}
 use mathlib.Core.Logic.{inl, inr}
 use Rattle.std.proofs.lemmas.Bool.{cases_lt}
 use Rattle.tokens.specs.Lexeme.{Lexeme}
 use Rattle.tokens.specs.declared.keyword.Keyword.TheVariants as k
 use Rattle.tokens.specs.declared.sign.Sign.TheVariants as s
 use Rattle.phrases.specs.Lists.{Listed}
-use Rattle.phrases.specs.Outcomes.{Outcome, Read, Refusal, ◌>>=◌, kept_if, needed, read, series}
+use Rattle.phrases.specs.Outcomes.{Outcome, Read, Refusal, kept_if, read}
 use Rattle.phrases.specs.Steps.{Rest, after_close, after_comma, after_keyword, after_open, ends}
-use Rattle.phrases.proofs.OutcomeLemmas.{bind_ok, fits, fits_in, fits_out, ok_inj, some_inj}
-use Rattle.phrases.proofs.StepLemmas.{at_keyword, at_sign, kept, needed_some}
-use Rattle.syntax.specs.ExprTree.{FromTree, OnTree, QueryTree, SourceTree, TermTrees}
+use Rattle.phrases.proofs.OutcomeLemmas.{bind_ok, fits_in, fits_out, ok_inj, some_inj}
+use Rattle.phrases.proofs.StepLemmas.{at_keyword, at_sign, kept}
+use Rattle.syntax.specs.ExprTree.{FromTree, QueryTree, TermTrees}
 use Rattle.syntax.specs.StatementTree.{ItemTree, StatementTree}
 use Rattle.syntax.specs.Tree.{Name}
 use Rattle.syntax.specs.declared.query.Join.{Join}
@@ -60,7 +60,7 @@ use Rattle.grammar.proofs.Sound.{Flat, finds_close, finds_comma, finds_keyword, 
 use Rattle.grammar.proofs.SoundExprs.{sound_expr}
 use Rattle.grammar.proofs.SoundParts.{Enclosed, SoundInner, Stopped, enclosed_within, order_sound}
 use Rattle.grammar.proofs.SoundQueries.{SoundFrom, core_sound, names_sound, on_sound, query_sound, source_sound}
-use Rattle.grammar.proofs.SoundSteps.{Before, Both, Phrase, Sound, Within, sound_behind, sound_both, sound_closed, sound_flat, sound_less, sound_made, sound_needed, sound_optional, sound_series}
+use Rattle.grammar.proofs.SoundSteps.{Before, Both, Phrase, Sound, Within, sound_behind, sound_both, sound_closed, sound_less, sound_made, sound_needed, sound_optional, sound_series}
 use Rattle.grammar.proofs.StatementLemmas.{statement_reads}
 
 -- How a source is joined

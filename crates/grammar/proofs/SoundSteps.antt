@@ -1,12 +1,12 @@
 -- What was read is spelt: steps that readers share.
-use Rattle.std.proofs.Common.{◌≡◌, ◌⊎◌, ℕ, zero, suc, ◌≤◌, max, List, [], ◌∷◌, Option, Some, None, Ok, Err, refl, ap, arith, subst}
+use Rattle.std.proofs.Common.{◌≡◌, ◌⊎◌, ℕ, zero, suc, ◌≤◌, max, List, [], ◌∷◌, Option, Some, None, Ok, refl, ap, arith, subst}
 use mathlib.Core.Logic.{inl, inr}
 use Rattle.tokens.specs.Lexeme.{Lexeme}
 use Rattle.phrases.specs.Outcomes.{Outcome, Read, ◌>>=◌, needed, others, put, read, series}
 use Rattle.phrases.specs.Steps.{Rest}
 use Rattle.phrases.proofs.OutcomeLemmas.{bind_ok, ok_inj}
 use Rattle.phrases.proofs.StepLemmas.{needed_some}
-use Rattle.grammar.specs.Reading.{both, closed, flat, made, optional}
+use Rattle.grammar.specs.Reading.{both, closed, made, optional}
 
 abbrev pub Phrase : Type 0 → Type 1
 Phrase A = ℕ → A → Rest → Rest → Type 0

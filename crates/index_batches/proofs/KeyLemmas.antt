@@ -1,5 +1,5 @@
 -- The rowid of an entry, and where the entry is placed.
-use Rattle.std.proofs.Common.{◌≡◌, ◌∙◌, ◌+◌, ◌-◌, ◌<◌, ◌≤◌, ℕ, ℤ, All, Bool, true, false, Contains, IsTrue, List, [], ◌∷◌, ◌++◌, Option, drop, length, take, refl, sym, ap, subst, arith}
+use Rattle.std.proofs.Common.{◌≡◌, ◌∙◌, ◌+◌, ◌-◌, ◌<◌, ℕ, ℤ, All, Bool, true, false, Contains, IsTrue, List, [], ◌∷◌, ◌++◌, Option, drop, length, take, refl, sym, ap, subst, arith}
 use Rattle.std.proofs.Math.Seq.{drop-append_seam, take-append_seam}
 use Rattle.std.proofs.lemmas.List.{length-append, length-drop, length-take-le, take-append-drop}
 use Rattle.std.specs.Prelude.{◌↔◌, IfNone, IfSome, None, Some}

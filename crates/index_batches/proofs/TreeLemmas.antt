@@ -1,9 +1,8 @@
 -- All entries under a page of an index.
-use Rattle.std.proofs.Common.{◌≡◌, ◌∙◌, ◌+◌, ◌<◌, ◌≤◌, ℕ, zero, suc, Bool, true, false, Contains, IsTrue, List, [], ◌∷◌, ◌++◌, Option, length, take, length-take, refl, sym, ap, subst, arith, ⊎_elim}
-use Rattle.std.specs.List.{range_with_len}
+use Rattle.std.proofs.Common.{◌≡◌, ◌∙◌, ◌+◌, ◌<◌, ◌≤◌, ℕ, zero, suc, Bool, true, false, Contains, IsTrue, List, [], ◌++◌, Option, length, take, length-take, refl, sym, ap, subst, arith, ⊎_elim}
 use Rattle.std.proofs.lemmas.Bool.{cond-true, lt-ltb}
 use Rattle.std.proofs.lemmas.List.Elements.{Contains-append_cases, Contains-append_left, Contains-append_right}
-use Rattle.std.specs.Prelude.{ℤ, nat_lt}
+use Rattle.std.specs.Prelude.{ℤ}
 use Rattle.values.specs.Row.{Row}
 use Rattle.pager.specs.declared.header.Header.{Header}
 use Rattle.pager.specs.Calls.{IsHeaderOf, IsPage}
@@ -13,7 +12,7 @@ use Rattle.image.specs.declared.kind.TreeKind.TheVariants.{Index}
 use Rattle.image.specs.declared.kind.Level.{Level}
 use Rattle.image.specs.declared.kind.Level.TheVariants.{Leaf, Interior}
 use Rattle.image.specs.Layout.{HasHeaderAt, header_at}
-use Rattle.image.specs.Pages.{IsNumber, Pages, pages_seen}
+use Rattle.image.specs.Pages.{Pages, pages_seen}
 use Rattle.image.specs.Shape.{HasShape, own_places, place_at, places_in, places_under}
 use Rattle.image.specs.Tree.{IsPageOf, Place, StandsAt, below, child_at, count_at}
 use Rattle.image.proofs.ListLemmas.{from_fan, from_map, in_head, to_fan, to_map}
@@ -21,11 +20,11 @@ use Rattle.image.proofs.PlaceLemmas.{from_own}
 use Rattle.image.proofs.ShapeLemmas.{shape_child}
 use Rattle.btree.specs.ViewData.{IsViewOf, ViewData}
 use Rattle.btree.proofs.SeenLemmas.{readable}
-use Rattle.index_entries.specs.Entries.{AreValuesOf, IsViewIn}
+use Rattle.index_entries.specs.Entries.{AreValuesOf}
 use Rattle.index_walk.proofs.SeenLemmas.{one_flag}
 use Rattle.wanted_entries.specs.Bags.{Coded}
 use Rattle.index_batches.specs.Placed.{IsAstray, IsPlaced, TellsPlaced}
-use Rattle.index_batches.specs.Trees.{AllPlaced, AreTreeValues, HasAstray, IsTreePage, TellsAll}
+use Rattle.index_batches.specs.Trees.{AllPlaced, HasAstray, IsTreePage, TellsAll}
 
 -- ---- pages
 

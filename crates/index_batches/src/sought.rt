@@ -1,6 +1,7 @@
 //! A batch, and which rowids it is for.
 ghost use Rattle.std.specs.Prelude.{◌↔◌, IsTrue};
-ghost use Rattle.wanted_entries.specs.Bags.{IsAbove, IsAtMost, IsWithin};
+ghost use Rattle.values.specs.Bounds.{IsAbove, IsAtMost};
+ghost use Rattle.wanted_entries.specs.Bags.{IsWithin};
 
 use entry_batches::Batch;
 

@@ -1,5 +1,5 @@
 //! The bounds of columns that an expression says.
-ghost use Rattle.std.specs.Prelude.{◌≡◌, ◌++◌, map, option_map, option_to_list};
+ghost use Rattle.std.specs.Prelude.{◌≡◌, ◌++◌, option_map, option_to_list};
 ghost use Rattle.expr.specs.View.{term};
 ghost use Rattle.index_choice.specs.ColumnBounds.{bounds_of, column_bound, column_of, turned};
 ghost use Rattle.index_choice.specs.View.{bound_term};

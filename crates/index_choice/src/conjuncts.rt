@@ -1,6 +1,5 @@
 //! What a choice of paths sees of a conjunct: numbers alone.
-ghost use Rattle.std.specs.Prelude.{◌≡◌, ◌&&◌, ◌++◌, map, option_map, option_to_list, nat_eq, IfOk, OnOk};
-ghost use Rattle.std.specs.List.{list_any};
+ghost use Rattle.std.specs.Prelude.{◌≡◌, ◌&&◌, ◌++◌, map, option_map, option_to_list, IfOk, OnOk};
 ghost use Rattle.expr.specs.View.{term};
 ghost use Rattle.index_choice.specs.Bounds.{IsConjunctOf, are_known, bound_data, bounds_column, first_bound, is_bound_on, same_side, seen_bound};
 ghost use Rattle.index_choice.specs.View.{bound_term};

@@ -18,8 +18,8 @@ use Rattle.btree.proofs.SeenLemmas.{same_pages, still_steady}
 use Rattle.expr.specs.Term.{Term}
 use Rattle.wanted_entries.proofs.BagLemmas.{same}
 use Rattle.wanted_entries.proofs.KeptLemmas.{in_map, kept_first, left_first}
+use Rattle.values.specs.Bounds.{counted}
 use Rattle.wanted_entries.specs.Wanted.{IndexedPlaces, KeyedRow, entry_of, wanted}
-use Rattle.tree_walk.specs.Counts.{counted}
 use Rattle.tree_walk.proofs.KindLemmas.{one_entry}
 use Rattle.cursor.specs.declared.cursor.Cursor.{Cursor}
 use Rattle.cursor.specs.Calls.{HasFailed, HasStepped, IsOpenedAt}

@@ -18,8 +18,8 @@ use Rattle.image.proofs.ListLemmas.{get_contains}
 use Rattle.btree.proofs.SeenLemmas.{readable}
 use Rattle.wanted_entries.specs.Bags.{IsOnce}
 use Rattle.entry_prefixes.proofs.ListLemmas.{mapped_at}
+use Rattle.values.specs.Bounds.{counted}
 use Rattle.wanted_entries.proofs.BagLemmas.{same}
-use Rattle.tree_walk.specs.Counts.{counted}
 
 -- so many different numbers aren't all below a smaller one
 few_below : (most : ℕ) (ns : List ℕ) → IsOnce ns → ((n : ℕ) → Contains ns n → n < most) → length ns ≤ most

@@ -3,8 +3,8 @@ ghost use Rattle.std.specs.Prelude.{◌≡◌, ◌↔◌, ℕ, IfErr, IsTrue, Li
 ghost use Rattle.pager.specs.Calls.{IsReadFault, ReadsPages};
 ghost use Rattle.image.specs.declared.kind.TreeKind.TheVariants as kind;
 ghost use Rattle.image.specs.Pages.{IsNumber, WhereSteady, pages_seen};
+ghost use Rattle.values.specs.Bounds.{counted};
 ghost use Rattle.image.specs.Tree.{ArePlacesOf, Place};
-ghost use Rattle.tree_walk.specs.Counts.{counted};
 ghost use Rattle.table_walk.specs.Walked.{IsWalkFault};
 ghost use Rattle.tables.specs.RowKeyView.{row_key_of};
 ghost use Rattle.index_rows.specs.Checked.{IsCheckedTable, IsCheckedTableIndex};

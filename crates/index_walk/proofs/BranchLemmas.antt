@@ -18,7 +18,8 @@ use Rattle.image.proofs.ShapeLemmas.{not_both, one_level}
 use Rattle.page_use.specs.Marks.{AreTreeMarks, IsNewPlace, is_marked}
 use Rattle.tree_walk.specs.declared.counts.TreeCounts.{TreeCounts}
 use Rattle.tree_walk.specs.Cells.{IsTwiceOn, MarksCells}
-use Rattle.tree_walk.specs.Counts.{AreCounts, cells_before, counted, places_at_child, size_before}
+use Rattle.values.specs.Bounds.{counted}
+use Rattle.tree_walk.specs.Counts.{AreCounts, cells_before, places_at_child, size_before}
 use Rattle.tree_walk.specs.Used.{IsUnderTwice}
 use Rattle.tree_walk.proofs.CountLemmas.{cells_all, cells_step, size_all, size_step}
 use Rattle.tree_walk.proofs.LinkLemmas.{link_within}

@@ -1,5 +1,5 @@
 //! An entry of an index, which is read whole, with its overflow pages, and comes behind the last one.
-ghost use Rattle.std.specs.Prelude.{◌≡◌, ◌⊎◌, ◌<◌, ◌≤◌, ℕ, IfErr, IfOk, IsTrue, OnOk, length};
+ghost use Rattle.std.specs.Prelude.{◌≡◌, ◌<◌, IfErr, IfOk, IsTrue, OnOk, length};
 ghost use Rattle.std.specs.Cow.{cow_slice_items};
 ghost use Rattle.pager.specs.Calls.{ReadsChainPages};
 ghost use Rattle.image.specs.declared.kind.TreeKind.TheVariants.{Index};

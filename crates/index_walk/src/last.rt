@@ -1,5 +1,5 @@
 //! The entry that a walk met last, and whether another comes behind it.
-ghost use Rattle.std.specs.Prelude.{◌≡◌, ◌≢◌, ◌≤◌, ◌∷◌, [], IfErr, IfNone, IfSome, IsFalse, IsTrue, List, None, OnOk, Some, length, take};
+ghost use Rattle.std.specs.Prelude.{◌≡◌, ◌≢◌, ◌≤◌, ◌∷◌, IfErr, IfNone, IfSome, IsFalse, IsTrue, List, None, OnOk, Some, length, take};
 ghost use Rattle.std.specs.Ordering.{is_lt};
 ghost use Rattle.values.specs.Datum.{Datum};
 ghost use Rattle.values.specs.Order.{datum_cmp};

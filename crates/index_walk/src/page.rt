@@ -1,5 +1,5 @@
 //! A page of the tree of an index, whose entries are all there.
-ghost use Rattle.std.specs.Prelude.{◌≡◌, ◌≢◌, ◌↔◌, ◌<◌, ℕ, IfErr, IfOk, IsFalse, IsTrue};
+ghost use Rattle.std.specs.Prelude.{◌≡◌, ◌≢◌, ◌↔◌, ◌<◌, IfErr, IfOk, IsFalse, IsTrue};
 ghost use Rattle.pager.specs.Calls.{IsHeaderOf, IsPage};
 ghost use Rattle.pager.specs.PagerState.{PagerState};
 ghost use Rattle.image.specs.declared.kind.TreeKind.TheVariants.{Index};

@@ -1,6 +1,6 @@
 //! Which columns of a table are named.
-ghost use Rattle.std.specs.Prelude.{◌≡◌, ◌↔◌, ℕ, All, IfErr, IfNone, IfOk, IfSome, IsTrue, List, map};
-ghost use Rattle.std.specs.List.{AllZip, Any};
+ghost use Rattle.std.specs.Prelude.{◌≡◌, ◌↔◌, ℕ, IfNone, IfSome, IsTrue, map};
+ghost use Rattle.std.specs.List.{Any};
 ghost use Rattle.create_trees.specs.CreateView.{indexed_of};
 ghost use Rattle.indexes.specs.Condition.{place_from};
 ghost use Rattle.indexes.specs.IndexData.{IndexedData};

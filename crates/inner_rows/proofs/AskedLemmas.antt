@@ -8,7 +8,7 @@ use Rattle.image.specs.Pages.{Pages, WhereSteady, pages_seen}
 use Rattle.body_trees.specs.BodyView.{JoinedData}
 use Rattle.compound_plans.specs.Work.{selects_work}
 use Rattle.flat_queries.specs.Flat.{kept_of, kept_source}
-use Rattle.flat_queries.specs.FlatWith.{body_in, queries_of}
+use Rattle.flat_queries.specs.FlatWith.{body_in, queries_of, with_rows}
 use Rattle.meaning.specs.Query.{Body, InnerQuery, QueryData, Source, derived, exists, values_of}
 use Rattle.operators.specs.Basis.{AreStored, Basis}
 use Rattle.plans.specs.Plan.{once}
@@ -20,7 +20,7 @@ use Rattle.tables.specs.ColumnTypes.{column_types}
 use Rattle.tables.specs.TableData.{TableData}
 use Rattle.inner_rows.specs.Computed.{AreComputedRows}
 use Rattle.inner_rows.specs.InnerView.{InnerData, kept_rows}
-use Rattle.inner_rows.specs.Over.{AreSaid, IsPlanOverKept, basis_over, over_kept}
+use Rattle.inner_rows.specs.Over.{AreSaid, IsPlanOverKept, basis_over}
 use Rattle.inner_rows.specs.Runnable.{AreComputable, IsComputableBody}
 use Rattle.inner_rows.specs.Work.{body_work, parts_work, query_work}
 use Rattle.inner_rows.proofs.AddingLemmas.{AddsWhere, among_next, asked_next, at_first, computable_back, computable_front, first_among, first_asked}
@@ -138,12 +138,12 @@ module _ (tables : List TableData) (start mid now : PagerState) (stays : SameIma
 
 -- a plan over tables and kept rows asks for no more pages than the SELECTs of its query may
 pub plan_asks : {T : Type 0} (pages : Pages) (tables : List TableData) (on : Basis) → AreSaid pages tables on → (of : Body) (kept : Lists) (planned : PlannedData)
-    → work_of on.w (over_kept on.db (kept_rows kept)) (take (length tables) on.sizes) planned ≤ selects_work on.w on.db on.sizes of
+    → work_of on.w (with_rows on.db (kept_rows kept)) (take (length tables) on.sizes) planned ≤ selects_work on.w on.db on.sizes of
     → (start now : PagerState) (result : Result T Fault)
     → ((on : Basis) → AreStored pages (sources_of tables kept) on → OnOk result (Asks on.local start (work_of on.w on.db on.sizes planned) now 0))
     → OnOk result (Asks on.local start (selects_work on.w on.db on.sizes of) now 0)
 plan_asks pages tables on said of kept planned few start now (Ok rows) asks =
-    asks_fewer on.local start now (work_of on.w (over_kept on.db (kept_rows kept)) (take (length tables) on.sizes) planned) (selects_work on.w on.db on.sizes of)
+    asks_fewer on.local start now (work_of on.w (with_rows on.db (kept_rows kept)) (take (length tables) on.sizes) planned) (selects_work on.w on.db on.sizes of)
     (asks (basis_over tables on (kept_rows kept) once) (kept_are_stored pages tables kept on once said)) few
 plan_asks pages tables on said of kept planned few start now (Err e) asks = tt
 
@@ -154,7 +154,7 @@ pub whole_asks : {T : Type 0} (tables : List TableData) (start mid now : PagerSt
     → ((on : Basis) → AreStored (pages_seen start) (sources_of tables kept) on → OnOk result (Asks on.local mid (work_of on.w on.db on.sizes planned) now 0))
     → OnOk result (Asks on.local start (body_work on.w on.db on.sizes query.body) now 0)
 whole_asks tables start mid now on said query kept planned over first (Ok rows) asks =
-    let few = subst (λ (n : ℕ). work_of on.w (over_kept on.db (kept_rows kept)) (take n on.sizes) planned ≤ selects_work on.w on.db on.sizes query.body)
+    let few = subst (λ (n : ℕ). work_of on.w (with_rows on.db (kept_rows kept)) (take n on.sizes) planned ≤ selects_work on.w on.db on.sizes query.body)
     (tables_count (pages_seen start) tables on said) over.few in
     asks_added on.local start mid now (parts_work on.w on.db on.sizes (kept_of query.body) (queries_of query.body)) (selects_work on.w on.db on.sizes query.body)
     (body_work on.w on.db on.sizes query.body) first (plan_asks (pages_seen start) tables on said query.body kept planned few mid now (Ok rows) asks)

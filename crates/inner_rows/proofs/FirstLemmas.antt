@@ -1,5 +1,5 @@
 -- The first row of a plan, where it has one.
-use Rattle.std.proofs.Common.{◌≡◌, Bool, true, false, ℕ, List, [], ◌∷◌, ◌++◌, length, refl, arith, IsPermutation}
+use Rattle.std.proofs.Common.{Bool, true, false, ℕ, List, [], ◌∷◌, refl, arith, IsPermutation}
 use Rattle.std.proofs.lemmas.List.Sorted.{length_permutation}
 use Rattle.values.specs.Row.{Row}
 use Rattle.pager.specs.PagerState.{PagerState}

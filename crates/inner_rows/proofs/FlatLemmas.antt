@@ -8,7 +8,7 @@ use Rattle.std.proofs.lemmas.List.Elements.{All-nil}
 use Rattle.std.proofs.lemmas.List.Sorted.{IsPermutation-refl, IsPermutation-sym}
 use Rattle.values.specs.Database.{Database}
 use Rattle.values.specs.Datum.{Datum, null, int, text, blob}
-use Rattle.values.specs.Row.{Row}
+use Rattle.values.specs.Row.{Row, rows_data}
 use Rattle.values.specs.declared.fault.Fault.{Fault}
 use Rattle.values.specs.declared.fault.Fault.TheVariants.{NoMemory}
 use Rattle.values.specs.declared.value.Value.{Value}
@@ -25,7 +25,7 @@ use Rattle.flat_queries.proofs.PartLemmas.{plain_hits, plain_rows}
 use Rattle.flat_queries.proofs.WholeTypeLemmas.{flat_query_typed}
 use Rattle.flat_queries.specs.Flat.{kept_of, with_kept}
 use Rattle.flat_queries.specs.FlatTyped.{IsFlatQueryTyped}
-use Rattle.flat_queries.specs.FlatWith.{flat_with, queries_of}
+use Rattle.flat_queries.specs.FlatWith.{flat_with, queries_of, with_rows}
 use Rattle.flat_queries.specs.Parts.{plain}
 use Rattle.meaning.proofs.ElementLemmas.{AllZip-both, length_all_zip}
 use Rattle.meaning.specs.Answer.{IsStandIn, Permits}
@@ -43,10 +43,10 @@ use Rattle.select_plans.proofs.ColumnLemmas.{tables_have_columns}
 use Rattle.select_plans.specs.Columns.{HaveColumns}
 use Rattle.settled_sources.proofs.TypeLemmas.{typed_within}
 use Rattle.settled_sources.specs.Within.{IsBodyWithin}
-use Rattle.sources.specs.SourceData.{rows_data, sources_of}
+use Rattle.sources.specs.SourceData.{sources_of}
 use Rattle.inner_rows.specs.Computed.{AreComputedRows, AreSomeWhere}
 use Rattle.inner_rows.specs.InnerView.{InnerData, kept_rows}
-use Rattle.inner_rows.specs.Over.{AreSaid, BeginsAnswer, IsBodyCause, IsPlanOverKept, IsQueryCause, basis_over, over_kept}
+use Rattle.inner_rows.specs.Over.{AreSaid, BeginsAnswer, IsBodyCause, IsPlanOverKept, IsQueryCause, basis_over}
 use Rattle.inner_rows.specs.Runnable.{IsComputableBody, IsRunnableBody}
 use Rattle.inner_rows.proofs.FirstLemmas.{some_alike}
 use Rattle.inner_rows.proofs.KeptLemmas.{Lists, kept_are_stored, kept_have_columns, tables_count}
@@ -75,7 +75,7 @@ module _ (pages : Pages) (tables : List TableData) (on : Basis) (said : AreSaid 
   flat = flat_with inner.answers (length tables) query
 
   abbrev db' : Database
-  db' = over_kept on.db inner.kept
+  db' = with_rows on.db inner.kept
 
   count : length on.db.tables ≡ length tables
   count = tables_count pages tables on said
@@ -150,7 +150,7 @@ module _ (pages : Pages) (tables : List TableData) (on : Basis) (of : Body) wher
   plain_typed (runs, (types, has)) = (types, record { body = has; order = All-nil _ })
 
   pub rows_are : (kept : List (List Row)) (planned : PlannedData) → IsPlanOverKept on (plain of) kept planned → (rows : List Row)
-      → IsAnswerOf on.w (over_kept on.db kept) planned rows → IsPermutation (body_rows on.w on.db of) rows
+      → IsAnswerOf on.w (with_rows on.db kept) planned rows → IsPermutation (body_rows on.w on.db of) rows
   rows_are kept planned is rows answer = plain_rows on.w on.db of rows (is.permits rows answer)
 
   begun_are : (kept : List (List Row)) (planned : PlannedData) → IsPlanOverKept on (plain of) kept planned → (plan : PlanData) (rows : List Row)
@@ -198,10 +198,10 @@ module _ (pages : Pages) (tables : List TableData) (on : Basis) (said : AreSaid 
 
   -- within what its SELECTs may ask for
   pub rows_asked : (planned : PlannedData) → IsPlanFor (flat_with answers (length tables) (plain of)) planned
-      → work_of on.w (over_kept on.db (kept_rows kept)) (take (length tables) on.sizes) planned ≤ selects_work on.w on.db on.sizes of
+      → work_of on.w (with_rows on.db (kept_rows kept)) (take (length tables) on.sizes) planned ≤ selects_work on.w on.db on.sizes of
   rows_asked planned is =
       let over = plan_is_over pages tables on said (plain of) inner are typed_plain planned is in
-      subst (λ (n : ℕ). work_of on.w (over_kept on.db (kept_rows kept)) (take n on.sizes) planned ≤ selects_work on.w on.db on.sizes of)
+      subst (λ (n : ℕ). work_of on.w (with_rows on.db (kept_rows kept)) (take n on.sizes) planned ≤ selects_work on.w on.db on.sizes of)
       (tables_count pages tables on said) over.few
 
   -- and there is one

@@ -3,7 +3,7 @@ use Rattle.std.proofs.Common.{◌≡◌, ◌∙◌, All, Bool, ℕ, zero, suc, L
 use Rattle.std.specs.List.{AllZip}
 use Rattle.std.proofs.lemmas.List.{length-map}
 use Rattle.std.proofs.lemmas.List.Elements.{All-append, All-cons, All-nil}
-use Rattle.values.specs.Row.{Row}
+use Rattle.values.specs.Row.{Row, rows_data}
 use Rattle.values.specs.declared.value.Ty.{Ty}
 use Rattle.values.specs.declared.value.Value.{Value}
 use Rattle.pager.specs.declared.header.Header.{Header}
@@ -15,7 +15,7 @@ use Rattle.meaning.specs.Typed.{FitTypes}
 use Rattle.operators.specs.Basis.{Basis}
 use Rattle.select_plans.specs.Columns.{HasColumnsOf, HaveColumns}
 use Rattle.sources.specs.Coming.{HasRows, IsRooted}
-use Rattle.sources.specs.SourceData.{SourceData, of_rows, of_table, rows_data, sources_of}
+use Rattle.sources.specs.SourceData.{SourceData, of_rows, of_table, sources_of}
 use Rattle.inner_rows.specs.InnerView.{kept_rows}
 use Rattle.inner_rows.specs.Over.{AreSaid, KeptAreStored}
 

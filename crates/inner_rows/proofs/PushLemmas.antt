@@ -4,7 +4,7 @@ use Rattle.std.proofs.lemmas.List.{map_push}
 use Rattle.std.proofs.lemmas.List.Elements.{All-head}
 use Rattle.values.specs.Database.{Database}
 use Rattle.values.specs.Datum.{Datum, datum_of}
-use Rattle.values.specs.Row.{Row}
+use Rattle.values.specs.Row.{Row, rows_data}
 use Rattle.values.specs.declared.fault.Fault.{Fault}
 use Rattle.values.specs.declared.value.Value.{Value}
 use Rattle.pager.specs.Calls.{SameImage}
@@ -18,7 +18,6 @@ use Rattle.flat_queries.specs.FlatWith.{answer_from, body_in, queries_of}
 use Rattle.meaning.specs.Body.{body_rows}
 use Rattle.meaning.specs.Query.{Body, InnerQuery, derived}
 use Rattle.operators.specs.Basis.{Basis}
-use Rattle.sources.specs.SourceData.{rows_data}
 use Rattle.inner_rows.specs.Computed.{AddsAsMany, AddsRows, AreComputedRows, AreRowsFor}
 use Rattle.inner_rows.specs.InnerView.{InnerData, kept_rows}
 use Rattle.inner_rows.specs.Over.{AreSaid, IsBodyCause}

@@ -2,9 +2,8 @@
 use Rattle.std.specs.Prelude.{List, Vec, map}
 use Rattle.std.specs.Global.{Global}
 use Rattle.values.specs.Datum.{Datum}
-use Rattle.values.specs.Row.{Row}
+use Rattle.values.specs.Row.{Row, rows_data}
 use Rattle.values.specs.declared.value.Value.{Value}
-use Rattle.sources.specs.SourceData.{rows_data}
 use Rattle.flat_bodies.specs.FlatView.{lists_of}
 use Rattle.inner_rows.specs.declared.inner.InnerRows.{InnerRows}
 

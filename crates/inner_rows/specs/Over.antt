@@ -16,7 +16,7 @@ use Rattle.meaning.specs.Answer.{IsStandIn, Permits}
 use Rattle.meaning.specs.Hits.{BodyHits, Hits, SourceHits}
 use Rattle.meaning.specs.Query.{Body, InnerQuery, QueryData, Source}
 use Rattle.meaning.specs.Typed.{FitsCatalog}
-use Rattle.flat_queries.specs.FlatWith.{body_in}
+use Rattle.flat_queries.specs.FlatWith.{body_in, with_rows}
 use Rattle.plans.specs.Plan.{PlanData}
 use Rattle.sources.specs.SourceData.{sources_of}
 use Rattle.operators.specs.Basis.{AreStored, Basis}
@@ -30,15 +30,11 @@ pub record AreSaid (pages : Pages) (tables : List TableData) (on : Basis) : Type
   pub fits : FitsCatalog (column_types tables) on.db
   pub stand_in : IsStandIn on.w
 
--- lists of rows stand behind those of the tables
-abbrev pub over_kept : Database → List (List Row) → Database
-over_kept db kept = record { schema = db.schema; tables = db.tables ++ kept }
-
 -- the same is said of the tables, and of kept rows behind them
 abbrev pub basis_over : List TableData → Basis → List (List Row) → PlanData → Basis
 basis_over tables on kept plan = record {
   w = on.w;
-  db = over_kept on.db kept;
+  db = with_rows on.db kept;
   sizes = take (length tables) on.sizes;
   local = on.local;
   plan = plan;
@@ -52,9 +48,9 @@ KeptAreStored = (pages : Pages) (tables : List TableData) (kept : List (Vec (Vec
 -- Over the tables and these rows behind them each answer of a plan is one that the query permits, what the plan reaches the query can
 -- reach, and it asks for no more pages than the query's SELECTs may.
 pub record IsPlanOverKept (on : Basis) (query : QueryData) (kept : List (List Row)) (planned : PlannedData) : Type 0 where
-  pub permits : (answer : List Row) → IsAnswerOf on.w (over_kept on.db kept) planned answer → Permits on.w on.db query answer
-  pub hits : HitsOf on.w (over_kept on.db kept) planned → Hits on.w on.db query
-  pub few : work_of on.w (over_kept on.db kept) (take (length on.db.tables) on.sizes) planned ≤ selects_work on.w on.db on.sizes query.body
+  pub permits : (answer : List Row) → IsAnswerOf on.w (with_rows on.db kept) planned answer → Permits on.w on.db query answer
+  pub hits : HitsOf on.w (with_rows on.db kept) planned → Hits on.w on.db query
+  pub few : work_of on.w (with_rows on.db kept) (take (length on.db.tables) on.sizes) planned ≤ selects_work on.w on.db on.sizes query.body
 
 -- These rows begin an answer of a plan, and are some where it has some.
 pub record BeginsAnswer (on : Basis) (planned : PlannedData) (rows : List Row) : Type 0 where

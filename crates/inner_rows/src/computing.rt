@@ -18,7 +18,8 @@ ghost use Rattle.operators.specs.Basis.{Basis, IsOperatorFault};
 ghost use Rattle.query_plans.specs.Answers.{IsPlanFor, IsPlannedOver, planned_data};
 ghost use Rattle.scan.specs.Coming.{Asks};
 ghost use Rattle.sources.specs.Coming.{IsRooted};
-ghost use Rattle.sources.specs.SourceData.{rows_data, sources_of};
+ghost use Rattle.values.specs.Row.{rows_data};
+ghost use Rattle.sources.specs.SourceData.{sources_of};
 ghost use Rattle.tables.specs.ColumnTypes.{column_types};
 
 use crate::flat::flat_plain;

@@ -1,5 +1,5 @@
 //! The plan of a whole query.
-ghost use Rattle.std.specs.Prelude.{◌⊎◌, [], All, IfErr, IfOk, MatchResult, OnOk, map};
+ghost use Rattle.std.specs.Prelude.{[], All, IfErr, IfOk, MatchResult, OnOk};
 ghost use Rattle.pager.specs.Calls.{ReadsPages};
 ghost use Rattle.image.specs.Pages.{WhereSteady};
 ghost use Rattle.flat_queries.specs.Flat.{kept_of};

@@ -7,8 +7,8 @@ ghost use Rattle.operators.specs.Basis.{AreStored, Basis, IsOperatorFault};
 ghost use Rattle.query_plans.specs.Answers.{IsAnswerOf, IsPlannedOver, PlannedData, planned_data, work_of};
 ghost use Rattle.running.specs.Given.{HasAhead, HasGiven, IsRowCause, IsRunOver};
 ghost use Rattle.scan.specs.Coming.{Asks};
+ghost use Rattle.values.specs.Row.{rows_data};
 ghost use Rattle.sources.specs.Coming.{IsRooted};
-ghost use Rattle.sources.specs.SourceData.{rows_data};
 
 use pager::{Pager, Source};
 use query_plans::Planned;

@@ -1,7 +1,6 @@
 //! The check of a whole image.
 ghost use Rattle.std.specs.Prelude.{◌≡◌, MatchResult, map};
 ghost use Rattle.pager.specs.Calls.{ReadsPages};
-ghost use Rattle.catalog.specs.CatalogView.{catalog_data};
 ghost use Rattle.indexes.specs.IndexView.{index_data};
 ghost use Rattle.integrity.specs.CheckedView.{checked_data};
 ghost use Rattle.integrity.specs.Checked.{HasCheckedImage, IsCheckFailure};

@@ -76,6 +76,10 @@ module _ (w : Datum) (db : Database) where
   abbrev pub rows_of : From → List Row
   rows_of from = from_rows (values_over from) from
 
+  -- the rows that the result columns of a SELECT are computed on
+  abbrev pub computed_rows : From → Select → List Row
+  computed_rows from s = select_rows (values_over from) w s (rows_of from)
+
 -- a result row, and the values that ORDER BY puts it in order by
 pub record Output : Type 0 where
   pub row : Row

@@ -1,5 +1,5 @@
 //! What holds of the definitions alone, and examples of them.
-ghost use Rattle.std.specs.Prelude.{ℕ, ◌≡◌, ◌&&◌, ◌++◌, All, Bool, IsPermutation, List, [], ◌∷◌, filter, length, map};
+ghost use Rattle.std.specs.Prelude.{ℕ, ◌≡◌, ◌&&◌, ◌++◌, All, Bool, IsPermutation, List, [], ◌∷◌, filter, length};
 ghost use Rattle.std.specs.List.{AllZip};
 ghost use Rattle.values.specs.Database.{Database};
 ghost use Rattle.values.specs.Datum.{Datum};
@@ -8,12 +8,12 @@ ghost use Rattle.values.specs.declared.value.Ty.{Ty};
 ghost use Rattle.values.specs.declared.value.Ty.TheVariants.{Int};
 ghost use Rattle.expr.specs.Types.{IsOfType};
 ghost use Rattle.expr.specs.Term.{Term};
-ghost use Rattle.meaning.specs.Query.{Body, From, JoinKind, QueryData, Select, Source, of_columns, from_width, only, select};
-ghost use Rattle.meaning.specs.Valuation.{Valuation, term_values, with_answers};
+ghost use Rattle.meaning.specs.Query.{Body, From, JoinKind, QueryData, Select, from_width};
+ghost use Rattle.meaning.specs.Valuation.{Valuation};
 ghost use Rattle.meaning.specs.Joins.{join, pairs};
 ghost use Rattle.meaning.specs.Times.{BagsAreTimes, RulesAreTimes};
 ghost use Rattle.meaning.specs.Windows.{SequenceIsOne};
-ghost use Rattle.meaning.specs.Body.{SameTables, answers_in, body, body_rows, from_rows, source_rows};
+ghost use Rattle.meaning.specs.Body.{SameTables, answers_in, body, body_rows, from_rows};
 ghost use Rattle.meaning.specs.Answer.{Begins, IsStandIn, Permits, slice};
 ghost use Rattle.meaning.specs.Typed.{AnswersHaveTypes, BodyHasTypes, FitTypes, FitsCatalog, FromHasTypes, HasTypes};
 ghost use Rattle.meaning.specs.Runs.{JoinedInAnyOrder, RunIsFilter};

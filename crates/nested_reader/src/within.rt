@@ -1,5 +1,4 @@
 //! What reads phrases in one more construct.
-ghost use Rattle.clause_reader.specs.Seen.{seen};
 ghost use Rattle.nested_reader.specs.Phrases.{ReadsAt, setting_of};
 ghost use Rattle.source_texts.specs.Sources.{AreCut};
 

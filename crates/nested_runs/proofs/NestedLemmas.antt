@@ -23,7 +23,8 @@ use Rattle.runs.specs.Runs as runs
 use Rattle.runs.proofs.GivenLemmas.{not_operators}
 use Rattle.sources.proofs.StepLemmas.{tables_alone}
 use Rattle.sources.specs.Coming.{IsStoredSource}
-use Rattle.sources.specs.SourceData.{of_rows, of_table, rows_data, sources_of}
+use Rattle.values.specs.Row.{rows_data}
+use Rattle.sources.specs.SourceData.{of_rows, of_table, sources_of}
 use Rattle.tables.specs.TableData.{TableData}
 
 -- kept rows are there

@@ -3,7 +3,7 @@ use Rattle.std.proofs.Common.{◌≡◌, ◌∙◌, inl, inr, List, [], ◌∷�
 use Rattle.std.specs.Global.{Global, Vec}
 use Rattle.std.specs.Vec.Iter.{into_iter_items}
 use Rattle.std.specs.declared.vec.IntoIter.{IntoIter}
-use Rattle.values.specs.Row.{Row}
+use Rattle.values.specs.Row.{Row, rows_data}
 use Rattle.values.specs.declared.fault.Fault.{Fault}
 use Rattle.values.specs.declared.value.Value.{Value}
 use Rattle.image.specs.Pages.{Pages}
@@ -24,7 +24,7 @@ use Rattle.plans.specs.Plan.{once}
 use Rattle.query_plans.specs.Answers.{IsAnswerOf, PlannedData}
 use Rattle.running.specs.Given.{IsRowCause, rows_left}
 use Rattle.scan.specs.Coming.{Asks}
-use Rattle.sources.specs.SourceData.{rows_data, sources_of}
+use Rattle.sources.specs.SourceData.{sources_of}
 use Rattle.tables.specs.ColumnTypes.{column_types}
 use Rattle.tables.specs.TableData.{TableData}
 

@@ -10,7 +10,8 @@ ghost use Rattle.operators.specs.Basis.{Basis, IsOperatorFault};
 ghost use Rattle.pager.specs.Calls.{ReadsPages};
 ghost use Rattle.scan.specs.Coming.{Asks};
 ghost use Rattle.sources.specs.Coming.{IsRooted};
-ghost use Rattle.sources.specs.SourceData.{rows_data, sources_of};
+ghost use Rattle.values.specs.Row.{rows_data};
+ghost use Rattle.sources.specs.SourceData.{sources_of};
 ghost use Rattle.statement_names.specs.NamedView.{query_data};
 ghost use Rattle.tables.specs.ColumnTypes.{column_types};
 

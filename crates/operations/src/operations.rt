@@ -1,7 +1,6 @@
 //! The operations on values.
-ghost use Rattle.std.specs.Prelude.{◌≡◌, ◌≢◌, Some, None, IfOk};
-ghost use Rattle.values.specs.Datum.{datum_of, int};
-ghost use Rattle.values.specs.Order.{datum_cmp};
+ghost use Rattle.std.specs.Prelude.{◌≡◌, Some, None, IfOk};
+ghost use Rattle.values.specs.Datum.{datum_of};
 ghost use Rattle.operations.specs.Operations.{settle, of_integers, arithmetic_of, comparison, test_of, and3, or3, concat_of, same, is_null, truth, condition, null_if_equal};
 ghost use Rattle.operations.specs.Contract.{Computes};
 

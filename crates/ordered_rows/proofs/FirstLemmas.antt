@@ -10,14 +10,13 @@ use Rattle.std.proofs.lemmas.List.Elements.{All-append, All-cons, All-drop, All-
 use Rattle.std.proofs.lemmas.List.Sorted.{IsPermutation-append_comm, IsPermutation-append_left, IsPermutation-append_right, IsPermutation-cons, IsPermutation-map, IsPermutation-refl, IsPermutation-trans, ranks_by, sorted_far, sum_by-IsPermutation, All-permutation}
 use Rattle.std.proofs.lemmas.List.Sums.{sum_by-append, sum_by-cons}
 use Rattle.values.specs.Datum.{datum_of}
-use Rattle.values.specs.Row.{Row}
+use Rattle.values.specs.Row.{Row, rows_data}
 use Rattle.values.specs.declared.value.Value.{Value}
 use Rattle.meaning.specs.Sequence.{ascending, keys_cmp}
 use Rattle.meaning.proofs.KeyLemmas.{keys_cmp_total}
 use Rattle.meaning.proofs.OrderLemmas.{IsSortedBy-rises, IsUnder, Rises, ascending-itself, ascending-rises, ascending-same}
 use Rattle.ordered_rows.specs.declared.order.ResultKey.{ResultKey}
 use Rattle.ordered_rows.specs.Firsts.{AreAtMost, BeginsAll, HasRoom, IsBehind, IsKeptOf, KeepsOf, at_most}
-use Rattle.ordered_rows.specs.FirstView.{rows_data}
 use Rattle.ordered_rows.specs.Keys.{comes_before, directions, key_values}
 
 get_map : {X Y : Type 0} (f : X → Y) (xs : List X) (i : ℕ) (x : X) (y : Y) → i < length xs → get_or (map f xs) i y ≡ f (get_or xs i x)

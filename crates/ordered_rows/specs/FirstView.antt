@@ -1,16 +1,10 @@
 -- What is said of the rows that the program keeps.
-use Rattle.std.specs.Prelude.{List, length, map}
-use Rattle.std.specs.Global.{Vec}
-use Rattle.values.specs.Datum.{datum_of}
-use Rattle.values.specs.Row.{Row}
-use Rattle.values.specs.declared.value.Value.{Value}
+use Rattle.std.specs.Prelude.{List, length}
+use Rattle.values.specs.Row.{Row, rows_data}
 use Rattle.ordered_rows.specs.declared.first_in_order.FirstInOrder.{FirstInOrder}
 use Rattle.ordered_rows.specs.declared.order.ResultKey.{ResultKey}
 use Rattle.ordered_rows.specs.Firsts.{AreAtMost, HasRoom, KeepsOf}
 use Rattle.ordered_rows.specs.Keys.{comes_before}
-
-abbrev pub rows_data : List (Vec Value) → List Row
-rows_data rows = map (λ row. map datum_of row.items) rows
 
 -- they are the first in order of all that came
 abbrev pub KeepsFirst : List ResultKey → FirstInOrder → List Row → Type 0

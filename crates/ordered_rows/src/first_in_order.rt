@@ -2,10 +2,10 @@
 ghost use Rattle.std.specs.Prelude.{◌≡◌, ◌++◌, [], ◌∷◌, IfOk, IsFalse, IsTrue, List, OnOk, length, map};
 ghost use Rattle.std.specs.List.Sorted.{IsSortedBy};
 ghost use Rattle.values.specs.Datum.{datum_of};
-ghost use Rattle.values.specs.Row.{Row};
+ghost use Rattle.values.specs.Row.{Row, rows_data};
 ghost use Rattle.ordered_rows.specs.declared.order.ResultKey.{ResultKey as KeyData};
 ghost use Rattle.ordered_rows.specs.Firsts.{BeginsAll, HasRoom, IsBehind, at_most};
-ghost use Rattle.ordered_rows.specs.FirstView.{FewAreKept, KeepsFirst, rows_data};
+ghost use Rattle.ordered_rows.specs.FirstView.{FewAreKept, KeepsFirst};
 ghost use Rattle.ordered_rows.specs.Keys.{comes_before};
 
 use crate::order::{ResultKey, compare_rows, sort_rows};

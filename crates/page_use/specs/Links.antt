@@ -6,7 +6,7 @@ use Rattle.image.specs.Cell.{PayloadData}
 use Rattle.image.specs.Chain.{chain_room}
 use Rattle.image.specs.Pages.{Pages, IsNumber}
 use Rattle.image.specs.Use.{Use, as_link, Names, Users, link_at}
-use Rattle.page_use.specs.Marks.{AreTreeMarks, IsNamedBy, IsUsedTwice}
+use Rattle.page_use.specs.Marks.{AreTreeMarks, IsNamedBy, IsOn, IsUsedTwice}
 
 -- The chain of cell i of page n begins at this page and holds so many bytes, whichever of the trees the cell is in. None of
 -- its links was gone through, and what names page n was.
@@ -29,6 +29,13 @@ pub record AreWithLinks (pages : Pages) (users : Users) (done : List Use) (n i :
   pub kept : (place : Use) → Contains done place → Contains now place
   pub added : (place : Use) → Contains now place → Contains done place ⊎ ((k : ℕ) × (place ≡ as_link n i k))
   pub all : (k m : ℕ) → Names pages users (as_link n i k) m → Contains now (as_link n i k)
+
+-- The marks are those of places that were gone through, and of all links of the chains of page n's cells besides.
+pub record AreWithCells (pages : Pages) (users : Users) (done : List Use) (n : ℕ) (now : List Use) (marks : List Bool) : Type 0 where
+  pub marks_are : AreTreeMarks pages users now marks
+  pub kept : (place : Use) → Contains done place → Contains now place
+  pub added : (place : Use) → Contains now place → Contains done place ⊎ IsOn n place
+  pub all : (i k m : ℕ) → Names pages users (as_link n i k) m → Contains now (as_link n i k)
 
 -- such marks come of these, if these are those of places that were gone through
 abbrev pub MarksChain : Pages → ℕ → ℕ → List Bool → List Bool → Type 0

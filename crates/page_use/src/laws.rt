@@ -1,5 +1,5 @@
 //! What follows from the definitions alone.
-ghost use Rattle.std.specs.Prelude.{◌≡◌, ℕ};
+ghost use Rattle.std.specs.Prelude.{ℕ};
 ghost use Rattle.values.specs.declared.fault.Fault.{Fault};
 ghost use Rattle.image.specs.Freelist.{IsFreelist};
 ghost use Rattle.image.specs.Pages.{Pages, IsNumber};

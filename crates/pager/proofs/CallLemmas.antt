@@ -1,8 +1,8 @@
 -- What a caller's proof cites of the words in `specs/Calls.antt`.
-use Rattle.std.proofs.Common.{◌+◌, ◌≤◌, ◌∙◌, arith, ap, refl, Result, Ok, Err}
-use Rattle.std.specs.Prelude.{ℕ, IfErr}
-use Rattle.pager.specs.PagerState.{Opened, PagerState}
-use Rattle.pager.specs.Calls.{AsksChainsOnly, AsksPage, SameImage}
+use Rattle.std.proofs.Common.{◌∙◌, arith, refl, Result, Ok, Err}
+use Rattle.std.specs.Prelude.{IfErr}
+use Rattle.pager.specs.PagerState.{PagerState}
+use Rattle.pager.specs.Calls.{AsksChainsOnly, SameImage}
 
 pub SameImage-none : (p : PagerState) → SameImage p p
 SameImage-none p = record { bytes = refl; steady = refl; header = refl; capacity = refl; asked = omega arith; chained = omega arith }

@@ -5,7 +5,7 @@ use Rattle.values.specs.declared.fault.Fault.TheVariants as f
 use Rattle.tokens.proofs.ReadLemmas as read
 use Rattle.tokens.specs.Content.{placed_of}
 use Rattle.tokens.specs.Tokens as tokens
-use Rattle.tokens.specs.Tokens.{Placed, Tokens}
+use Rattle.tokens.specs.Tokens.{Tokens}
 use Rattle.tokens.specs.declared.keyword.Grammar.{Grammar}
 use Rattle.tokens.specs.declared.token.Token.{Token}
 use Rattle.phrases.specs.Steps.{Rest, IsMissing}

@@ -1,13 +1,14 @@
 //! The aggregate that a part of an expression is.
 ghost use Rattle.std.specs.Prelude.{◌≡◌, IfOk, map, option_map};
 ghost use Rattle.expr.specs.Term as t;
-ghost use Rattle.meaning.specs.Query.{always, filtered};
+ghost use Rattle.meaning.specs.Query.{filtered};
 ghost use Rattle.naming.specs.Places as spec;
 ghost use Rattle.places.specs.Transposed.{transposed};
 ghost use Rattle.query_trees.specs.Outcome.{Gives};
 ghost use Rattle.query_trees.specs.SelectView.{aggregate_function_of, aggregate_of};
 ghost use Rattle.query_trees.specs.TermView.{term};
-ghost use Rattle.statement_trees.specs.TreeView.{expr_of, maybe_of};
+ghost use Rattle.syntax.specs.ExprView.{maybe_of};
+ghost use Rattle.statement_trees.specs.TreeView.{expr_of};
 ghost use Rattle.syntax.specs.ExprTree.{trees_of};
 
 use expression_names::{InnerQueries, Place, term};

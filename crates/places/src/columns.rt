@@ -1,5 +1,5 @@
 //! The place over the rows of FROM.
-ghost use Rattle.std.specs.Prelude.{◌≡◌, option_map, string_bytes};
+ghost use Rattle.std.specs.Prelude.{option_map, string_bytes};
 ghost use Rattle.naming.specs.Places.{columns_say};
 ghost use Rattle.naming.specs.Scope.{column_of};
 ghost use Rattle.query_trees.specs.Outcome.{Gives};

@@ -1,12 +1,13 @@
 -- What stands at a place, of tables and lists of rows behind them.
-use Rattle.std.proofs.Common.{◌≡◌, ◌∙◌, ◌↔◌, ◌+◌, ◌-◌, ◌<◌, ◌≤◌, All, Bool, IsTrue, ℕ, zero, suc, List, [], ◌∷◌, ◌++◌, Vec, Global, length, map, nat_lt, slice_get, None, Some, refl, sym, ap, subst, arith}
+use Rattle.std.proofs.Common.{◌≡◌, ◌∙◌, ◌↔◌, ◌+◌, ◌-◌, ◌<◌, ◌≤◌, All, Bool, IsTrue, ℕ, zero, suc, List, [], ◌∷◌, Vec, Global, length, map, nat_lt, slice_get, None, Some, sym, ap, subst, arith}
 use Rattle.std.proofs.lemmas.Bool.{lt-ltb, ltb-true}
 use Rattle.std.proofs.lemmas.List.{length-append, length-map}
 use Rattle.std.proofs.lemmas.Option.{slice_get_past, slice_get_within}
 use Rattle.values.specs.declared.value.Value.{Value}
 use Rattle.tables.specs.TableData.{TableData}
 use Rattle.sources.specs.Coming.{HasColumns}
-use Rattle.sources.specs.SourceData.{SourceData, of_rows, of_table, rows_data, sources_of}
+use Rattle.values.specs.Row.{rows_data}
+use Rattle.sources.specs.SourceData.{SourceData, of_rows, of_table, sources_of}
 use Rattle.plan_sources.specs.Places.{HasPlace}
 
 abbrev Lists : Type 0

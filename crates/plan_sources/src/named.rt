@@ -1,5 +1,5 @@
 //! What stands at a place.
-ghost use Rattle.std.specs.Prelude.{◌↔◌, ◌<◌, All, IsTrue, length};
+ghost use Rattle.std.specs.Prelude.{◌↔◌, ◌<◌, All, IsTrue};
 ghost use Rattle.plan_sources.specs.Places.{HasPlace};
 ghost use Rattle.sources.specs.SourceData.{sources_of};
 

@@ -7,7 +7,7 @@ use Rattle.values.specs.Datum.{Datum}
 use Rattle.values.specs.Row.{Row}
 use Rattle.expr.specs.Term.{Term, column}
 use Rattle.meaning.specs.Answer.{Permits}
-use Rattle.meaning.specs.Body.{answers_in, values_over}
+use Rattle.meaning.specs.Body.{answers_in, values_over, computed_rows}
 use Rattle.meaning.specs.Hits as meaning
 use Rattle.meaning.specs.Hits.{FromHits, SelectHits, order_terms}
 use Rattle.meaning.specs.Query.{From, Key, KeyTerm, QueryData, Select, columns_of_table, only, select, table}
@@ -20,7 +20,7 @@ use Rattle.distinct_results.specs.Permitted.{AreResults, IsResultColumn}
 use Rattle.distinct_results.proofs.PermittedLemmas as once
 use Rattle.query_plans.specs.Answers.{IsAnswerOf, IsPlanFor, PlannedData, columns, compound, distinct, rows, sorted, sorted_distinct}
 use Rattle.query_plans.specs.Made.{IsBare, IsMade, KeyStandsOver, KeyTermStandsOver}
-use Rattle.results.specs.Permitted.{SeesRows, computed_rows}
+use Rattle.results.specs.Permitted.{SeesRows}
 use Rattle.results.proofs.PermittedLemmas as results
 use Rattle.select_plans.specs.Laws.{PlanReaches, of_select}
 use Rattle.select_plans.specs.Made.{IsMadeOver}

@@ -1,5 +1,5 @@
 //! Columns of one table alone.
-ghost use Rattle.std.specs.Prelude.{◌≡◌, IfOk, IfSome, IsTrue, map, pos, Some, None, []};
+ghost use Rattle.std.specs.Prelude.{◌≡◌, IfOk, IfSome, IsTrue, map, Some, None};
 ghost use Rattle.expr.specs.Term.{column};
 ghost use Rattle.order_keys.specs.KeyView.{key_of};
 ghost use Rattle.query_plans.specs.Answers.{planned_data};

@@ -1,5 +1,5 @@
 //! What a statement may mention: the tables of a catalog, and the table of the schema's rows.
-ghost use Rattle.std.specs.Prelude.{◌≡◌, ◌++◌, ◌∷◌, [], IfOk, length, map, string_bytes};
+ghost use Rattle.std.specs.Prelude.{◌≡◌, ◌∷◌, [], IfOk, map, string_bytes};
 ghost use Rattle.body_trees.specs.BodyView.{source_of};
 ghost use Rattle.meaning.specs.Query as q;
 ghost use Rattle.naming.specs.Typed as naming;

@@ -10,7 +10,7 @@ use Rattle.expr.specs.Filled.{filled}
 use Rattle.expr.specs.Meaning.{eval}
 use Rattle.expr.specs.Term.{Term}
 use Rattle.meaning.specs.Answer.{limited, skipped, slice, Permits}
-use Rattle.meaning.specs.Body.{answers_in, body_rows, distinct, values_over}
+use Rattle.meaning.specs.Body.{answers_in, body_rows, distinct, values_over, computed_rows}
 use Rattle.meaning.specs.Groups.{grouped}
 use Rattle.meaning.specs.Hits.{where_rows}
 use Rattle.meaning.specs.OneTable.{shown}
@@ -22,7 +22,7 @@ use Rattle.plans.specs.Plan.{PlanData, rows_of}
 use Rattle.plans.specs.Stands.{AreTestsOf}
 use Rattle.plans.proofs.WhereLemmas.{one_table_is_where}
 use Rattle.results.specs.Coming.{result_rows}
-use Rattle.results.specs.Permitted.{OneTableIsPermitted, PlainIsPermitted, ReadsTable, SaysOf, SeesRows, computed_rows}
+use Rattle.results.specs.Permitted.{OneTableIsPermitted, PlainIsPermitted, ReadsTable, SaysOf, SeesRows}
 
 module _ (w : Datum) (answers : List (List Datum)) (seen : Row → Row) (rows : List Row) where
   -- result columns on what is seen of a row

@@ -8,7 +8,7 @@ use Rattle.expr.specs.Filled.{filled}
 use Rattle.expr.specs.Meaning.{run}
 use Rattle.expr.specs.Term.{Term}
 use Rattle.meaning.specs.Answer.{Permits}
-use Rattle.meaning.specs.Body.{answers_in, select_rows, values_over}
+use Rattle.meaning.specs.Body.{answers_in, computed_rows}
 use Rattle.meaning.specs.Body as body
 use Rattle.meaning.specs.Query.{From, QueryData, Select, only, select, table}
 use Rattle.plans.specs.Plan.{PlanData, rows_of}
@@ -21,10 +21,6 @@ use Rattle.results.specs.Coming.{SelectionData, answer_of}
 pub record IsPlainSelect (query : QueryData) (from : From) (s : Select) : Type 0 where
   pub body : query.body ≡ select from s
   pub all : s.distinct ≡ false
-
--- the rows that the result columns of a SELECT are computed on
-abbrev pub computed_rows : Datum → Database → From → Select → List Row
-computed_rows w db from s = select_rows (values_over w db from) w s (body.rows_of w db from)
 
 -- an expression says of what is seen of each of these rows what a term says of the row
 abbrev pub SaysOf : (Row → Row) → List Row → Term → Term → Type 0

@@ -1,11 +1,10 @@
 -- An index held against the rows of its table, a batch at a time: some rows were read, and a cursor stands before the cells of
 -- the others.
-use Rattle.std.proofs.Common.{◌≡◌, ◌≢◌, ◌⊎◌, ◌∙◌, ◌+◌, ◌-◌, ◌^◌, ◌<ℤ◌, ◌≤ℤ◌, ℕ, ℤ, Bool, true, false, Contains, IsTrue, List, [], ◌∷◌, None, Option, Some, drop, length, map, min, refl, sym, ap, subst, ⊎_elim, arith}
+use Rattle.std.proofs.Common.{◌≡◌, ◌≢◌, ◌⊎◌, ◌∙◌, ◌+◌, ◌-◌, ◌^◌, ◌<ℤ◌, ◌≤ℤ◌, ℕ, ℤ, Bool, Contains, IsTrue, List, [], ◌∷◌, None, Option, Some, drop, length, min, refl, sym, ap, subst, ⊎_elim, arith}
 use Rattle.std.specs.List.{AllZip}
 use Rattle.std.proofs.lemmas.Int.{ints}
 use Rattle.std.proofs.lemmas.List.{length-map}
 use Rattle.std.proofs.lemmas.List.Sorted.{Contains-permutation}
-use Rattle.std.proofs.lemmas.Option.{slice_get_read}
 use Rattle.values.specs.Row.{Row}
 use Rattle.values.specs.declared.fault.Fault.{Fault}
 use Rattle.pager.specs.PagerState.{PagerState}
@@ -20,14 +19,14 @@ use Rattle.image.specs.Tree.{ArePlacesOf, Place}
 use Rattle.image.proofs.ListLemmas.{get_contains, in_head, in_none}
 use Rattle.btree.proofs.SeenLemmas.{same_pages, still_steady}
 use Rattle.expr.specs.Term.{Term}
-use Rattle.wanted_entries.specs.Bags.{Coded, IsAbove, IsAtMost, IsOnce}
-use Rattle.wanted_entries.specs.Wanted.{KeyedRow, entry_of, wanted}
+use Rattle.values.specs.Bounds.{IsAbove, counted}
+use Rattle.wanted_entries.specs.Bags.{Coded, IsOnce}
+use Rattle.wanted_entries.specs.Wanted.{KeyedRow, wanted}
 use Rattle.wanted_entries.proofs.OrderLemmas.{once}
 use Rattle.entry_batches.specs.Batches.{ComeBefore}
 use Rattle.index_batches.specs.Trees.{AllPlaced, AreTreeValues, HasAstray, TellsAll}
 use Rattle.index_walk.specs.Widths.{exactly}
 use Rattle.entry_prefixes.proofs.EntryLemmas.{searchable, stand, values}
-use Rattle.tree_walk.specs.Counts.{counted}
 use Rattle.cursor.specs.declared.cursor.Cursor.{Cursor}
 use Rattle.cursor.specs.Calls.{HasFailed, HasStepped, IsOpenedAt}
 use Rattle.cursor.specs.Listing.{IsAt, IsEntry}
@@ -41,14 +40,14 @@ use Rattle.index_rows.specs.Entries.{indexed_by, width_by}
 use Rattle.index_rows.specs.Kept.{condition_of, keeps_row}
 use Rattle.index_rows.specs.Rows.{HoldsTableRows}
 use Rattle.stored_tables.specs.Tables.{kind_of}
-use Rattle.index_rows.proofs.CompareLemmas.{BeginsKeyed, TellsCell, begins_keyed, counted_are, entries_of_index, holds_of_index, its_rows, its_tree, kept_rows, other_count, places_are, places_of_index}
+use Rattle.index_rows.proofs.CompareLemmas.{BeginsKeyed, TellsCell, begins_keyed, entries_of_index, holds_of_index, its_rows, its_tree, kept_rows, other_count, places_are, places_of_index}
 use Rattle.index_rows.proofs.LookLemmas.{as_row}
 use Rattle.index_rows.proofs.RowLemmas.{StoresBy}
 use Rattle.index_rows.proofs.StandLemmas.{at_now}
 use Rattle.row_batches.specs.declared.runs.Run.{Run}
 use Rattle.row_batches.specs.Runs.{IsAdded, IsRunAstray, IsTurned, TellsTurn}
 use Rattle.row_batches.proofs.GatherLemmas.{Gathers, all_counted, all_same, astray, none_gathered, one_gathered, turned}
-use Rattle.row_batches.proofs.KeptLemmas.{has_rowid, kept_in, one_some, rows_rise}
+use Rattle.row_batches.proofs.KeptLemmas.{has_rowid, kept_in, rows_rise}
 
 -- the rows that are to come, and a cursor before them
 pub record StandsBefore (pages : Pages) (table : TableData) (index : TableIndex) (keyed : List KeyedRow) (entries : List Row) (levels : ℕ) (cursor : Cursor)

@@ -1,5 +1,5 @@
 -- The code of the values of a row, column by column.
-use Rattle.std.proofs.Common.{◌≡◌, ◌∙◌, ◌+◌, ◌<◌, ◌≤◌, ℕ, All, List, [], ◌∷◌, ◌++◌, ℤ, Option, Some, append-nil, inr, get_or, length, map, slice_get, slice_index_or, take, refl, sym, ap, subst, arith}
+use Rattle.std.proofs.Common.{◌≡◌, ◌∙◌, ◌+◌, ◌<◌, ◌≤◌, ℕ, All, List, [], ◌∷◌, ◌++◌, ℤ, Option, Some, append-nil, inr, get_or, length, map, slice_get, slice_index_or, take, sym, ap, subst}
 use Rattle.std.proofs.lemmas.List.{flat_map_more, get_or_past, length-map, map-append, take_all, take_more}
 use Rattle.std.proofs.lemmas.List.Elements.{All-nil, All-push}
 use Rattle.std.proofs.lemmas.Option.{get_or_from_slice_get}
@@ -20,7 +20,7 @@ use Rattle.wanted_entries.specs.Wanted.{values_at}
 use Rattle.tables.specs.TableData.{MissingData, TableData, rowid_of}
 use Rattle.stored_rows.specs.Reading.{IsReading, Reading}
 use Rattle.stored_rows.specs.RowFaults.{IsRecordFault, IsRowFault, fault_of}
-use Rattle.stored_rows.specs.Stored.{IsRowOf, IsRowRecord, filled_values}
+use Rattle.stored_rows.specs.Stored.{IsRowOf, IsRowRecord}
 use Rattle.stored_rows.proofs.FilledLemmas.{length-filled}
 use Rattle.stored_rows.proofs.OneLemmas.{no_record_fault}
 use Rattle.stored_rows.proofs.ReadingLemmas.{length-row}

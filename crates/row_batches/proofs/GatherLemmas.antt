@@ -1,32 +1,25 @@
 -- A run of rows whose wanted entries are in a batch, and the entries of an index beside it.
-use Rattle.std.proofs.Common.{◌≡◌, ◌≢◌, ◌∙◌, ◌⊎◌, ◌+◌, ◌-◌, ◌^◌, ◌<◌, ◌≤◌, ◌<ℤ◌, ◌≤ℤ◌, ◌++◌, ℕ, ℤ, All, Bool, true, false, Contains, IsPermutation, List, [], ◌∷◌, None, Option, Some, drop, length, map, min, slice_get, refl, sym, ap, subst, inl, inr, ⊎_elim, arith}
-use Rattle.std.specs.List.{filter}
-use Rattle.std.proofs.lemmas.Int.{ints}
+use Rattle.std.proofs.Common.{◌≡◌, ◌∙◌, ◌⊎◌, ◌+◌, ◌-◌, ◌^◌, ◌<◌, ◌≤◌, ◌<ℤ◌, ◌≤ℤ◌, ◌++◌, ℕ, ℤ, All, Bool, true, false, Contains, IsPermutation, List, [], ◌∷◌, None, Option, Some, length, map, min, refl, sym, ap, subst, inl, inr, ⊎_elim, arith}
 use Rattle.std.proofs.lemmas.List.{length-map}
 use Rattle.std.proofs.lemmas.List.Elements.{Contains-append_cases, Contains-append_left, Contains-append_right}
 use Rattle.std.proofs.lemmas.List.Sorted.{Contains-permutation}
 use Rattle.values.specs.Datum.{int}
 use Rattle.values.specs.Row.{Row}
-use Rattle.image.specs.Pages.{Pages}
 use Rattle.image.specs.Tree.{Place}
 use Rattle.image.proofs.ListLemmas.{cons_cases, get_contains, in_head, in_none, in_tail}
 use Rattle.expr.specs.Term.{Term}
-use Rattle.wanted_entries.specs.Bags.{Coded, IsAbove, IsAtMost, IsOnce}
+use Rattle.values.specs.Bounds.{IsAbove, IsAtMost, counted}
+use Rattle.wanted_entries.specs.Bags.{Coded, IsOnce}
 use Rattle.wanted_entries.specs.Wanted.{IndexedPlaces, KeyedRow, entry_of, values_at, wanted}
 use Rattle.wanted_entries.proofs.BagLemmas.{same}
 use Rattle.wanted_entries.proofs.KeptLemmas.{in_map, kept_first, left_first}
 use Rattle.entry_batches.specs.Codes.{IsHeld, codes_of}
 use Rattle.entry_batches.proofs.CodeLemmas.{same_rows}
-use Rattle.index_batches.specs.Placed.{IsAstray, IsInBatch, IsKeyed, IsPlaced, coded_entry}
+use Rattle.index_batches.specs.Placed.{IsInBatch, IsKeyed, IsPlaced, coded_entry}
 use Rattle.index_batches.specs.Trees.{AllPlaced, HasAstray}
 use Rattle.index_batches.proofs.KeyLemmas.{one_front, one_rowid}
-use Rattle.entry_prefixes.specs.Entries.{HoldsEntries}
 use Rattle.entry_prefixes.proofs.ListLemmas.{get_of, mapped_at}
-use Rattle.tree_walk.specs.Counts.{counted}
-use Rattle.tables.specs.TableData.{TableData}
-use Rattle.index_rows.specs.Compared.{IsDifferentIndex, IsIndexOf}
 use Rattle.index_rows.specs.Kept.{keeps_row}
-use Rattle.index_rows.specs.Rows.{HoldsTableRows}
 use Rattle.index_rows.proofs.CompareLemmas.{kept_rows}
 use Rattle.row_batches.specs.declared.runs.Run.{Run}
 use Rattle.row_batches.specs.Runs.{IsAdded, IsKeptRow}

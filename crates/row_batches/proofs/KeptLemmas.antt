@@ -1,13 +1,12 @@
 -- Rows whose rowids ascend, and those that a condition keeps.
-use Rattle.std.proofs.Common.{◌≡◌, ◌∙◌, ◌⊎◌, ◌<◌, ◌≤◌, ◌<ℤ◌, ◌≤ℤ◌, ◌++◌, ℕ, zero, suc, ℤ, Bool, true, false, cond, Contains, List, [], ◌∷◌, None, Option, Some, length, map, slice_get, refl, sym, ap, subst, inl, inr, ⊎_elim, arith}
+use Rattle.std.proofs.Common.{◌≡◌, ◌∙◌, ◌⊎◌, ◌<◌, ◌≤◌, ◌<ℤ◌, ◌≤ℤ◌, ◌++◌, ℕ, suc, ℤ, Bool, true, false, cond, Contains, List, [], ◌∷◌, None, Option, Some, length, slice_get, refl, sym, ap, subst, ⊎_elim, arith}
 use Rattle.std.specs.List.{filter}
 use Rattle.std.proofs.lemmas.Int.{by_lt_z, ints}
 use Rattle.std.proofs.lemmas.List.{length-map}
 use Rattle.values.specs.Datum.{int}
-use Rattle.values.specs.Row.{Row}
 use Rattle.image.specs.Pages.{Pages}
-use Rattle.image.proofs.ListLemmas.{cons_cases, get_contains, in_head, in_tail}
-use Rattle.wanted_entries.specs.Bags.{IsAbove, IsAtMost}
+use Rattle.values.specs.Bounds.{IsAbove}
+use Rattle.image.proofs.ListLemmas.{cons_cases, in_head, in_tail}
 use Rattle.wanted_entries.specs.Wanted.{IndexedPlaces, KeyedRow, entry_of, row_key, values_at}
 use Rattle.tables.specs.TableData.{TableData}
 use Rattle.index_batches.specs.Placed.{IsKeyed}

@@ -1,6 +1,6 @@
 -- A run of rows of a table with rowids, whose wanted entries are in a batch. (Database File Format, section 2.3 "Representation Of
 -- SQL Indices")
-use Rattle.std.specs.Prelude.{◌≡◌, ◌⊎◌, ◌++◌, ◌∷◌, [], ℕ, ℤ, Bool, true, false, All, List, None, Option, Some}
+use Rattle.std.specs.Prelude.{◌≡◌, ◌⊎◌, ◌++◌, ◌∷◌, [], ℕ, ℤ, Bool, true, false, All, List, Option, Some}
 use Rattle.values.specs.Row.{Row}
 use Rattle.image.specs.Tree.{Place}
 use Rattle.expr.specs.Term.{Term}

@@ -1,7 +1,7 @@
 //! The batch of a run of rows, and what an index has beside it.
-ghost use Rattle.std.specs.Prelude.{◌≡◌, ◌⊎◌, ℕ, ℤ, IfErr, IfOk, List, MatchResult, None, Some, [], length};
+ghost use Rattle.std.specs.Prelude.{◌≡◌, ℕ, ℤ, IfErr, IfOk, MatchResult, None, Some, [], length};
 ghost use Rattle.values.specs.Row.{Row};
-ghost use Rattle.pager.specs.Calls.{IsReadFault, ReadsChainPages, ReadsPages};
+ghost use Rattle.pager.specs.Calls.{IsReadFault, ReadsPages};
 ghost use Rattle.image.specs.declared.kind.TreeKind.TheVariants.{Index};
 ghost use Rattle.image.specs.Pages.{WhereSteady};
 ghost use Rattle.image.specs.Shape.{IsTreeAt, places_under};

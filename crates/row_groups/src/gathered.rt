@@ -6,7 +6,7 @@ ghost use Rattle.values.specs.Row as rows;
 ghost use Rattle.meaning.specs.Times.{same_row};
 ghost use Rattle.indexmap.specs.IndexSet.{insert_key};
 ghost use Rattle.aggregates.specs.AggregateView.{aggregate_data};
-ghost use Rattle.aggregates.specs.State.{state_of, states_after};
+ghost use Rattle.aggregates.specs.State.{states_after};
 ghost use Rattle.row_groups.specs.GroupView.{GroupTermsData, group_terms_data};
 ghost use Rattle.row_groups.specs.Gathered.{GivesRowAt, IsLeaving, gathered_rows, groups_in_order, ReachesIn};
 ghost use Rattle.row_groups.specs.Kept.{AreGroupsOf, count_of, states_of};

@@ -1,8 +1,8 @@
 -- The pages that a plan which is run may still ask for.
-use Rattle.std.proofs.Common.{◌≡◌, Bool, true, false, ℕ, List, [], ◌++◌, map, Result, Ok, Err, IfOk, OnOk, MatchResult, refl, sym, subst, arith}
+use Rattle.std.proofs.Common.{◌≡◌, Bool, true, false, ℕ, List, ◌++◌, map, Result, Ok, Err, IfOk, OnOk, MatchResult, refl, sym, subst, arith}
 use Rattle.std.specs.Global.{Global, Vec}
 use Rattle.std.specs.declared.vec.IntoIter.{IntoIter}
-use Rattle.values.specs.Row.{Row}
+use Rattle.values.specs.Row.{Row, rows_data}
 use Rattle.values.specs.declared.fault.Fault.{Fault}
 use Rattle.values.specs.declared.value.Value.{Value}
 use Rattle.pager.specs.PagerState.{PagerState}
@@ -27,7 +27,7 @@ use Rattle.compound_results.specs.InTurn.{IsChainComing, arms_of, over_plan}
 use Rattle.compound_results.specs.declared.chained.ChainedResults.{ChainedResults}
 use Rattle.query_plans.specs.Answers.{PlannedData, work_of}
 use Rattle.running.specs.Columns.{columns_plan}
-use Rattle.running.specs.GatheredView.{gathered_data, rows_data}
+use Rattle.running.specs.GatheredView.{gathered_data}
 use Rattle.running.specs.Given.{HasAhead, HasAsked}
 use Rattle.running.specs.declared.gathered.Gathered.{Gathered}
 use Rattle.running.specs.declared.rows.Running.{Running}

@@ -5,7 +5,7 @@ use Rattle.std.specs.Vec.Iter.{into_iter_items}
 use Rattle.std.specs.declared.vec.IntoIter.{IntoIter}
 use Rattle.values.specs.Database.{Database}
 use Rattle.values.specs.Datum.{Datum}
-use Rattle.values.specs.Row.{Row}
+use Rattle.values.specs.Row.{Row, rows_data}
 use Rattle.values.specs.declared.fault.Fault.{Fault}
 use Rattle.values.specs.declared.value.Value.{Value}
 use Rattle.pager.specs.PagerState.{PagerState}
@@ -33,7 +33,7 @@ use Rattle.compound_results.specs.InTurn.{IsChainComing, arms_of}
 use Rattle.compound_results.specs.declared.chained.ChainedResults.{ChainedResults}
 use Rattle.compound_results.proofs.ChainAnswerLemmas.{chain_is_answer}
 use Rattle.running.specs.Columns.{columns_selection}
-use Rattle.running.specs.GatheredView.{gathered_data, rows_data}
+use Rattle.running.specs.GatheredView.{gathered_data}
 use Rattle.running.specs.Given.{Comes, GivesFirst, HasAhead, HasAnswered, HasGiven, IsOpenedRun, IsRowCause, rows_left}
 use Rattle.running.specs.declared.gathered.Gathered.{Gathered}
 use Rattle.running.specs.declared.rows.Running.{Running}

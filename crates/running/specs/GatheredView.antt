@@ -1,9 +1,4 @@
 -- Plans whose rows are all gathered before the first is given.
-use Rattle.std.specs.Prelude.{List, map}
-use Rattle.std.specs.Global.{Vec}
-use Rattle.values.specs.Datum.{datum_of}
-use Rattle.values.specs.Row.{Row}
-use Rattle.values.specs.declared.value.Value.{Value}
 use Rattle.sorted_results.specs.Sorted.{sorted_data}
 use Rattle.distinct_results.specs.Sorted.{sorted_distinct_data}
 use Rattle.compound_results.specs.Compounds.{compound_data}
@@ -15,6 +10,3 @@ abbrev pub gathered_data : Gathered → PlannedData
 gathered_data (Sorted selection) = sorted (sorted_data selection)
 gathered_data (SortedDistinct selection) = sorted_distinct (sorted_distinct_data selection)
 gathered_data (Compound joined) = compound (compound_data joined)
-
-abbrev pub rows_data : List (Vec Value) → List Row
-rows_data rows = map (λ row. map datum_of row.items) rows

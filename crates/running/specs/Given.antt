@@ -5,7 +5,7 @@ use Rattle.std.specs.Vec.Iter.{into_iter_items, into_iter_len}
 use Rattle.std.specs.declared.vec.IntoIter.{IntoIter}
 use Rattle.values.specs.Database.{Database}
 use Rattle.values.specs.Datum.{Datum}
-use Rattle.values.specs.Row.{Row}
+use Rattle.values.specs.Row.{Row, rows_data}
 use Rattle.values.specs.declared.value.Value.{Value}
 use Rattle.values.specs.declared.fault.Fault.{Fault}
 use Rattle.values.specs.declared.fault.Fault.TheVariants.{Overflow}
@@ -26,7 +26,7 @@ use Rattle.compound_results.specs.InTurn.{IsChainComing, arms_of, over_plan, tur
 use Rattle.compound_results.specs.declared.chained.ChainedResults.{ChainedResults}
 use Rattle.query_plans.specs.Answers.{HitsOf, IsAnswerOf, IsPlannedOver, PlannedData, work_of}
 use Rattle.select_plans.specs.Laws.{PlanReaches}
-use Rattle.running.specs.GatheredView.{gathered_data, rows_data}
+use Rattle.running.specs.GatheredView.{gathered_data}
 use Rattle.running.specs.declared.rows.Running.{Running}
 use Rattle.running.specs.declared.rows.Running.TheVariants.{Rows, Distinct, Chained, Waiting, Giving}
 

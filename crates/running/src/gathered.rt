@@ -9,7 +9,8 @@ ghost use Rattle.scan.specs.Coming.{Asks};
 ghost use Rattle.operators.specs.Basis.{AreStored, Basis, IsOperatorFault};
 ghost use Rattle.query_plans.specs.Answers.{IsAnswerOf, IsPlannedOver, work_of};
 ghost use Rattle.running.specs.Given.{GivesFirst, IsRowCause, rows_left};
-ghost use Rattle.running.specs.GatheredView.{gathered_data, rows_data};
+ghost use Rattle.values.specs.Row.{rows_data};
+ghost use Rattle.running.specs.GatheredView.{gathered_data};
 
 use compound_results::{Compound, compound_rows};
 use distinct_results::{SortedDistinct, sorted_distinct_rows};

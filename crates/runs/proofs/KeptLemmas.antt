@@ -3,7 +3,7 @@ use Rattle.std.proofs.Common.{◌≡◌, ◌∙◌, ◌+◌, ◌-◌, ◌<◌, �
 use Rattle.std.proofs.lemmas.List.{length-map, map-append, map_push, take-append-drop, take_more}
 use Rattle.std.specs.Io.KnownBytes.{Appends}
 use Rattle.values.specs.Datum.{datum_of, datum_of_ref}
-use Rattle.values.specs.Row.{Row}
+use Rattle.values.specs.Row.{Row, rows_data}
 use Rattle.values.specs.Sink.{SinkFacts}
 use Rattle.values.specs.declared.fault.Fault.{Fault}
 use Rattle.values.specs.declared.value.Value.{Value}
@@ -12,7 +12,6 @@ use Rattle.values.proofs.SinkLemmas.{Appends-then}
 use Rattle.meaning.specs.OneTable.{shown}
 use Rattle.meaning.specs.Sequence.{value_at}
 use Rattle.explain.specs.Text.{row_text}
-use Rattle.sources.specs.SourceData.{rows_data}
 use Rattle.runs.specs.Stream.{Streams, StreamsUntil}
 use Rattle.runs.proofs.StreamLemmas.{length-shown, shown_text, shown_text-push, until_behind}
 

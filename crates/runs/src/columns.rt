@@ -1,5 +1,5 @@
 //! Columns of a table's rows, written one by one as they are read.
-ghost use Rattle.std.specs.Prelude.{◌≡◌, ◌⊎◌, ◌<◌, ◌∷◌, [], ℕ, All, IfErr, List, MatchResult, None, OnOk, length, map};
+ghost use Rattle.std.specs.Prelude.{◌≡◌, ◌⊎◌, ◌<◌, ◌∷◌, [], All, IfErr, MatchResult, None, OnOk, length, map};
 ghost use Rattle.std.specs.Io.KnownBytes.{Appends};
 ghost use Rattle.values.specs.Datum.{datum_of_ref};
 ghost use Rattle.values.specs.Fault.{Counts};

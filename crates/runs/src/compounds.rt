@@ -1,5 +1,5 @@
 //! Rows of SELECTs that operators join, written as lines.
-ghost use Rattle.std.specs.Prelude.{◌≡◌, All, IfErr, MatchResult, OnOk, map};
+ghost use Rattle.std.specs.Prelude.{All, IfErr, MatchResult, OnOk};
 ghost use Rattle.values.specs.Fault.{Counts};
 ghost use Rattle.pager.specs.Calls.{ReadsPages};
 ghost use Rattle.sources.specs.Coming.{IsRooted};

@@ -5,8 +5,8 @@ ghost use Rattle.values.specs.Datum.{datum_of, datum_of_ref};
 ghost use Rattle.values.specs.Fault.{Counts};
 ghost use Rattle.explain.specs.Text.{row_text};
 ghost use Rattle.meaning.specs.OneTable.{shown};
+ghost use Rattle.values.specs.Row.{rows_data};
 ghost use Rattle.meaning.specs.Sequence.{value_at};
-ghost use Rattle.sources.specs.SourceData.{rows_data};
 ghost use Rattle.runs.specs.Stream.{Streams, StreamsUntil};
 
 use explain::row_text;

@@ -1,5 +1,5 @@
 //! Rows that are computed, each once, written as lines.
-ghost use Rattle.std.specs.Prelude.{◌≡◌, All, IfErr, MatchResult, OnOk, map};
+ghost use Rattle.std.specs.Prelude.{All, IfErr, MatchResult, OnOk};
 ghost use Rattle.values.specs.Fault.{Counts};
 ghost use Rattle.pager.specs.Calls.{ReadsPages};
 ghost use Rattle.sources.specs.Coming.{IsRooted};

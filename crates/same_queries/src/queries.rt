@@ -1,6 +1,6 @@
 //! Expressions and queries.
 ghost use Rattle.std.specs.Prelude.{◌≡◌, IsTrue, map, option_map};
-ghost use Rattle.statement_trees.specs.TreeView.{arm_of, arranged_of, behind_of, core_of, definition_of, expr_of, joined_of, maybe_of, on_of, over_of, query_of, result_of, source_of, sources_of, term_of, window_of};
+ghost use Rattle.statement_trees.specs.TreeView.{arm_of, arranged_of, behind_of, core_of, definition_of, expr_of, joined_of, on_of, over_of, query_of, result_of, source_of, sources_of, term_of, window_of};
 
 use crate::names::{same_frame, same_names, same_option, same_result_name};
 use statement_trees::{

@@ -6,7 +6,7 @@ use Rattle.std.specs.Cow.{cow_slice_items}
 use Rattle.std.specs.Option.{ok_or, option_map}
 use Rattle.std.specs.declared.borrow.CowSlice.{CowSlice}
 use Rattle.values.specs.Datum.{Datum, null, datum_of}
-use Rattle.values.specs.Row.{Row}
+use Rattle.values.specs.Row.{Row, Grows}
 use Rattle.values.specs.declared.value.Value.{Value}
 use Rattle.values.specs.declared.fault.Fault.{Fault}
 use Rattle.values.specs.declared.fault.Fault.TheVariants.{Changed, NoMemory, ReadFailed}
@@ -18,7 +18,6 @@ use Rattle.image.proofs.ChainLemmas.{one_payload}
 use Rattle.btree.specs.Calls.{IsBytesOf}
 use Rattle.meaning.specs.OneTable.{shown}
 use Rattle.meaning.specs.Sequence.{value_at}
-use Rattle.scan.specs.Coming.{Grows}
 
 -- one column more
 pub shown_more : (whole : Row) (columns : List ℕ) (i : ℕ) (front here there : Row) (d : Datum) → i < length columns

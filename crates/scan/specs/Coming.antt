@@ -23,7 +23,7 @@ use Rattle.std.specs.Prelude.{
 }
 use Rattle.std.specs.List.{AllZip}
 use Rattle.values.specs.Datum.{datum_of}
-use Rattle.values.specs.Row.{Row}
+use Rattle.values.specs.Row.{Row, Grows}
 use Rattle.values.specs.declared.value.Value.{Value}
 use Rattle.values.specs.declared.fault.Fault.{Fault}
 use Rattle.values.specs.declared.fault.Fault.TheVariants.{Changed}
@@ -76,10 +76,6 @@ abbrev pub GivesRow : Bool → List ℕ → List Row → Row → Row → (List R
 GivesRow true columns rows old new Then =
     (row : Row) × (later : List Row) × (rows ≡ row ∷ later) × (new ≡ old ++ shown columns row) × Then later
 GivesRow false columns rows old new Then = (rows ≡ []) × (new ≡ old) × Then []
-
--- values stay in front of others
-abbrev pub Grows : Row → Row → Type 0
-Grows old new = (more : Row) × (new ≡ old ++ more)
 
 -- What a step to the next row leaves behind the first `before` values of a row, and of what is left to do: these values stay in
 -- front; where no row was found they stay alone, and where one was, less is left.

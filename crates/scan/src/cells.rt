@@ -2,7 +2,7 @@
 ghost use Rattle.std.specs.Prelude.{◌≡◌, ◌⊎◌, ◌<◌, ◌≤◌, ◌+◌, ◌++◌, ℕ, All, IfErr, IfOk, List, MatchResult, None, length, map, take};
 ghost use Rattle.std.specs.Cow.{cow_slice_items};
 ghost use Rattle.values.specs.Datum.{datum_of};
-ghost use Rattle.values.specs.Row.{Row};
+ghost use Rattle.values.specs.Row.{Row, Grows};
 ghost use Rattle.pager.specs.Calls.{IsReadFault, ReadsChainPages};
 ghost use Rattle.image.specs.Chain.{HasBytes};
 ghost use Rattle.image.specs.Pages.{WhereSteady};
@@ -10,7 +10,7 @@ ghost use Rattle.btree.specs.Views.{cell_data, payload_data};
 ghost use Rattle.meaning.specs.OneTable.{shown};
 ghost use Rattle.stored_tables.specs.Reading.{IsReadingRow, table_read};
 ghost use Rattle.stored_tables.specs.Tables.{IsAnyRecord, IsAnyRow};
-ghost use Rattle.scan.specs.Coming.{Grows, IsScanFault};
+ghost use Rattle.scan.specs.Coming.{IsScanFault};
 
 use crate::buffer::put_value;
 use btree::{Cell, payload};

@@ -5,7 +5,7 @@ ghost use Rattle.create_trees.specs.CreateTrees.{ConstraintTree};
 ghost use Rattle.create_trees.specs.CreateView.{column_of, constraint_of, table_of};
 ghost use Rattle.declared_keys.specs.KeyView.{key_data};
 ghost use Rattle.schema.specs.Created as spec;
-ghost use Rattle.schema.specs.Created.{AreServedConstraints, IsColumn, IsNotNull, IsServedConstraint, IsTable};
+ghost use Rattle.schema.specs.Created.{IsColumn, IsNotNull, IsServedConstraint, IsTable};
 ghost use Rattle.schema.specs.Names.{AreDistinct, IsReservedName, IsSameName};
 ghost use Rattle.schema.specs.Refused.{IsUnmade};
 ghost use Rattle.tables.specs.TableData.{ColumnData};

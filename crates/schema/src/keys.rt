@@ -1,5 +1,5 @@
 //! The keys of a table.
-ghost use Rattle.std.specs.Prelude.{◌≡◌, ◌↔◌, ◌∷◌, [], All, IfNone, IfOk, IfSome, IsTrue, map, string_bytes};
+ghost use Rattle.std.specs.Prelude.{◌↔◌, ◌∷◌, [], All, IfNone, IfOk, IfSome, IsTrue, map, string_bytes};
 ghost use Rattle.std.specs.List.{AllZip, Any};
 ghost use Rattle.create_trees.specs.CreateView.{column_of};
 ghost use Rattle.declared_keys.specs.Keys.{KeyData};

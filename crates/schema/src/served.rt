@@ -1,5 +1,5 @@
 //! Which constraints and options of a table are served.
-ghost use Rattle.std.specs.Prelude.{◌≡◌, ◌↔◌, ◌∷◌, [], All, IsTrue, map, option_map, string_bytes};
+ghost use Rattle.std.specs.Prelude.{◌↔◌, All, IsTrue, map, option_map, string_bytes};
 ghost use Rattle.std.specs.List.{Any};
 ghost use Rattle.create_trees.specs.CreateView.{column_of, indexed_of, table_constraint_of};
 ghost use Rattle.schema.specs.Created.{AreColumns, AreOptions, IsBinary, IsNamedIn, IsPlainKeyColumn, IsRowless, IsServedIn};

@@ -1,5 +1,5 @@
 //! The types of columns.
-ghost use Rattle.std.specs.Prelude.{◌≡◌, ◌↔◌, IfNone, IfSome, IsTrue};
+ghost use Rattle.std.specs.Prelude.{◌↔◌, IfNone, IfSome, IsTrue};
 ghost use Rattle.create_trees.specs.CreateView as view;
 ghost use Rattle.schema.specs.Types.{IsInteger, IsType, IsWord};
 

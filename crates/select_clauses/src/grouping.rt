@@ -4,7 +4,8 @@ ghost use Rattle.naming.specs.Statement as spec;
 ghost use Rattle.query_trees.specs.Outcome.{Gives};
 ghost use Rattle.query_trees.specs.TermView.{term};
 ghost use Rattle.select_clauses.specs.Keys.{is_number, key_of};
-ghost use Rattle.statement_trees.specs.TreeView.{expr_of, maybe_of};
+ghost use Rattle.syntax.specs.ExprView.{maybe_of};
+ghost use Rattle.statement_trees.specs.TreeView.{expr_of};
 ghost use Rattle.syntax.specs.ExprTree.{trees_of};
 
 use expression_names::{InnerQueries, Place, term};

@@ -1,5 +1,6 @@
 //! The names of a SELECT behind its FROM.
 ghost use Rattle.std.specs.Prelude.{◌≡◌, map, option_map};
+ghost use Rattle.syntax.specs.ExprView.{maybe_of};
 ghost use Rattle.expr.specs.Term as t;
 ghost use Rattle.grammar.specs.Reading.{definitions_of, results_of, terms_of};
 ghost use Rattle.naming.specs.Outcome.{followed};
@@ -75,7 +76,7 @@ fn grouped<I: InnerQueries>(
     ensures { let answers = I.answers inner.now in
         Gives core_data result
         (followed (spec.grouped answers scope.now (map term by.items) (map aggregate_of aggregates.items)
-        (trees.maybe_of (option_map trees.expr_of clauses.now.having.now)))
+        (maybe_of (option_map trees.expr_of clauses.now.having.now)))
         (spec.behind_groups answers scope.now clauses.now.distinct (results_of (map trees.result_of clauses.now.columns.now))
         (terms_of (map trees.term_of clauses.now.order.now)) (map (λ e. trees.expr_of e.now) clauses.now.parts.now)
         (definitions_of (map trees.definition_of clauses.now.windows.now)) (term test))) }
@@ -136,7 +137,7 @@ fn behind_keys<I: InnerQueries>(
     ensures { let answers = I.answers inner.now in
         Gives core_data result
         (followed (spec.input_of answers scope.now (map term by.items) (map aggregate_of aggregates.items)
-        (trees.maybe_of (option_map trees.expr_of clauses.now.having.now)))
+        (maybe_of (option_map trees.expr_of clauses.now.having.now)))
         (spec.behind_groups answers scope.now clauses.now.distinct (results_of (map trees.result_of clauses.now.columns.now))
         (terms_of (map trees.term_of clauses.now.order.now)) (map (λ e. trees.expr_of e.now) clauses.now.parts.now)
         (definitions_of (map trees.definition_of clauses.now.windows.now)) (term test))) }

@@ -13,7 +13,7 @@ use Rattle.group_plans.specs.Laws.{SeesWhere, group_rows_kept}
 use Rattle.group_plans.proofs.HitLemmas.{grouped_columns_are_hit, grouped_is_hit}
 use Rattle.group_plans.proofs.RowLemmas.{grouped_has_rows}
 use Rattle.group_plans.proofs.WidthLemmas.{grouped_say, rows_wide, shown_whole}
-use Rattle.meaning.specs.Body.{answers_in, values_over}
+use Rattle.meaning.specs.Body.{answers_in, values_over, computed_rows}
 use Rattle.meaning.specs.Body as body
 use Rattle.meaning.specs.Groups.{group_rows, grouped}
 use Rattle.meaning.specs.Hits.{FromHits, IsChoice, SelectHits, where_rows}
@@ -29,7 +29,7 @@ use Rattle.plans.specs.Plan.{Hits, PlanData, ReachesOverflow, rows_of}
 use Rattle.plans.proofs.JoinLemmas.{AreTables, choice_width, wide_before}
 use Rattle.select_plans.specs.Made.{IsOverRows, IsOverWindows}
 use Rattle.select_plans.specs.Read.{IsReadBy, IsWideBy, reads_all}
-use Rattle.results.specs.Permitted.{SaysOf, computed_rows}
+use Rattle.results.specs.Permitted.{SaysOf}
 use Rattle.results.proofs.PermittedLemmas.{where_is_computed}
 use Rattle.table_plans.specs.Input.{input_from, seen}
 use Rattle.table_plans.specs.TableJoins.{AreTableJoins}

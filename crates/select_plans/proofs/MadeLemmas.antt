@@ -6,12 +6,12 @@ use Rattle.values.specs.Datum.{Datum}
 use Rattle.values.specs.Row.{Row}
 use Rattle.expr.specs.Filled.{filled}
 use Rattle.expr.specs.Term.{Term}
-use Rattle.meaning.specs.Body.{answers_in}
+use Rattle.meaning.specs.Body.{answers_in, computed_rows}
 use Rattle.meaning.specs.Hits.{FromHits, SelectHits}
 use Rattle.meaning.specs.Query.{From, Key, Select}
 use Rattle.plan_terms.specs.Over.{StandsOver}
 use Rattle.plans.specs.Plan.{PlanData}
-use Rattle.results.specs.Permitted.{SaysOf, SeesRows, computed_rows}
+use Rattle.results.specs.Permitted.{SaysOf, SeesRows}
 use Rattle.select_plans.specs.Laws.{MadeHasRows, MadeIsHit, PlanReaches}
 use Rattle.select_plans.specs.Made.{IsMadeOver}
 use Rattle.select_plans.specs.Read.{IsWideOf, reads_all, terms_in}

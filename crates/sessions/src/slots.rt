@@ -1,5 +1,5 @@
 //! The slots of a session over an engine.
-ghost use Rattle.std.specs.Prelude.{◌≡◌, ◌≢◌, ℕ, IfOk, length, replicate};
+ghost use Rattle.std.specs.Prelude.{◌≡◌, ◌≢◌, ℕ, IfOk, replicate};
 ghost use Rattle.pager.specs.Calls.{TellsFailedReads};
 ghost use Rattle.sessions.specs.Replies.{SlotState, base_of, request_of, slot_of};
 ghost use Rattle.sessions.specs.Run.{TellsRead};

@@ -1,5 +1,5 @@
 -- Sources and inner queries, one after the other.
-use Rattle.std.proofs.Common.{◌≡◌, ◌<◌, ℕ, zero, suc, List, [], ◌∷◌, length, map, get_or, refl, sym, ap, ◌∙◌, arith}
+use Rattle.std.proofs.Common.{◌≡◌, ◌<◌, ℕ, suc, List, [], ◌∷◌, length, map, get_or, refl, ap, ◌∙◌, arith}
 use Rattle.meaning.specs.Query as q
 use Rattle.naming.specs.Statement.{with_answers}
 use Rattle.body_trees.specs.BodyView.{JoinedData, SingleData, joined_all}

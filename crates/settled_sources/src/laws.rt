@@ -1,5 +1,5 @@
 //! What holds of the definitions alone.
-ghost use Rattle.std.specs.Prelude.{◌≡◌, ◌↔◌, ℕ, List, length};
+ghost use Rattle.std.specs.Prelude.{◌≡◌, ◌↔◌, List, length};
 ghost use Rattle.values.specs.Database.{Database};
 ghost use Rattle.values.specs.Datum.{Datum};
 ghost use Rattle.values.specs.Row.{Row};

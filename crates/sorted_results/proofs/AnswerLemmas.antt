@@ -1,5 +1,5 @@
 -- Rows that were put in order are an answer.
-use Rattle.std.proofs.Common.{◌≡◌, ◌∙◌, ◌++◌, Bool, ℕ, ℤ, List, is_lt, length, map, take, refl, sym, ap, subst, Option, IsPermutation}
+use Rattle.std.proofs.Common.{◌≡◌, ◌∙◌, ◌++◌, ℕ, ℤ, List, is_lt, length, map, take, sym, ap, subst, Option, IsPermutation}
 use Rattle.std.proofs.Math.Seq.{take-append_seam}
 use Rattle.std.proofs.lemmas.List.{length-map, map-append}
 use Rattle.values.specs.Database.{Database}

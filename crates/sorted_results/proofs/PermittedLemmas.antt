@@ -11,13 +11,13 @@ use Rattle.expr.specs.Filled.{filled}
 use Rattle.expr.specs.Meaning.{eval}
 use Rattle.expr.specs.Term.{Term}
 use Rattle.meaning.specs.Answer.{key_directions, limited, skipped}
-use Rattle.meaning.specs.Body.{Output, answers_in, body, body_rows, key_value, output, outputs, plain_outputs, values_over}
+use Rattle.meaning.specs.Body.{Output, answers_in, body, body_rows, key_value, output, outputs, plain_outputs, values_over, computed_rows}
 use Rattle.meaning.specs.OneTable.{shown}
 use Rattle.meaning.specs.Query.{Direction, From, Key, KeyTerm, Select, only, select, table}
 use Rattle.meaning.specs.Sequence.{keys_cmp, value_at}
 use Rattle.meaning.specs.Valuation.{term_values, with_answers}
 use Rattle.plans.specs.Plan.{rows_of}
-use Rattle.results.specs.Permitted.{SaysOf, computed_rows}
+use Rattle.results.specs.Permitted.{SaysOf}
 use Rattle.results.proofs.PermittedLemmas.{columns_agree, table_sees}
 use Rattle.sorted_results.specs.Permitted.{IsKeyOf, IsKeyOver, KeySaysOf, KeyStandsFor, OneTableIsPermitted, PlainIsPermitted}
 use Rattle.sorted_results.specs.Sorted.{outputs_over}

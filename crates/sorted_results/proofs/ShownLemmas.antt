@@ -3,13 +3,12 @@ use Rattle.std.proofs.Common.{◌≡◌, ◌∙◌, ℕ, List, [], ◌∷◌, �
 use Rattle.std.specs.Global.{Vec}
 use Rattle.std.proofs.lemmas.List.{map_push}
 use Rattle.values.specs.Datum.{datum_of}
-use Rattle.values.specs.Row.{Row}
+use Rattle.values.specs.Row.{Row, rows_data}
 use Rattle.values.specs.declared.value.Value.{Value}
 use Rattle.results.specs.declared.limits.Slice.{Slice}
 use Rattle.results.specs.Slices.{sliced}
 use Rattle.results.proofs.SliceLemmas.{none_sliced}
 use Rattle.results.proofs.StreamLemmas.{GivesFirst, PassesFirst}
-use Rattle.ordered_rows.specs.FirstView.{rows_data}
 use Rattle.ordered_rows.proofs.FirstLemmas.{row_of}
 
 pub slice_whole : (first last : Slice) (done given : List Row) → ((rest : List Row) → sliced first (done ++ rest) ≡ given ++ sliced last rest)

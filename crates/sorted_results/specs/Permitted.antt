@@ -6,10 +6,10 @@ use Rattle.values.specs.Datum.{Datum}
 use Rattle.values.specs.Row.{Row}
 use Rattle.expr.specs.Filled.{filled}
 use Rattle.meaning.specs.Answer.{Permits}
-use Rattle.meaning.specs.Body.{answers_in}
+use Rattle.meaning.specs.Body.{answers_in, computed_rows}
 use Rattle.meaning.specs.Query.{From, Key, KeyTerm, QueryData, Select, only, table}
 use Rattle.plans.specs.Stands.{StandsFor}
-use Rattle.results.specs.Permitted.{IsPlain, IsPlainSelect, ReadsTable, SaysOf, SeesRows, computed_rows}
+use Rattle.results.specs.Permitted.{IsPlain, IsPlainSelect, ReadsTable, SaysOf, SeesRows}
 use Rattle.sorted_results.specs.Sorted.{IsSortedAnswer, SortedData}
 
 -- ---- over any plan of the rows that result columns are computed on

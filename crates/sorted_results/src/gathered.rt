@@ -12,8 +12,8 @@ ghost use Rattle.scan.specs.Coming.{Asks};
 ghost use Rattle.operators.specs.Basis.{AreStored, Basis, IsOperatorFault};
 ghost use Rattle.operators.specs.Left.{IsPlanOf};
 ghost use Rattle.results.specs.Coming.{IsResultCause};
+ghost use Rattle.values.specs.Row.{rows_data};
 ghost use Rattle.results.specs.Slices.{sliced};
-ghost use Rattle.ordered_rows.specs.FirstView.{rows_data};
 ghost use Rattle.sorted_results.specs.KeyView.{key_data};
 ghost use Rattle.sorted_results.specs.Sorted.{IsSortedAnswer, sorted_data};
 

@@ -3,11 +3,10 @@ use Rattle.std.proofs.Common.{◌≡◌, ◌∙◌, ◌<◌, ◌+◌, ℕ, zero,
 use Rattle.std.proofs.lemmas.List.{map_push, take_more}
 use Rattle.std.proofs.lemmas.Option.{same_Some}
 use Rattle.values.specs.Datum.{Datum, datum_of}
-use Rattle.values.specs.Row.{Row}
+use Rattle.values.specs.Row.{Row, rows_data}
 use Rattle.values.specs.declared.value.Value.{Value}
 use Rattle.meaning.specs.OneTable.{shown}
 use Rattle.meaning.specs.Sequence.{value_at}
-use Rattle.sources.specs.SourceData.{rows_data}
 
 -- one column more
 pub shown_more : (whole : Row) (columns : List ℕ) (i : ℕ) (front here there : Row) (d : Datum) → i < length columns

@@ -1,8 +1,7 @@
 -- What rows are read of, without the memory that it lies in.
 use Rattle.std.specs.Prelude.{List, ◌++◌, Vec, map}
 use Rattle.std.specs.Global.{Global}
-use Rattle.values.specs.Datum.{datum_of}
-use Rattle.values.specs.Row.{Row}
+use Rattle.values.specs.Row.{Row, rows_data}
 use Rattle.values.specs.declared.value.Value.{Value}
 use Rattle.tables.specs.TableData.{TableData}
 use Rattle.sources.specs.declared.places.RowSource.{RowSource}
@@ -12,9 +11,6 @@ use Rattle.sources.specs.declared.places.RowSource.TheVariants.{Stored, Kept}
 pub data SourceData : Type 0 where
   of_table : TableData → SourceData
   of_rows : List Row → SourceData
-
-abbrev pub rows_data : List (Vec Value Global) → List Row
-rows_data rows = map (λ row. map datum_of row.items) rows
 
 abbrev pub source_data : RowSource → SourceData
 source_data (Stored table) = of_table table.now

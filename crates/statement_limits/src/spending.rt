@@ -2,7 +2,8 @@
 ghost use Rattle.std.specs.Prelude.{◌≡◌, map, option_map};
 ghost use Rattle.statement_limits.specs.Limits.{count_from, count_results};
 ghost use Rattle.statement_limits.specs.Spending.{after_arms, after_arranged, after_behind, after_clauses, after_core, after_definitions, after_ends, after_expr, after_exprs, after_from, after_joined, after_maybe, after_on, after_query, after_result, after_results, after_source, after_terms, after_window, spent, without};
-ghost use Rattle.statement_trees.specs.TreeView.{arm_of, arranged_of, behind_of, core_of, definition_of, expr_of, joined_of, maybe_from, maybe_of, on_of, query_of, result_of, source_of, sources_of, term_of, window_of};
+ghost use Rattle.syntax.specs.ExprView.{maybe_of};
+ghost use Rattle.statement_trees.specs.TreeView.{arm_of, arranged_of, behind_of, core_of, definition_of, expr_of, joined_of, maybe_from, on_of, query_of, result_of, source_of, sources_of, term_of, window_of};
 ghost use Rattle.grammar.specs.Reading.{definitions_of, results_of, terms_of};
 ghost use Rattle.syntax.specs.ExprTree.{arms_of, trees_of};
 

@@ -5,8 +5,8 @@ use Rattle.values.specs.declared.fault.Fault.TheVariants.{Limit}
 use Rattle.body_trees.specs.BodyView.{JoinedData, joined_all}
 use Rattle.meaning.specs.Query.{Body, From, InnerQuery, Source}
 use Rattle.naming.specs.Outcome.{checked}
+use Rattle.values.specs.Bounds.{counted}
 use Rattle.naming.specs.Statement.{max_sources, sources_of, sources_of_body, sources_of_from, sources_of_inner, with_answers, within}
-use Rattle.statement_names.specs.Counted.{counted}
 
 joined_are : (from : From) (js : List JoinedData) → sources_of_from (joined_all from js) ≡ sources_of_from from + sum_by (λ j. sources_of j.source) js
 joined_are from [] = sym (add-zero (sources_of_from from))

@@ -1,4 +1,3 @@
 pub mod NamedView
-pub mod Counted
 pub mod WithView
 pub mod Whole

@@ -1,8 +1,8 @@
 //! How many sources a query has.
 ghost use Rattle.std.specs.Prelude.{◌≡◌, map, nat_le, sum_by};
 ghost use Rattle.body_trees.specs.BodyView.{body_of, inner_of, joined_of, source_of, tables_of};
+ghost use Rattle.values.specs.Bounds.{counted};
 ghost use Rattle.naming.specs.Statement as spec;
-ghost use Rattle.statement_names.specs.Counted.{counted};
 
 use body_trees::{Body, InnerQuery, Joined, Source, Tables};
 

@@ -10,8 +10,7 @@ use Rattle.grammar.specs.Read.{SaysOfStatement}
 use Rattle.grammar.specs.Reading.{statement}
 use Rattle.grammar.specs.Statements.{States}
 use Rattle.phrases.proofs.TextLemmas.{same_lexemes}
-use Rattle.phrases.specs.Outcomes.{Refusal, Yields}
-use Rattle.phrases.specs.Steps.{Rest}
+use Rattle.phrases.specs.Outcomes.{Yields}
 use Rattle.phrases.specs.Texts.{lexemes, lexemes_of, max_levels}
 use Rattle.source_texts.specs.Sources.{source_of, source_text}
 use Rattle.statement_limits.proofs.LimitLemmas.{none_beyond, not_both, some_within}

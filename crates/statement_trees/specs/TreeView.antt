@@ -1,5 +1,5 @@
 -- What the program's expressions and queries are.
-use Rattle.std.specs.Prelude.{ℕ, List, [], ◌∷◌, Option, Some, None, map, option_map, string_bytes}
+use Rattle.std.specs.Prelude.{List, [], ◌∷◌, Option, Some, None, map, option_map, string_bytes}
 use Rattle.syntax.specs.ExprTree.{
   BehindTree,
   CoreTree,
@@ -30,6 +30,7 @@ use Rattle.statement_trees.specs.declared.expressions.Window.{Window}
 use Rattle.syntax.specs.declared.query.CompoundOperator.{CompoundOperator}
 use Rattle.syntax.specs.declared.query.Direction.{Direction}
 use Rattle.syntax.specs.declared.query.Join.{Join}
+use Rattle.syntax.specs.ExprView.{maybe_of}
 use Rattle.statement_trees.specs.declared.queries.Arranged.{Arranged}
 use Rattle.statement_trees.specs.declared.queries.Core.{Core}
 use Rattle.statement_trees.specs.declared.queries.JoinCondition.{JoinCondition}
@@ -39,10 +40,6 @@ use Rattle.statement_trees.specs.declared.queries.Query.{Query}
 use Rattle.statement_trees.specs.declared.queries.ResultColumn.{ResultColumn}
 use Rattle.statement_trees.specs.declared.queries.Source.{Source}
 use Rattle.statement_trees.specs.declared.queries.Sources.{Sources}
-
-abbrev pub maybe_of : Option ExprTree → MaybeExpr
-maybe_of None = MaybeExpr.Absent
-maybe_of (Some e) = MaybeExpr.Present e
 
 -- Lists that are joined from the left
 

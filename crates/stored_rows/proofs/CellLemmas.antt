@@ -2,7 +2,7 @@
 use Rattle.std.proofs.Common.{◌≡◌, ◌⊎◌, ℕ, List, Option, None, Some, subst, inl, inr, refl}
 use Rattle.std.specs.Prelude.{IfSome}
 use Rattle.values.specs.declared.fault.Fault.{Fault}
-use Rattle.values.specs.declared.fault.Fault.TheVariants.{BadChain, NoMemory}
+use Rattle.values.specs.declared.fault.Fault.TheVariants.{NoMemory}
 use Rattle.records.specs.declared.fault.RecordFault.{RecordFault}
 use Rattle.records.specs.declared.fault.RecordFault.TheVariants as r
 use Rattle.image.specs.Cell.{CellData}

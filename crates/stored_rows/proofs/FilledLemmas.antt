@@ -6,7 +6,7 @@ use Rattle.values.specs.Datum.{Datum, datum_of_ref, null}
 use Rattle.values.specs.declared.value.ValueRef.{ValueRef}
 use Rattle.stored_rows.proofs.RowLemmas.{take_next}
 use Rattle.std.specs.Option.{option_map}
-use Rattle.tables.specs.TableData.{ColumnData, MissingData, TableData, rowid_of}
+use Rattle.tables.specs.TableData.{MissingData, TableData, rowid_of}
 use Rattle.stored_rows.specs.Stored.{filled_values, older_values, without_rowid}
 
 fill_same : (x y : Datum) → MissingData.Fill x ≡ MissingData.Fill y → x ≡ y

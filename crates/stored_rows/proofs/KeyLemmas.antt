@@ -8,7 +8,8 @@ use Rattle.image.specs.Layout.{cell_place}
 use Rattle.image.specs.Cell.{CellData}
 use Rattle.image.proofs.RowidLemmas.{one_cell_rowid}
 use Rattle.btree.specs.Bytes.{IsRowCell, IsDividerCell}
-use Rattle.stored_rows.specs.Keys.{IsAbove, IsAtMost, HasKeyAt, KeysFit, FitSoFar}
+use Rattle.values.specs.Bounds.{IsAbove, IsAtMost}
+use Rattle.stored_rows.specs.Keys.{HasKeyAt, KeysFit, FitSoFar}
 
 module _ (at most : ℕ) (page : List ℕ) where
   pub no_leaf_key : (level : Level) (i : ℕ) → level ≡ Leaf → ((cell : CellData) → ¬ IsRowCell at most page i cell)

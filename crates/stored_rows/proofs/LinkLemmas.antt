@@ -1,5 +1,5 @@
 -- The links of a leaf's cells, cell by cell.
-use Rattle.std.proofs.Common.{◌≡◌, ◌⊎◌, ◌∙◌, ℕ, zero, suc, ◌+◌, ◌-◌, ◌*◌, ◌<◌, ◌≤◌, Bool, Contains, List, [], length, Option, None, Some, refl, sym, ap, subst, inl, inr, ⊎_elim, arith}
+use Rattle.std.proofs.Common.{◌≡◌, ◌⊎◌, ◌∙◌, ℕ, ◌+◌, ◌-◌, ◌*◌, ◌<◌, ◌≤◌, Bool, Contains, List, [], length, None, Some, refl, sym, ap, subst, inl, inr, ⊎_elim, arith}
 use Rattle.std.proofs.lemmas.Bool.{cases_lt}
 use Rattle.values.specs.declared.fault.Fault.{Fault}
 use Rattle.values.specs.declared.fault.Fault.TheVariants.{PageUse}
@@ -19,7 +19,7 @@ use Rattle.page_use.specs.Links.{IsPayloadOf, IsPayloadTwice, MarksPayload}
 use Rattle.page_use.specs.Marks.{AreTreeMarks, IsOn}
 use Rattle.tables.specs.TableData.{TableData}
 use Rattle.stored_rows.specs.Keys.{IsSeen}
-use Rattle.stored_rows.specs.Links.{AreWithRows, IsOpenLeaf, IsRowTwice, MarksRows, table_tree}
+use Rattle.stored_rows.specs.Links.{IsOpenLeaf, IsRowTwice, MarksRows, table_tree}
 use Rattle.stored_rows.specs.RowFaults.{AreRowsIn}
 use Rattle.stored_rows.proofs.KindLemmas.{only_leaf}
 

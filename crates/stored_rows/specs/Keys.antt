@@ -1,23 +1,15 @@
 -- The keys of one page of a table's tree: the rowids of a leaf's cells, and those that the cells of an interior page
 -- divide. (Database File Format, section 1.6 "B-tree Pages")
-use Rattle.std.specs.Prelude.{◌≡◌, ◌≢◌, ◌⊎◌, ℕ, ℤ, zero, suc, ◌<ℤ◌, ◌≤ℤ◌, ◌<◌, List, Option, Some, None, length}
+use Rattle.std.specs.Prelude.{◌≡◌, ◌≢◌, ◌⊎◌, ℕ, ℤ, zero, suc, ◌<ℤ◌, ◌<◌, List, Option, Some, length}
 use Rattle.values.specs.declared.fault.Fault.{Fault}
 use Rattle.values.specs.declared.fault.Fault.TheVariants.{BadPage, BadOrder}
+use Rattle.values.specs.Bounds.{IsAbove, IsAtMost}
 use Rattle.image.specs.declared.kind.Level.{Level}
 use Rattle.image.specs.declared.kind.Level.TheVariants.{Leaf, Interior}
 use Rattle.image.specs.Cell.{CellData}
 use Rattle.image.specs.Layout.{cell_count, header_at}
 use Rattle.image.specs.Pages.{Pages}
 use Rattle.btree.specs.Bytes.{IsRowCell, IsDividerCell}
-
--- a key keeps a bound that there may be
-abbrev pub IsAbove : Option ℤ → ℤ → Type 0
-IsAbove None key = Unit {0}
-IsAbove (Some low) key = low <ℤ key
-
-abbrev pub IsAtMost : Option ℤ → ℤ → Type 0
-IsAtMost None key = Unit {0}
-IsAtMost (Some high) key = key ≤ℤ high
 
 -- Of a page of these used bytes, whose header begins at a place: cell i is there, with a payload of at most so many
 -- bytes, and has this key.

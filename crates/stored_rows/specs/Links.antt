@@ -1,13 +1,14 @@
 -- The overflow pages of a leaf's cells, as they get their marks. (Database File Format, section 1.7 "Cell Payload Overflow
 -- Pages")
-use Rattle.std.specs.Prelude.{◌⊎◌, ℕ, Bool, Contains, List}
+use Rattle.std.specs.Prelude.{ℕ, Bool, Contains, List}
 use Rattle.values.specs.declared.fault.Fault.{Fault}
 use Rattle.values.specs.declared.fault.Fault.TheVariants.{PageUse}
 use Rattle.image.specs.declared.kind.TreeKind.TheVariants.{Table}
 use Rattle.image.specs.declared.kind.Level.TheVariants.{Leaf}
 use Rattle.image.specs.Pages.{Pages}
 use Rattle.image.specs.Tree.{IsPageOf, Reaches}
-use Rattle.image.specs.Use.{Use, as_link, Names, TreeData, Users}
+use Rattle.image.specs.Use.{Use, TreeData, Users}
+use Rattle.page_use.specs.Links.{AreWithCells}
 use Rattle.page_use.specs.Marks.{AreTreeMarks, IsNamedBy, IsOn, IsUsedTwice}
 use Rattle.stored_rows.specs.Keys.{IsSeen}
 
@@ -25,17 +26,10 @@ pub record IsOpenLeaf (pages : Pages) (users : Users) (done : List Use) (root n 
   pub stands : IsNamedBy pages users done n
   pub none : (place : Use) → IsOn n place → ¬ Contains done place
 
--- The marks are those of places that were gone through, and of all links of the chains of page n's cells besides.
-pub record AreWithRows (pages : Pages) (users : Users) (done : List Use) (n : ℕ) (now : List Use) (marks : List Bool) : Type 0 where
-  pub marks_are : AreTreeMarks pages users now marks
-  pub kept : (place : Use) → Contains done place → Contains now place
-  pub added : (place : Use) → Contains now place → Contains done place ⊎ IsOn n place
-  pub all : (i k m : ℕ) → Names pages users (as_link n i k) m → Contains now (as_link n i k)
-
 -- such marks come of these, if these are those of places that were gone through
 abbrev pub MarksRows : Pages → ℕ → ℕ → ℕ → ℕ → List ℕ → List Bool → List Bool → Type 0
 MarksRows pages root n at most page old new = (users : Users) (done : List Use) → IsOpenLeaf pages users done root n at most page
-    → AreTreeMarks pages users done old → (now : List Use) × AreWithRows pages users done n now new
+    → AreTreeMarks pages users done old → (now : List Use) × AreWithCells pages users done n now new
 
 -- the page that a fault names is used twice, wherever the marks are those of places gone through
 abbrev pub IsRowTwice : Pages → ℕ → ℕ → ℕ → ℕ → List ℕ → List Bool → Fault → Type 0

@@ -2,7 +2,8 @@
 ghost use Rattle.std.specs.Prelude.{◌≡◌, ◌<◌, ◌↔◌, ℤ, IfErr, IfNone, IfOk, IfSome, IsTrue};
 ghost use Rattle.image.specs.declared.kind.TreeKind.TheVariants as kind;
 ghost use Rattle.image.specs.Layout.{cell_count};
-ghost use Rattle.stored_rows.specs.Keys.{HasCells, HasKeyAt, IsAbove, IsAtMost, IsHead, IsHeadFault, KeysFit};
+ghost use Rattle.values.specs.Bounds.{IsAbove, IsAtMost};
+ghost use Rattle.stored_rows.specs.Keys.{HasCells, HasKeyAt, IsHead, IsHeadFault, KeysFit};
 
 use btree::PageView;
 use image::Level;

@@ -5,7 +5,7 @@ use Rattle.std.proofs.lemmas.List.Elements.{All-head, All-tail}
 use Rattle.values.specs.declared.fault.Fault.{Fault}
 use Rattle.values.specs.declared.fault.Fault.TheVariants.{BadDepth, BadOrder, BadPage, Finished, NoMemory, ReadFailed}
 use Rattle.values.specs.Row.{Row}
-use Rattle.pager.specs.PagerState.{IsPageNumber, PagerState}
+use Rattle.pager.specs.PagerState.{PagerState}
 use Rattle.pager.specs.Calls.{AsksChainsOnly, IsReadFault, ReadsTreePages, SameImage}
 use Rattle.pager.proofs.CallLemmas.{SameImage-trans}
 use Rattle.image.specs.Cell.{CellData}
@@ -15,7 +15,7 @@ use Rattle.image.specs.Shape.{places_under, size_under}
 use Rattle.image.specs.Tree.{Place}
 use Rattle.image.proofs.CellLemmas.{one_cell}
 use Rattle.cursor.specs.declared.cursor.Cursor.{Cursor}
-use Rattle.cursor.specs.Calls.{HasFailed, HasStepped, IsCursorFault, IsOpenedAt, IsStepFault}
+use Rattle.cursor.specs.Calls.{HasFailed, HasStepped, IsCursorFault, IsStepFault}
 use Rattle.cursor.specs.Left.{all_left, steps_left}
 use Rattle.cursor.specs.Listing.{IsAt, IsEntry}
 use Rattle.tables.specs.TableData.{TableData}

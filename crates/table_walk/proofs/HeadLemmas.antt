@@ -12,7 +12,8 @@ use Rattle.image.specs.Tree.{HasCell, IsPageOf, IsUnder, Reaches, cell_at, count
 use Rattle.image.specs.Broken.{HasRowid, IsSound, IsRowOrder, IsBroken}
 use Rattle.image.proofs.RowidLemmas.{one_rowid}
 use Rattle.btree.proofs.PageLemmas.{flag_of-same}
-use Rattle.stored_rows.specs.Keys.{IsAbove, IsAtMost, HasKeyAt, HasCells, KeysFit, IsHeadFault}
+use Rattle.values.specs.Bounds.{IsAbove, IsAtMost}
+use Rattle.stored_rows.specs.Keys.{HasKeyAt, HasCells, KeysFit, IsHeadFault}
 use Rattle.table_walk.specs.Walked.{StandsWithin}
 
 module _ (pages : Pages) (n : ℕ) (long : length (pages.page n) ≡ pages.usable) where

@@ -11,7 +11,8 @@ use Rattle.image.specs.Broken.{HasRowid, IsSound, IsRowOrder}
 use Rattle.image.specs.Sound.{IsSoundTable}
 use Rattle.image.proofs.RowidLemmas.{one_rowid}
 use Rattle.image.proofs.ShapeLemmas.{not_both}
-use Rattle.stored_rows.specs.Keys.{IsAbove, IsAtMost, KeysFit}
+use Rattle.values.specs.Bounds.{IsAbove, IsAtMost}
+use Rattle.stored_rows.specs.Keys.{KeysFit}
 use Rattle.table_walk.specs.Walked.{IsLowAt, IsHighAt, IsTree}
 use Rattle.stored_rows.proofs.KeyLemmas.{above_more, most_more}
 

@@ -9,7 +9,7 @@ ghost use Rattle.pager.specs.PagerState.{IsPageNumber};
 ghost use Rattle.btree.specs.Bytes.{IsDividerCell};
 ghost use Rattle.image.specs.Pages.{WhereSteady};
 ghost use Rattle.table_walk.specs.Checked.{HasCheckedTable, IsTableFault, tree_of};
-ghost use Rattle.stored_rows.specs.Keys.{HasCells, HasKeyAt};
+ghost use Rattle.stored_rows.specs.Keys.{HasCells};
 ghost use Rattle.stored_rows.specs.RowFaults.{IsBrokenTable};
 ghost use Rattle.stored_rows.specs.Stored.{HoldsRow};
 ghost use Rattle.stored_rows.specs.Links.{table_tree};

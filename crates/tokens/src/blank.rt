@@ -1,5 +1,5 @@
 //! Spaces and comments.
-ghost use Rattle.std.specs.Prelude.{◌≡◌, ◌<◌, ◌≤◌, ◌+◌, ◌-◌, drop, length, slice_index, IfSome, option_map};
+ghost use Rattle.std.specs.Prelude.{◌≡◌, ◌<◌, ◌+◌, ◌-◌, drop, length, slice_index, IfSome, option_map};
 ghost use Rattle.byte_runs.specs.Bytes as bytes;
 ghost use Rattle.byte_runs.specs.Runs as runs;
 ghost use Rattle.tokens.specs.Reading as spec;

@@ -4,7 +4,7 @@ ghost use Rattle.byte_runs.specs.Bytes as bytes;
 ghost use Rattle.tokens.specs.Content.{content_of, is_bare_word, lexeme_of, undoubled, unhex};
 
 use crate::{Quoting, TokenKind};
-use byte_runs::{Class, after_first, run_len, split_before};
+use byte_runs::{Class, after_first, run_len};
 use std::alloc::{AllocError, Global};
 
 impl TokenKind<'_> {

@@ -1,5 +1,5 @@
 //! The token at the front of a text.
-ghost use Rattle.std.specs.Prelude.{◌≡◌, ◌<◌, ◌^◌, length, not, false, pos, nat_lt, if◌then◌else◌, option_map, Some, None};
+ghost use Rattle.std.specs.Prelude.{◌≡◌, ◌<◌, ◌^◌, not, false, pos, nat_lt, if◌then◌else◌, option_map, Some, None};
 ghost use Rattle.byte_runs.specs.Bytes as bytes;
 ghost use Rattle.byte_runs.specs.Runs as runs;
 ghost use Rattle.tokens.specs.Content.{lexeme_of};

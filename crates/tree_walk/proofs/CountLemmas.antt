@@ -1,13 +1,14 @@
 -- The counts of a walk.
-use Rattle.std.proofs.Common.{◌≡◌, ℕ, zero, suc, ◌+◌, ◌<◌, List, [], length, refl, sym, ◌∙◌, ap, arith, add-one, sum_by}
+use Rattle.std.proofs.Common.{◌≡◌, ℕ, zero, suc, ◌+◌, ◌<◌, [], length, refl, sym, ◌∙◌, ap, arith, add-one, sum_by}
 use Rattle.std.specs.List.{range_with_len}
 use Rattle.std.proofs.lemmas.List.Concat.{length-flat_map}
 use Rattle.std.proofs.lemmas.List.Sums.{sum_by-cons}
 use Rattle.image.specs.declared.kind.TreeKind.{TreeKind}
 use Rattle.image.specs.Pages.{Pages}
-use Rattle.image.specs.Tree.{Place, child_at, count_at}
+use Rattle.image.specs.Tree.{child_at, count_at}
 use Rattle.image.specs.Shape.{places_under, size_under}
-use Rattle.tree_walk.specs.Counts.{cells_before, counted, places_at_child, size_before}
+use Rattle.values.specs.Bounds.{counted}
+use Rattle.tree_walk.specs.Counts.{cells_before, places_at_child, size_before}
 
 -- a sum of counts that stay at the greatest
 add_counted : (a b : ℕ) → counted (counted a + counted b) ≡ counted (a + b)

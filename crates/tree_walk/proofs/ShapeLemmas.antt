@@ -1,15 +1,14 @@
 -- A tree that has a shape is sound.
-use Rattle.std.proofs.Common.{◌≡◌, ◌≢◌, ℕ, zero, suc, ◌+◌, ◌<◌, ◌≤◌, refl, sym, subst, inl, inr, ⊎_elim, arith}
+use Rattle.std.proofs.Common.{◌≡◌, ◌≢◌, ℕ, zero, suc, ◌+◌, ◌<◌, ◌≤◌, refl, subst, ⊎_elim, arith}
 use Rattle.std.proofs.lemmas.Bool.{cases_lt}
 use Rattle.image.specs.declared.kind.TreeKind.{TreeKind}
-use Rattle.image.specs.declared.kind.Level.{Level}
 use Rattle.image.specs.declared.kind.Level.TheVariants.{Leaf, Interior}
-use Rattle.image.specs.Broken.{HasUnevenLeaves, IsSound, IsTooDeep}
-use Rattle.image.specs.Pages.{Pages, IsNumber}
+use Rattle.image.specs.Broken.{HasUnevenLeaves, IsSound}
+use Rattle.image.specs.Pages.{Pages}
 use Rattle.image.specs.Shape.{HasShape, IsBranch, IsFilled, most_levels}
 use Rattle.image.specs.Sound.{IsSoundTree}
-use Rattle.image.specs.Tree.{IsChild, IsPageOf, Reaches, StandsAt, below, top, child_at, count_at}
-use Rattle.image.proofs.ShapeLemmas.{not_both, one_level}
+use Rattle.image.specs.Tree.{IsChild, IsPageOf, StandsAt, below, top, child_at, count_at}
+use Rattle.image.proofs.ShapeLemmas.{not_both}
 
 module _ (pages : Pages) (kind : TreeKind) where
   -- so many levels under a page stands a leaf

@@ -1,10 +1,9 @@
 -- The pages of a tree, as a walk gives them their marks.
-use Rattle.std.proofs.Common.{◌≡◌, ◌⊎◌, ◌∙◌, ℕ, zero, suc, ◌+◌, ◌<◌, ◌≤◌, Bool, true, false, Contains, List, [], ◌∷◌, ◌++◌, slice_get, Some, refl, sym, ap, subst, inl, inr, ⊎_elim, arith}
+use Rattle.std.proofs.Common.{◌≡◌, ◌⊎◌, ◌∙◌, ℕ, zero, suc, ◌+◌, ◌<◌, ◌≤◌, Bool, true, false, Contains, List, [], ◌∷◌, ◌++◌, Some, refl, sym, ap, subst, inl, inr, ⊎_elim, arith}
 use Rattle.std.proofs.lemmas.Bool.{cases_Bool, cases_lt}
 use Rattle.std.proofs.lemmas.List.Elements.{Contains-append_left, Contains-append_right, Contains-append_cases}
 use Rattle.values.specs.declared.fault.Fault.{Fault}
 use Rattle.values.specs.declared.fault.Fault.TheVariants.{PageUse}
-use Rattle.image.specs.declared.kind.TreeKind.{TreeKind}
 use Rattle.image.specs.declared.kind.Level.{Level}
 use Rattle.image.specs.declared.kind.Level.TheVariants.{Leaf, Interior}
 use Rattle.image.specs.Cell.{CellData}
@@ -16,8 +15,8 @@ use Rattle.image.proofs.ListLemmas.{get_contains}
 use Rattle.image.proofs.ShapeLemmas.{not_both}
 use Rattle.page_use.specs.Links.{IsPayloadOf, IsPayloadTwice, MarksPayload}
 use Rattle.page_use.specs.Marks.{AreTreeMarks, IsNamedBy, IsNewPlace, IsOn, IsUsedTwice, is_marked}
-use Rattle.tree_walk.specs.Cells.{AreWithCells, IsOpenPage, IsTwiceOn, MarksCells}
-use Rattle.tree_walk.specs.Used.{GoesOn, IsComing, IsDoneOn, IsDoneUnder, IsFresh, IsTreeComing, IsTreeGone, IsTreeTwice, IsUnderTwice, MarksTree, MarksUnder}
+use Rattle.tree_walk.specs.Cells.{IsOpenPage, IsTwiceOn, MarksCells}
+use Rattle.tree_walk.specs.Used.{GoesOn, IsComing, IsDoneOn, IsDoneUnder, IsFresh, IsTreeComing, IsTreeTwice, IsUnderTwice, MarksTree, MarksUnder}
 use Rattle.tree_walk.proofs.KindLemmas.{one_page}
 use Rattle.tree_walk.proofs.LinkLemmas.{IsLinkOf, link_of_cell, link_within}
 

@@ -1,12 +1,13 @@
 -- The overflow pages of one page's cells, as they get their marks. (Database File Format, section 1.7 "Cell Payload Overflow
 -- Pages")
-use Rattle.std.specs.Prelude.{◌⊎◌, ℕ, Bool, Contains, List}
+use Rattle.std.specs.Prelude.{ℕ, Bool, Contains, List}
 use Rattle.values.specs.declared.fault.Fault.{Fault}
 use Rattle.values.specs.declared.fault.Fault.TheVariants.{PageUse}
 use Rattle.image.specs.declared.kind.Level.{Level}
 use Rattle.image.specs.Pages.{Pages}
 use Rattle.image.specs.Tree.{IsPageOf, Reaches}
-use Rattle.image.specs.Use.{Use, as_link, Names, TreeData, Users}
+use Rattle.image.specs.Use.{Use, TreeData, Users}
+use Rattle.page_use.specs.Links.{AreWithCells}
 use Rattle.page_use.specs.Marks.{AreTreeMarks, IsNamedBy, IsOn, IsUsedTwice}
 
 -- Page n is a page of this level of a tree, one of those that use pages. What names it was gone through, and nothing on it
@@ -17,13 +18,6 @@ pub record IsOpenPage (pages : Pages) (users : Users) (done : List Use) (tree : 
   pub is_tree : Contains users.trees tree
   pub stands : IsNamedBy pages users done n
   pub none : (place : Use) → IsOn n place → ¬ Contains done place
-
--- The marks are those of places that were gone through, and of all links of the chains of page n's cells besides.
-pub record AreWithCells (pages : Pages) (users : Users) (done : List Use) (n : ℕ) (now : List Use) (marks : List Bool) : Type 0 where
-  pub marks_are : AreTreeMarks pages users now marks
-  pub kept : (place : Use) → Contains done place → Contains now place
-  pub added : (place : Use) → Contains now place → Contains done place ⊎ IsOn n place
-  pub all : (i k m : ℕ) → Names pages users (as_link n i k) m → Contains now (as_link n i k)
 
 -- such marks come of these, if these are those of places that were gone through
 abbrev pub MarksCells : Pages → TreeData → Level → ℕ → List Bool → List Bool → Type 0

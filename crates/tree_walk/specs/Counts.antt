@@ -1,14 +1,11 @@
 -- How many cells and pages a tree has. (Database File Format, section 1.6 "B-tree Pages")
-use Rattle.std.specs.Prelude.{◌≡◌, ℕ, ◌+◌, ◌-◌, ◌^◌, min, List, length, sum_by}
+use Rattle.std.specs.Prelude.{◌≡◌, ℕ, ◌+◌, List, length, sum_by}
 use Rattle.std.specs.List.{range_with_len, flat_map}
 use Rattle.image.specs.declared.kind.TreeKind.{TreeKind}
 use Rattle.image.specs.Pages.{Pages}
 use Rattle.image.specs.Tree.{Place, child_at}
 use Rattle.image.specs.Shape.{own_places, places_under, size_under, with_own}
-
--- a number of 64 bits that stays at the greatest
-abbrev pub counted : ℕ → ℕ
-counted n = min n (2 ^ 64 - 1)
+use Rattle.values.specs.Bounds.{counted}
 
 -- the cells under child i of page n, which has so many levels below it, and in an index tree those of page n behind it
 abbrev pub places_at_child : Pages → TreeKind → ℕ → ℕ → ℕ → List Place

@@ -1,6 +1,6 @@
 //! What a tree has.
+ghost use Rattle.values.specs.Bounds.{counted};
 ghost use Rattle.std.specs.Prelude.{◌≡◌, ◌+◌};
-ghost use Rattle.tree_walk.specs.Counts.{counted};
 
 /// What a tree has. Counts stay at the greatest number.
 #[derive(Clone, Copy, Debug, PartialEq, Eq)]

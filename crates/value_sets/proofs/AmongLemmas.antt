@@ -1,5 +1,5 @@
 -- A value that is searched among others by halves.
-use Rattle.std.proofs.Common.{◌≡◌, ◌≢◌, ◌∙◌, ◌+◌, ◌<◌, ◌≤◌, ◌⊎◌, Bool, true, false, ℕ, Ordering, Less, Equal, Greater, Contains, List, Ok, Err, Result, get_or, is_eq, length, refl, sym, ap, inl, inr, subst, arith}
+use Rattle.std.proofs.Common.{◌≡◌, ◌≢◌, ◌∙◌, ◌<◌, ◌≤◌, ◌⊎◌, true, false, ℕ, Ordering, Less, Equal, Greater, Contains, List, Ok, Err, Result, get_or, is_eq, length, refl, sym, ap, inl, inr, subst, arith}
 use Rattle.std.proofs.lemmas.Bool.{cases_lt}
 use Rattle.std.proofs.lemmas.Cmp.{tied_itself}
 use Rattle.std.proofs.lemmas.List.Elements.{All-from_get_or}

@@ -1,6 +1,5 @@
 //! The places of values, in the order of the values.
-ghost use Rattle.std.specs.Prelude.{◌≡◌, ◌≢◌, ◌<◌, Contains, IfOk, IsPermutation, OnOk, length, map};
-ghost use Rattle.std.specs.List.{list_any};
+ghost use Rattle.std.specs.Prelude.{◌≡◌, ◌≢◌, ◌<◌, Contains, IfOk, IsPermutation, map};
 ghost use Rattle.std.specs.List.Sorted.{IsSortedByKey};
 ghost use Rattle.values.specs.Datum.{datum_of, null};
 ghost use Rattle.values.specs.Order.{datum_cmp};

@@ -1,5 +1,6 @@
 pub mod Datum
 pub mod Row
+pub mod Bounds
 pub mod Database
 pub mod Order
 pub mod OrderLaws

@@ -1,5 +1,5 @@
 //! A sink that hands on what is written to it in large pieces.
-ghost use Rattle.std.specs.Prelude.{◌≡◌, ◌≢◌, ◌+◌, ◌-◌, ◌≤◌, [], ◌++◌, drop, length, vec_len, vec_capacity, IfErr, IfOk, MatchResult, OnOk};
+ghost use Rattle.std.specs.Prelude.{◌≡◌, ◌≢◌, ◌-◌, ◌≤◌, [], drop, vec_len, vec_capacity, IfErr, IfOk, MatchResult, OnOk};
 ghost use Rattle.std.specs.Io.KnownBytes.{Appends};
 ghost use Rattle.values.specs.Gathered.{gathered_facts};
 ghost use Rattle.values.specs.Sink.{Writes};

@@ -1,7 +1,7 @@
 //! Values as SQL literals.
 ghost use Rattle.std.specs.Prelude.{◌≡◌, ◌<◌, IfErr};
 ghost use Rattle.values.specs.Datum.{datum_of, datum_of_ref};
-ghost use Rattle.values.specs.Literal.{hex, hex_digit, hex_all, literal, quoted_all};
+ghost use Rattle.values.specs.Literal.{hex_digit, hex_all, literal, quoted_all};
 ghost use Rattle.values.specs.Sink.{Writes};
 
 use crate::{Fault, Sink, Value, ValueRef, write_all};

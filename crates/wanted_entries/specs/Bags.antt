@@ -1,5 +1,6 @@
 -- Lists none of whose elements stands twice, and which of them are one bag.
-use Rattle.std.specs.Prelude.{◌≡◌, ℕ, ℤ, ◌<ℤ◌, ◌≤ℤ◌, Contains, List, slice_get, Option, None, Some}
+use Rattle.std.specs.Prelude.{◌≡◌, ℕ, ℤ, Contains, List, slice_get, Option, Some}
+use Rattle.values.specs.Bounds.{IsAbove, IsAtMost}
 
 -- an entry by its key, which is that of its row, and the code of its values
 pub record Coded : Type 0 where
@@ -13,15 +14,6 @@ IsOnce {X} xs = (i j : ℕ) (x : X) → slice_get xs i ≡ Some x → slice_get 
 -- each element of one list is in the other
 abbrev pub AreIn : {X : Type 0} → List X → List X → Type 0
 AreIn {X} xs ys = (x : X) → Contains xs x → Contains ys x
-
--- a key keeps a bound that there may be
-abbrev pub IsAbove : Option ℤ → ℤ → Type 0
-IsAbove None key = Unit {0}
-IsAbove (Some low) key = low <ℤ key
-
-abbrev pub IsAtMost : Option ℤ → ℤ → Type 0
-IsAtMost None key = Unit {0}
-IsAtMost (Some high) key = key ≤ℤ high
 
 -- the keys that one batch is for
 abbrev pub IsWithin : Option ℤ → Option ℤ → ℤ → Type 0

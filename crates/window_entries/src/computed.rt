@@ -9,7 +9,7 @@ ghost use Rattle.window_entries.specs.Tags.{tags_of};
 ghost use Rattle.window_order.specs.Entries.{keys_of, rows_of};
 
 use expr::{Expr, eval};
-use std::alloc::{AllocError, Global};
+use std::alloc::Global;
 use values::{Fault, Value};
 use window_order::Entry;
 

@@ -1,5 +1,5 @@
 //! Windows.
-ghost use Rattle.std.specs.Prelude.{map, string_bytes};
+ghost use Rattle.std.specs.Prelude.{map};
 ghost use Rattle.grammar.specs.Reading.{terms_of};
 ghost use Rattle.naming.specs.Places as spec;
 ghost use Rattle.query_trees.specs.Outcome.{Gives};

@@ -1,7 +1,6 @@
 //! The sequence of a partition.
 ghost use Rattle.std.specs.Prelude.{◌≡◌, All, IsPermutation, List, OnOk, length, map};
 ghost use Rattle.std.specs.List.Sorted.{IsStableByKey};
-ghost use Rattle.values.specs.Datum.{datum_of};
 ghost use Rattle.meaning.specs.Query.{SortTerm};
 ghost use Rattle.meaning.specs.Valuation.{Valuation};
 ghost use Rattle.meaning.specs.Windows as windows;

@@ -1,6 +1,6 @@
 //! Rows in the order of terms on them.
-ghost use Rattle.std.specs.Prelude.{◌≡◌, ◌⊎◌, All, Any, Err, IfErr, IfOk, IsPermutation, List, length, map};
-ghost use Rattle.values.specs.Datum.{Datum, datum_of};
+ghost use Rattle.std.specs.Prelude.{◌≡◌, ◌⊎◌, Any, Err, IfErr, IfOk, IsPermutation, List, length, map};
+ghost use Rattle.values.specs.Datum.{Datum};
 ghost use Rattle.expr.specs.Meaning.{Overflows, eval};
 ghost use Rattle.expr.specs.View.{term};
 ghost use Rattle.meaning.specs.Query.{SortTerm};

@@ -7,7 +7,7 @@ use Rattle.values.specs.Row.{Row}
 use Rattle.expr.specs.Filled.{filled}
 use Rattle.expr.specs.Meaning.{Overflows, eval, exact}
 use Rattle.expr.specs.Term.{Term}
-use Rattle.meaning.specs.Body.{answers_in, values_over}
+use Rattle.meaning.specs.Body.{answers_in, values_over, computed_rows}
 use Rattle.meaning.specs.Hits.{CallLeaves, FromHits, SelectHits, call_terms}
 use Rattle.meaning.specs.Query.{From, Select, WindowCall}
 use Rattle.meaning.specs.Windows.{call_result, numbered}
@@ -20,7 +20,7 @@ use Rattle.settled_sources.specs.Mapped.{mapped_call}
 use Rattle.settled_sources.proofs.MappedLemmas.{all_call_terms_mapped, call_mapped}
 use Rattle.window_plans.proofs.SeenLemmas.{from_map, partner}
 use Rattle.window_terms.specs.Reached.{CallsReach, SomeLeaves}
-use Rattle.window_plans.specs.Laws.{HasTaken, WindowedColumnsAreHit, WindowedIsHit, computed_rows, windows_take}
+use Rattle.window_plans.specs.Laws.{HasTaken, WindowedColumnsAreHit, WindowedIsHit, windows_take}
 use Rattle.window_plans.specs.Windowed.{IsWindowedOver, windowed_columns}
 use Rattle.window_plans.proofs.RowLemmas.{calls_filled, windowed_has_rows, windowed_say}
 

@@ -7,7 +7,7 @@ use Rattle.values.specs.Datum.{Datum}
 use Rattle.values.specs.Row.{Row}
 use Rattle.expr.specs.Filled.{filled}
 use Rattle.expr.specs.Meaning.{eval, run}
-use Rattle.meaning.specs.Body.{answers_in, values_over}
+use Rattle.meaning.specs.Body.{answers_in, values_over, computed_rows}
 use Rattle.meaning.specs.Query.{From, Select, WindowCall}
 use Rattle.meaning.specs.Times.{times}
 use Rattle.meaning.specs.Valuation.{Valuation}
@@ -17,7 +17,7 @@ use Rattle.plans.specs.Plan.{PlanData, rows_of}
 use Rattle.settled_sources.specs.Mapped.{mapped_call}
 use Rattle.settled_sources.proofs.MappedLemmas.{windowed_mapped}
 use Rattle.window_plans.proofs.SeenLemmas.{shown_whole}
-use Rattle.window_plans.specs.Laws.{HasTaken, WindowedHasRows, WindowedSay, computed_rows, windows_take}
+use Rattle.window_plans.specs.Laws.{HasTaken, WindowedHasRows, WindowedSay, windows_take}
 use Rattle.window_plans.specs.Windowed.{IsWindowedOver}
 
 module _ (w : Datum) (db : Database) (from : From) (s : Select) (inner : ℕ) (below plan : PlanData)

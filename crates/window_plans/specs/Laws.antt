@@ -7,7 +7,7 @@ use Rattle.values.specs.Row.{Row}
 use Rattle.expr.specs.Filled.{filled}
 use Rattle.expr.specs.Meaning.{run}
 use Rattle.expr.specs.Term.{Term}
-use Rattle.meaning.specs.Body.{answers_in, select_rows, values_over}
+use Rattle.meaning.specs.Body.{answers_in, values_over, computed_rows}
 use Rattle.meaning.specs.Body as body
 use Rattle.meaning.specs.Groups.{grouped}
 use Rattle.meaning.specs.Hits.{FromHits, SelectHits, where_rows}
@@ -19,10 +19,6 @@ use Rattle.window_plans.specs.Windowed.{IsWindowedOver, windowed_columns}
 -- the rows that windows take: those of FROM that WHERE keeps, or those of groups that HAVING keeps
 abbrev pub windows_take : Datum → Database → From → Select → List Row
 windows_take w db from s = grouped (values_over w db from) w s.grouping (where_rows w db from s)
-
--- and those with the values of the SELECT's windows behind them, which its result columns are computed on
-abbrev pub computed_rows : Datum → Database → From → Select → List Row
-computed_rows w db from s = select_rows (values_over w db from) w s (body.rows_of w db from)
 
 -- a plan has all values of the rows that windows take, in some order of the rows, beside so many inner queries
 pub record HasTaken (w : Datum) (db : Database) (from : From) (s : Select) (inner : ℕ) (plan : PlanData) : Type 0 where

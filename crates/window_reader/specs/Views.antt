@@ -4,7 +4,8 @@ use Rattle.grammar.specs.Queries.{nowhere}
 use Rattle.grammar.specs.Reading.{terms_of}
 use Rattle.syntax.specs.ExprTree.{ExprTree, ExprTrees, MaybeExpr, TermTrees, trees_of}
 use Rattle.syntax.specs.Functions.{takes_number}
-use Rattle.statement_trees.specs.TreeView.{arm_of, expr_of, maybe_of, term_of}
+use Rattle.syntax.specs.ExprView.{maybe_of}
+use Rattle.statement_trees.specs.TreeView.{arm_of, expr_of, term_of}
 use Rattle.statement_trees.specs.declared.expressions.Arm.{Arm}
 use Rattle.statement_trees.specs.declared.expressions.Expr.{Expr}
 use Rattle.syntax.specs.declared.expr.Function.{Function}

@@ -1,7 +1,6 @@
 //! Copies of calls over windows.
 ghost use Rattle.std.specs.Prelude.{◌≡◌, IfOk, map};
 ghost use Rattle.expr.specs.View.{term};
-ghost use Rattle.query_trees.specs.SelectView.{direction_of};
 ghost use Rattle.aggregates.specs.AggregateView.{aggregate_data};
 ghost use Rattle.window_terms.specs.CallView.{call_data, window_data};
 ghost use Rattle.window_terms.specs.FunctionView.{function_data};

@@ -1,4 +1,4 @@
-use Rattle.std.proofs.Common.{length, sym, arith}
+use Rattle.std.proofs.Common.{sym, arith}
 use Rattle.std.proofs.lemmas.Result.{err_from_is_err_and}
 use Rattle.phrases.proofs.TurnLemmas.{first_err, first_ok, next_err, next_ok}
 use Rattle.phrases.specs.Texts.{lexemes_of}

@@ -1,11 +1,10 @@
 use Rattle.std.proofs.Common.{◌≡◌, ◌∙◌, ◌++◌, List, ap, subst, sym}
 use Rattle.std.proofs.lemmas.Bool.{false≢true}
 use Rattle.std.proofs.lemmas.Result.{err_from_is_err_and}
-use Rattle.values.specs.Row.{Row}
+use Rattle.values.specs.Row.{Row, rows_data}
 use Rattle.meaning.specs.Query.{Operator, union_all}
 use Rattle.naming.specs.Statement.{operator_of}
 use Rattle.operators.specs.Basis.{Basis}
-use Rattle.ordered_rows.specs.FirstView.{rows_data}
 use Rattle.distinct_results.specs.Firsts.{firsts}
 use Rattle.compound_results.specs.Arms.{ArmsData, arm_data, arm_rows, arms_data, joined, rows_of_arms}
 use Rattle.compound_results.specs.Joined.{joined_rows}

@@ -1,13 +1,12 @@
 use Rattle.std.proofs.Common.{◌∙◌, ◌++◌, [], Bool, List, ap, map, refl, subst, sym}
 use Rattle.std.proofs.lemmas.List.{map-append}
 use Rattle.std.proofs.lemmas.Result.{err_from_is_err_and}
-use Rattle.values.specs.Row.{Row}
+use Rattle.values.specs.Row.{Row, rows_data}
 use Rattle.image.specs.Pages.{pages_seen}
 use Rattle.expr.specs.View.{term}
 use Rattle.plans.specs.Plan.{rows_of, work}
 use Rattle.plans.specs.PlanView.{plan_data}
 use Rattle.results.specs.Coming.{IsResultCause, result_rows}
-use Rattle.ordered_rows.specs.FirstView.{rows_data}
 use Rattle.ordered_rows.proofs.FirstLemmas.{row_of}
 use Rattle.distinct_results.specs.Firsts.{firsts}
 use Rattle.compound_results.specs.Arms.{each_once_if}

@@ -2,8 +2,8 @@ use Rattle.std.proofs.Common.{rules, ◌≡◌, ◌∙◌, List, ℤ, SFits, w64
 use Rattle.std.proofs.lemmas.Int.{to_z-of_z}
 use Rattle.meaning.specs.Answer.{limited, skipped}
 use Rattle.ordered_rows.specs.declared.order.ResultKey.{ResultKey}
+use Rattle.values.specs.Row.{rows_data}
 use Rattle.ordered_rows.specs.Firsts.{BeginsAll, at_most}
-use Rattle.ordered_rows.specs.FirstView.{rows_data}
 use Rattle.ordered_rows.specs.Keys.{comes_before}
 use Rattle.distinct_results.proofs.AnswerLemmas.{is_answer}
 use Rattle.compound_results.specs.Arms.{rows_of_arms}

@@ -4,8 +4,8 @@ use Rattle.std.proofs.lemmas.List.{map_push}
 use Rattle.values.specs.Datum.{datum_of}
 use Rattle.pager.proofs.CallLemmas.{SameImage-none, SameImage-trans}
 use Rattle.expr.specs.View.{term}
+use Rattle.values.specs.Row.{rows_data}
 use Rattle.results.specs.Coming.{IsComing, IsResultCause}
-use Rattle.ordered_rows.specs.FirstView.{rows_data}
 use Rattle.sorted_results.proofs.GatherLemmas.{Gathering-start, gather_says, gathered_all, gathered_more}
 use Rattle.compound_results.proofs.gathered.push_rows.Goals as goal
 

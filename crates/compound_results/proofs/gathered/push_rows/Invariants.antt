@@ -2,8 +2,8 @@ use Rattle.std.proofs.Common.{◌≡◌, ◌++◌, map}
 use Rattle.pager.specs.Calls.{SameImage}
 use Rattle.expr.specs.View.{term}
 use Rattle.operators.specs.Left.{plan_of, steps}
+use Rattle.values.specs.Row.{rows_data}
 use Rattle.results.specs.Coming.{IsComing}
-use Rattle.ordered_rows.specs.FirstView.{rows_data}
 use Rattle.sorted_results.proofs.GatherLemmas.{Gathering}
 use Rattle.compound_results.proofs.gathered.push_rows.Given as goal
 

@@ -3,8 +3,8 @@ use Rattle.std.proofs.lemmas.List.Elements.{All-nil}
 use Rattle.std.proofs.lemmas.Result.{err_from_is_err_and}
 use Rattle.image.specs.Pages.{pages_seen}
 use Rattle.results.specs.declared.stream.Results.{Results}
+use Rattle.values.specs.Row.{rows_data}
 use Rattle.ordered_rows.specs.Firsts.{BeginsAll}
-use Rattle.ordered_rows.specs.FirstView.{rows_data}
 use Rattle.ordered_rows.specs.Keys.{comes_before}
 use Rattle.compound_results.specs.Arms.{ArmsData, arms_data, rows_of_arms, work_of_arms}
 use Rattle.compound_results.specs.Compounds.{IsArmsCause}

@@ -1,7 +1,7 @@
-use Rattle.std.proofs.Common.{rules, ◌≡◌, ◌∙◌, ◌++◌, List, [], ℕ, ℤ, Option, SFits, w64, map, refl, ap, subst}
+use Rattle.std.proofs.Common.{rules, ◌≡◌, ◌∙◌, List, [], ℕ, ℤ, Option, SFits, w64, map, refl, ap, subst}
 use Rattle.std.proofs.lemmas.Int.{to_z-of_z}
 use Rattle.std.proofs.lemmas.Result.{err_from_is_err_and}
-use Rattle.values.specs.Row.{Row}
+use Rattle.values.specs.Row.{Row, rows_data}
 use Rattle.image.specs.Pages.{pages_seen}
 use Rattle.expr.specs.Term.{Term}
 use Rattle.expr.specs.View.{term}
@@ -12,7 +12,6 @@ use Rattle.plans.specs.PlanView.{plan_data}
 use Rattle.results.specs.Coming.{IsResultCause, result_rows}
 use Rattle.ordered_rows.specs.declared.order.ResultKey.{ResultKey}
 use Rattle.ordered_rows.specs.Firsts.{BeginsAll, at_most}
-use Rattle.ordered_rows.specs.FirstView.{rows_data}
 use Rattle.ordered_rows.specs.Keys.{comes_before}
 use Rattle.distinct_rows.specs.Firsts.{firsts}
 use Rattle.distinct_results.specs.Sorted.{sorted_distinct_data}

@@ -1,8 +1,7 @@
 use Rattle.std.proofs.Common.{◌∙◌, ◌++◌, List, ap, append-nil, map, refl, sym}
 use Rattle.std.proofs.lemmas.List.{map_push}
 use Rattle.values.specs.Datum.{datum_of}
-use Rattle.values.specs.Row.{Row}
-use Rattle.ordered_rows.specs.FirstView.{rows_data}
+use Rattle.values.specs.Row.{Row, rows_data}
 use Rattle.distinct_rows.proofs.FirstLemmas.{taken_more}
 use Rattle.distinct_rows.proofs.sets.rows_of.Goals as goal
 

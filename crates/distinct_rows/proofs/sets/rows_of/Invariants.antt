@@ -1,6 +1,6 @@
 -- The rows so far, and those that are left.
+use Rattle.values.specs.Row.{rows_data}
 use Rattle.std.proofs.Common.{◌≡◌, ◌++◌}
-use Rattle.ordered_rows.specs.FirstView.{rows_data}
 use Rattle.distinct_rows.proofs.sets.rows_of.Given as goal
 
 abbrev pub invariant-loop-row : goal.invariant-loop-row

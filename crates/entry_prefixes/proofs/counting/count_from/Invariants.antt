@@ -1,5 +1,5 @@
+use Rattle.values.specs.Bounds.{counted}
 use Rattle.std.proofs.Common.{◌≡◌, ◌⊎◌, ◌+◌, ◌<◌, ◌≤◌, ℕ, Some, length, slice_get}
-use Rattle.tree_walk.specs.Counts.{counted}
 use Rattle.entry_prefixes.proofs.counting.count_from.Given as goal
 
 abbrev pub invariant-loop-columns : goal.invariant-loop-columns

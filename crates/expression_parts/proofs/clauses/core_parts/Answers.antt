@@ -2,7 +2,8 @@ use Rattle.std.proofs.Common.{◌≡◌, ◌++◌, map, option_map, append_assoc
 use Rattle.expression_parts.specs.Found.{found_in}
 use Rattle.grammar.specs.Reading.{definitions_of, results_of, terms_of}
 use Rattle.naming.specs.Parts as spec
-use Rattle.statement_trees.specs.TreeView.{core_of, definition_of, expr_of, maybe_from, maybe_of, result_of, sources_of, term_of}
+use Rattle.syntax.specs.ExprView.{maybe_of}
+use Rattle.statement_trees.specs.TreeView.{core_of, definition_of, expr_of, maybe_from, result_of, sources_of, term_of}
 use Rattle.statement_trees.specs.declared.expressions.Expr.TheFolds.{fold-roll-Core, fold_out-Core}
 use Rattle.statement_trees.specs.declared.expressions.Expr.TheViews.{the_lemmas}
 use Rattle.statement_trees.specs.declared.queries.Core.{out-Core}

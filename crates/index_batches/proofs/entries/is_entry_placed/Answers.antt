@@ -1,4 +1,4 @@
-use Rattle.std.proofs.Common.{◌<◌, ◌∙◌, ap, arith, inr, rules, sym}
+use Rattle.std.proofs.Common.{◌<◌, ◌∙◌, ap, arith, rules, sym}
 use Rattle.std.specs.Cow.{cow_slice_items}
 use Rattle.pager.specs.PagerState.{image_size}
 use Rattle.image.specs.Pages.{pages_seen}

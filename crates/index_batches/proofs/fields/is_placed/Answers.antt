@@ -1,8 +1,6 @@
 use Rattle.std.proofs.Common.{◌≡◌, ◌∙◌, ◌++◌, List, ℕ, SFits, ap, arith, false, rules, sym, take, true, w64}
 use Rattle.std.proofs.lemmas.Int.{to_z-of_z}
-use Rattle.wanted_entries.specs.Bags.{Coded}
 use Rattle.entry_batches.specs.Codes.{codes_of}
-use Rattle.index_batches.specs.Placed.{TellsPlaced, coded_entry}
 use Rattle.index_batches.proofs.KeyLemmas.{by_has, long_keyed, passed, rowless}
 use Rattle.index_batches.proofs.fields.is_placed.Goals as goal
 

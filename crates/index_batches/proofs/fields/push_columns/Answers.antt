@@ -1,4 +1,4 @@
-use Rattle.std.proofs.Common.{◌<◌, arith, false, length, refl, true}
+use Rattle.std.proofs.Common.{arith, true}
 use Rattle.values.specs.Datum.{datum_of_ref}
 use Rattle.index_batches.proofs.ColumnLemmas.{all_pushed, ends, none_pushed, one_pushed}
 use Rattle.index_batches.proofs.fields.push_columns.Goals as goal

@@ -1,4 +1,3 @@
-use Rattle.std.proofs.Common.{List}
 use Rattle.values.specs.Row.{Row}
 use Rattle.records.specs.Record.{IsRecord}
 use Rattle.index_batches.proofs.ColumnLemmas.{ArePushed}

@@ -1,4 +1,4 @@
-use Rattle.std.proofs.Common.{List, [], ◌∷◌, arith, drop, refl, subst, sym}
+use Rattle.std.proofs.Common.{List, [], arith, refl, subst, sym}
 use Rattle.values.specs.Datum.{Datum, datum_of_ref, int}
 use Rattle.records.specs.Fields.{AreUnread}
 use Rattle.index_batches.proofs.KeyLemmas.{if_none, if_some, last_of, read_last}

@@ -12,8 +12,8 @@ use Rattle.btree.proofs.SeenLemmas.{same_pages, still_steady}
 use Rattle.index_entries.specs.Entries.{IsViewIn}
 use Rattle.index_entries.proofs.EntryLemmas.{count_is}
 use Rattle.tree_walk.specs.declared.counts.TreeCounts.{TreeCounts}
+use Rattle.values.specs.Bounds.{counted}
 use Rattle.tree_walk.specs.Cells.{MarksCells}
-use Rattle.tree_walk.specs.Counts.{counted}
 use Rattle.index_walk.specs.Checked.{index_tree}
 use Rattle.index_walk.specs.Last.{IsFrom}
 use Rattle.index_walk.specs.Walked.{AreOwnWalked, IsEntryStop, IsIndexPage, IsLeafCause, IsLeafWalked, IsWalkCause, IsWalked}

@@ -17,8 +17,8 @@ use Rattle.flat_queries.specs.Flat.{kept_in, kept_of, kept_source}
 use Rattle.flat_queries.specs.FlatWith.{queries_in, queries_of}
 use Rattle.pager.proofs.CallLemmas.{SameImage-trans}
 use Rattle.inner_rows.specs.Computed.{AddsAsMany, AreSomeWhere}
+use Rattle.values.specs.Row.{rows_data}
 use Rattle.inner_rows.specs.Over.{IsBodyCause}
-use Rattle.sources.specs.SourceData.{rows_data}
 use Rattle.tables.specs.ColumnTypes.{column_types}
 use Rattle.inner_rows.specs.InnerView.{inner_data}
 use Rattle.inner_rows.specs.Runnable.{IsComputable}

@@ -8,7 +8,8 @@ use Rattle.operators.specs.Basis.{AreStored, Basis}
 use Rattle.query_plans.specs.Answers.{IsAnswerOf, planned_data, work_of}
 use Rattle.running.specs.Given.{IsRowCause}
 use Rattle.scan.specs.Coming.{Asks}
-use Rattle.sources.specs.SourceData.{rows_data, sources_of}
+use Rattle.values.specs.Row.{rows_data}
+use Rattle.sources.specs.SourceData.{sources_of}
 use Rattle.inner_rows.proofs.AskedLemmas.{plan_asks}
 use Rattle.inner_rows.proofs.FlatLemmas.{rows_asked, rows_given}
 use Rattle.inner_rows.proofs.KeptLemmas.{kept_rooted}

@@ -2,13 +2,12 @@ use Rattle.std.proofs.Common.{◌∙◌, true, false, ℕ, List, [], ◌∷◌, 
 use Rattle.std.proofs.lemmas.Result.{err_from_is_err_and}
 use Rattle.std.proofs.lemmas.List.{map_push}
 use Rattle.values.specs.Datum.{datum_of}
-use Rattle.values.specs.Row.{Row}
+use Rattle.values.specs.Row.{Row, rows_data}
 use Rattle.pager.proofs.CallLemmas.{SameImage-none, SameImage-trans}
 use Rattle.operators.specs.Basis.{AreStored, Basis}
 use Rattle.query_plans.specs.Answers.{IsAnswerOf, PlannedData}
 use Rattle.running.specs.Given.{HasAhead, HasAsked, HasGiven, IsRowCause}
 use Rattle.scan.proofs.ComingLemmas.{Asks-none, Asks-then}
-use Rattle.sources.specs.SourceData.{rows_data}
 use Rattle.inner_rows.proofs.AddingLemmas.{at_first}
 use Rattle.inner_rows.proofs.rows.rows_of_run.Goals as goal
 

@@ -4,8 +4,8 @@ use Rattle.image.specs.Pages.{WhereSteady}
 use Rattle.operators.specs.Basis.{AreStored, Basis}
 use Rattle.query_plans.specs.Answers.{PlannedData}
 use Rattle.running.specs.Given.{HasAhead, HasGiven, IsRunOver, steps_left}
+use Rattle.values.specs.Row.{rows_data}
 use Rattle.scan.specs.Coming.{Asks}
-use Rattle.sources.specs.SourceData.{rows_data}
 use Rattle.inner_rows.proofs.rows.rows_of_run.Given as goal
 
 abbrev pub invariant-rows : goal.invariant-rows

@@ -11,7 +11,8 @@ use Rattle.running.specs.Given.{IsRowCause}
 use Rattle.scan.specs.Coming.{Asks}
 use Rattle.scan.proofs.ComingLemmas.{seen_same}
 use Rattle.sources.specs.Coming.{IsRooted}
-use Rattle.sources.specs.SourceData.{rows_data, sources_of}
+use Rattle.values.specs.Row.{rows_data}
+use Rattle.sources.specs.SourceData.{sources_of}
 use Rattle.statement_names.specs.NamedView.{query_data}
 use Rattle.nested_runs.proofs.StepLemmas.{rows_of_plan}
 use Rattle.nested_runs.proofs.gathered.answer_rows.Goals as goal

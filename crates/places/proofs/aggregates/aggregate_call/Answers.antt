@@ -2,7 +2,8 @@ use Rattle.std.proofs.Common.{ap, option_map}
 use Rattle.naming.specs.Places as spec
 use Rattle.places.proofs.AggregateLemmas.{several_are_none}
 use Rattle.places.specs.Transposed.{transposed}
-use Rattle.statement_trees.specs.TreeView.{expr_of, maybe_of}
+use Rattle.syntax.specs.ExprView.{maybe_of}
+use Rattle.statement_trees.specs.TreeView.{expr_of}
 use Rattle.places.proofs.aggregates.aggregate_call.Goals as goal
 
 pub returns-in-len2-up : goal.returns-in-len2-up

@@ -1,4 +1,4 @@
-use Rattle.std.proofs.Common.{◌≡◌, ◌∙◌, None, Option, Some, ap, false, length, subst, sym, true, ℕ}
+use Rattle.std.proofs.Common.{◌≡◌, None, Some, ap, false, subst, sym, true, ℕ}
 use Rattle.std.proofs.lemmas.Result.{err_from_is_err_and}
 use Rattle.pager.proofs.CallLemmas.{SameImage-trans}
 use Rattle.image.specs.declared.kind.TreeKind.{TreeKind}
@@ -8,10 +8,9 @@ use Rattle.image.specs.Shape.{IsTreeAt}
 use Rattle.btree.specs.Views.{cell_data}
 use Rattle.btree.proofs.SeenLemmas.{still_steady}
 use Rattle.cursor.specs.Calls.{IsOpenedAt}
-use Rattle.tables.specs.TableData.{RowKeyData}
 use Rattle.stored_tables.specs.Tables.{kind_of}
 use Rattle.index_rows.proofs.CompareLemmas.{TellsCell, counted_are, its_tree}
-use Rattle.row_batches.proofs.BatchLemmas.{Batching, comes_behind, end_differs, end_other, end_same, first, its_rowid, kept_counted, never_ends, number_read, one_further, opened, places_read, row_now, rowid_is, stepped, stopped, told_now, tree_now, turn_differs, turn_now, turned_on, values_now}
+use Rattle.row_batches.proofs.BatchLemmas.{Batching, comes_behind, end_differs, end_other, end_same, first, kept_counted, never_ends, number_read, opened, places_read, row_now, rowid_is, stepped, stopped, told_now, tree_now, turn_differs, turn_now, turned_on, values_now}
 use Rattle.row_batches.proofs.comparison.is_index_by_batches.Goals as goal
 
 pub returns-in_err-cursor-clause-same : goal.returns-in_err-cursor-clause-same

@@ -1,4 +1,4 @@
-use Rattle.std.proofs.Common.{◌≡◌, ◌∙◌, ◌++◌, ◌∷◌, [], ℕ, List, SFits, Some, ⊎_elim, ap, false, inl, inr, refl, rules, subst, sym, true, w64, ℤ}
+use Rattle.std.proofs.Common.{◌≡◌, ◌∙◌, ◌++◌, ◌∷◌, [], SFits, Some, ⊎_elim, ap, false, inl, inr, refl, rules, subst, sym, true, w64, ℤ}
 use Rattle.std.specs.Cow.{cow_slice_items}
 use Rattle.std.proofs.lemmas.Int.{to_z-of_z}
 use Rattle.std.proofs.lemmas.Result.{err_from_is_err_and}

@@ -1,8 +1,8 @@
 use Rattle.std.proofs.Common.{◌∙◌, List, Vec, Global, rules, subst, take_all}
 use Rattle.std.proofs.lemmas.Result.{err_from_is_err_and}
 use Rattle.std.specs.Io.KnownBytes.{Appends}
+use Rattle.values.specs.Row.{rows_data}
 use Rattle.values.specs.declared.value.Value.{Value}
-use Rattle.sources.specs.SourceData.{rows_data}
 use Rattle.runs.proofs.StreamLemmas.{shown_text}
 use Rattle.runs.proofs.KeptLemmas.{kept_cut, kept_done, kept_more}
 use Rattle.runs.proofs.kept.write_kept.Goals as goal

@@ -1,6 +1,6 @@
 use Rattle.std.proofs.Common.{◌≡◌, take}
+use Rattle.values.specs.Row.{rows_data}
 use Rattle.std.specs.Io.KnownBytes.{Appends}
-use Rattle.sources.specs.SourceData.{rows_data}
 use Rattle.runs.proofs.StreamLemmas.{shown_text}
 use Rattle.runs.proofs.kept.write_kept.Given as goal
 

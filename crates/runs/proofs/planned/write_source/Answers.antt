@@ -1,5 +1,6 @@
 use Rattle.std.proofs.Common.{ap}
-use Rattle.sources.specs.SourceData.{rows_data, source_data}
+use Rattle.values.specs.Row.{rows_data}
+use Rattle.sources.specs.SourceData.{source_data}
 use Rattle.runs.proofs.SourceLemmas.{kept_asks, kept_written, table_asks, table_written}
 use Rattle.runs.proofs.planned.write_source.Goals as goal
 

@@ -1,9 +1,8 @@
 use Rattle.std.proofs.Common.{◌≡◌, ◌≤◌, ◌+◌, ◌++◌, length, map, take}
 use Rattle.values.specs.Datum.{datum_of}
-use Rattle.values.specs.Row.{Row}
+use Rattle.values.specs.Row.{Row, Grows}
 use Rattle.meaning.specs.OneTable.{shown}
 use Rattle.stored_tables.specs.Reading.{IsReadingRow, table_read}
-use Rattle.scan.specs.Coming.{Grows}
 use Rattle.scan.proofs.cells.put_columns.Given as goal
 
 abbrev pub invariant-loop-column : goal.invariant-loop-column

@@ -1,4 +1,5 @@
 use Rattle.std.proofs.Common.{map, option_map, subst, sym, ◌∙◌}
+use Rattle.syntax.specs.ExprView.{maybe_of}
 use Rattle.grammar.specs.Reading.{definitions_of, results_of, terms_of}
 use Rattle.naming.specs.Outcome.{followed}
 use Rattle.naming.specs.Statement as spec
@@ -14,7 +15,7 @@ pub returns-then-has_groups : goal.returns-then-has_groups
 returns-then-has_groups g c =
     let answers = g.I.InnerQueries.answers c.args.inner.now in
     let clauses = c.args.clauses.now in
-    let having = trees.maybe_of (option_map trees.expr_of clauses.having.now) in
+    let having = maybe_of (option_map trees.expr_of clauses.having.now) in
     let behind = spec.behind_groups answers c.args.scope.now clauses.distinct (results_of (map trees.result_of clauses.columns.now))
     (terms_of (map trees.term_of clauses.order.now)) (map (λ e. trees.expr_of e.now) clauses.parts.now)
     (definitions_of (map trees.definition_of clauses.windows.now)) (term c.args.test) in
@@ -26,7 +27,7 @@ pub returns : goal.returns
 returns g c =
     let answers = g.I.InnerQueries.answers c.args.inner.now in
     let clauses = c.args.clauses.now in
-    let having = trees.maybe_of (option_map trees.expr_of clauses.having.now) in
+    let having = maybe_of (option_map trees.expr_of clauses.having.now) in
     let behind = spec.behind_groups answers c.args.scope.now clauses.distinct (results_of (map trees.result_of clauses.columns.now))
     (terms_of (map trees.term_of clauses.order.now)) (map (λ e. trees.expr_of e.now) clauses.parts.now)
     (definitions_of (map trees.definition_of clauses.windows.now)) (term c.args.test) in

@@ -6,7 +6,6 @@ use Rattle.body_trees.specs.declared.bodies.Single.{out-Single}
 use Rattle.body_trees.specs.declared.bodies.Tables.{out-Tables}
 use Rattle.meaning.specs.Query as q
 use Rattle.naming.specs.Statement.{operator_of}
-use Rattle.query_trees.specs.SelectView.{select_of}
 use Rattle.settled_bodies.proofs.SettleLemmas.{all_settled, compound_settled, tables_settled, whole}
 use Rattle.settled_bodies.specs.SettledView.{settled_joined}
 use Rattle.settled_sources.specs.Settled.{settled_body, settled_from, settled_inner, settled_source}

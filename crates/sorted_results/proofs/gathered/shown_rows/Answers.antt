@@ -4,8 +4,8 @@ use Rattle.std.proofs.lemmas.Iterator.Consumers.{YieldsList-end}
 use Rattle.std.proofs.lemmas.List.{map_push, take-map}
 use Rattle.values.specs.Datum.{datum_of}
 use Rattle.meaning.proofs.ScanLemmas.{map-identity}
+use Rattle.values.specs.Row.{rows_data}
 use Rattle.results.specs.Slices.{sliced}
-use Rattle.ordered_rows.specs.FirstView.{rows_data}
 use Rattle.ordered_rows.proofs.FirstLemmas.{row_of}
 use Rattle.sorted_results.proofs.ShownLemmas.{fronts_more, slice_gives, slice_passes, slice_whole}
 use Rattle.sorted_results.proofs.gathered.shown_rows.Goals as goal

@@ -1,7 +1,6 @@
 use Rattle.std.proofs.Common.{◌≡◌, ◌++◌, List, map, take}
-use Rattle.values.specs.Row.{Row}
+use Rattle.values.specs.Row.{Row, rows_data}
 use Rattle.results.specs.Slices.{sliced}
-use Rattle.ordered_rows.specs.FirstView.{rows_data}
 use Rattle.sorted_results.proofs.gathered.shown_rows.Given as goal
 
 abbrev pub invariant-loop-row : goal.invariant-loop-row

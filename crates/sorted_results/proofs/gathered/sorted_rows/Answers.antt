@@ -1,8 +1,8 @@
-use Rattle.std.proofs.Common.{rules, ◌≡◌, ◌∙◌, ◌++◌, [], List, ℕ, ℤ, Option, SFits, length, map, take, w64, ap, subst, sym}
+use Rattle.std.proofs.Common.{rules, ◌≡◌, ◌∙◌, ◌++◌, [], List, ℕ, ℤ, Option, SFits, map, take, w64, ap, subst, sym}
 use Rattle.std.proofs.lemmas.Int.{to_z-of_z}
 use Rattle.std.proofs.lemmas.List.{length-map}
 use Rattle.std.proofs.lemmas.Result.{err_from_is_err_and}
-use Rattle.values.specs.Row.{Row}
+use Rattle.values.specs.Row.{Row, rows_data}
 use Rattle.image.specs.Pages.{pages_seen}
 use Rattle.expr.specs.declared.tree.Expr.{Expr}
 use Rattle.expr.specs.Term.{Term}
@@ -11,12 +11,11 @@ use Rattle.expr.specs.Meaning.{eval}
 use Rattle.meaning.specs.Valuation.{term_values}
 use Rattle.meaning.specs.Answer.{limited, skipped}
 use Rattle.meaning.specs.Hits.{order_terms}
-use Rattle.plans.specs.Plan.{PlanData, rows_of, work}
+use Rattle.plans.specs.Plan.{rows_of, work}
 use Rattle.plans.specs.PlanView.{plan_data}
 use Rattle.results.specs.Coming.{IsResultCause, result_rows}
 use Rattle.results.specs.Slices.{sliced}
 use Rattle.ordered_rows.specs.Firsts.{BeginsAll, at_most}
-use Rattle.ordered_rows.specs.FirstView.{rows_data}
 use Rattle.ordered_rows.specs.declared.order.ResultKey.{ResultKey}
 use Rattle.ordered_rows.specs.Keys.{comes_before, directions, key_values}
 use Rattle.sorted_results.specs.declared.keys.Key.{Key}

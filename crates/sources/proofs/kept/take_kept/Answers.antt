@@ -3,8 +3,8 @@ use Rattle.std.proofs.lemmas.List.{drop_all, length-map}
 use Rattle.values.specs.declared.value.Value.{Value}
 use Rattle.std.proofs.lemmas.Option.{slice_get_read}
 use Rattle.values.specs.Datum.{datum_of}
+use Rattle.values.specs.Row.{rows_data}
 use Rattle.scan.proofs.CellLemmas.{take_datums}
-use Rattle.sources.specs.SourceData.{rows_data}
 use Rattle.sources.proofs.KeptLemmas.{row_at}
 use Rattle.sources.proofs.kept.take_kept.Goals as goal
 

@@ -1,8 +1,8 @@
 -- The count so far is that of those before this one.
 use Rattle.std.proofs.Common.{◌≡◌, map, sum_by, take}
 use Rattle.body_trees.specs.BodyView.{inner_of, joined_of}
+use Rattle.values.specs.Bounds.{counted}
 use Rattle.naming.specs.Statement as spec
-use Rattle.statement_names.specs.Counted.{counted}
 use Rattle.statement_names.proofs.counting.+counting.Given as goal
 
 abbrev pub invariant-joined_count-loop-joined : goal.invariant-joined_count-loop-joined

@@ -20,7 +20,8 @@ use Rattle.stored_rows.proofs.LinkLemmas.{no_links_in}
 use Rattle.table_walk.proofs.HeldLemmas.{held_leaf, held_more, held_under, leaf_fault}
 use Rattle.table_walk.proofs.WalkLemmas.{see, seen_child, broken_header, broken_head, leaf_tree, leaf_counts, inner, broken_child, step_met, step_branch, step_under, here_within, uneven, more_branches, end_is, inner_tree}
 use Rattle.btree.proofs.SeenLemmas.{still_steady, same_pages}
-use Rattle.tree_walk.specs.Counts.{AreCounts, counted}
+use Rattle.values.specs.Bounds.{counted}
+use Rattle.tree_walk.specs.Counts.{AreCounts}
 use Rattle.tree_walk.specs.Used.{IsUnderTwice, MarksUnder}
 use Rattle.table_walk.specs.Walked.{StandsWithin, IsTree}
 use Rattle.table_walk.proofs.UsedLemmas.{child_twice, children_all, children_more, children_none, leaf_linked, leaf_plain, row_twice}

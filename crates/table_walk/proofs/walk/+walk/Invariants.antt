@@ -5,7 +5,8 @@ use Rattle.image.specs.declared.kind.TreeKind.TheVariants.{Table}
 use Rattle.image.specs.Shape.{places_under}
 use Rattle.image.specs.Tree.{child_at}
 use Rattle.stored_rows.specs.Stored.{HoldsRow}
-use Rattle.tree_walk.specs.Counts.{cells_before, counted, size_before}
+use Rattle.values.specs.Bounds.{counted}
+use Rattle.tree_walk.specs.Counts.{cells_before, size_before}
 use Rattle.table_walk.specs.Walked.{IsBranch}
 use Rattle.table_walk.proofs.UsedLemmas.{AreChildrenWalked}
 use Rattle.table_walk.proofs.walk.+walk.Given as goal

@@ -2,7 +2,8 @@ use Rattle.std.proofs.Common.{map, option_map, subst, sym}
 use Rattle.naming.specs.Places as spec
 use Rattle.query_trees.specs.Outcome.{Gives}
 use Rattle.query_trees.specs.SelectView.{function_of}
-use Rattle.statement_trees.specs.TreeView.{expr_of, maybe_of}
+use Rattle.syntax.specs.ExprView.{maybe_of}
+use Rattle.statement_trees.specs.TreeView.{expr_of}
 use Rattle.syntax.specs.ExprTree.{trees_of}
 use Rattle.window_calls.proofs.CallLemmas.{no_aggregate}
 use Rattle.window_calls.proofs.functions.function.Goals as goal

@@ -1,7 +1,6 @@
 use Rattle.std.proofs.Common.{subst, List, IsPermutation}
 use Rattle.std.proofs.lemmas.List.Sorted.{IsPermutation-map}
-use Rattle.values.specs.Row.{Row}
-use Rattle.ordered_rows.specs.FirstView.{rows_data}
+use Rattle.values.specs.Row.{Row, rows_data}
 use Rattle.ordered_rows.specs.Keys.{comes_before}
 use Rattle.ordered_rows.proofs.FirstLemmas.{row_of, sorted_map}
 use Rattle.distinct_rows.proofs.OnceLemmas.{once_begins}

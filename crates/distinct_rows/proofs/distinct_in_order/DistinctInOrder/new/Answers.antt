@@ -1,5 +1,4 @@
-use Rattle.std.proofs.Common.{[], arith, subst}
-use Rattle.values.specs.Row.{Row}
+use Rattle.std.proofs.Common.{arith}
 use Rattle.ordered_rows.specs.Keys.{comes_before}
 use Rattle.distinct_rows.proofs.OnceLemmas.{firm_none}
 use Rattle.distinct_rows.proofs.distinct_in_order.DistinctInOrder.new.Goals as goal

@@ -1,4 +1,4 @@
-use Rattle.std.proofs.Common.{◌≡◌, ◌∙◌, ◌++◌, ◌∷◌, [], false, if◌then◌else◌, List, map, refl, sym, ap, subst}
+use Rattle.std.proofs.Common.{◌≡◌, ◌∙◌, ◌++◌, ◌∷◌, [], false, if◌then◌else◌, map, refl, sym, ap, subst}
 use Rattle.std.specs.List.{list_any}
 use Rattle.values.specs.Datum.{datum_of}
 use Rattle.values.specs.Row.{Row}

@@ -1,9 +1,6 @@
-use Rattle.std.proofs.Common.{rules, ◌∙◌, is_lt, refl}
-use Rattle.std.proofs.lemmas.List.Sorted.{ranks_by}
+use Rattle.std.proofs.Common.{rules, refl}
 use Rattle.std.proofs.lemmas.Fn.{always_returns_same}
-use Rattle.meaning.specs.Sequence.{keys_cmp}
-use Rattle.meaning.proofs.KeyLemmas.{keys_cmp_total}
-use Rattle.ordered_rows.specs.Keys.{comes_before, directions, key_values}
+use Rattle.ordered_rows.specs.Keys.{comes_before}
 use Rattle.ordered_rows.proofs.FirstLemmas.{comes_before_order}
 use Rattle.distinct_rows.proofs.OnceLemmas.{once_cut}
 use Rattle.distinct_rows.proofs.distinct_in_order.DistinctInOrder.put_in_order.Goals as goal

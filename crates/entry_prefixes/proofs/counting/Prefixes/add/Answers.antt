@@ -1,7 +1,7 @@
 use Rattle.std.proofs.Common.{◌≡◌, ◌∙◌, ◌+◌, ◌++◌, ◌≤◌, List, Some, ℕ, ap, drop, inl, inr, length, slice_get, subst, sym, take}
 use Rattle.std.proofs.lemmas.List.{take_at}
+use Rattle.values.specs.Bounds.{counted}
 use Rattle.values.specs.Row.{Row}
-use Rattle.tree_walk.specs.Counts.{counted}
 use Rattle.entry_prefixes.specs.declared.counting.Prefixes.{Prefixes}
 use Rattle.entry_prefixes.proofs.CountLemmas.{HasTold, no_last, one_counted, some_last}
 use Rattle.entry_prefixes.proofs.counting.Prefixes.add.Goals as goal

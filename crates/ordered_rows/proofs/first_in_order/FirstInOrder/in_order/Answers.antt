@@ -1,4 +1,4 @@
-use Rattle.ordered_rows.specs.FirstView.{rows_data}
+use Rattle.values.specs.Row.{rows_data}
 use Rattle.ordered_rows.specs.Keys.{comes_before}
 use Rattle.ordered_rows.proofs.FirstLemmas.{KeepsOf-begins, comes_before_order}
 use Rattle.ordered_rows.proofs.first_in_order.FirstInOrder.in_order.Goals as goal

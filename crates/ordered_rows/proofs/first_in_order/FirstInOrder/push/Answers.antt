@@ -1,7 +1,7 @@
 use Rattle.std.proofs.Common.{map}
 use Rattle.std.proofs.lemmas.List.{map_push}
+use Rattle.values.specs.Row.{rows_data}
 use Rattle.values.specs.Datum.{datum_of}
-use Rattle.ordered_rows.specs.FirstView.{rows_data}
 use Rattle.ordered_rows.specs.Keys.{comes_before}
 use Rattle.ordered_rows.proofs.FirstLemmas.{KeepsOf-pass, KeepsOf-push}
 use Rattle.ordered_rows.proofs.first_in_order.FirstInOrder.push.Goals as goal
