@@ -1,15 +1,14 @@
 //! The rows of each SELECT, joined.
-ghost use Rattle.std.specs.Prelude.{◌≡◌, ◌++◌, All, IfErr, IfSome, IsNone, List, MatchResult, map};
+ghost use Rattle.std.specs.Prelude.{◌≡◌, ◌++◌, All, IfSome, IsNone, List, MatchResult, map};
 ghost use Rattle.values.specs.Datum.{datum_of};
 ghost use Rattle.values.specs.Row.{Row as RowData, rows_data};
-ghost use Rattle.pager.specs.Calls.{ReadsPages};
 ghost use Rattle.sources.specs.Coming.{IsRooted};
 ghost use Rattle.image.specs.Pages.{WhereSteady};
 ghost use Rattle.naming.specs.Statement.{operator_of};
 ghost use Rattle.plans.specs.Plan.{work};
 ghost use Rattle.plans.specs.PlanView.{plan_data};
 ghost use Rattle.scan.specs.Coming.{Asks};
-ghost use Rattle.operators.specs.Basis.{AreStored, Basis, IsOperatorFault};
+ghost use Rattle.operators.specs.Basis.{AreStored, Basis, ReadsRows};
 ghost use Rattle.operators.specs.Left.{IsPlanOf};
 ghost use Rattle.distinct_results.specs.Firsts.{firsts};
 ghost use Rattle.compound_results.specs.Arms.{ArePlannedOver, arm_data, arm_rows, arms_data, rows_of_arms, work_of_arms};
@@ -64,8 +63,7 @@ pub(crate) fn push_arm<S: Source>(
         (λ _. (rows_data rows.new.items ≡ rows_data rows.old.items ++ arm_rows on.w on.db (arm_data arm.now))
         × Asks on.local pager.old.state (work on.w on.db on.sizes (plan_data arm.now.plan)) pager.new.state 0)
         (IsArmCause on (arm_data arm.now))) }
-    ensures only { IfErr result IsOperatorFault }
-    ensures reads { ReadsPages result pager.old.state pager.new.state }
+    ensures reads { ReadsRows result pager.old.state pager.new.state }
 {
     let results = Results::of_all(alloc, &arm.plan, arm.columns.as_slice())?;
     if !arm.distinct {
@@ -109,8 +107,7 @@ fn join_arm<S: Source>(
         → set.new.keys ≡ firsts (joined_rows (operator_of operator) left (arm_rows on.w on.db (arm_data arm.now))))
         × Asks on.local pager.old.state (work on.w on.db on.sizes (plan_data arm.now.plan)) pager.new.state 0)
         (IsArmCause on (arm_data arm.now))) }
-    ensures only { IfErr result IsOperatorFault }
-    ensures reads { ReadsPages result pager.old.state pager.new.state }
+    ensures reads { ReadsRows result pager.old.state pager.new.state }
 {
     let results = Results::of_all(alloc, &arm.plan, arm.columns.as_slice())?;
     let Some(wanted) = kept_by(operator) else {
@@ -136,8 +133,7 @@ fn arms_once<S: Source>(
         (λ set. (set.keys ≡ firsts (rows_of_arms on.w on.db (arms_data arms.now)))
         × Asks on.local pager.old.state (work_of_arms on.w on.db on.sizes (arms_data arms.now)) pager.new.state 0)
         (IsArmsCause on (arms_data arms.now))) }
-    ensures only { IfErr result IsOperatorFault }
-    ensures reads { ReadsPages result pager.old.state pager.new.state }
+    ensures reads { ReadsRows result pager.old.state pager.new.state }
 {
     match arms {
         Arms::One(arm) => {
@@ -168,8 +164,7 @@ pub(crate) fn arms_rows<S: Source>(
         (λ rows. (map (λ row. map datum_of row.items) rows.items ≡ rows_of_arms on.w on.db (arms_data arms.now))
         × Asks on.local pager.old.state (work_of_arms on.w on.db on.sizes (arms_data arms.now)) pager.new.state 0)
         (IsArmsCause on (arms_data arms.now))) }
-    ensures only { IfErr result IsOperatorFault }
-    ensures reads { ReadsPages result pager.old.state pager.new.state }
+    ensures reads { ReadsRows result pager.old.state pager.new.state }
 {
     match arms {
         Arms::One(arm) => {

@@ -1,14 +1,13 @@
 //! The rows of SELECTs that UNION ALL joins, one SELECT after the other.
-ghost use Rattle.std.specs.Prelude.{◌≡◌, ◌<◌, ◌∷◌, ◌++◌, ◌↔◌, [], ℕ, All, false, IfErr, IfOk, IsFalse, IsTrue, List, MatchResult, Some, map};
+ghost use Rattle.std.specs.Prelude.{◌≡◌, ◌<◌, ◌∷◌, ◌++◌, ◌↔◌, [], ℕ, All, false, IfOk, IsFalse, IsTrue, List, MatchResult, Some, map};
 ghost use Rattle.values.specs.Database.{Database};
 ghost use Rattle.values.specs.Datum.{Datum, datum_of};
-ghost use Rattle.pager.specs.Calls.{ReadsPages};
 ghost use Rattle.sources.specs.Coming.{IsRooted};
 ghost use Rattle.image.specs.Pages.{Pages, WhereSteady};
 ghost use Rattle.sources.specs.SourceData.{SourceData};
 ghost use Rattle.meaning.specs.Query.{union_all};
 ghost use Rattle.naming.specs.Statement.{operator_of};
-ghost use Rattle.operators.specs.Basis.{AreStored, Basis, GivesRowOrNone, IsOperatorFault};
+ghost use Rattle.operators.specs.Basis.{AreStored, Basis, GivesRowOrNone, ReadsRows};
 ghost use Rattle.compound_results.specs.Arms.{ArePlannedOver, ArmsHit, arm_data, arms_data, work_of_arms};
 ghost use Rattle.compound_results.specs.Chains.{AreAll, IsUnionChain, chain_answer};
 ghost use Rattle.compound_results.specs.Compounds.{IsArmsCause, compound_data};
@@ -133,8 +132,7 @@ impl ArmsInTurn {
         ensures over { ArePlannedOver sources.now (arms_of self.new) }
         ensures hits { (w : Datum) (db : Database) → ArmsHit w db (arms_of self.new) → ArmsHit w db (arms_of self.old) }
         ensures left { IfOk result (λ found. IsTrue found → turn_steps sources.now self.new < turn_steps sources.now self.old) }
-        ensures only { IfErr result IsOperatorFault }
-        ensures reads { ReadsPages result pager.old.state pager.new.state }
+        ensures reads { ReadsRows result pager.old.state pager.new.state }
     {
         'arms: while !self.at_hand.next(alloc, pager, sources, out)? {
             if !self.begin_next() {
@@ -187,8 +185,7 @@ impl ChainedResults {
         ensures over { ArePlannedOver sources.now (arms_of self.new.arms) }
         ensures hits { (w : Datum) (db : Database) → ArmsHit w db (arms_of self.new.arms) → ArmsHit w db (arms_of self.old.arms) }
         ensures left { IfOk result (λ found. IsTrue found → turn_steps sources.now self.new.arms < turn_steps sources.now self.old.arms) }
-        ensures only { IfErr result IsOperatorFault }
-        ensures reads { ReadsPages result pager.old.state pager.new.state }
+        ensures reads { ReadsRows result pager.old.state pager.new.state }
     {
         'rows: while !self.slice.is_done() {
             if !self.arms.next(alloc, pager, sources, out)? {

@@ -1,11 +1,10 @@
 //! The rows of SELECTs that are joined, in order.
-ghost use Rattle.std.specs.Prelude.{All, IfErr, MatchResult, map};
+ghost use Rattle.std.specs.Prelude.{All, MatchResult, map};
 ghost use Rattle.values.specs.Datum.{datum_of};
-ghost use Rattle.pager.specs.Calls.{ReadsPages};
 ghost use Rattle.sources.specs.Coming.{IsRooted};
 ghost use Rattle.image.specs.Pages.{WhereSteady};
 ghost use Rattle.scan.specs.Coming.{Asks};
-ghost use Rattle.operators.specs.Basis.{AreStored, Basis, IsOperatorFault};
+ghost use Rattle.operators.specs.Basis.{AreStored, Basis, ReadsRows};
 ghost use Rattle.values.specs.Row.{rows_data};
 ghost use Rattle.ordered_rows.specs.Firsts.{BeginsAll};
 ghost use Rattle.ordered_rows.specs.Keys.{comes_before};
@@ -49,8 +48,7 @@ fn rows_in_order<S: Source>(
         (λ rows. BeginsAll (comes_before order.now) most (rows_data rows.items) (rows_of_arms on.w on.db (arms_data arms.now))
         × Asks on.local pager.old.state (work_of_arms on.w on.db on.sizes (arms_data arms.now)) pager.new.state 0)
         (IsArmsCause on (arms_data arms.now))) }
-    ensures only { IfErr result IsOperatorFault }
-    ensures reads { ReadsPages result pager.old.state pager.new.state }
+    ensures reads { ReadsRows result pager.old.state pager.new.state }
 {
     if are_all(arms) {
         return arms_in_order(alloc, pager, sources, arms, order, most);
@@ -74,8 +72,7 @@ pub fn compound_rows<S: Source>(
         (λ rows. IsCompoundAnswer on.w on.db (compound_data compound.now) (map (λ row. map datum_of row.items) rows.items)
         × Asks on.local pager.old.state (work_of_arms on.w on.db on.sizes (arms_data compound.now.arms)) pager.new.state 0)
         (IsArmsCause on (arms_data compound.now.arms))) }
-    ensures only { IfErr result IsOperatorFault }
-    ensures reads { ReadsPages result pager.old.state pager.new.state }
+    ensures reads { ReadsRows result pager.old.state pager.new.state }
 {
     let order = compound.order.as_slice();
     let most = rows_looked_at(compound.limit, compound.offset);

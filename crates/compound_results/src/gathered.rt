@@ -1,12 +1,11 @@
 //! The rows of a stream: kept, or looked up among others.
-ghost use Rattle.std.specs.Prelude.{◌≡◌, ◌++◌, ℕ, All, IfErr, List, MatchResult, map};
+ghost use Rattle.std.specs.Prelude.{◌≡◌, ◌++◌, ℕ, All, List, MatchResult, map};
 ghost use Rattle.values.specs.Row.{Row as RowData, rows_data};
-ghost use Rattle.pager.specs.Calls.{ReadsPages};
 ghost use Rattle.sources.specs.Coming.{IsRooted};
 ghost use Rattle.image.specs.Pages.{WhereSteady};
 ghost use Rattle.expr.specs.View.{term};
 ghost use Rattle.scan.specs.Coming.{Asks};
-ghost use Rattle.operators.specs.Basis.{AreStored, Basis, IsOperatorFault};
+ghost use Rattle.operators.specs.Basis.{AreStored, Basis, ReadsRows};
 ghost use Rattle.operators.specs.Left.{IsPlanOf, plan_of};
 ghost use Rattle.results.specs.Coming.{IsComing, IsResultCause};
 ghost use Rattle.distinct_results.specs.Firsts.{firsts};
@@ -35,8 +34,7 @@ pub(crate) fn push_rows<S: Source>(
         → MatchResult result
         (λ _. (rows_data rows.new.items ≡ rows_data rows.old.items ++ rest) × Asks on.local pager.old.state ahead pager.new.state 0)
         (IsResultCause on (map term results.columns.items))) }
-    ensures only { IfErr result IsOperatorFault }
-    ensures reads { ReadsPages result pager.old.state pager.new.state }
+    ensures reads { ReadsRows result pager.old.state pager.new.state }
 {
     let mut results = results;
     let mut row = Vec::new(alloc);
@@ -63,8 +61,7 @@ pub(crate) fn put_rows<S: Source>(
         (λ _. ((seen : List RowData) → set.old.keys ≡ firsts seen → set.new.keys ≡ firsts (seen ++ rest))
         × Asks on.local pager.old.state ahead pager.new.state 0)
         (IsResultCause on (map term results.columns.items))) }
-    ensures only { IfErr result IsOperatorFault }
-    ensures reads { ReadsPages result pager.old.state pager.new.state }
+    ensures reads { ReadsRows result pager.old.state pager.new.state }
 {
     let mut results = results;
     let mut row = Vec::new(alloc);
@@ -91,8 +88,7 @@ pub(crate) fn met_rows<S: Source>(
         → MatchResult result
         (λ marks. (marks.items ≡ map (has_row rest) set.now.keys) × Asks on.local pager.old.state ahead pager.new.state 0)
         (IsResultCause on (map term results.columns.items))) }
-    ensures only { IfErr result IsOperatorFault }
-    ensures reads { ReadsPages result pager.old.state pager.new.state }
+    ensures reads { ReadsRows result pager.old.state pager.new.state }
 {
     let mut results = results;
     let mut marks = no_marks(alloc, set)?;

@@ -1,11 +1,10 @@
 //! The rows of SELECTs that UNION ALL joins, put in order.
-ghost use Rattle.std.specs.Prelude.{◌≡◌, ◌++◌, ℕ, All, IfErr, List, MatchResult, OnOk};
+ghost use Rattle.std.specs.Prelude.{◌≡◌, ◌++◌, ℕ, All, List, MatchResult, OnOk};
 ghost use Rattle.values.specs.Row.{Row, rows_data};
-ghost use Rattle.pager.specs.Calls.{ReadsPages};
 ghost use Rattle.sources.specs.Coming.{IsRooted};
 ghost use Rattle.image.specs.Pages.{WhereSteady};
 ghost use Rattle.scan.specs.Coming.{Asks};
-ghost use Rattle.operators.specs.Basis.{AreStored, Basis, IsOperatorFault};
+ghost use Rattle.operators.specs.Basis.{AreStored, Basis, ReadsRows};
 ghost use Rattle.ordered_rows.specs.Firsts.{BeginsAll};
 ghost use Rattle.ordered_rows.specs.FirstView.{FewAreKept, KeepsFirst};
 ghost use Rattle.ordered_rows.specs.Keys.{comes_before};
@@ -41,8 +40,7 @@ fn push_arms<S: Source>(
         (IsArmsCause on (arms_of arms))) }
     ensures most { first.new.most ≡ first.old.most }
     ensures few { FewAreKept first.old → OnOk result (FewAreKept first.new) }
-    ensures only { IfErr result IsOperatorFault }
-    ensures reads { ReadsPages result pager.old.state pager.new.state }
+    ensures reads { ReadsRows result pager.old.state pager.new.state }
 {
     let mut arms = arms;
     let mut row = Vec::new(alloc);
@@ -71,8 +69,7 @@ pub(crate) fn arms_in_order<S: Source>(
         (λ rows. BeginsAll (comes_before order.now) most (rows_data rows.items) (rows_of_arms on.w on.db (arms_data arms.now))
         × Asks on.local pager.old.state (work_of_arms on.w on.db on.sizes (arms_data arms.now)) pager.new.state 0)
         (IsArmsCause on (arms_data arms.now))) }
-    ensures only { IfErr result IsOperatorFault }
-    ensures reads { ReadsPages result pager.old.state pager.new.state }
+    ensures reads { ReadsRows result pager.old.state pager.new.state }
 {
     let turn = opened(alloc, arms, Vec::new(alloc))?;
     let mut first = FirstInOrder::new(alloc, most);

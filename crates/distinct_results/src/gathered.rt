@@ -1,14 +1,13 @@
 //! The rows of a SELECT DISTINCT, gathered and put in order.
-ghost use Rattle.std.specs.Prelude.{◌≡◌, All, IfErr, IfOk, MatchResult, map};
+ghost use Rattle.std.specs.Prelude.{◌≡◌, All, IfOk, MatchResult, map};
 ghost use Rattle.values.specs.Datum.{datum_of};
-ghost use Rattle.pager.specs.Calls.{ReadsPages};
 ghost use Rattle.sources.specs.Coming.{IsRooted};
 ghost use Rattle.image.specs.Pages.{WhereSteady};
 ghost use Rattle.expr.specs.View.{term};
 ghost use Rattle.plans.specs.Plan.{work};
 ghost use Rattle.plans.specs.PlanView.{plan_data};
 ghost use Rattle.scan.specs.Coming.{Asks};
-ghost use Rattle.operators.specs.Basis.{AreStored, Basis, IsOperatorFault};
+ghost use Rattle.operators.specs.Basis.{AreStored, Basis, ReadsRows};
 ghost use Rattle.operators.specs.Left.{IsPlanOf};
 ghost use Rattle.results.specs.Coming.{IsResultCause};
 ghost use Rattle.results.specs.Slices.{sliced};
@@ -69,8 +68,7 @@ pub fn sorted_distinct_rows<S: Source>(
         (λ rows. IsSortedDistinctAnswer on.w on.db (sorted_distinct_data selection.now) (map (λ row. map datum_of row.items) rows.items)
         × Asks on.local pager.old.state (work on.w on.db on.sizes on.plan) pager.new.state 0)
         (IsResultCause on (map term selection.now.columns.items))) }
-    ensures only { IfErr result IsOperatorFault }
-    ensures reads { ReadsPages result pager.old.state pager.new.state }
+    ensures reads { ReadsRows result pager.old.state pager.new.state }
 {
     let order = selection.order.as_slice();
     let results = Results::of_all(alloc, &selection.plan, selection.columns.as_slice())?;

@@ -1,12 +1,11 @@
 //! The rows of a stream, of which the first different ones in order are kept.
-ghost use Rattle.std.specs.Prelude.{◌≡◌, ◌++◌, ℕ, All, IfErr, List, MatchResult, OnOk, map};
+ghost use Rattle.std.specs.Prelude.{◌≡◌, ◌++◌, ℕ, All, List, MatchResult, OnOk, map};
 ghost use Rattle.values.specs.Row.{Row};
-ghost use Rattle.pager.specs.Calls.{ReadsPages};
 ghost use Rattle.sources.specs.Coming.{IsRooted};
 ghost use Rattle.image.specs.Pages.{WhereSteady};
 ghost use Rattle.expr.specs.View.{term};
 ghost use Rattle.scan.specs.Coming.{Asks};
-ghost use Rattle.operators.specs.Basis.{AreStored, Basis, IsOperatorFault};
+ghost use Rattle.operators.specs.Basis.{AreStored, Basis, ReadsRows};
 ghost use Rattle.operators.specs.Left.{IsPlanOf, plan_of};
 ghost use Rattle.results.specs.Coming.{IsComing, IsResultCause};
 ghost use Rattle.distinct_rows.specs.OnceView.{FewAreKeptOnce, KeepsOnce};
@@ -38,8 +37,7 @@ pub(crate) fn push_distinct<S: Source>(
         (IsResultCause on (map term results.columns.items))) }
     ensures most { first.new.most ≡ first.old.most }
     ensures few { FewAreKeptOnce first.old → OnOk result (FewAreKeptOnce first.new) }
-    ensures only { IfErr result IsOperatorFault }
-    ensures reads { ReadsPages result pager.old.state pager.new.state }
+    ensures reads { ReadsRows result pager.old.state pager.new.state }
 {
     let mut results = results;
     let mut row = Vec::new(alloc);

@@ -1,16 +1,15 @@
 //! The rows of a SELECT DISTINCT in no order.
-ghost use Rattle.std.specs.Prelude.{◌≡◌, ◌<◌, ℕ, All, IfErr, IfOk, IsTrue, List, MatchResult, Some, map};
+ghost use Rattle.std.specs.Prelude.{◌≡◌, ◌<◌, ℕ, All, IfOk, IsTrue, List, MatchResult, Some, map};
 ghost use Rattle.values.specs.Datum.{Datum, datum_of};
-ghost use Rattle.pager.specs.Calls.{ReadsPages};
 ghost use Rattle.sources.specs.Coming.{IsRooted};
 ghost use Rattle.image.specs.Pages.{Pages, WhereSteady};
 ghost use Rattle.sources.specs.SourceData.{SourceData};
 ghost use Rattle.expr.specs.View.{term};
 ghost use Rattle.plans.specs.Plan.{rows_of, work};
 ghost use Rattle.plans.specs.PlanView.{plan_data};
-ghost use Rattle.operators.specs.Basis.{AreStored, Basis, GivesRowOrNone, IsOperatorFault};
+ghost use Rattle.operators.specs.Basis.{AreStored, Basis, GivesRowOrNone, ReadsRows};
 ghost use Rattle.operators.specs.Left.{IsPlanOf, plan_of, steps};
-ghost use Rattle.results.specs.Coming.{IsResultCause, result_rows, selection_data};
+ghost use Rattle.results.specs.Coming.{IsResultCause, SameSelection, result_rows, selection_data};
 ghost use Rattle.results.specs.Slices.{sliced};
 ghost use Rattle.distinct_results.specs.Coming.{IsDistinctComing, distinct_answer_of};
 ghost use Rattle.distinct_results.specs.Firsts.{firsts};
@@ -82,11 +81,9 @@ impl DistinctResults {
             (IsDistinctComing pages sources.now on self.new))
             (IsResultCause on (map term self.old.results.columns.items))) }
         ensures done { self.old.first.slice.left ≡ Some 0 → pager.new.state ≡ pager.old.state }
-        ensures plan { plan_of self.new.results.op ≡ plan_of self.old.results.op }
-        ensures columns { map term self.new.results.columns.items ≡ map term self.old.results.columns.items }
+        ensures same { SameSelection self.old.results self.new.results }
         ensures left { IfOk result (λ found. IsTrue found → steps sources.now self.new.results.op < steps sources.now self.old.results.op) }
-        ensures only { IfErr result IsOperatorFault }
-        ensures reads { ReadsPages result pager.old.state pager.new.state }
+        ensures reads { ReadsRows result pager.old.state pager.new.state }
     {
         'rows: while !self.first.is_done() {
             let mut row = mem::replace(out, Vec::new(alloc));

@@ -1,6 +1,5 @@
 //! The rows of each query.
 ghost use Rattle.std.specs.Prelude.{◌≡◌, ◌⊎◌, [], All, IfErr, IfOk, IsPermutation, MatchResult, OnOk, length, map};
-ghost use Rattle.pager.specs.Calls.{ReadsPages};
 ghost use Rattle.image.specs.Pages.{Pages, WhereSteady};
 ghost use Rattle.body_trees.specs.BodyView.{body_of, inner_of, joined_of, source_of, tables_of};
 ghost use Rattle.compound_plans.specs.Work.{selects_work};
@@ -14,7 +13,7 @@ ghost use Rattle.inner_rows.specs.Over.{AreSaid, IsBodyCause, IsInnerCause};
 ghost use Rattle.inner_rows.specs.Runnable.{AreComputable, IsComputableBody};
 ghost use Rattle.inner_rows.specs.Work.{body_work, parts_work};
 ghost use Rattle.meaning.specs.Body.{body_rows};
-ghost use Rattle.operators.specs.Basis.{Basis, IsOperatorFault};
+ghost use Rattle.operators.specs.Basis.{Basis, ReadsRows};
 ghost use Rattle.query_plans.specs.Answers.{IsPlanFor, IsPlannedOver, planned_data};
 ghost use Rattle.scan.specs.Coming.{Asks};
 ghost use Rattle.sources.specs.Coming.{IsRooted};
@@ -76,8 +75,7 @@ fn flat_rows<S: pager::Source>(
         → IsComputableBody (column_types tables.now) (body_of body.now)
         → AreComputedRows on.w on.db (kept_of (body_of body.now)) (queries_of (body_of body.now)) (inner_data inner.now)
         → OnOk result (Asks on.local pager.old.state (selects_work on.w on.db on.sizes (body_of body.now)) pager.new.state 0)) }
-    ensures only { IfErr result IsOperatorFault }
-    ensures reads { ReadsPages result pager.old.state pager.new.state }
+    ensures reads { ReadsRows result pager.old.state pager.new.state }
 {
     let planned = flat_plan(alloc, tables, body, inner)?;
     let sources = Sources::new(tables, inner.kept.as_slice());
@@ -104,8 +102,7 @@ fn flat_row<S: pager::Source>(
         → IsComputableBody (column_types tables.now) (body_of body.now)
         → AreComputedRows on.w on.db (kept_of (body_of body.now)) (queries_of (body_of body.now)) (inner_data inner.now)
         → OnOk result (Asks on.local pager.old.state (selects_work on.w on.db on.sizes (body_of body.now)) pager.new.state 0)) }
-    ensures only { IfErr result IsOperatorFault }
-    ensures reads { ReadsPages result pager.old.state pager.new.state }
+    ensures reads { ReadsRows result pager.old.state pager.new.state }
 {
     let planned = flat_plan(alloc, tables, body, inner)?;
     let sources = Sources::new(tables, inner.kept.as_slice());
@@ -127,8 +124,7 @@ fn body_rows<S: pager::Source>(
     ensures pages { WhereSteady pager.old.state (λ pages. (on : Basis) → AreSaid pages tables.now on
         → IsComputableBody (column_types tables.now) (body_of body.now)
         → OnOk result (Asks on.local pager.old.state (body_work on.w on.db on.sizes (body_of body.now)) pager.new.state 0)) }
-    ensures only { IfErr result IsOperatorFault }
-    ensures reads { ReadsPages result pager.old.state pager.new.state }
+    ensures reads { ReadsRows result pager.old.state pager.new.state }
 {
     let mut inner = InnerRows::new(alloc);
     add_body(alloc, pager, tables, body, &mut inner)?;
@@ -150,8 +146,7 @@ fn body_row<S: pager::Source>(
     ensures pages { WhereSteady pager.old.state (λ pages. (on : Basis) → AreSaid pages tables.now on
         → IsComputableBody (column_types tables.now) (body_of body.now)
         → OnOk result (Asks on.local pager.old.state (body_work on.w on.db on.sizes (body_of body.now)) pager.new.state 0)) }
-    ensures only { IfErr result IsOperatorFault }
-    ensures reads { ReadsPages result pager.old.state pager.new.state }
+    ensures reads { ReadsRows result pager.old.state pager.new.state }
 {
     let mut inner = InnerRows::new(alloc);
     add_body(alloc, pager, tables, body, &mut inner)?;
@@ -177,8 +172,7 @@ pub(crate) fn add_body<S: pager::Source>(
     ensures pages { WhereSteady pager.old.state (λ pages. (on : Basis) → AreSaid pages tables.now on
         → AreComputable (column_types tables.now) (kept_of (body_of body.now)) (queries_of (body_of body.now))
         → OnOk result (Asks on.local pager.old.state (parts_work on.w on.db on.sizes (kept_of (body_of body.now)) (queries_of (body_of body.now))) pager.new.state 0)) }
-    ensures only { IfErr result IsOperatorFault }
-    ensures reads { ReadsPages result pager.old.state pager.new.state }
+    ensures reads { ReadsRows result pager.old.state pager.new.state }
 {
     match body {
         Body::Select(single) => add_tables(alloc, pager, tables, &single.tables, inner),
@@ -207,8 +201,7 @@ fn add_tables<S: pager::Source>(
     ensures pages { WhereSteady pager.old.state (λ pages. (on : Basis) → AreSaid pages tables.now on
         → AreComputable (column_types tables.now) (kept_in (tables_of from.now)) (queries_in (tables_of from.now))
         → OnOk result (Asks on.local pager.old.state (parts_work on.w on.db on.sizes (kept_in (tables_of from.now)) (queries_in (tables_of from.now))) pager.new.state 0)) }
-    ensures only { IfErr result IsOperatorFault }
-    ensures reads { ReadsPages result pager.old.state pager.new.state }
+    ensures reads { ReadsRows result pager.old.state pager.new.state }
 {
     add_sources(alloc, pager, tables, from.sources.as_slice(), inner)?;
     add_queries(alloc, pager, tables, from.inner.as_slice(), inner)
@@ -232,8 +225,7 @@ fn add_sources<S: pager::Source>(
     ensures pages { WhereSteady pager.old.state (λ pages. (on : Basis) → AreSaid pages tables.now on
         → AreComputable (column_types tables.now) (kept_among (map joined_of sources.now)) []
         → OnOk result (Asks on.local pager.old.state (parts_work on.w on.db on.sizes (kept_among (map joined_of sources.now)) []) pager.new.state 0)) }
-    ensures only { IfErr result IsOperatorFault }
-    ensures reads { ReadsPages result pager.old.state pager.new.state }
+    ensures reads { ReadsRows result pager.old.state pager.new.state }
 {
     for joined in sources {
         add_source(alloc, pager, tables, &joined.source, inner)?;
@@ -260,8 +252,7 @@ fn add_source<S: pager::Source>(
     ensures pages { WhereSteady pager.old.state (λ pages. (on : Basis) → AreSaid pages tables.now on
         → AreComputable (column_types tables.now) (kept_source (source_of source.now)) []
         → OnOk result (Asks on.local pager.old.state (parts_work on.w on.db on.sizes (kept_source (source_of source.now)) []) pager.new.state 0)) }
-    ensures only { IfErr result IsOperatorFault }
-    ensures reads { ReadsPages result pager.old.state pager.new.state }
+    ensures reads { ReadsRows result pager.old.state pager.new.state }
 {
     match source {
         Source::Table(_, _) => Ok(()),
@@ -292,8 +283,7 @@ fn add_queries<S: pager::Source>(
     ensures pages { WhereSteady pager.old.state (λ pages. (on : Basis) → AreSaid pages tables.now on
         → AreComputable (column_types tables.now) [] (map inner_of queries.now)
         → OnOk result (Asks on.local pager.old.state (parts_work on.w on.db on.sizes [] (map inner_of queries.now)) pager.new.state 0)) }
-    ensures only { IfErr result IsOperatorFault }
-    ensures reads { ReadsPages result pager.old.state pager.new.state }
+    ensures reads { ReadsRows result pager.old.state pager.new.state }
 {
     for query in queries {
         let rows = query_rows(alloc, pager, tables, query)?;
@@ -319,8 +309,7 @@ fn query_rows<S: pager::Source>(
     ensures pages { WhereSteady pager.old.state (λ pages. (on : Basis) → AreSaid pages tables.now on
         → IsComputableBody (column_types tables.now) (body_in (inner_of query.now))
         → OnOk result (Asks on.local pager.old.state (body_work on.w on.db on.sizes (body_in (inner_of query.now))) pager.new.state 0)) }
-    ensures only { IfErr result IsOperatorFault }
-    ensures reads { ReadsPages result pager.old.state pager.new.state }
+    ensures reads { ReadsRows result pager.old.state pager.new.state }
 {
     match query {
         InnerQuery::Values(body) => body_rows(alloc, pager, tables, body),

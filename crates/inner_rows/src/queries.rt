@@ -1,6 +1,5 @@
 //! The plan of a whole query.
-ghost use Rattle.std.specs.Prelude.{[], All, IfErr, IfOk, MatchResult, OnOk};
-ghost use Rattle.pager.specs.Calls.{ReadsPages};
+ghost use Rattle.std.specs.Prelude.{[], All, IfOk, MatchResult, OnOk};
 ghost use Rattle.image.specs.Pages.{WhereSteady};
 ghost use Rattle.flat_queries.specs.Flat.{kept_of};
 ghost use Rattle.flat_queries.specs.FlatWith.{queries_of};
@@ -9,7 +8,7 @@ ghost use Rattle.inner_rows.specs.Over.{AreSaid, IsPlanOverKept, IsQueryCause};
 ghost use Rattle.inner_rows.specs.Runnable.{IsRunnableBody};
 ghost use Rattle.inner_rows.specs.Work.{parts_work};
 ghost use Rattle.meaning.specs.Typed.{IsTyped};
-ghost use Rattle.operators.specs.Basis.{Basis, IsOperatorFault};
+ghost use Rattle.operators.specs.Basis.{Basis, ReadsRows};
 ghost use Rattle.query_plans.specs.Answers.{IsPlannedOver, planned_data};
 ghost use Rattle.scan.specs.Coming.{Asks};
 ghost use Rattle.sources.specs.Coming.{IsRooted};
@@ -53,8 +52,7 @@ pub fn kept_plan<S: Source>(
         → OnOk result (Asks on.local pager.old.state
         (parts_work on.w on.db on.sizes (kept_of (query_data query.now).body) (queries_of (query_data query.now).body)) pager.new.state 0)) }
     ensures over { IfOk result (λ p. IsPlannedOver (sources_of tables.now p.kept.items) (planned_data p.planned)) }
-    ensures only { IfErr result IsOperatorFault }
-    ensures reads { ReadsPages result pager.old.state pager.new.state }
+    ensures reads { ReadsRows result pager.old.state pager.new.state }
 {
     let mut inner = InnerRows::new(alloc);
     add_body(alloc, pager, tables, &query.body, &mut inner)?;

@@ -1,9 +1,8 @@
 //! The rows of a plan.
-ghost use Rattle.std.specs.Prelude.{[], ℕ, All, IfErr, MatchResult, OnOk};
-ghost use Rattle.pager.specs.Calls.{ReadsPages};
+ghost use Rattle.std.specs.Prelude.{[], ℕ, All, MatchResult, OnOk};
 ghost use Rattle.image.specs.Pages.{WhereSteady};
 ghost use Rattle.inner_rows.specs.Over.{BeginsAnswer};
-ghost use Rattle.operators.specs.Basis.{AreStored, Basis, IsOperatorFault};
+ghost use Rattle.operators.specs.Basis.{AreStored, Basis, ReadsRows};
 ghost use Rattle.query_plans.specs.Answers.{IsAnswerOf, IsPlannedOver, PlannedData, planned_data, work_of};
 ghost use Rattle.running.specs.Given.{HasAhead, HasGiven, IsRowCause, IsRunOver};
 ghost use Rattle.scan.specs.Coming.{Asks};
@@ -32,8 +31,7 @@ fn rows_of_run<S: Source>(
         (IsRowCause on planned)) }
     ensures pages { WhereSteady pager.old.state (λ pages. (on : Basis) (ahead : ℕ) → AreStored pages sources.now on
         → HasAhead pages sources.now on running.old ahead → OnOk result (Asks on.local pager.old.state ahead pager.new.state 0)) }
-    ensures only { IfErr result IsOperatorFault }
-    ensures reads { ReadsPages result pager.old.state pager.new.state }
+    ensures reads { ReadsRows result pager.old.state pager.new.state }
 {
     let mut row = Vec::new(alloc);
     let mut rows = Vec::new(alloc);
@@ -58,8 +56,7 @@ pub fn planned_rows<S: Source>(
         (IsRowCause on (planned_data planned))) }
     ensures pages { WhereSteady pager.old.state (λ pages. (on : Basis) → AreStored pages sources.now on
         → OnOk result (Asks on.local pager.old.state (work_of on.w on.db on.sizes (planned_data planned)) pager.new.state 0)) }
-    ensures only { IfErr result IsOperatorFault }
-    ensures reads { ReadsPages result pager.old.state pager.new.state }
+    ensures reads { ReadsRows result pager.old.state pager.new.state }
 {
     let mut running = Running::open(alloc, planned)?;
     rows_of_run(alloc, pager, sources, &mut running)
@@ -79,8 +76,7 @@ pub(crate) fn planned_row<S: Source>(
         (IsRowCause on (planned_data planned))) }
     ensures pages { WhereSteady pager.old.state (λ pages. (on : Basis) → AreStored pages sources.now on
         → OnOk result (Asks on.local pager.old.state (work_of on.w on.db on.sizes (planned_data planned)) pager.new.state 0)) }
-    ensures only { IfErr result IsOperatorFault }
-    ensures reads { ReadsPages result pager.old.state pager.new.state }
+    ensures reads { ReadsRows result pager.old.state pager.new.state }
 {
     let mut running = Running::open(alloc, planned)?;
     let mut first = Vec::new(alloc);

@@ -1,13 +1,12 @@
 //! The rows of a query with queries in it.
-ghost use Rattle.std.specs.Prelude.{[], All, IfErr, MatchResult, OnOk};
+ghost use Rattle.std.specs.Prelude.{[], All, MatchResult, OnOk};
 ghost use Rattle.image.specs.Pages.{WhereSteady};
 ghost use Rattle.inner_rows.specs.Over.{AreSaid, IsQueryCause};
 ghost use Rattle.inner_rows.specs.Runnable.{IsRunnableBody};
 ghost use Rattle.inner_rows.specs.Work.{body_work};
 ghost use Rattle.meaning.specs.Answer.{Permits};
 ghost use Rattle.meaning.specs.Typed.{IsTyped};
-ghost use Rattle.operators.specs.Basis.{Basis, IsOperatorFault};
-ghost use Rattle.pager.specs.Calls.{ReadsPages};
+ghost use Rattle.operators.specs.Basis.{Basis, ReadsRows};
 ghost use Rattle.scan.specs.Coming.{Asks};
 ghost use Rattle.sources.specs.Coming.{IsRooted};
 ghost use Rattle.values.specs.Row.{rows_data};
@@ -37,8 +36,7 @@ pub(crate) fn answer_rows<S: Source>(
     ensures pages { WhereSteady pager.old.state (λ pages. (on : Basis) → AreSaid pages tables.now on
         → IsTyped (column_types tables.now) (query_data query.now) → IsRunnableBody (query_data query.now).body
         → OnOk result (Asks on.local pager.old.state (body_work on.w on.db on.sizes (query_data query.now).body) pager.new.state 0)) }
-    ensures only { IfErr result IsOperatorFault }
-    ensures reads { ReadsPages result pager.old.state pager.new.state }
+    ensures reads { ReadsRows result pager.old.state pager.new.state }
 {
     let KeptPlan { kept, planned } = kept_plan(alloc, pager, tables, query)?;
     let sources = Sources::new(tables, kept.as_slice());

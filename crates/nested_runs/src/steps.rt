@@ -1,5 +1,5 @@
 //! A query with queries in it that is stepped.
-ghost use Rattle.std.specs.Prelude.{◌<◌, [], All, IfErr, IfOk, List, MatchResult, OnOk, OnSome};
+ghost use Rattle.std.specs.Prelude.{◌<◌, [], All, IfOk, List, MatchResult, OnOk, OnSome};
 ghost use Rattle.std.specs.Vec.Iter.{into_iter_len};
 ghost use Rattle.image.specs.Pages.{WhereSteady};
 ghost use Rattle.inner_rows.specs.Over.{AreSaid, IsQueryCause};
@@ -7,8 +7,7 @@ ghost use Rattle.inner_rows.specs.Runnable.{IsRunnableBody};
 ghost use Rattle.meaning.specs.Query.{QueryData};
 ghost use Rattle.meaning.specs.Typed.{IsTyped};
 ghost use Rattle.nested_runs.specs.Steps.{HasGivenOf, HasSteppedRows, TakesFirst, rows_ahead, work_ahead};
-ghost use Rattle.operators.specs.Basis.{Basis, IsOperatorFault};
-ghost use Rattle.pager.specs.Calls.{ReadsPages};
+ghost use Rattle.operators.specs.Basis.{Basis, ReadsRows};
 ghost use Rattle.running.specs.Given.{rows_left};
 ghost use Rattle.scan.specs.Coming.{Asks};
 ghost use Rattle.sources.specs.Coming.{IsRooted};
@@ -63,8 +62,7 @@ impl NestedRun {
             → IsRunnableBody query.body → HasGivenOf pages tables.now query self.old given → (on : Basis) → AreSaid pages tables.now on
             → OnOk result (Asks on.local pager.old.state (work_ahead on query self.old) pager.new.state (work_ahead on query self.new))) }
         ensures left { IfOk result (λ found. OnSome found (rows_ahead self.new < rows_ahead self.old)) }
-        ensures only { IfErr result IsOperatorFault }
-        ensures reads { ReadsPages result pager.old.state pager.new.state }
+        ensures reads { ReadsRows result pager.old.state pager.new.state }
     {
         match self {
             NestedRun::Waiting(query) => {

@@ -17,7 +17,7 @@ use Rattle.plans.specs.Plan.{Hits, PlanData, ReachesOverflow, rows_of}
 use Rattle.plans.specs.PlanView.{plan_data}
 use Rattle.operators.specs.declared.tree.Op.{Op}
 use Rattle.operators.specs.Basis.{Basis}
-use Rattle.operators.specs.Left.{IsLeft}
+use Rattle.operators.specs.Left.{IsLeft, plan_of}
 use Rattle.results.specs.Slices.{sliced}
 use Rattle.results.specs.declared.limits.Slice.{Slice}
 use Rattle.results.specs.declared.stream.Results.{Results}
@@ -51,6 +51,11 @@ answer_of w db selection = limited selection.limit (skipped selection.offset (re
 abbrev pub IsResultCause : Basis → List Term → Fault → Type 0
 IsResultCause on columns fault =
     IsReadFault fault ⊎ ((fault ≡ Overflow) × (Hits on.w on.db on.plan ⊎ Any (ReachesOverflow columns) (rows_of on.w on.db on.plan)))
+
+-- the plan and the result columns stay
+pub record SameSelection (old new : Results) : Type 0 where
+  pub plan : plan_of new.op ≡ plan_of old.op
+  pub columns : map term new.columns.items ≡ map term old.columns.items
 
 -- Of an operator whose row buffer holds this row: these rows are to come, and so many pages may still be asked for. They are
 -- those that LIMIT and OFFSET leave of the result rows of what the operator has to give, which are rows of the plan.

@@ -1,17 +1,16 @@
 //! The rows of a SELECT.
-ghost use Rattle.std.specs.Prelude.{◌≡◌, ◌<◌, ℕ, All, IfErr, IfOk, IsTrue, List, MatchResult, Some, map};
+ghost use Rattle.std.specs.Prelude.{◌≡◌, ◌<◌, ℕ, All, IfOk, IsTrue, List, MatchResult, Some, map};
 ghost use Rattle.values.specs.Datum.{datum_of};
 ghost use Rattle.values.specs.Row.{Row};
-ghost use Rattle.pager.specs.Calls.{ReadsPages};
 ghost use Rattle.sources.specs.Coming.{IsRooted};
 ghost use Rattle.image.specs.Pages.{Pages, WhereSteady};
 ghost use Rattle.sources.specs.SourceData.{SourceData};
 ghost use Rattle.expr.specs.View.{term};
 ghost use Rattle.plans.specs.Plan.{rows_of, work};
 ghost use Rattle.plans.specs.PlanView.{plan_data};
-ghost use Rattle.operators.specs.Basis.{AreStored, Basis, GivesRowOrNone, IsOperatorFault};
+ghost use Rattle.operators.specs.Basis.{AreStored, Basis, GivesRowOrNone, ReadsRows};
 ghost use Rattle.operators.specs.Left.{IsPlanOf, plan_of, steps};
-ghost use Rattle.results.specs.Coming.{IsComing, IsResultCause, answer_of, result_rows, selection_data};
+ghost use Rattle.results.specs.Coming.{IsComing, IsResultCause, SameSelection, answer_of, result_rows, selection_data};
 
 use crate::columns::put_results;
 use crate::limits::Slice;
@@ -100,11 +99,9 @@ impl Results {
             (IsComing pages sources.now on self.new))
             (IsResultCause on (map term self.old.columns.items))) }
         ensures done { self.old.slice.left ≡ Some 0 → pager.new.state ≡ pager.old.state }
-        ensures plan { plan_of self.new.op ≡ plan_of self.old.op }
-        ensures columns { map term self.new.columns.items ≡ map term self.old.columns.items }
+        ensures same { SameSelection self.old self.new }
         ensures left { IfOk result (λ found. IsTrue found → steps sources.now self.new.op < steps sources.now self.old.op) }
-        ensures only { IfErr result IsOperatorFault }
-        ensures reads { ReadsPages result pager.old.state pager.new.state }
+        ensures reads { ReadsRows result pager.old.state pager.new.state }
     {
         'rows: while !self.slice.is_done() {
             if !self.op.next(alloc, pager, sources, &mut self.row)? {

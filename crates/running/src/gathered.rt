@@ -1,12 +1,11 @@
 //! Plans whose rows are all gathered before the first is given.
-ghost use Rattle.std.specs.Prelude.{◌<◌, All, IfErr, IsTrue, MatchResult, OnOk, map};
+ghost use Rattle.std.specs.Prelude.{◌<◌, All, IsTrue, MatchResult, OnOk, map};
 ghost use Rattle.std.specs.Vec.Iter.{into_iter_len};
 ghost use Rattle.values.specs.Datum.{datum_of};
-ghost use Rattle.pager.specs.Calls.{ReadsPages};
 ghost use Rattle.sources.specs.Coming.{IsRooted};
 ghost use Rattle.image.specs.Pages.{WhereSteady};
 ghost use Rattle.scan.specs.Coming.{Asks};
-ghost use Rattle.operators.specs.Basis.{AreStored, Basis, IsOperatorFault};
+ghost use Rattle.operators.specs.Basis.{AreStored, Basis, ReadsRows};
 ghost use Rattle.query_plans.specs.Answers.{IsAnswerOf, IsPlannedOver, work_of};
 ghost use Rattle.running.specs.Given.{GivesFirst, IsRowCause, rows_left};
 ghost use Rattle.values.specs.Row.{rows_data};
@@ -46,8 +45,7 @@ pub(crate) fn gathered_rows<S: Source>(
         (IsRowCause on (gathered_data gathered.now))) }
     ensures pages { WhereSteady pager.old.state (λ pages. (on : Basis) → AreStored pages sources.now on
         → OnOk result (Asks on.local pager.old.state (work_of on.w on.db on.sizes (gathered_data gathered.now)) pager.new.state 0)) }
-    ensures only { IfErr result IsOperatorFault }
-    ensures reads { ReadsPages result pager.old.state pager.new.state }
+    ensures reads { ReadsRows result pager.old.state pager.new.state }
 {
     match gathered {
         Gathered::Sorted(selection) => sorted_rows(alloc, pager, sources, selection),

@@ -1,13 +1,12 @@
 //! A plan that is run.
-ghost use Rattle.std.specs.Prelude.{◌<◌, ℕ, All, IfErr, IfOk, IsTrue, List, MatchResult, map};
+ghost use Rattle.std.specs.Prelude.{◌<◌, ℕ, All, IfOk, IsTrue, List, MatchResult, map};
 ghost use Rattle.values.specs.Datum.{datum_of};
 ghost use Rattle.values.specs.Row.{Row};
-ghost use Rattle.pager.specs.Calls.{ReadsPages};
 ghost use Rattle.sources.specs.Coming.{IsRooted};
 ghost use Rattle.image.specs.Pages.{WhereSteady};
 ghost use Rattle.compound_results.specs.Chains.{IsUnionChain};
 ghost use Rattle.compound_results.specs.Compounds.{compound_data};
-ghost use Rattle.operators.specs.Basis.{AreStored, Basis, IsOperatorFault};
+ghost use Rattle.operators.specs.Basis.{AreStored, Basis, ReadsRows};
 ghost use Rattle.query_plans.specs.Answers.{PlannedData, planned_data};
 ghost use Rattle.results.specs.Coming.{selection_data};
 ghost use Rattle.running.specs.GatheredView.{gathered_data};
@@ -126,8 +125,7 @@ impl Running {
             → HasAhead pages sources.now on self.old ahead → IfOk result (HasAsked pages sources.now on pager.old.state ahead pager.new.state self.new)) }
         ensures over { IsRunOver sources.now self.new }
         ensures left { IfOk result (λ found. IsTrue found → steps_left sources.now self.new < steps_left sources.now self.old) }
-        ensures only { IfErr result IsOperatorFault }
-        ensures reads { ReadsPages result pager.old.state pager.new.state }
+        ensures reads { ReadsRows result pager.old.state pager.new.state }
     {
         match self {
             Running::Rows(results) => results.next(alloc, pager, sources, row),

@@ -1,9 +1,8 @@
 //! Statements that are stepped, a row at a time.
-ghost use Rattle.std.specs.Prelude.{◌<◌, ℕ, [], All, IfErr, IfOk, List, OnSome};
+ghost use Rattle.std.specs.Prelude.{◌<◌, ℕ, [], All, IfOk, List, OnSome};
 ghost use Rattle.values.specs.Row.{Row as RowData};
-ghost use Rattle.pager.specs.Calls.{ReadsPages};
 ghost use Rattle.image.specs.Pages.{WhereSteady};
-ghost use Rattle.operators.specs.Basis.{AreStored, Basis, IsOperatorFault};
+ghost use Rattle.operators.specs.Basis.{AreStored, Basis, ReadsRows};
 ghost use Rattle.query_plans.specs.Answers.{PlannedData};
 ghost use Rattle.running.specs.Given.{HasAhead, HasGiven, IsRunOver, steps_left};
 ghost use Rattle.sources.specs.Coming.{IsRooted};
@@ -60,8 +59,7 @@ fn next_planned<S: Source>(
         → PlanAsks pages (sources_of tables.now []) on pager.old.state ahead pager.new.state running.new result) }
     ensures over { IsRunOver (sources_of tables.now []) running.new }
     ensures left { IfOk result (λ found. OnSome found (steps_left (sources_of tables.now []) running.new < steps_left (sources_of tables.now []) running.old)) }
-    ensures only { IfErr result IsOperatorFault }
-    ensures reads { ReadsPages result pager.old.state pager.new.state }
+    ensures reads { ReadsRows result pager.old.state pager.new.state }
 {
     let mut values = Vec::new(alloc);
     let sources = Sources::new(tables, &[]);
@@ -87,8 +85,7 @@ impl Stepping {
         ensures pages { AsksStep pager.old.state tables.now self.old pager.new.state self.new result }
         ensures over { IsSteppingOver (sources_of tables.now []) self.new }
         ensures left { IfOk result (λ found. OnSome found (steps_ahead (sources_of tables.now []) self.new < steps_ahead (sources_of tables.now []) self.old)) }
-        ensures only { IfErr result IsOperatorFault }
-        ensures reads { ReadsPages result pager.old.state pager.new.state }
+        ensures reads { ReadsRows result pager.old.state pager.new.state }
     {
         match self {
             Stepping::Planned(running) => next_planned(alloc, pager, tables, running),

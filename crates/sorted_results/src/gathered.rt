@@ -1,7 +1,6 @@
 //! The rows of a SELECT, gathered and put in order.
-ghost use Rattle.std.specs.Prelude.{◌≡◌, ◌++◌, All, IfErr, IfOk, MatchResult, map, take};
+ghost use Rattle.std.specs.Prelude.{◌≡◌, ◌++◌, All, IfOk, MatchResult, map, take};
 ghost use Rattle.values.specs.Datum.{datum_of};
-ghost use Rattle.pager.specs.Calls.{ReadsPages};
 ghost use Rattle.sources.specs.Coming.{IsRooted};
 ghost use Rattle.image.specs.Pages.{WhereSteady};
 ghost use Rattle.expr.specs.View.{term};
@@ -9,7 +8,7 @@ ghost use Rattle.meaning.specs.Hits.{order_terms};
 ghost use Rattle.plans.specs.Plan.{work};
 ghost use Rattle.plans.specs.PlanView.{plan_data};
 ghost use Rattle.scan.specs.Coming.{Asks};
-ghost use Rattle.operators.specs.Basis.{AreStored, Basis, IsOperatorFault};
+ghost use Rattle.operators.specs.Basis.{AreStored, Basis, ReadsRows};
 ghost use Rattle.operators.specs.Left.{IsPlanOf};
 ghost use Rattle.results.specs.Coming.{IsResultCause};
 ghost use Rattle.values.specs.Row.{rows_data};
@@ -74,8 +73,7 @@ pub fn sorted_rows<S: Source>(
         (λ rows. IsSortedAnswer on.w on.db (sorted_data selection.now) (map (λ row. map datum_of row.items) rows.items)
         × Asks on.local pager.old.state (work on.w on.db on.sizes on.plan) pager.new.state 0)
         (IsResultCause on (map term selection.now.columns.items ++ order_terms (map key_data selection.now.order.items)))) }
-    ensures only { IfErr result IsOperatorFault }
-    ensures reads { ReadsPages result pager.old.state pager.new.state }
+    ensures reads { ReadsRows result pager.old.state pager.new.state }
 {
     // A row has the values of ORDER BY that aren't its result columns behind these, so that it is one piece of memory.
     let columns = selection.columns.as_slice();

@@ -34,8 +34,8 @@ pub rows-preserved : goal.rows-preserved
 rows-preserved g c = record {
   image = SameImage-trans _ _ _ c.rows.invariant.image c.next.ensures.reads.image;
   failures = c.in_ok-next.ensures.reads.failures ∙ c.rows.invariant.failures;
-  plan = c.in_ok-next.ensures.plan ∙ c.rows.invariant.plan;
-  columns = c.in_ok-next.ensures.columns ∙ c.rows.invariant.columns;
+  plan = c.in_ok-next.ensures.same.plan ∙ c.rows.invariant.plan;
+  columns = c.in_ok-next.ensures.same.columns ∙ c.rows.invariant.columns;
   rows = λ steady on rest ahead has coming.
       gathered_more IsComing _ c.rows.pager.state c.rows.invariant.image c.args.sources.now c.args.results c.rows.results _
       c.rows.invariant.rows steady on rest ahead has coming c.next.new.self (map datum_of c.next.new.out.items) c.next.new.pager.state

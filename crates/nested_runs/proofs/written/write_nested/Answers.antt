@@ -20,12 +20,12 @@ returns-in_err-run-clause-rows g c = λ steady typed runs all.
     let p = err_from_is_err_and c.from_residual.result c.from_residual.ensures.1 in
     rw (p.1, p.2)
     (stopped_before (pages_seen c.args.pager.now.state) c.args.tables.now (query_data c.args.query.now) (g.W.Sink.facts c.args.out.now) c.in_err-run.field-0.0
-    c.in_err-run.ensures.only (λ on said. c.in_err-run.ensures.plan steady on said typed runs))
+    c.in_err-run.ensures.reads.only (λ on said. c.in_err-run.ensures.plan steady on said typed runs))
 
 pub returns-in_err-run-clause-only : goal.returns-in_err-run-clause-only
 returns-in_err-run-clause-only g c =
     let p = err_from_is_err_and c.from_residual.result c.from_residual.ensures.1 in
-    rw (p.1, p.2) (operator_fault _ c.in_err-run.ensures.only)
+    rw (p.1, p.2) (operator_fault _ c.in_err-run.ensures.reads.only)
 
 pub write_answer-requires-clause-roots : goal.write_answer-requires-clause-roots
 write_answer-requires-clause-roots g c =

@@ -20,12 +20,12 @@ rows-init g c =
 pub returns-in_err-next-clause-rows : goal.returns-in_err-next-clause-rows
 returns-in_err-next-clause-rows g c = λ steady.
     let p = err_from_is_err_and c.from_residual-in_err-next.result c.from_residual-in_err-next.ensures.1 in
-    rw (p.1, p.2) (Chaining-stopped _ _ _ _ _ _ _ _ c.rows.invariant steady _ c.in_err-next.ensures.only c.in_err-next.ensures.rows)
+    rw (p.1, p.2) (Chaining-stopped _ _ _ _ _ _ _ _ c.rows.invariant steady _ c.in_err-next.ensures.reads.only c.in_err-next.ensures.rows)
 
 pub returns-in_err-next-clause-only : goal.returns-in_err-next-clause-only
 returns-in_err-next-clause-only g c =
     let p = err_from_is_err_and c.from_residual-in_err-next.result c.from_residual-in_err-next.ensures.1 in
-    rw (p.1, p.2) (operator_fault _ c.in_err-next.ensures.only)
+    rw (p.1, p.2) (operator_fault _ c.in_err-next.ensures.reads.only)
 
 pub returns-in_err-values_text-clause-rows : goal.returns-in_err-values_text-clause-rows
 returns-in_err-values_text-clause-rows g c = λ steady.

@@ -24,12 +24,12 @@ next-requires-clause-planned g c = subst (λ (p : PlanData). IsPlanOf c.args.sou
 pub returns-in_err-next-clause-rows : goal.returns-in_err-next-clause-rows
 returns-in_err-next-clause-rows g c = λ steady.
     let p = err_from_is_err_and c.from_residual-in_err-next.result c.from_residual-in_err-next.ensures.1 in
-    rw (p.1, p.2) (Giving-stopped false _ _ _ _ _ _ _ _ c.rows.invariant steady _ c.in_err-next.ensures.only c.in_err-next.ensures.rows)
+    rw (p.1, p.2) (Giving-stopped false _ _ _ _ _ _ _ _ c.rows.invariant steady _ c.in_err-next.ensures.reads.only c.in_err-next.ensures.rows)
 
 pub returns-in_err-next-clause-only : goal.returns-in_err-next-clause-only
 returns-in_err-next-clause-only g c =
     let p = err_from_is_err_and c.from_residual-in_err-next.result c.from_residual-in_err-next.ensures.1 in
-    rw (p.1, p.2) (operator_fault _ c.in_err-next.ensures.only)
+    rw (p.1, p.2) (operator_fault _ c.in_err-next.ensures.reads.only)
 
 pub returns-in_err-values_text-clause-rows : goal.returns-in_err-values_text-clause-rows
 returns-in_err-values_text-clause-rows g c = λ steady.
@@ -43,7 +43,7 @@ pub rows-preserved : goal.rows-preserved
 rows-preserved g c =
     Giving-next false _ _ _ _ _ _ _ _ c.rows.invariant c.next.new.self (map datum_of c.next.new.out.items) c.next.new.pager.state _ _
     (rw c.if-branch.true at c.in_ok-next.ensures.rows) c.next.ensures.reads.image c.in_ok-next.ensures.reads.failures
-    c.in_ok-next.ensures.plan c.in_ok-next.ensures.columns
+    c.in_ok-next.ensures.same.plan c.in_ok-next.ensures.same.columns
     (rw c.as_slice.ensures.value at c.in_ok-values_text.ensures.writes) c.saturating_add-count.ensures
 
 pub returns-clause-rows : goal.returns-clause-rows

@@ -10,13 +10,13 @@ pub returns-in_err-rows-clause-rows : goal.returns-in_err-rows-clause-rows
 returns-in_err-rows-clause-rows g c = λ steady.
     let p = err_from_is_err_and c.from_residual.result c.from_residual.ensures.1 in
     rw (p.1, p.2)
-    (sorted_stopped false c.args.pager.now.state c.sorted_rows.new.pager.state c.args.sources.now (sorted_data c.args.selection.now) steady _ _ c.in_err-rows.ensures.only
+    (sorted_stopped false c.args.pager.now.state c.sorted_rows.new.pager.state c.args.sources.now (sorted_data c.args.selection.now) steady _ _ c.in_err-rows.ensures.reads.only
     c.in_err-rows.ensures.rows)
 
 pub returns-in_err-rows-clause-only : goal.returns-in_err-rows-clause-only
 returns-in_err-rows-clause-only g c =
     let p = err_from_is_err_and c.from_residual.result c.from_residual.ensures.1 in
-    rw (p.1, p.2) (operator_fault _ c.in_err-rows.ensures.only)
+    rw (p.1, p.2) (operator_fault _ c.in_err-rows.ensures.reads.only)
 
 pub returns-in_err-write_lines-clause-rows : goal.returns-in_err-write_lines-clause-rows
 returns-in_err-write_lines-clause-rows g c = λ steady.

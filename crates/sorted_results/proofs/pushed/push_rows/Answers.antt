@@ -35,8 +35,8 @@ pub rows-preserved : goal.rows-preserved
 rows-preserved g c = record {
   image = SameImage-trans _ _ _ c.rows.invariant.image c.next.ensures.reads.image;
   failures = c.in_ok-next.ensures.reads.failures ∙ c.rows.invariant.failures;
-  plan = c.in_ok-next.ensures.plan ∙ c.rows.invariant.plan;
-  columns = c.in_ok-next.ensures.columns ∙ c.rows.invariant.columns;
+  plan = c.in_ok-next.ensures.same.plan ∙ c.rows.invariant.plan;
+  columns = c.in_ok-next.ensures.same.columns ∙ c.rows.invariant.columns;
   most = c.push.ensures.most ∙ c.rows.invariant.most;
   few = λ few. c.in_ok-row.ensures.few (c.rows.invariant.few few);
   rows = λ steady on rest ahead has coming.

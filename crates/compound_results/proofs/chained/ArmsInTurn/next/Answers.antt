@@ -15,7 +15,7 @@ next-requires-clause-planned g c = planned_first c.args.sources.now (one (arm_of
 
 pub returns-in_err-next-clause-hits : goal.returns-in_err-next-clause-hits
 returns-in_err-next-clause-hits g c = λ w db hits.
-    let same = arms_kept c.arms.self (record { at_hand = c.next.new.self; behind = c.arms.self.behind }) c.next.ensures.plan c.next.ensures.columns refl in
+    let same = arms_kept c.arms.self (record { at_hand = c.next.new.self; behind = c.arms.self.behind }) c.next.ensures.same.plan c.next.ensures.same.columns refl in
     c.arms.invariant.hits w db (subst (ArmsHit w db) same hits)
 
 pub returns-in_err-next-clause-rows : goal.returns-in_err-next-clause-rows
@@ -36,8 +36,8 @@ pub returns-then-not-begin_next-clause-hits : goal.returns-then-not-begin_next-c
 returns-then-not-begin_next-clause-hits g c = λ w db hits.
     let none = c.begin_next.ensures.none c.if-not-begin_next.true in
     let same =
-    arms_kept c.arms.self c.begin_next.new.self (ap (λ (results : Results). plan_of results.op) none.2 ∙ c.next.ensures.plan)
-    (ap (λ (results : Results). map term results.columns.items) none.2 ∙ c.next.ensures.columns) (none.1 ∙ sym none.0) in
+    arms_kept c.arms.self c.begin_next.new.self (ap (λ (results : Results). plan_of results.op) none.2 ∙ c.next.ensures.same.plan)
+    (ap (λ (results : Results). map term results.columns.items) none.2 ∙ c.next.ensures.same.columns) (none.1 ∙ sym none.0) in
     c.arms.invariant.hits w db (subst (ArmsHit w db) same hits)
 
 pub arms-preserved : goal.arms-preserved
@@ -69,9 +69,9 @@ pub returns-clause-rows : goal.returns-clause-rows
 returns-clause-rows g c = λ steady on rest ahead has coming.
     arm_gives _ c.arms.pager.state c.arms.invariant.image c.args.sources.now c.args.self.now c.arms.self.at_hand c.arms.self.behind.items
     c.arms.invariant.rows steady on rest ahead has coming c.next.new.self (map datum_of c.next.new.out.items) c.next.new.pager.state
-    c.in_ok-next.ensures.plan (rw c.if-not-branch.false at c.in_ok-next.ensures.rows)
+    c.in_ok-next.ensures.same.plan (rw c.if-not-branch.false at c.in_ok-next.ensures.rows)
 
 pub returns-clause-hits : goal.returns-clause-hits
 returns-clause-hits g c = λ w db hits.
-    let same = arms_kept c.arms.self (record { at_hand = c.next.new.self; behind = c.arms.self.behind }) c.next.ensures.plan c.next.ensures.columns refl in
+    let same = arms_kept c.arms.self (record { at_hand = c.next.new.self; behind = c.arms.self.behind }) c.next.ensures.same.plan c.next.ensures.same.columns refl in
     c.arms.invariant.hits w db (subst (ArmsHit w db) same hits)

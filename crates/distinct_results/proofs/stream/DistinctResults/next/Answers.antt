@@ -36,8 +36,8 @@ pub rows-preserved : goal.rows-preserved
 rows-preserved g c = record {
   image = SameImage-trans _ _ _ c.rows.invariant.image c.next.ensures.reads.image;
   failures = c.in_ok-next.ensures.reads.failures ∙ c.rows.invariant.failures;
-  plan = c.in_ok-next.ensures.plan ∙ c.rows.invariant.plan;
-  columns = c.in_ok-next.ensures.columns ∙ c.rows.invariant.columns;
+  plan = c.in_ok-next.ensures.same.plan ∙ c.rows.invariant.plan;
+  columns = c.in_ok-next.ensures.same.columns ∙ c.rows.invariant.columns;
   steps =
       let less = c.in_ok-next.ensures.left c.if-not-branch.false in
       let low = c.rows.invariant.steps in

@@ -10,14 +10,14 @@ use Rattle.running.proofs.rows.Running.next.Goals as goal
 
 pub returns-in-Rows-clause-rows : goal.returns-in-Rows-clause-rows
 returns-in-Rows-clause-rows g c = λ steady planned given has.
-    rows_step c.args.pager.now.state c.next.new.pager.state c.args.sources.now (map datum_of c.next.new.out.items) c.in-Rows.results c.next.new.self c.next.ensures.plan
-    c.next.ensures.columns c.next.result c.next.ensures.rows steady planned given
+    rows_step c.args.pager.now.state c.next.new.pager.state c.args.sources.now (map datum_of c.next.new.out.items) c.in-Rows.results c.next.new.self c.next.ensures.same.plan
+    c.next.ensures.same.columns c.next.result c.next.ensures.rows steady planned given
     (subst (λ (r : Running). HasGiven (pages_seen c.args.pager.now.state) c.args.sources.now planned r given) c.in-Rows.is has)
 
 pub returns-in-Distinct-clause-rows : goal.returns-in-Distinct-clause-rows
 returns-in-Distinct-clause-rows g c = λ steady planned given has.
     distinct_step c.args.pager.now.state c.next-in-Distinct.new.pager.state c.args.sources.now (map datum_of c.next-in-Distinct.new.out.items) c.in-Distinct.distinct
-    c.next-in-Distinct.new.self c.next-in-Distinct.ensures.plan c.next-in-Distinct.ensures.columns c.next-in-Distinct.result c.next-in-Distinct.ensures.rows steady planned given
+    c.next-in-Distinct.new.self c.next-in-Distinct.ensures.same.plan c.next-in-Distinct.ensures.same.columns c.next-in-Distinct.result c.next-in-Distinct.ensures.rows steady planned given
     (subst (λ (r : Running). HasGiven (pages_seen c.args.pager.now.state) c.args.sources.now planned r given) c.in-Distinct.is has)
 
 pub returns-in-Chained-clause-rows : goal.returns-in-Chained-clause-rows
@@ -49,14 +49,14 @@ returns-in_ok-rows-in-Waiting-clause-rows g c = λ steady planned given has.
 
 pub returns-in-Rows-clause-pages : goal.returns-in-Rows-clause-pages
 returns-in-Rows-clause-pages g c = λ steady on ahead has all.
-    rows_ask c.args.pager.now.state c.next.new.pager.state c.args.sources.now (map datum_of c.next.new.out.items) c.in-Rows.results c.next.new.self c.next.ensures.plan
+    rows_ask c.args.pager.now.state c.next.new.pager.state c.args.sources.now (map datum_of c.next.new.out.items) c.in-Rows.results c.next.new.self c.next.ensures.same.plan
     c.next.result c.next.ensures.rows steady on ahead has
     (subst (λ (r : Running). HasAhead (pages_seen c.args.pager.now.state) c.args.sources.now on r ahead) c.in-Rows.is all)
 
 pub returns-in-Distinct-clause-pages : goal.returns-in-Distinct-clause-pages
 returns-in-Distinct-clause-pages g c = λ steady on ahead has all.
     distinct_ask c.args.pager.now.state c.next-in-Distinct.new.pager.state c.args.sources.now (map datum_of c.next-in-Distinct.new.out.items) c.in-Distinct.distinct
-    c.next-in-Distinct.new.self c.next-in-Distinct.ensures.plan c.next-in-Distinct.result c.next-in-Distinct.ensures.rows steady on ahead has
+    c.next-in-Distinct.new.self c.next-in-Distinct.ensures.same.plan c.next-in-Distinct.result c.next-in-Distinct.ensures.rows steady on ahead has
     (subst (λ (r : Running). HasAhead (pages_seen c.args.pager.now.state) c.args.sources.now on r ahead) c.in-Distinct.is all)
 
 pub returns-in-Chained-clause-pages : goal.returns-in-Chained-clause-pages
