@@ -1,8 +1,9 @@
 -- The rows that SELECTs still have to give, one SELECT after the other. (SELECT, "Compound Select Statements")
-use Rattle.std.specs.Prelude.{◌≡◌, ◌+◌, All, false, ℕ, List, [], ◌∷◌, ◌++◌, map, sum_by}
+use Rattle.std.specs.Prelude.{◌≡◌, ◌<◌, ◌+◌, All, Bool, false, IfOk, IsTrue, ℕ, List, [], ◌∷◌, ◌++◌, map, Result, sum_by}
 use Rattle.values.specs.Database.{Database}
 use Rattle.values.specs.Datum.{Datum}
 use Rattle.values.specs.Row.{Row}
+use Rattle.values.specs.declared.fault.Fault.{Fault}
 use Rattle.image.specs.Pages.{Pages}
 use Rattle.sources.specs.SourceData.{SourceData}
 use Rattle.expr.specs.View.{term}
@@ -14,7 +15,7 @@ use Rattle.results.specs.Coming.{IsComing}
 use Rattle.results.specs.Slices.{sliced}
 use Rattle.results.specs.declared.limits.Slice.{Slice}
 use Rattle.results.specs.declared.stream.Results.{Results}
-use Rattle.compound_results.specs.Arms.{ArmData, ArmsData, arm_rows, joined, one}
+use Rattle.compound_results.specs.Arms.{ArePlannedOver, ArmData, ArmsData, ArmsHit, arm_rows, joined, one}
 use Rattle.compound_results.specs.declared.chained.ArmsInTurn.{ArmsInTurn}
 use Rattle.compound_results.specs.declared.chained.ChainedResults.{ChainedResults}
 
@@ -81,3 +82,10 @@ pub record IsChainComingOf (pages : Pages) (sources : List SourceData) (on : Bas
 
 abbrev pub IsChainComing : Pages → List SourceData → Basis → ChainedResults → List Row → ℕ → Type 0
 IsChainComing pages sources on chained rest ahead = IsChainComingOf pages sources on chained.arms chained.slice rest ahead
+
+-- What a call that gives a row leaves of arms: they read sources that there are, reach nothing that those before the call don't
+-- reach, and behind a row there are fewer steps to come.
+pub record LeavesArms (sources : List SourceData) (result : Result Bool Fault) (old new : ArmsInTurn) : Type 0 where
+  pub over : ArePlannedOver sources (arms_of new)
+  pub hits : (w : Datum) (db : Database) → ArmsHit w db (arms_of new) → ArmsHit w db (arms_of old)
+  pub steps : IfOk result (λ found. IsTrue found → turn_steps sources new < turn_steps sources old)

@@ -1,6 +1,5 @@
 //! The rows of SELECTs that UNION ALL joins, one SELECT after the other.
-ghost use Rattle.std.specs.Prelude.{◌≡◌, ◌<◌, ◌∷◌, ◌++◌, ◌↔◌, [], ℕ, All, false, IfOk, IsFalse, IsTrue, List, MatchResult, Some, map};
-ghost use Rattle.values.specs.Database.{Database};
+ghost use Rattle.std.specs.Prelude.{◌≡◌, ◌∷◌, ◌++◌, ◌↔◌, [], ℕ, All, false, IfOk, IsFalse, IsTrue, List, MatchResult, Some, map};
 ghost use Rattle.values.specs.Datum.{Datum, datum_of};
 ghost use Rattle.sources.specs.Coming.{IsRooted};
 ghost use Rattle.image.specs.Pages.{Pages, WhereSteady};
@@ -8,10 +7,10 @@ ghost use Rattle.sources.specs.SourceData.{SourceData};
 ghost use Rattle.meaning.specs.Query.{union_all};
 ghost use Rattle.naming.specs.Statement.{operator_of};
 ghost use Rattle.operators.specs.Basis.{AreStored, Basis, GivesRowOrNone, ReadsRows};
-ghost use Rattle.compound_results.specs.Arms.{ArePlannedOver, ArmsHit, arm_data, arms_data, work_of_arms};
+ghost use Rattle.compound_results.specs.Arms.{ArePlannedOver, arm_data, arms_data, work_of_arms};
 ghost use Rattle.compound_results.specs.Chains.{AreAll, IsUnionChain, chain_answer};
 ghost use Rattle.compound_results.specs.Compounds.{IsArmsCause, compound_data};
-ghost use Rattle.compound_results.specs.InTurn.{AreComing, AreWaiting, IsChainComing, IsWaiting, arm_of, arms_from, arms_of, turn_steps};
+ghost use Rattle.compound_results.specs.InTurn.{AreComing, AreWaiting, IsChainComing, IsWaiting, LeavesArms, arm_of, arms_from, arms_of};
 
 use crate::arms::{Arm, Arms};
 use crate::compound::Compound;
@@ -129,9 +128,7 @@ impl ArmsInTurn {
             → MatchResult result
             (λ found. GivesRowOrNone found on.local pager.old.state ahead pager.new.state rest (map datum_of out.new.items) (AreComing pages sources.now on self.new))
             (IsArmsCause on (arms_of self.old))) }
-        ensures over { ArePlannedOver sources.now (arms_of self.new) }
-        ensures hits { (w : Datum) (db : Database) → ArmsHit w db (arms_of self.new) → ArmsHit w db (arms_of self.old) }
-        ensures left { IfOk result (λ found. IsTrue found → turn_steps sources.now self.new < turn_steps sources.now self.old) }
+        ensures left { LeavesArms sources.now result self.old self.new }
         ensures reads { ReadsRows result pager.old.state pager.new.state }
     {
         'arms: while !self.at_hand.next(alloc, pager, sources, out)? {
@@ -182,9 +179,7 @@ impl ChainedResults {
             (λ found. GivesRowOrNone found on.local pager.old.state ahead pager.new.state rest (map datum_of out.new.items) (IsChainComing pages sources.now on self.new))
             (IsArmsCause on (arms_of self.old.arms))) }
         ensures done { self.old.slice.left ≡ Some 0 → pager.new.state ≡ pager.old.state }
-        ensures over { ArePlannedOver sources.now (arms_of self.new.arms) }
-        ensures hits { (w : Datum) (db : Database) → ArmsHit w db (arms_of self.new.arms) → ArmsHit w db (arms_of self.old.arms) }
-        ensures left { IfOk result (λ found. IsTrue found → turn_steps sources.now self.new.arms < turn_steps sources.now self.old.arms) }
+        ensures left { LeavesArms sources.now result self.old.arms self.new.arms }
         ensures reads { ReadsRows result pager.old.state pager.new.state }
     {
         'rows: while !self.slice.is_done() {

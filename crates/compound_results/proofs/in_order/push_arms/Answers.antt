@@ -36,8 +36,8 @@ pub rows-preserved : goal.rows-preserved
 rows-preserved g c = record {
   image = SameImage-trans _ _ _ c.rows.invariant.image c.next.ensures.reads.image;
   failures = c.in_ok-next.ensures.reads.failures ∙ c.rows.invariant.failures;
-  over = c.next.ensures.over;
-  hits = λ w db hits. c.rows.invariant.hits w db (c.next.ensures.hits w db hits);
+  over = c.next.ensures.left.over;
+  hits = λ w db hits. c.rows.invariant.hits w db (c.next.ensures.left.hits w db hits);
   most = c.push.ensures.most ∙ c.rows.invariant.most;
   few = λ few. c.in_ok-row.ensures.few (c.rows.invariant.few few);
   rows = λ steady on rest ahead has coming.

@@ -39,7 +39,7 @@ pub rows-preserved : goal.rows-preserved
 rows-preserved g c =
     Chaining-next _ _ _ _ _ _ _ _ c.rows.invariant c.next.new.self (map datum_of c.next.new.out.items) c.next.new.pager.state _ _
     (rw c.if-branch.true at c.in_ok-next.ensures.rows) c.next.ensures.reads.image c.in_ok-next.ensures.reads.failures
-    c.next.ensures.over c.next.ensures.hits
+    c.next.ensures.left.over c.next.ensures.left.hits
     (rw c.as_slice.ensures.value at c.in_ok-values_text.ensures.writes) c.saturating_add-count.ensures
 
 pub returns-clause-rows : goal.returns-clause-rows

@@ -1,4 +1,4 @@
-use Rattle.std.proofs.Common.{◌∙◌, map, refl, sym, ap, subst, arith}
+use Rattle.std.proofs.Common.{rules, ◌∙◌, map, refl, sym, ap, subst, arith}
 use Rattle.std.proofs.lemmas.Result.{err_from_is_err_and}
 use Rattle.values.specs.Datum.{datum_of}
 use Rattle.pager.proofs.CallLemmas.{SameImage-trans}
@@ -13,10 +13,14 @@ use Rattle.compound_results.proofs.chained.ArmsInTurn.next.Goals as goal
 pub next-requires-clause-planned : goal.next-requires-clause-planned
 next-requires-clause-planned g c = planned_first c.args.sources.now (one (arm_of c.arms.self.at_hand)) c.arms.self.behind.items c.arms.invariant.over
 
-pub returns-in_err-next-clause-hits : goal.returns-in_err-next-clause-hits
-returns-in_err-next-clause-hits g c = λ w db hits.
+pub returns-in_err-next-clause-left : goal.returns-in_err-next-clause-left
+returns-in_err-next-clause-left g c =
     let same = arms_kept c.arms.self (record { at_hand = c.next.new.self; behind = c.arms.self.behind }) c.next.ensures.same.plan c.next.ensures.same.columns refl in
-    c.arms.invariant.hits w db (subst (ArmsHit w db) same hits)
+    record {
+      over = subst (ArePlannedOver c.args.sources.now) (sym same) c.arms.invariant.over;
+      hits = λ w db hits. c.arms.invariant.hits w db (subst (ArmsHit w db) same hits);
+      steps = search rules;
+    }
 
 pub returns-in_err-next-clause-rows : goal.returns-in_err-next-clause-rows
 returns-in_err-next-clause-rows g c = λ steady on rest ahead has coming.
@@ -32,13 +36,17 @@ returns-then-not-begin_next-clause-rows g c = λ steady on rest ahead has coming
     c.arms.invariant.rows steady on rest ahead has coming c.next.new.self (map datum_of c.next.new.out.items) c.next.new.pager.state
     (rw c.if-not-branch.true at c.in_ok-next.ensures.rows) (c.begin_next.ensures.none c.if-not-begin_next.true).0
 
-pub returns-then-not-begin_next-clause-hits : goal.returns-then-not-begin_next-clause-hits
-returns-then-not-begin_next-clause-hits g c = λ w db hits.
+pub returns-then-not-begin_next-clause-left : goal.returns-then-not-begin_next-clause-left
+returns-then-not-begin_next-clause-left g c =
     let none = c.begin_next.ensures.none c.if-not-begin_next.true in
     let same =
     arms_kept c.arms.self c.begin_next.new.self (ap (λ (results : Results). plan_of results.op) none.2 ∙ c.next.ensures.same.plan)
     (ap (λ (results : Results). map term results.columns.items) none.2 ∙ c.next.ensures.same.columns) (none.1 ∙ sym none.0) in
-    c.arms.invariant.hits w db (subst (ArmsHit w db) same hits)
+    record {
+      over = subst (ArePlannedOver c.args.sources.now) (sym same) c.arms.invariant.over;
+      hits = λ w db hits. c.arms.invariant.hits w db (subst (ArmsHit w db) same hits);
+      steps = search rules;
+    }
 
 pub arms-preserved : goal.arms-preserved
 arms-preserved g c =
@@ -71,7 +79,14 @@ returns-clause-rows g c = λ steady on rest ahead has coming.
     c.arms.invariant.rows steady on rest ahead has coming c.next.new.self (map datum_of c.next.new.out.items) c.next.new.pager.state
     c.in_ok-next.ensures.same.plan (rw c.if-not-branch.false at c.in_ok-next.ensures.rows)
 
-pub returns-clause-hits : goal.returns-clause-hits
-returns-clause-hits g c = λ w db hits.
+pub returns-clause-left : goal.returns-clause-left
+returns-clause-left g c =
     let same = arms_kept c.arms.self (record { at_hand = c.next.new.self; behind = c.arms.self.behind }) c.next.ensures.same.plan c.next.ensures.same.columns refl in
-    c.arms.invariant.hits w db (subst (ArmsHit w db) same hits)
+    record {
+      over = subst (ArePlannedOver c.args.sources.now) (sym same) c.arms.invariant.over;
+      hits = λ w db hits. c.arms.invariant.hits w db (subst (ArmsHit w db) same hits);
+      steps = λ found.
+          let less = c.in_ok-next.ensures.left c.if-not-branch.false in
+          let low = c.arms.invariant.steps in
+          omega (arith, less, low);
+    }

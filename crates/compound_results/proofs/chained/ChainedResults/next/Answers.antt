@@ -1,4 +1,4 @@
-use Rattle.std.proofs.Common.{◌∙◌, map, ap, arith}
+use Rattle.std.proofs.Common.{rules, ◌∙◌, map, ap, arith}
 use Rattle.std.proofs.lemmas.Result.{err_from_is_err_and}
 use Rattle.values.specs.Datum.{datum_of}
 use Rattle.pager.proofs.CallLemmas.{SameImage-trans}
@@ -9,8 +9,12 @@ use Rattle.compound_results.proofs.ChainLemmas.{cause_before}
 use Rattle.compound_results.proofs.SlicedLemmas.{arms_say, none_left, row_given, row_passed, slice_ended}
 use Rattle.compound_results.proofs.chained.ChainedResults.next.Goals as goal
 
-pub returns-in_err-next-clause-hits : goal.returns-in_err-next-clause-hits
-returns-in_err-next-clause-hits g c = λ w db hits. c.rows.invariant.hits w db (c.next.ensures.hits w db hits)
+pub returns-in_err-next-clause-left : goal.returns-in_err-next-clause-left
+returns-in_err-next-clause-left g c = record {
+  over = c.next.ensures.left.over;
+  hits = λ w db hits. c.rows.invariant.hits w db (c.next.ensures.left.hits w db hits);
+  steps = search rules;
+}
 
 pub returns-in_err-next-clause-rows : goal.returns-in_err-next-clause-rows
 returns-in_err-next-clause-rows g c = λ steady on rest ahead has coming.
@@ -21,8 +25,12 @@ returns-in_err-next-clause-rows g c = λ steady on rest ahead has coming.
     c.rows.invariant.rows steady on rest ahead has coming (λ on. IsArmsCause on (arms_of c.rows.self.arms) c.in_err-next.field-0.0)
     c.in_err-next.ensures.rows))
 
-pub returns-then-not-branch-clause-hits : goal.returns-then-not-branch-clause-hits
-returns-then-not-branch-clause-hits g c = λ w db hits. c.rows.invariant.hits w db (c.next.ensures.hits w db hits)
+pub returns-then-not-branch-clause-left : goal.returns-then-not-branch-clause-left
+returns-then-not-branch-clause-left g c = record {
+  over = c.next.ensures.left.over;
+  hits = λ w db hits. c.rows.invariant.hits w db (c.next.ensures.left.hits w db hits);
+  steps = search rules;
+}
 
 pub returns-then-not-branch-clause-rows : goal.returns-then-not-branch-clause-rows
 returns-then-not-branch-clause-rows g c = λ steady on rest ahead has coming.
@@ -30,8 +38,15 @@ returns-then-not-branch-clause-rows g c = λ steady on rest ahead has coming.
     c.rows.invariant.rows steady on rest ahead has coming c.next.new.self (map datum_of c.next.new.out.items) c.next.new.pager.state
     (rw c.if-not-branch.true at c.in_ok-next.ensures.rows)
 
-pub returns-then-gives-clause-hits : goal.returns-then-gives-clause-hits
-returns-then-gives-clause-hits g c = λ w db hits. c.rows.invariant.hits w db (c.next.ensures.hits w db hits)
+pub returns-then-gives-clause-left : goal.returns-then-gives-clause-left
+returns-then-gives-clause-left g c = record {
+  over = c.next.ensures.left.over;
+  hits = λ w db hits. c.rows.invariant.hits w db (c.next.ensures.left.hits w db hits);
+  steps = λ found.
+      let less = c.in_ok-next.ensures.left.steps c.if-not-branch.false in
+      let low = c.rows.invariant.steps in
+      omega (arith, less, low);
+}
 
 pub returns-then-gives-clause-rows : goal.returns-then-gives-clause-rows
 returns-then-gives-clause-rows g c = λ steady on rest ahead has coming.
@@ -43,10 +58,10 @@ pub rows-preserved : goal.rows-preserved
 rows-preserved g c = record {
   image = SameImage-trans _ _ _ c.rows.invariant.image c.next.ensures.reads.image;
   failures = c.in_ok-next.ensures.reads.failures ∙ c.rows.invariant.failures;
-  over = c.next.ensures.over;
-  hits = λ w db hits. c.rows.invariant.hits w db (c.next.ensures.hits w db hits);
+  over = c.next.ensures.left.over;
+  hits = λ w db hits. c.rows.invariant.hits w db (c.next.ensures.left.hits w db hits);
   steps =
-      let less = c.in_ok-next.ensures.left c.if-not-branch.false in
+      let less = c.in_ok-next.ensures.left.steps c.if-not-branch.false in
       let low = c.rows.invariant.steps in
       omega (arith, less, low);
   done = λ none. absurd (c.is_done.ensures.more c.rows-test.true (ap (λ (s : Slice). s.left) (c.rows.invariant.done none).0 ∙ none));
@@ -60,3 +75,10 @@ pub returns-clause-rows : goal.returns-clause-rows
 returns-clause-rows g c = λ steady on rest ahead has coming.
     slice_ended _ c.rows.pager.state c.rows.invariant.image c.args.sources.now c.args.self.now c.rows.self.arms c.rows.self.slice
     c.rows.invariant.rows steady on rest ahead has coming (c.is_done.ensures.done c.rows-test.false)
+
+pub returns-clause-left : goal.returns-clause-left
+returns-clause-left g c = record {
+  over = c.rows.invariant.over;
+  hits = c.rows.invariant.hits;
+  steps = search rules;
+}

@@ -23,7 +23,7 @@ returns-in-Distinct-clause-rows g c = λ steady planned given has.
 pub returns-in-Chained-clause-rows : goal.returns-in-Chained-clause-rows
 returns-in-Chained-clause-rows g c = λ steady planned given has.
     chained_step c.args.pager.now.state c.next-in-Chained.new.pager.state c.args.sources.now (map datum_of c.next-in-Chained.new.out.items) c.in-Chained.chained
-    c.next-in-Chained.new.self c.next-in-Chained.ensures.hits c.next-in-Chained.result c.next-in-Chained.ensures.rows steady planned given
+    c.next-in-Chained.new.self c.next-in-Chained.ensures.left.hits c.next-in-Chained.result c.next-in-Chained.ensures.rows steady planned given
     (subst (λ (r : Running). HasGiven (pages_seen c.args.pager.now.state) c.args.sources.now planned r given) c.in-Chained.is has)
 
 pub returns-in-Giving-clause-rows : goal.returns-in-Giving-clause-rows
