@@ -90,7 +90,8 @@ impl<S: Source> Engine<S> {
     /// its names and its types, as `UnknownTable`, `Ambiguous` and `TypeMismatch`; `NotYet` for one with EXPLAIN, whose plan isn't told yet;
     /// and `NoMemory`.
     pub fn prepare(&self, text: &str) -> Result<Prepared, Fault>
-        ensures { MatchResult result (λ p. IsPreparedFor self.now.tables (prepared_data p) × Means self.now.tables text.now (prepared_data p))
+        ensures { MatchResult result
+            (λ p. IsPreparedFor self.now.tables (prepared_data p) × Means self.now.tables text.now (prepared_data p))
             (RefusesText self.now.tables text.now) }
     {
         let statement = read_select(self.alloc, text)?;
