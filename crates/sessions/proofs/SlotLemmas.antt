@@ -9,7 +9,7 @@ use Rattle.operators.specs.Basis.{IsOperatorFault}
 use Rattle.pager.proofs.CallLemmas.{SameImage-trans}
 use Rattle.shell.specs.Answer.{IsAnswerOver}
 use Rattle.shell.specs.State.{EngineState}
-use Rattle.shell.specs.Stepped.{HasStarted, HasSteppedStatement, IsStepCause, IsUnstarted, HasGivenSoFar}
+use Rattle.shell.specs.Stepped.{HasGivenSoFar, HasStarted, HasSteppedStatement, IsStepCause, IsUnstarted, StepsStatement}
 use Rattle.shell.specs.declared.stepped.Started.{Started}
 use Rattle.shell.specs.declared.stepped.Statement.{Statement}
 use Rattle.shell.proofs.SteppedLemmas.{stands_kept}
@@ -91,29 +91,29 @@ module _ (engine : EngineState) where
 
 module _ (old new : EngineState) (statement then : Statement) where
   pub row_asked : (row : Row) (at : SlotState)
-      → ((query : QueryData) (given : List Row) → HasGivenSoFar old query statement given → HasSteppedStatement old new query given then (Ok (Some row)))
+      → ((query : QueryData) (given : List Row) → HasGivenSoFar old query statement given → StepsStatement old new query given statement then (Ok (Some row)))
       → SlotStandsAt old (Running statement) at → Replied (base_of old) asks at (answers.Row row) (SlotStandsAt new (Running then))
   row_asked row missing steps stands = absurd stands
   row_asked row closed steps stands = absurd stands
   row_asked row (running query given) steps stands =
-      let has = steps query given stands in
+      let has = (steps query given stands).rows in
       record { next = running query (given ++ row ∷ []); may = (has.begins, refl); stands = has.stands }
   row_asked row ended steps stands = absurd stands
 
   pub end_asked : (at : SlotState)
-      → ((query : QueryData) (given : List Row) → HasGivenSoFar old query statement given → HasSteppedStatement old new query given then (Ok None))
+      → ((query : QueryData) (given : List Row) → HasGivenSoFar old query statement given → StepsStatement old new query given statement then (Ok None))
       → SlotStandsAt old (Running statement) at → Replied (base_of old) asks at answers.End (SlotStandsAt new Ended)
   end_asked missing steps stands = absurd stands
   end_asked closed steps stands = absurd stands
-  end_asked (running query given) steps stands = record { next = ended; may = (steps query given stands, refl); stands = refl }
+  end_asked (running query given) steps stands = record { next = ended; may = ((steps query given stands).rows, refl); stands = refl }
   end_asked ended steps stands = absurd stands
 
   pub fault_asked : (fault : Fault) (at : SlotState)
-      → ((query : QueryData) (given : List Row) → HasGivenSoFar old query statement given → HasSteppedStatement old new query given then (Err fault))
+      → ((query : QueryData) (given : List Row) → HasGivenSoFar old query statement given → StepsStatement old new query given statement then (Err fault))
       → IsOperatorFault fault → SlotStandsAt old (Running statement) at → Replied (base_of old) asks at (answers.Fault fault) (SlotStandsAt new Ended)
   fault_asked fault missing steps only stands = absurd stands
   fault_asked fault closed steps only stands = absurd stands
-  fault_asked fault (running query given) steps only stands = record { next = ended; may = (only, steps query given stands, refl); stands = refl }
+  fault_asked fault (running query given) steps only stands = record { next = ended; may = (only, (steps query given stands).rows, refl); stands = refl }
   fault_asked fault ended steps only stands = absurd stands
 
 -- ---- all further rows

@@ -164,3 +164,8 @@ abbrev pub HasSteppedStatement : EngineState → EngineState → QueryData → L
 HasSteppedStatement old new query given statement (Ok (Some row)) = HasGivenRow old new query given statement row
 HasSteppedStatement old new query given statement (Ok None) = IsTrue old.pager.source.steady → IsAnswerOver old.pager.source.bytes old.tables query given
 HasSteppedStatement old new query given statement (Err fault) = IsTrue old.pager.source.steady → IsStepCause old.pager.source.bytes old.tables query fault
+
+-- a step of a statement that has given these rows: what comes of it, and that it stays within the pages that the statement may ask for
+pub record StepsStatement (old new : EngineState) (query : QueryData) (given : List Row) (was statement : Statement) (result : Result (Option Row) Fault) : Type 0 where
+  pub rows : HasSteppedStatement old new query given statement result
+  pub pages : StaysWithin old new query was statement result

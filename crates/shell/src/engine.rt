@@ -10,7 +10,7 @@ ghost use Rattle.shell.specs.Prepared.{IsPreparedFor, Means, RefusesText};
 ghost use Rattle.shell.specs.PreparedView.{prepared_data};
 ghost use Rattle.shell.specs.Run.{HasRun, HasStopped};
 ghost use Rattle.shell.specs.State.{IsOpenedOver, IsEngineFault, ReadsTables};
-ghost use Rattle.shell.specs.Stepped.{HasStarted, HasSteppedStatement, IsSteppedOver, IsUnstarted, HasGivenSoFar, StaysWithin, rows_ahead};
+ghost use Rattle.shell.specs.Stepped.{HasGivenSoFar, HasStarted, IsSteppedOver, IsUnstarted, StepsStatement, rows_ahead};
 
 use crate::{Prepared, Started, Statement};
 use integrity::{Checked, check};
@@ -159,10 +159,8 @@ impl<S: Source> Engine<S> {
     /// which comes only where the source no longer has the bytes that were checked.
     pub fn next_row(&mut self, statement: &mut Statement) -> Result<Option<Row>, Fault>
         requires { IsSteppedOver self.old.tables statement.old }
-        ensures rows { (query : QueryData) (given : List RowData) → HasGivenSoFar self.old query statement.old given
-            → HasSteppedStatement self.old self.new query given statement.new result }
-        ensures pages { (query : QueryData) (given : List RowData) → HasGivenSoFar self.old query statement.old given
-            → StaysWithin self.old self.new query statement.old statement.new result }
+        ensures step { (query : QueryData) (given : List RowData) → HasGivenSoFar self.old query statement.old given
+            → StepsStatement self.old self.new query given statement.old statement.new result }
         ensures over { IsSteppedOver self.new.tables statement.new }
         ensures left { IfOk result (λ found. OnSome found (rows_ahead self.new.tables statement.new < rows_ahead self.old.tables statement.old)) }
         ensures only { IfErr result IsOperatorFault }

@@ -15,21 +15,21 @@ returns-in-Closed-clause-replies g c = λ at stands.
 pub returns-in-Ok-Some-clause-replies : goal.returns-in-Ok-Some-clause-replies
 returns-in-Ok-Some-clause-replies g c = λ at stands.
     row_asked c.args.engine.now c.next_row.new.self c.in-Running.statement c.next_row.new.statement c.in-Ok-Some.row at
-    (rw (c.in-Ok-Some.is, c.in-Ok-Some.field-0-is) at c.next_row.ensures.rows)
+    (rw (c.in-Ok-Some.is, c.in-Ok-Some.field-0-is) at c.next_row.ensures.step)
     (subst (λ (s : Slot). SlotStandsAt c.args.engine.now s at) c.in-Running.is stands)
 
 pub returns-in-Ok-None-clause-replies : goal.returns-in-Ok-None-clause-replies
 returns-in-Ok-None-clause-replies g c = λ at stands.
     subst (λ (s : Slot). Replied (base_of c.args.engine.now) asks at answers.End (SlotStandsAt c.next_row.new.self s)) (sym c.end.ensures)
     (end_asked c.args.engine.now c.next_row.new.self c.in-Running.statement c.next_row.new.statement at
-    (rw (c.in-Ok-None.is, c.in-Ok-None.field-0-is) at c.next_row.ensures.rows)
+    (rw (c.in-Ok-None.is, c.in-Ok-None.field-0-is) at c.next_row.ensures.step)
     (subst (λ (s : Slot). SlotStandsAt c.args.engine.now s at) c.in-Running.is stands))
 
 pub returns-in-Err-clause-replies : goal.returns-in-Err-clause-replies
 returns-in-Err-clause-replies g c = λ at stands.
     subst (λ (s : Slot). Replied (base_of c.args.engine.now) asks at (answers.Fault c.in-Err.fault) (SlotStandsAt c.next_row.new.self s)) (sym c.end-in-Err.ensures)
     (fault_asked c.args.engine.now c.next_row.new.self c.in-Running.statement c.next_row.new.statement c.in-Err.fault at
-    (rw c.in-Err.is at c.next_row.ensures.rows) (rw c.in-Err.is at c.next_row.ensures.only)
+    (rw c.in-Err.is at c.next_row.ensures.step) (rw c.in-Err.is at c.next_row.ensures.only)
     (subst (λ (s : Slot). SlotStandsAt c.args.engine.now s at) c.in-Running.is stands))
 
 pub returns-in-Ended-clause-replies : goal.returns-in-Ended-clause-replies

@@ -21,18 +21,13 @@ next-requires-clause-over g c =
     let all = ap (λ (ts : List TableData). sources_of ts []) (c.as_slice.ensures.value ∙ c.self.invariant.all_are) in
     subst (λ (sources : List SourceData). IsSteppingOver sources c.args.statement.now.stepping) (sym all) (rw (← c.self.view_is) at c.requires)
 
-pub returns-clause-rows : goal.returns-clause-rows
-returns-clause-rows g c = λ query given stands.
+pub returns-clause-step : goal.returns-clause-step
+returns-clause-step g c = λ query given stands.
     let all = c.as_slice.ensures.value ∙ c.self.invariant.all_are in
     let behind = rw (← c.self.view_is) at stands in
-    rw (← c.self.view_is)
-    (stepped c.self.inside.pager.state (checked_data c.self.inside.checked).tables c.self.invariant.ready query given behind.typed
-    c.args.statement.now.stepping behind.gave _ c.next.new.self _ refl c.next.result c.next.ensures.reads.image refl (rw all at c.next.ensures.rows))
-
-pub returns-clause-pages : goal.returns-clause-pages
-returns-clause-pages g c = λ query given stands.
-    let all = c.as_slice.ensures.value ∙ c.self.invariant.all_are in
-    let behind = rw (← c.self.view_is) at stands in
-    rw (← c.self.view_is)
-    (stays_within c.self.inside.pager.state (checked_data c.self.inside.checked).tables c.self.invariant.ready query given behind.typed _ c.next.ensures.reads.image refl
-    _ _ c.args.statement.now.stepping refl behind.gave c.next.new.self refl c.next.result (rw all at c.next.ensures.pages))
+    rw (← c.self.view_is) (record {
+      rows = stepped c.self.inside.pager.state (checked_data c.self.inside.checked).tables c.self.invariant.ready query given behind.typed
+          c.args.statement.now.stepping behind.gave _ c.next.new.self _ refl c.next.result c.next.ensures.reads.image refl (rw all at c.next.ensures.rows);
+      pages = stays_within c.self.inside.pager.state (checked_data c.self.inside.checked).tables c.self.invariant.ready query given behind.typed _
+          c.next.ensures.reads.image refl _ _ c.args.statement.now.stepping refl behind.gave c.next.new.self refl c.next.result (rw all at c.next.ensures.pages);
+    })
