@@ -1,6 +1,6 @@
 -- What is read is shorter than what there was.
 use Rattle.std.proofs.Common.{◌≡◌, ◌<◌, length, Ok, ap, arith}
-use Rattle.tokens.specs.declared.keyword.Keyword.TheVariants as k
+use Rattle.keywords.specs.declared.keyword.Keyword.TheVariants as k
 use Rattle.grammar.specs.Reading.{arm, inner}
 use Rattle.grammar.proofs.Room.{room}
 use Rattle.grammar.proofs.SoundParts.{arm_sound}

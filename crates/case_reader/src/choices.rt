@@ -8,14 +8,15 @@ ghost use Rattle.phrases.specs.Texts.{lexemes_of};
 ghost use Rattle.window_reader.specs.Views.{arms_of_vec, present_of};
 ghost use Rattle.phrases.specs.Steps as steps;
 ghost use Rattle.statement_trees.specs.TreeView.{arm_of, expr_of};
-ghost use Rattle.tokens.specs.declared.keyword.Keyword.TheVariants as k;
+ghost use Rattle.keywords.specs.declared.keyword.Keyword.TheVariants as k;
 
 use crate::trees::{case, when_then};
 use clause_reader::Read;
 use fronts::OR_LEVEL;
+use keywords::Keyword;
 use phrases::{after_keyword, needed};
 use statement_trees::{Arm, Expr};
-use tokens::{Keyword, Token};
+use tokens::Token;
 use values::Fault;
 use window_reader::{Inner, present};
 

@@ -8,9 +8,10 @@ ghost use Rattle.phrases.specs.Texts.{lexemes_of};
 
 use crate::Read;
 use fronts::{exclusion_at, nulls_at, turn_at, unit_at};
+use keywords::Keyword;
 use phrases::{after_keyword, needed, syntax_at};
 use syntax::{Direction, Edge, Frame};
-use tokens::{Keyword, Token, TokenKind};
+use tokens::{Token, TokenKind};
 use values::Fault;
 
 /// How an expression of ORDER BY sorts.

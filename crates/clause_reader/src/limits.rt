@@ -9,9 +9,10 @@ ghost use Rattle.phrases.specs.Texts.{lexemes_of};
 ghost use Rattle.statement_trees.specs.StatementView.{whole_of};
 
 use crate::Read;
+use keywords::Keyword;
 use phrases::{after_keyword, syntax_at};
 use statement_trees::Whole;
-use tokens::{Keyword, Sign, Token, TokenKind};
+use tokens::{Sign, Token, TokenKind};
 use values::Fault;
 
 /// A number, behind a minus.

@@ -6,9 +6,10 @@ ghost use Rattle.phrases.specs.Outcomes.{Yields};
 ghost use Rattle.phrases.specs.Texts.{lexemes_of};
 
 use crate::Read;
+use keywords::Keyword;
 use phrases::{after_sign, needed, needed_name};
 use std::alloc::Global;
-use tokens::{Keyword, Sign, Token, TokenKind, name_content};
+use tokens::{Sign, Token, TokenKind, name_content};
 use values::Fault;
 
 /// A name.

@@ -3,7 +3,7 @@ use Rattle.std.specs.Prelude.{Bool, true, false, ℕ, ℤ, zero, suc, List, [], 
 use Rattle.phrases.specs.Steps.{Found, Rest, after_close, after_comma, after_keyword, after_open, after_word, listed, many, name}
 use Rattle.tokens.specs.Content.{is_bare_word}
 use Rattle.tokens.specs.Lexeme.{Lexeme}
-use Rattle.tokens.specs.declared.keyword.Keyword.TheVariants as k
+use Rattle.keywords.specs.declared.keyword.Keyword.TheVariants as k
 use Rattle.tokens.specs.declared.sign.Sign.TheVariants as s
 use Rattle.tokens.specs.declared.token.Quoting.TheVariants as quoting
 use Rattle.create_trees.specs.CreateTrees.{TypeTree, DefaultTree, ConstraintTree, ColumnTree}

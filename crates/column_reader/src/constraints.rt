@@ -9,9 +9,10 @@ ghost use Rattle.create_trees.specs.CreateView.{constraint_of, default_of};
 use crate::bodies::{balanced, body};
 use crate::references::{after_name, after_reference};
 use create_trees::{ColumnConstraint, DefaultValue, KeyOrder};
+use keywords::Keyword;
 use phrases::{after_keyword, after_word, name, syntax_at};
 use std::alloc::Global;
-use tokens::{Keyword, Sign, Token, TokenKind, blob_content, text_content};
+use tokens::{Sign, Token, TokenKind, blob_content, text_content};
 use values::Fault;
 
 /// Whether a constraint begins here.

@@ -7,9 +7,10 @@ ghost use Rattle.phrases.specs.Steps.{HasFound};
 ghost use Rattle.phrases.specs.Texts.{lexemes_of};
 ghost use Rattle.tokens.specs.Content.{lexeme_of};
 
+use keywords::Keyword;
 use phrases::{after_keyword, after_sign, after_word, name, syntax_at};
 use std::alloc::Global;
-use tokens::{Keyword, Sign, Token, TokenKind};
+use tokens::{Sign, Token, TokenKind};
 use values::Fault;
 
 /// What is behind a name, if one stands at the front.

@@ -9,8 +9,8 @@ use Rattle.sources.specs.SourceData.{SourceData}
 use Rattle.meaning.specs.Query.{Operator}
 use Rattle.plans.specs.Plan.{PlanData, work}
 use Rattle.scan.specs.Coming.{Asks}
-use Rattle.operators.specs.Basis.{AreStored, Basis}
-use Rattle.operators.proofs.RowLemmas.{at_start}
+use Rattle.nested_loops.specs.Basis.{AreStored, Basis}
+use Rattle.nested_loops.proofs.RowLemmas.{at_start}
 use Rattle.compound_results.specs.Arms.{ArmData, ArmsData, arm_rows, joined, rows_of_arms, work_of_arms}
 use Rattle.compound_results.specs.Compounds.{IsArmCause, IsArmsCause}
 use Rattle.compound_results.specs.InTurn.{over_plan}

@@ -17,9 +17,9 @@ use Rattle.plans.specs.Plan.{PlanData, work}
 use Rattle.plans.specs.PlanView.{plan_data}
 use Rattle.scan.specs.Coming.{Asks}
 use Rattle.scan.proofs.ComingLemmas.{Asks-then}
-use Rattle.operators.specs.Basis.{AreStored, Basis, GivesRowOrNone, GivesNext, GivesNone}
+use Rattle.nested_loops.specs.Basis.{AreStored, Basis, GivesRowOrNone, GivesNext, GivesNone}
 use Rattle.operators.specs.Left.{plan_of, steps}
-use Rattle.operators.proofs.RowLemmas.{at_start}
+use Rattle.nested_loops.proofs.RowLemmas.{at_start}
 use Rattle.results.specs.declared.stream.Results.{Results}
 use Rattle.results.specs.Coming.{IsComing, IsResultCause}
 use Rattle.compound_results.specs.Arms.{ArePlannedOver, ArmsData, ArmsHit, arm_data, arm_rows, joined, one, rows_of_arms, work_of_arms}

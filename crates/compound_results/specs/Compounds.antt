@@ -7,7 +7,7 @@ use Rattle.values.specs.declared.fault.Fault.{Fault}
 use Rattle.values.specs.declared.fault.Fault.TheVariants.{Overflow}
 use Rattle.pager.specs.Calls.{IsReadFault}
 use Rattle.meaning.specs.Query.{Key}
-use Rattle.operators.specs.Basis.{Basis}
+use Rattle.nested_loops.specs.Basis.{Basis}
 use Rattle.ordered_rows.specs.Keys.{result_key}
 use Rattle.distinct_results.specs.Sorted.{IsShownInOrder}
 use Rattle.compound_results.specs.Arms.{ArmData, ArmHits, ArmsData, ArmsHit, arms_data, rows_of_arms}

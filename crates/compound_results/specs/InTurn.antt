@@ -9,7 +9,7 @@ use Rattle.sources.specs.SourceData.{SourceData}
 use Rattle.expr.specs.View.{term}
 use Rattle.meaning.specs.Query.{union_all}
 use Rattle.plans.specs.Plan.{PlanData, work}
-use Rattle.operators.specs.Basis.{Basis}
+use Rattle.nested_loops.specs.Basis.{Basis}
 use Rattle.operators.specs.Left.{plan_of, steps}
 use Rattle.results.specs.Coming.{IsComing}
 use Rattle.results.specs.Slices.{sliced}

@@ -8,7 +8,7 @@ ghost use Rattle.naming.specs.Statement.{operator_of};
 ghost use Rattle.plans.specs.Plan.{work};
 ghost use Rattle.plans.specs.PlanView.{plan_data};
 ghost use Rattle.scan.specs.Coming.{Asks};
-ghost use Rattle.operators.specs.Basis.{AreStored, Basis, ReadsRows};
+ghost use Rattle.nested_loops.specs.Basis.{AreStored, Basis, ReadsRows};
 ghost use Rattle.operators.specs.Left.{IsPlanOf};
 ghost use Rattle.distinct_results.specs.Firsts.{firsts};
 ghost use Rattle.compound_results.specs.Arms.{ArePlannedOver, arm_data, arm_rows, arms_data, rows_of_arms, work_of_arms};

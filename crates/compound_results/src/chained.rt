@@ -6,7 +6,7 @@ ghost use Rattle.image.specs.Pages.{Pages, WhereSteady};
 ghost use Rattle.sources.specs.SourceData.{SourceData};
 ghost use Rattle.meaning.specs.Query.{union_all};
 ghost use Rattle.naming.specs.Statement.{operator_of};
-ghost use Rattle.operators.specs.Basis.{AreStored, Basis, GivesRowOrNone, ReadsRows};
+ghost use Rattle.nested_loops.specs.Basis.{AreStored, Basis, GivesRowOrNone, ReadsRows};
 ghost use Rattle.compound_results.specs.Arms.{ArePlannedOver, arm_data, arms_data, work_of_arms};
 ghost use Rattle.compound_results.specs.Chains.{AreAll, IsUnionChain, chain_answer};
 ghost use Rattle.compound_results.specs.Compounds.{IsArmsCause, compound_data};

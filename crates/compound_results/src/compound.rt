@@ -4,7 +4,7 @@ ghost use Rattle.values.specs.Datum.{datum_of};
 ghost use Rattle.sources.specs.Coming.{IsRooted};
 ghost use Rattle.image.specs.Pages.{WhereSteady};
 ghost use Rattle.scan.specs.Coming.{Asks};
-ghost use Rattle.operators.specs.Basis.{AreStored, Basis, ReadsRows};
+ghost use Rattle.nested_loops.specs.Basis.{AreStored, Basis, ReadsRows};
 ghost use Rattle.values.specs.Row.{rows_data};
 ghost use Rattle.ordered_rows.specs.Firsts.{BeginsAll};
 ghost use Rattle.ordered_rows.specs.Keys.{comes_before};

@@ -2,7 +2,7 @@
 use Rattle.std.proofs.Common.{◌≡◌, Bool, true, false, ℕ, ◌≤◌, List, [], ◌∷◌, length, Option, Some, None, Ok, Err, cond, refl, sym, ap, ◌∙◌, subst, arith}
 use Rattle.std.proofs.lemmas.Bool.{cond-false}
 use Rattle.tokens.specs.Lexeme.{Lexeme}
-use Rattle.tokens.specs.declared.keyword.Keyword.TheVariants as k
+use Rattle.keywords.specs.declared.keyword.Keyword.TheVariants as k
 use Rattle.phrases.specs.Outcomes.{Read, Refusal, read}
 use Rattle.phrases.specs.Steps.{Rest}
 use Rattle.phrases.proofs.OutcomeLemmas.{bind_ok, fits, fits_bind, fits_in, ok_inj, step_last}

@@ -1,7 +1,7 @@
 -- The reader of a CREATE TABLE finds exactly what its grammar says.
 use Rattle.std.proofs.Common.{◌≡◌, List, ◌∷◌, length, Option, Some, None, option_and_then, option_map, refl, sym, ap, ◌∙◌, subst, arith}
 use Rattle.tokens.specs.Lexeme.{Lexeme}
-use Rattle.tokens.specs.declared.keyword.Keyword.TheVariants as k
+use Rattle.keywords.specs.declared.keyword.Keyword.TheVariants as k
 use Rattle.tokens.specs.declared.sign.Sign.TheVariants as s
 use Rattle.tokens.specs.declared.token.Quoting.{Quoting}
 use Rattle.phrases.proofs.ListLemmas.{Shortens}

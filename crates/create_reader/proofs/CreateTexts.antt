@@ -4,7 +4,7 @@ use Rattle.values.specs.declared.fault.Fault.{Fault}
 use Rattle.tokens.specs.Content.{placed_of}
 use Rattle.tokens.specs.Tokens as tokens
 use Rattle.tokens.specs.Tokens.{Tokens}
-use Rattle.tokens.specs.declared.keyword.Grammar.TheVariants as g
+use Rattle.keywords.specs.declared.keyword.Grammar.TheVariants as g
 use Rattle.tokens.specs.declared.token.Token.{Token}
 use Rattle.phrases.proofs.TextLemmas.{IsReader, one_tree, refused, spelt_by, tokens_refused}
 use Rattle.phrases.specs.Steps.{IsMissing}

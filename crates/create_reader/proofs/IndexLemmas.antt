@@ -3,7 +3,7 @@ use Rattle.std.proofs.Common.{◌≡◌, Bool, true, false, ℕ, ◌≤◌, List
 use mathlib.Core.Logic.{inl, inr}
 use Rattle.std.proofs.lemmas.Bool.{cases_lt}
 use Rattle.tokens.specs.Lexeme.{Lexeme}
-use Rattle.tokens.specs.declared.keyword.Keyword.TheVariants as k
+use Rattle.keywords.specs.declared.keyword.Keyword.TheVariants as k
 use Rattle.phrases.proofs.OutcomeLemmas.{bind_ok, fits, fits_in, fits_out, ok_inj, step_last}
 use Rattle.phrases.proofs.StepLemmas.{at_keyword, needed_some, needs_keyword}
 use Rattle.phrases.specs.Outcomes.{Outcome, Refusal, ◌>>=◌, needed}

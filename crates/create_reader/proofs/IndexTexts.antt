@@ -8,7 +8,7 @@ use Rattle.tokens.proofs.ReadLemmas as tokens_read
 use Rattle.tokens.specs.Content.{lexeme_of, placed_of}
 use Rattle.tokens.specs.Tokens as tokens
 use Rattle.tokens.specs.Tokens.{Tokens}
-use Rattle.tokens.specs.declared.keyword.Grammar.TheVariants as g
+use Rattle.keywords.specs.declared.keyword.Grammar.TheVariants as g
 use Rattle.tokens.specs.declared.token.Token.{Token}
 use Rattle.phrases.proofs.TextLemmas.{same_lexemes}
 use Rattle.phrases.specs.Outcomes.{Yields}

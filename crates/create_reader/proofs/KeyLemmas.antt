@@ -2,7 +2,7 @@
 use Rattle.std.proofs.Common.{◌≡◌, Bool, true, false, ◌<◌, ◌≤◌, List, ◌∷◌, ℕ, length, codes, Option, Some, None, option_map, refl, sym, ap, ◌∙◌, subst, arith}
 use Rattle.tokens.specs.Content.{is_bare_word}
 use Rattle.tokens.specs.Lexeme.{Lexeme}
-use Rattle.tokens.specs.declared.keyword.Keyword.TheVariants as k
+use Rattle.keywords.specs.declared.keyword.Keyword.TheVariants as k
 use Rattle.tokens.specs.declared.sign.Sign.TheVariants as s
 use Rattle.phrases.proofs.ListLemmas.{Shortens}
 use Rattle.phrases.proofs.PhraseLemmas.{At, TakesOne, listed_complete, listed_sound, many_length, shortens_after_comma}

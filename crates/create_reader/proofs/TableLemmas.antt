@@ -3,7 +3,7 @@ use Rattle.std.proofs.Common.{◌≡◌, true, ◌<◌, List, ◌∷◌, length,
 use Rattle.std.proofs.lemmas.Bool.{cond-true}
 use Rattle.tokens.specs.Content.{is_bare_word}
 use Rattle.tokens.specs.Lexeme.{Lexeme}
-use Rattle.tokens.specs.declared.keyword.Keyword.TheVariants as k
+use Rattle.keywords.specs.declared.keyword.Keyword.TheVariants as k
 use Rattle.tokens.specs.declared.sign.Sign.TheVariants as s
 use Rattle.phrases.proofs.ListLemmas.{Shortens}
 use Rattle.phrases.proofs.PhraseLemmas.{At, TakesOne, follows_comma, found_after_comma, many_complete, many_sound, shortens_after_comma, spelt_after_comma}

@@ -3,7 +3,7 @@ use Rattle.std.specs.Prelude.{List, [], ◌∷◌, codes, Option, Some, None, op
 use Rattle.phrases.specs.Steps.{Found, Rest, after_close, after_comma, after_keyword, after_open, after_word, first_and, listed, many, name}
 use Rattle.tokens.specs.Content.{is_bare_word}
 use Rattle.tokens.specs.Lexeme.{Lexeme}
-use Rattle.tokens.specs.declared.keyword.Keyword.TheVariants as k
+use Rattle.keywords.specs.declared.keyword.Keyword.TheVariants as k
 use Rattle.column_reader.specs.ColumnReading.{after_title, body, column, names, order, refers}
 use Rattle.create_trees.specs.CreateTrees.{ColumnTree, IndexedColumnTree, TableConstraintTree, TableTree}
 use Rattle.syntax.specs.Tree.{Name}

@@ -1,7 +1,7 @@
 -- Which tokens spell a CREATE INDEX. (CREATE INDEX; Partial Indexes)
 use Rattle.std.specs.Prelude.{◌≡◌, Bool, true, false, ℕ, List, [], ◌∷◌, Option, None, Some}
 use Rattle.tokens.specs.Lexeme.{Lexeme}
-use Rattle.tokens.specs.declared.keyword.Keyword.TheVariants as k
+use Rattle.keywords.specs.declared.keyword.Keyword.TheVariants as k
 use Rattle.tokens.specs.declared.token.Quoting.{Quoting}
 use Rattle.create_reader.specs.CreateGrammar.{IndexesAll}
 use Rattle.grammar.specs.Operators.{or_level}

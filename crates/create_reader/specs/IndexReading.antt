@@ -3,7 +3,7 @@ use Rattle.std.specs.Prelude.{Bool, true, false, ℕ, List, [], ◌∷◌, Optio
 use Rattle.phrases.specs.Outcomes.{Outcome, Read, Refusal, ◌>>=◌, needed}
 use Rattle.phrases.specs.Steps.{Rest, after_keyword, name}
 use Rattle.tokens.specs.Lexeme.{Lexeme}
-use Rattle.tokens.specs.declared.keyword.Keyword.TheVariants as k
+use Rattle.keywords.specs.declared.keyword.Keyword.TheVariants as k
 use Rattle.column_reader.specs.ColumnReading.{after_on}
 use Rattle.create_reader.specs.CreateReading.{after_create, indexed_all}
 use Rattle.create_reader.specs.IndexGrammar.{has_query}

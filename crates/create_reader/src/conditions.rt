@@ -7,10 +7,11 @@ ghost use Rattle.phrases.specs.Texts.{lexemes_of, max_levels};
 ghost use Rattle.source_texts.specs.Sources.{AreCut, source_of};
 ghost use Rattle.statement_trees.specs.TreeView.{expr_of};
 
+use keywords::Keyword;
 use nested_reader::{MAX_LEVELS, Source, expression_within};
 use phrases::syntax_at;
 use statement_trees::Expr;
-use tokens::{Keyword, Token, TokenKind};
+use tokens::{Token, TokenKind};
 use values::Fault;
 
 /// Where a query begins among tokens.

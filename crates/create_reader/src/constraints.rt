@@ -8,9 +8,10 @@ ghost use Rattle.create_trees.specs.CreateView.{table_constraint_of};
 use crate::keys::indexed_columns;
 use column_reader::{after_reference, after_title, body, names};
 use create_trees::TableConstraint;
+use keywords::Keyword;
 use phrases::{after_keyword, after_sign, after_word, syntax_at};
 use std::alloc::Global;
-use tokens::{Keyword, Sign, Token, TokenKind};
+use tokens::{Sign, Token, TokenKind};
 use values::Fault;
 
 /// The key whose PRIMARY stands before these tokens, and what is behind it.

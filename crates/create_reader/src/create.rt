@@ -10,9 +10,10 @@ ghost use Rattle.create_trees.specs.CreateView.{table_of};
 use crate::definitions::definitions;
 use crate::options::table_options;
 use create_trees::{CreateTable, TableOption};
+use keywords::{Grammar, Keyword};
 use phrases::{MAX_COLUMNS, MAX_TEXT, after_keyword, after_sign, name, syntax_at};
 use std::alloc::Global;
-use tokens::{Grammar, Keyword, Sign, Token, read_tokens};
+use tokens::{Sign, Token, read_tokens};
 use values::Fault;
 
 /// The name of the table, and what is behind the parenthesis that opens its columns.

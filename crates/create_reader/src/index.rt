@@ -14,11 +14,12 @@ ghost use Rattle.statement_trees.specs.TreeView.{expr_of};
 use crate::conditions::condition;
 use crate::keys::indexed_columns;
 use create_trees::{CreateIndex, IndexedColumn};
+use keywords::{Grammar, Keyword};
 use nested_reader::{MAX_LEVELS, Source};
 use phrases::{MAX_COLUMNS, MAX_TEXT, after_keyword, name, syntax_at};
 use statement_trees::Expr;
 use std::alloc::Global;
-use tokens::{Grammar, Keyword, Token, read_tokens};
+use tokens::{Token, read_tokens};
 use values::Fault;
 
 /// Whether UNIQUE stands at the front, and what is behind it.

@@ -8,9 +8,10 @@ ghost use Rattle.create_trees.specs.CreateView.{indexed_of};
 
 use column_reader::key_order;
 use create_trees::IndexedColumn;
+use keywords::Keyword;
 use phrases::{after_keyword, after_sign, name, syntax_at};
 use std::alloc::Global;
-use tokens::{Keyword, Sign, Token};
+use tokens::{Sign, Token};
 use values::Fault;
 
 /// The collation, if one stands at the front, and what is behind it.

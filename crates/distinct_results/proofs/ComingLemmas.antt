@@ -7,8 +7,8 @@ use Rattle.image.specs.Pages.{Pages, WhereSteady, pages_seen}
 use Rattle.sources.specs.SourceData.{SourceData}
 use Rattle.scan.specs.Coming.{Asks}
 use Rattle.scan.proofs.ComingLemmas.{Asks-then}
-use Rattle.operators.specs.Basis.{AreStored, Basis, GivesRowOrNone, GivesNext, GivesNone}
-use Rattle.operators.proofs.RowLemmas.{Asks-less, at_start}
+use Rattle.nested_loops.specs.Basis.{AreStored, Basis, GivesRowOrNone, GivesNext, GivesNone}
+use Rattle.nested_loops.proofs.RowLemmas.{Asks-less, at_start}
 use Rattle.results.specs.declared.stream.Results.{Results}
 use Rattle.results.specs.Coming.{IsComing}
 use Rattle.results.proofs.SliceLemmas.{none_sliced}

@@ -8,7 +8,7 @@ use Rattle.image.specs.Pages.{Pages}
 use Rattle.sources.specs.SourceData.{SourceData}
 use Rattle.meaning.specs.Answer.{limited, skipped}
 use Rattle.plans.specs.Plan.{rows_of}
-use Rattle.operators.specs.Basis.{Basis}
+use Rattle.nested_loops.specs.Basis.{Basis}
 use Rattle.results.specs.Coming.{IsComing, SelectionData, result_rows}
 use Rattle.results.specs.declared.stream.Results.{Results}
 use Rattle.distinct_results.specs.Firsts.{firsts, to_come}

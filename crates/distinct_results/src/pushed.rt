@@ -5,7 +5,7 @@ ghost use Rattle.sources.specs.Coming.{IsRooted};
 ghost use Rattle.image.specs.Pages.{WhereSteady};
 ghost use Rattle.expr.specs.View.{term};
 ghost use Rattle.scan.specs.Coming.{Asks};
-ghost use Rattle.operators.specs.Basis.{AreStored, Basis, ReadsRows};
+ghost use Rattle.nested_loops.specs.Basis.{AreStored, Basis, ReadsRows};
 ghost use Rattle.operators.specs.Left.{IsPlanOf, plan_of};
 ghost use Rattle.results.specs.Coming.{IsComing, IsResultCause};
 ghost use Rattle.distinct_rows.specs.OnceView.{FewAreKeptOnce, KeepsOnce};

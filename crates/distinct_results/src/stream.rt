@@ -7,7 +7,7 @@ ghost use Rattle.sources.specs.SourceData.{SourceData};
 ghost use Rattle.expr.specs.View.{term};
 ghost use Rattle.plans.specs.Plan.{rows_of, work};
 ghost use Rattle.plans.specs.PlanView.{plan_data};
-ghost use Rattle.operators.specs.Basis.{AreStored, Basis, GivesRowOrNone, ReadsRows};
+ghost use Rattle.nested_loops.specs.Basis.{AreStored, Basis, GivesRowOrNone, ReadsRows};
 ghost use Rattle.operators.specs.Left.{IsPlanOf, plan_of, steps};
 ghost use Rattle.results.specs.Coming.{IsResultCause, SameSelection, result_rows, selection_data};
 ghost use Rattle.results.specs.Slices.{sliced};

@@ -3,7 +3,6 @@ pub mod ConjunctLemmas
 pub mod AnswerLemmas
 pub mod ReachLemmas
 pub mod ColumnLemmas
-pub mod SameLemmas
 pub mod MemberLemmas
 pub mod TypeLemmas
 pub mod TermTypeLemmas

@@ -11,10 +11,11 @@ ghost use Rattle.window_reader.specs.Setting.{at};
 use crate::trees::{between, binary, membership, postfix, query_membership};
 use clause_reader::Read;
 use fronts::{COMPARISON_LEVEL, Membership, level_of, loosely, membership_at};
+use keywords::Keyword;
 use phrases::{after_keyword, after_sign, needed};
 use statement_trees::Expr;
 use syntax::{BinaryOperator, PostfixOperator};
-use tokens::{Keyword, Sign, Token};
+use tokens::{Sign, Token};
 use values::Fault;
 use window_reader::{Inner, list};
 

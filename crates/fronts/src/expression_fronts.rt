@@ -7,9 +7,10 @@ ghost use Rattle.phrases.specs.Outcomes.{Yields, needed};
 ghost use Rattle.phrases.specs.Texts.{lexemes_of};
 
 use crate::levels::{EQUALITY_LEVEL, NO_LEVEL, PART_LEVEL, level_of};
+use keywords::Keyword;
 use phrases::place_of;
 use syntax::{BinaryOperator, PostfixOperator, PrefixOperator};
-use tokens::{Keyword, Quoting, Sign, Token, TokenKind};
+use tokens::{Quoting, Sign, Token, TokenKind};
 use values::Fault;
 
 /// A value as it is written.

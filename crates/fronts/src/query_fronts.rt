@@ -6,8 +6,9 @@ ghost use Rattle.grammar.specs.Fronts as spec;
 ghost use Rattle.phrases.specs.Texts.{lexemes_of};
 ghost use Rattle.tokens.specs.Content.{content_of};
 
+use keywords::Keyword;
 use syntax::{CompoundOperator, Exclusion, FrameUnit, Join};
-use tokens::{Keyword, Quoting, Sign, Token, TokenKind};
+use tokens::{Quoting, Sign, Token, TokenKind};
 
 /// A token that is this reserved word.
 macro_rules! word {

@@ -8,11 +8,12 @@ use anyhow::{Context, Result};
 use pager::{MemSource, Source};
 use scripted::{ReadScript, ScriptSink, ScriptSource};
 use shell::{Engine, Report};
+use sinks::MemSink;
 use std::alloc::Global;
 use std::num::NonZeroUsize;
 use std::rt::{Env, Files};
 use std::{env, fs};
-use values::{Fault, MemSink, Sink};
+use values::{Fault, Sink};
 
 /// An image, a statement over it, its answer, and how many reads opening the image takes.
 #[derive(Drop)]

@@ -1,7 +1,7 @@
 -- What the grammar says is read, with its levels.
 use Rattle.std.proofs.Common.{◌≡◌, Bool, false, ℕ, suc, ◌≤◌, List, ◌∷◌, max, Some, refl, sym, ap, ◌∙◌, arith, subst}
 use Rattle.tokens.specs.Lexeme.{Lexeme}
-use Rattle.tokens.specs.declared.keyword.Keyword.TheVariants as k
+use Rattle.keywords.specs.declared.keyword.Keyword.TheVariants as k
 use Rattle.tokens.specs.declared.sign.Sign.TheVariants as s
 use Rattle.phrases.specs.Steps.{Rest}
 use Rattle.syntax.specs.ExprTree.{

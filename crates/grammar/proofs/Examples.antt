@@ -1,6 +1,6 @@
 -- Worked statements.
 use Rattle.std.proofs.Common.{◌≡◌, ℕ, suc, max, [], ◌∷◌, Some, None, Err, codes, refl, arith}
-use Rattle.tokens.specs.declared.keyword.Keyword.TheVariants as k
+use Rattle.keywords.specs.declared.keyword.Keyword.TheVariants as k
 use Rattle.tokens.specs.declared.sign.Sign.TheVariants as s
 use Rattle.phrases.specs.Lists.{AfterComma, Listed, Many}
 use Rattle.phrases.specs.Outcomes.{Refusal, series}

@@ -1,6 +1,6 @@
 -- How many tokens a phrase has: more than levels.
 use Rattle.std.proofs.Common.{Bool, ℕ, ◌+◌, ◌<◌, ◌≤◌, List, length, Option, arith}
-use Rattle.tokens.specs.declared.keyword.Keyword.{Keyword}
+use Rattle.keywords.specs.declared.keyword.Keyword.{Keyword}
 use Rattle.phrases.specs.Lists.{AfterComma, Listed, Many}
 use Rattle.phrases.specs.Steps.{Rest}
 use Rattle.syntax.specs.ExprTree.{

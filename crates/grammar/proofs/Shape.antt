@@ -2,7 +2,7 @@
 use Rattle.std.proofs.Common.{◌≡◌, ◌≢◌, ◌⊎◌, Bool, ℕ, zero, suc, ◌+◌, ◌-◌, ◌<◌, ◌≤◌, List, [], ◌∷◌, length, None, refl, ap, arith, subst, zero-add, suc-add}
 use mathlib.Core.Logic.{inl, inr}
 use Rattle.tokens.specs.Lexeme.{Lexeme}
-use Rattle.tokens.specs.declared.keyword.Keyword.TheVariants as k
+use Rattle.keywords.specs.declared.keyword.Keyword.TheVariants as k
 use Rattle.tokens.specs.declared.sign.Sign.TheVariants as s
 use Rattle.phrases.specs.Steps.{Rest, after_keyword}
 use Rattle.syntax.specs.ExprTree.{ExprTree, ExprTrees, ArmTrees, QueryTree, trees_of, arms_of, count}

@@ -2,8 +2,8 @@
 use Rattle.std.proofs.Common.{◌≡◌, Bool, true, false, ℕ, ◌∷◌, Option, Some, None, Ok, refl, sym, ap, ◌∙◌, arith, subst}
 use Rattle.tokens.specs.Lexeme.{Lexeme}
 use Rattle.std.specs.Prelude.{not}
-use Rattle.tokens.specs.declared.keyword.Keyword.{Keyword}
-use Rattle.tokens.specs.declared.keyword.Keyword.TheVariants as k
+use Rattle.keywords.specs.declared.keyword.Keyword.{Keyword}
+use Rattle.keywords.specs.declared.keyword.Keyword.TheVariants as k
 use Rattle.tokens.specs.declared.sign.Sign.TheVariants as s
 use Rattle.phrases.specs.Outcomes.{Outcome, Read, needed, read}
 use Rattle.phrases.specs.Steps.{Rest, after_close, after_comma, after_keyword, name}

@@ -3,7 +3,7 @@ use Rattle.std.proofs.Common.{◌≡◌, Bool, true, ℕ, zero, suc, ◌<◌, �
 use mathlib.Core.Logic.{inl, inr}
 use Rattle.std.proofs.lemmas.Bool.{cases_lt, cond-false, cond-true, le-leb, le-ltb, lt-leb, lt-ltb}
 use Rattle.tokens.specs.Lexeme.{Lexeme}
-use Rattle.tokens.specs.declared.keyword.Keyword.TheVariants as k
+use Rattle.keywords.specs.declared.keyword.Keyword.TheVariants as k
 use Rattle.tokens.specs.declared.sign.Sign.TheVariants as s
 use Rattle.tokens.specs.declared.token.Quoting.{Quoting}
 use Rattle.tokens.specs.declared.token.Quoting.TheVariants as q

@@ -1,7 +1,7 @@
 -- What stands at the front of the tokens of an expression, as the grammar says it.
 use Rattle.std.proofs.Common.{Bool, ◌∷◌}
 use Rattle.tokens.specs.Lexeme.{Lexeme}
-use Rattle.tokens.specs.declared.keyword.Keyword.TheVariants as k
+use Rattle.keywords.specs.declared.keyword.Keyword.TheVariants as k
 use Rattle.tokens.specs.declared.sign.Sign.TheVariants as s
 use Rattle.tokens.specs.declared.token.Quoting.{Quoting}
 use Rattle.phrases.specs.Steps.{Rest}

@@ -3,7 +3,7 @@ use Rattle.std.proofs.Common.{◌≡◌, Bool, true, ℕ, zero, suc, ◌≤◌, 
 use mathlib.Core.Logic.{inl, inr}
 use Rattle.std.proofs.lemmas.Bool.{cases_lt}
 use Rattle.tokens.specs.Lexeme.{Lexeme}
-use Rattle.tokens.specs.declared.keyword.Keyword.TheVariants as k
+use Rattle.keywords.specs.declared.keyword.Keyword.TheVariants as k
 use Rattle.tokens.specs.declared.sign.Sign.TheVariants as s
 use Rattle.phrases.specs.Lists.{Listed}
 use Rattle.phrases.specs.Outcomes.{Outcome, Read, Refusal, kept_if, read}

@@ -1,7 +1,7 @@
 -- What spells a statement is read, and tokens spell at most one.
 use Rattle.std.proofs.Common.{◌≡◌, Bool, true, false, ℕ, suc, zero, ◌+◌, ◌<◌, ◌≤◌, max, ℤ, List, [], ◌∷◌, length, Option, None, Ok, Err, refl, sym, ap, ◌∙◌, arith, subst}
 use Rattle.tokens.specs.Lexeme.{Lexeme}
-use Rattle.tokens.specs.declared.keyword.Keyword.TheVariants as k
+use Rattle.keywords.specs.declared.keyword.Keyword.TheVariants as k
 use Rattle.tokens.specs.declared.sign.Sign.TheVariants as s
 use Rattle.phrases.specs.Outcomes.{Refusal, ◌>>=◌, kept_if, read, series}
 use Rattle.phrases.specs.Steps.{Rest, after_close, after_comma, after_keyword, ends}

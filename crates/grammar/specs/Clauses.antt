@@ -2,7 +2,7 @@
 -- after begins, spell the tree as a phrase of this kind. There is one constructor for each production.
 use Rattle.std.specs.Prelude.{Bool, true, false, ℕ, ℤ, neg_ℤ, List, [], ◌∷◌, Option, Some, None}
 use Rattle.tokens.specs.Lexeme.{Lexeme}
-use Rattle.tokens.specs.declared.keyword.Keyword.TheVariants as k
+use Rattle.keywords.specs.declared.keyword.Keyword.TheVariants as k
 use Rattle.tokens.specs.declared.sign.Sign.TheVariants as s
 use Rattle.tokens.specs.declared.token.Quoting.{Quoting}
 use Rattle.syntax.specs.ExprTree.{NameTree}

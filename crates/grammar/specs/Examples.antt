@@ -1,8 +1,8 @@
 -- Worked statements: their tokens, their tree and their levels. Here no phrase has a source text.
 use Rattle.std.specs.Prelude.{true, false, ℕ, pos, List, [], ◌∷◌, Some, None, codes}
 use Rattle.tokens.specs.Lexeme.{Lexeme}
-use Rattle.tokens.specs.declared.keyword.Keyword.{Keyword}
-use Rattle.tokens.specs.declared.keyword.Keyword.TheVariants as k
+use Rattle.keywords.specs.declared.keyword.Keyword.{Keyword}
+use Rattle.keywords.specs.declared.keyword.Keyword.TheVariants as k
 use Rattle.tokens.specs.declared.sign.Sign.{Sign}
 use Rattle.tokens.specs.declared.sign.Sign.TheVariants as s
 use Rattle.tokens.specs.declared.token.Quoting.TheVariants as q

@@ -2,8 +2,8 @@
 -- Attributes"). `X tree from after` says that the tokens of from, up to where after begins, spell the tree.
 use Rattle.std.specs.Prelude.{Bool, true, false, ℕ, ℤ, List, ◌∷◌}
 use Rattle.tokens.specs.Lexeme.{Lexeme}
-use Rattle.tokens.specs.declared.keyword.Keyword.{Keyword}
-use Rattle.tokens.specs.declared.keyword.Keyword.TheVariants as k
+use Rattle.keywords.specs.declared.keyword.Keyword.{Keyword}
+use Rattle.keywords.specs.declared.keyword.Keyword.TheVariants as k
 use Rattle.tokens.specs.declared.sign.Sign.TheVariants as s
 use Rattle.syntax.specs.ExprTree.{ExprTree}
 use Rattle.syntax.specs.declared.expr.BinaryOperator.{BinaryOperator}

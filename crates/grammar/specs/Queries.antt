@@ -5,7 +5,7 @@
 -- expression. There is one constructor for each production.
 use Rattle.std.specs.Prelude.{◌≡◌, Bool, true, false, ℕ, suc, max, ℤ, List, ◌∷◌, length, Some, None, Option}
 use Rattle.tokens.specs.Lexeme.{Lexeme}
-use Rattle.tokens.specs.declared.keyword.Keyword.TheVariants as k
+use Rattle.keywords.specs.declared.keyword.Keyword.TheVariants as k
 use Rattle.tokens.specs.declared.sign.Sign.TheVariants as s
 use Rattle.tokens.specs.declared.token.Quoting.{Quoting}
 use Rattle.tokens.specs.declared.token.Quoting.TheVariants as q

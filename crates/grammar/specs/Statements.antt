@@ -1,7 +1,7 @@
 -- Which tokens spell a statement: a query with what stands before and behind it. (SELECT; EXPLAIN QUERY PLAN)
 use Rattle.std.specs.Prelude.{Bool, true, false, ℕ, max, ℤ, List, [], ◌∷◌, Option}
 use Rattle.tokens.specs.Lexeme.{Lexeme}
-use Rattle.tokens.specs.declared.keyword.Keyword.TheVariants as k
+use Rattle.keywords.specs.declared.keyword.Keyword.TheVariants as k
 use Rattle.tokens.specs.declared.sign.Sign.TheVariants as s
 use Rattle.phrases.specs.Lists.{Listed}
 use Rattle.syntax.specs.ExprTree.{QueryTree, TermTrees}

@@ -14,7 +14,7 @@ use Rattle.body_trees.specs.BodyView.{JoinedData}
 use Rattle.flat_bodies.specs.FlatView.{kept_among}
 use Rattle.flat_queries.specs.Flat.{kept_source}
 use Rattle.meaning.specs.Query.{InnerQuery, Source}
-use Rattle.operators.specs.Basis.{Basis}
+use Rattle.nested_loops.specs.Basis.{Basis}
 use Rattle.scan.proofs.ComingLemmas.{seen_same}
 use Rattle.inner_rows.specs.Computed.{AddsAsMany, AddsRows}
 use Rattle.inner_rows.specs.InnerView.{InnerData}

@@ -10,7 +10,7 @@ use Rattle.compound_plans.specs.Work.{selects_work}
 use Rattle.flat_queries.specs.Flat.{kept_of, kept_source}
 use Rattle.flat_queries.specs.FlatWith.{body_in, queries_of, with_rows}
 use Rattle.meaning.specs.Query.{Body, InnerQuery, QueryData, Source, derived, exists, values_of}
-use Rattle.operators.specs.Basis.{AreStored, Basis}
+use Rattle.nested_loops.specs.Basis.{AreStored, Basis}
 use Rattle.plans.specs.Plan.{once}
 use Rattle.query_plans.specs.Answers.{PlannedData, work_of}
 use Rattle.scan.specs.Coming.{Asks}

@@ -16,7 +16,7 @@ use Rattle.meaning.proofs.ElementLemmas.{AllZip-both}
 use Rattle.meaning.specs.Body.{answer_of, source_rows}
 use Rattle.meaning.specs.Hits.{BodyHits, HitsOrdered, SourceHits}
 use Rattle.meaning.specs.Query.{Body, InnerQuery, Key, QueryData, Source, derived, exists, values_of}
-use Rattle.operators.specs.Basis.{Basis}
+use Rattle.nested_loops.specs.Basis.{Basis}
 use Rattle.inner_rows.specs.Computed.{AddsAsMany, AddsRows, AreComputedRows, AreRowsFor}
 use Rattle.inner_rows.specs.InnerView.{InnerData}
 use Rattle.inner_rows.specs.Over.{IsBodyCause, IsInnerCause, IsQueryCause, SomeHits}

@@ -33,7 +33,7 @@ use Rattle.meaning.specs.Body.{SameTables, body_rows, source_rows}
 use Rattle.meaning.specs.Hits.{Hits}
 use Rattle.meaning.specs.Query.{Body, QueryData}
 use Rattle.meaning.specs.Typed.{HasTypes, IsTyped, SourceHasTypes}
-use Rattle.operators.specs.Basis.{AreStored, Basis}
+use Rattle.nested_loops.specs.Basis.{AreStored, Basis}
 use Rattle.plans.specs.Plan.{PlanData, once}
 use Rattle.query_plans.proofs.WideLemmas.{typed_wide}
 use Rattle.query_plans.specs.Answers.{AreWideFor, IsAnswerOf, IsPlanFor, PlannedData, work_of}

@@ -12,7 +12,7 @@ use Rattle.tables.specs.ColumnTypes.{column_types, types_of}
 use Rattle.tables.specs.TableData.{TableData}
 use Rattle.meaning.proofs.ElementLemmas.{AllZip-both, length_all_zip}
 use Rattle.meaning.specs.Typed.{FitTypes}
-use Rattle.operators.specs.Basis.{Basis}
+use Rattle.nested_loops.specs.Basis.{Basis}
 use Rattle.select_plans.specs.Columns.{HasColumnsOf, HaveColumns}
 use Rattle.sources.specs.Coming.{HasRows, IsRooted}
 use Rattle.sources.specs.SourceData.{SourceData, of_rows, of_table, sources_of}

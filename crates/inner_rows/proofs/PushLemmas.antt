@@ -17,7 +17,7 @@ use Rattle.flat_queries.specs.Flat.{kept_of}
 use Rattle.flat_queries.specs.FlatWith.{answer_from, body_in, queries_of}
 use Rattle.meaning.specs.Body.{body_rows}
 use Rattle.meaning.specs.Query.{Body, InnerQuery, derived}
-use Rattle.operators.specs.Basis.{Basis}
+use Rattle.nested_loops.specs.Basis.{Basis}
 use Rattle.inner_rows.specs.Computed.{AddsAsMany, AddsRows, AreComputedRows, AreRowsFor}
 use Rattle.inner_rows.specs.InnerView.{InnerData, kept_rows}
 use Rattle.inner_rows.specs.Over.{AreSaid, IsBodyCause}

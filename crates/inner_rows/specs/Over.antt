@@ -19,7 +19,7 @@ use Rattle.meaning.specs.Typed.{FitsCatalog}
 use Rattle.flat_queries.specs.FlatWith.{body_in, with_rows}
 use Rattle.plans.specs.Plan.{PlanData}
 use Rattle.sources.specs.SourceData.{sources_of}
-use Rattle.operators.specs.Basis.{AreStored, Basis}
+use Rattle.nested_loops.specs.Basis.{AreStored, Basis}
 use Rattle.inner_rows.specs.Computed.{AreSomeWhere}
 use Rattle.inner_rows.specs.InnerView.{kept_rows}
 use Rattle.query_plans.specs.Answers.{HitsOf, IsAnswerOf, PlannedData, work_of}

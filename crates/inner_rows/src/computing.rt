@@ -13,7 +13,7 @@ ghost use Rattle.inner_rows.specs.Over.{AreSaid, IsBodyCause, IsInnerCause};
 ghost use Rattle.inner_rows.specs.Runnable.{AreComputable, IsComputableBody};
 ghost use Rattle.inner_rows.specs.Work.{body_work, parts_work};
 ghost use Rattle.meaning.specs.Body.{body_rows};
-ghost use Rattle.operators.specs.Basis.{Basis, ReadsRows};
+ghost use Rattle.nested_loops.specs.Basis.{Basis, ReadsRows};
 ghost use Rattle.query_plans.specs.Answers.{IsPlanFor, IsPlannedOver, planned_data};
 ghost use Rattle.scan.specs.Coming.{Asks};
 ghost use Rattle.sources.specs.Coming.{IsRooted};

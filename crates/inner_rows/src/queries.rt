@@ -8,7 +8,7 @@ ghost use Rattle.inner_rows.specs.Over.{AreSaid, IsPlanOverKept, IsQueryCause};
 ghost use Rattle.inner_rows.specs.Runnable.{IsRunnableBody};
 ghost use Rattle.inner_rows.specs.Work.{parts_work};
 ghost use Rattle.meaning.specs.Typed.{IsTyped};
-ghost use Rattle.operators.specs.Basis.{Basis, ReadsRows};
+ghost use Rattle.nested_loops.specs.Basis.{Basis, ReadsRows};
 ghost use Rattle.query_plans.specs.Answers.{IsPlannedOver, planned_data};
 ghost use Rattle.scan.specs.Coming.{Asks};
 ghost use Rattle.sources.specs.Coming.{IsRooted};

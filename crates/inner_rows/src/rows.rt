@@ -2,7 +2,7 @@
 ghost use Rattle.std.specs.Prelude.{[], ℕ, All, MatchResult, OnOk};
 ghost use Rattle.image.specs.Pages.{WhereSteady};
 ghost use Rattle.inner_rows.specs.Over.{BeginsAnswer};
-ghost use Rattle.operators.specs.Basis.{AreStored, Basis, ReadsRows};
+ghost use Rattle.nested_loops.specs.Basis.{AreStored, Basis, ReadsRows};
 ghost use Rattle.query_plans.specs.Answers.{IsAnswerOf, IsPlannedOver, PlannedData, planned_data, work_of};
 ghost use Rattle.running.specs.Given.{HasAhead, HasGiven, IsRowCause, IsRunOver};
 ghost use Rattle.scan.specs.Coming.{Asks};

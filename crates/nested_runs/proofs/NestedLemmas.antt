@@ -14,7 +14,7 @@ use Rattle.inner_rows.specs.Over.{AreSaid, IsPlanOverKept, IsQueryCause, basis_o
 use Rattle.meaning.proofs.AnswerLemmas.{Begins-empty}
 use Rattle.meaning.specs.Query.{QueryData}
 use Rattle.nested_runs.specs.Writes.{IsNestedCause, WritesBeginning, WritesPermitted}
-use Rattle.operators.specs.Basis.{AreStored, Basis, IsOperatorFault}
+use Rattle.nested_loops.specs.Basis.{AreStored, Basis, IsOperatorFault}
 use Rattle.plans.specs.Plan.{once}
 use Rattle.query_plans.specs.Answers.{PlannedData}
 use Rattle.runs.specs.Faults.{IsRunCause}

@@ -18,7 +18,7 @@ use Rattle.meaning.specs.Typed.{IsTyped}
 use Rattle.nested_runs.specs.Steps.{HasGivenOf, HasSteppedRows, IsPermitted, TakesFirst}
 use Rattle.nested_runs.specs.declared.steps.NestedRun.{NestedRun}
 use Rattle.nested_runs.specs.declared.steps.NestedRun.TheVariants.{Giving, Waiting}
-use Rattle.operators.specs.Basis.{AreStored, Basis}
+use Rattle.nested_loops.specs.Basis.{AreStored, Basis}
 use Rattle.pager.specs.PagerState.{PagerState}
 use Rattle.plans.specs.Plan.{once}
 use Rattle.query_plans.specs.Answers.{IsAnswerOf, PlannedData}

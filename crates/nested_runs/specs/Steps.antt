@@ -8,7 +8,7 @@ use Rattle.meaning.specs.Answer.{Permits}
 use Rattle.meaning.specs.Query.{QueryData}
 use Rattle.nested_runs.specs.declared.steps.NestedRun.{NestedRun}
 use Rattle.nested_runs.specs.declared.steps.NestedRun.TheVariants.{Waiting, Giving}
-use Rattle.operators.specs.Basis.{Basis}
+use Rattle.nested_loops.specs.Basis.{Basis}
 use Rattle.running.specs.Given.{rows_left}
 use Rattle.statement_names.specs.NamedView.{query_data}
 use Rattle.tables.specs.TableData.{TableData}

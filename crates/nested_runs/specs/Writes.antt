@@ -9,7 +9,7 @@ use Rattle.inner_rows.specs.Over.{AreSaid}
 use Rattle.meaning.specs.Answer.{Begins, Permits}
 use Rattle.meaning.specs.Hits.{Hits}
 use Rattle.meaning.specs.Query.{QueryData}
-use Rattle.operators.specs.Basis.{Basis}
+use Rattle.nested_loops.specs.Basis.{Basis}
 use Rattle.runs.specs.Faults.{IsOutsideFault}
 use Rattle.runs.specs.Printed.{Prints, PrintsUntil}
 use Rattle.tables.specs.TableData.{TableData}

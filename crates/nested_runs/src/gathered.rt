@@ -6,7 +6,7 @@ ghost use Rattle.inner_rows.specs.Runnable.{IsRunnableBody};
 ghost use Rattle.inner_rows.specs.Work.{body_work};
 ghost use Rattle.meaning.specs.Answer.{Permits};
 ghost use Rattle.meaning.specs.Typed.{IsTyped};
-ghost use Rattle.operators.specs.Basis.{Basis, ReadsRows};
+ghost use Rattle.nested_loops.specs.Basis.{Basis, ReadsRows};
 ghost use Rattle.scan.specs.Coming.{Asks};
 ghost use Rattle.sources.specs.Coming.{IsRooted};
 ghost use Rattle.values.specs.Row.{rows_data};

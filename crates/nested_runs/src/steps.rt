@@ -7,7 +7,7 @@ ghost use Rattle.inner_rows.specs.Runnable.{IsRunnableBody};
 ghost use Rattle.meaning.specs.Query.{QueryData};
 ghost use Rattle.meaning.specs.Typed.{IsTyped};
 ghost use Rattle.nested_runs.specs.Steps.{HasGivenOf, HasSteppedRows, TakesFirst, rows_ahead, work_ahead};
-ghost use Rattle.operators.specs.Basis.{Basis, ReadsRows};
+ghost use Rattle.nested_loops.specs.Basis.{Basis, ReadsRows};
 ghost use Rattle.running.specs.Given.{rows_left};
 ghost use Rattle.scan.specs.Coming.{Asks};
 ghost use Rattle.sources.specs.Coming.{IsRooted};

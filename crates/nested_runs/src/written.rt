@@ -6,7 +6,7 @@ ghost use Rattle.inner_rows.specs.Runnable.{IsRunnableBody};
 ghost use Rattle.inner_rows.specs.Work.{body_work};
 ghost use Rattle.meaning.specs.Typed.{IsTyped};
 ghost use Rattle.nested_runs.specs.Writes.{WritesBeginning, WritesPermitted};
-ghost use Rattle.operators.specs.Basis.{Basis};
+ghost use Rattle.nested_loops.specs.Basis.{Basis};
 ghost use Rattle.pager.specs.Calls.{ReadsPages};
 ghost use Rattle.runs.specs.Faults.{IsRunFault};
 ghost use Rattle.scan.specs.Coming.{Asks};

@@ -1,11 +1,6 @@
-pub mod RowLemmas
-pub mod MatchLemmas
-pub mod WantedLemmas
-pub mod NestLemmas
 pub mod TreeLemmas
 pub mod StepLemmas
 pub mod StartLemmas
-pub mod BasisLemmas
 pub mod GroupLemmas
 pub mod WindowLemmas
 pub mod FlaggedLemmas

@@ -4,7 +4,7 @@ ghost use Rattle.values.specs.Datum.{datum_of};
 ghost use Rattle.values.specs.Row.{Row};
 ghost use Rattle.row_groups.specs.GroupView.{GroupTermsData};
 ghost use Rattle.row_groups.specs.Kept.{count_of};
-ghost use Rattle.operators.specs.Basis.{IsCause, Basis};
+ghost use Rattle.nested_loops.specs.Basis.{IsCause, Basis};
 ghost use Rattle.operators.specs.Left.{GivesGroup, IsGivingLeft};
 
 use row_groups::Groups;

@@ -4,22 +4,17 @@
 //! none of overflow chains where no cell has one; and that over any source of bytes it returns, falls by a measure and tells of a
 //! failed read.
 //!
-//! The modules, in the order in which data passes them: `wanted` (kept rows that are looked up by a value), `nest` (what is read
-//! anew behind the rows before it), `flagged` (the rows of what a RIGHT or FULL JOIN puts there), `gathering` (groups, and how many
-//! of them were given), `windowing` (rows with the values of windows, and which of them are left), `tree` (a plan's sources,
-//! conditions, groups and windows) and `laws` of the definitions.
+//! The modules, in the order in which data passes them: `flagged` (the rows of what a RIGHT or FULL JOIN puts there), `gathering`
+//! (groups, and how many of them were given), `windowing` (rows with the values of windows, and which of them are left) and `tree` (a
+//! plan's sources, conditions, groups and windows).
 #![tactic(auto)]
 
 mod flagged;
 mod gathering;
-pub mod laws;
-mod nest;
 mod tree;
-mod wanted;
 mod windowing;
 
 pub use gathering::Gathering;
-pub use nest::Nest;
 pub use row_conditions::copies;
 pub use tree::Op;
 pub use windowing::Windowing;

@@ -2,9 +2,9 @@
 use Rattle.std.proofs.Common.{◌≡◌, Bool, true, false, ◌∷◌, Option, Some, None, Ok, refl, ap}
 use denote.Enum.Bare.{sameb, same_true}
 use Rattle.tokens.specs.Lexeme.{Lexeme}
-use Rattle.tokens.specs.contracts.keyword.Keyword as keywords
+use Rattle.keywords.specs.contracts.keyword.Keyword as keywords
 use Rattle.tokens.specs.contracts.sign.Sign as signs
-use Rattle.tokens.specs.declared.keyword.Keyword.{Keyword}
+use Rattle.keywords.specs.declared.keyword.Keyword.{Keyword}
 use Rattle.tokens.specs.declared.sign.Sign.{Sign}
 use Rattle.tokens.specs.declared.token.Quoting.{Quoting}
 use Rattle.phrases.specs.Outcomes.{kept_if, needed}

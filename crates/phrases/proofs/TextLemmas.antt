@@ -6,7 +6,7 @@ use Rattle.tokens.proofs.ReadLemmas as read
 use Rattle.tokens.specs.Content.{placed_of}
 use Rattle.tokens.specs.Tokens as tokens
 use Rattle.tokens.specs.Tokens.{Tokens}
-use Rattle.tokens.specs.declared.keyword.Grammar.{Grammar}
+use Rattle.keywords.specs.declared.keyword.Grammar.{Grammar}
 use Rattle.tokens.specs.declared.token.Token.{Token}
 use Rattle.phrases.specs.Steps.{Rest, IsMissing}
 use Rattle.phrases.specs.Texts.{Spells, IsRefusedText, lexemes, lexemes_of}

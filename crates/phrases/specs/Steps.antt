@@ -24,9 +24,9 @@ use Rattle.values.specs.declared.fault.Fault.{Fault}
 use Rattle.values.specs.declared.fault.Fault.TheVariants as f
 use Rattle.tokens.specs.Content.{is_bare_word}
 use Rattle.tokens.specs.Lexeme.{Lexeme}
-use Rattle.tokens.specs.contracts.keyword.Keyword as keywords
+use Rattle.keywords.specs.contracts.keyword.Keyword as keywords
 use Rattle.tokens.specs.contracts.sign.Sign as signs
-use Rattle.tokens.specs.declared.keyword.Keyword.{Keyword}
+use Rattle.keywords.specs.declared.keyword.Keyword.{Keyword}
 use Rattle.tokens.specs.declared.sign.Sign.{Sign}
 use Rattle.tokens.specs.declared.sign.Sign.TheVariants as s
 use Rattle.syntax.specs.Tree.{Name}

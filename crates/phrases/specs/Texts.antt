@@ -6,7 +6,7 @@ use Rattle.values.specs.declared.fault.Fault.TheVariants as f
 use Rattle.tokens.specs.Content.{lexeme_of}
 use Rattle.tokens.specs.Lexeme.{Lexeme}
 use Rattle.tokens.specs.Tokens.{Placed, Tokens}
-use Rattle.tokens.specs.declared.keyword.Grammar.{Grammar}
+use Rattle.keywords.specs.declared.keyword.Grammar.{Grammar}
 use Rattle.tokens.specs.declared.token.Token.{Token}
 
 abbrev pub lexemes : List Placed → List Lexeme

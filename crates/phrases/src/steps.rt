@@ -6,8 +6,9 @@ ghost use Rattle.phrases.specs.Steps as spec;
 ghost use Rattle.phrases.specs.Steps.{HasFound, IsSyntax};
 ghost use Rattle.phrases.specs.Texts.{first_place, lexemes_of};
 
+use keywords::Keyword;
 use std::alloc::Global;
-use tokens::{Keyword, Sign, Token, TokenKind, name_content};
+use tokens::{Sign, Token, TokenKind, name_content};
 use values::Fault;
 
 /// What is behind this keyword, if it stands at the front.

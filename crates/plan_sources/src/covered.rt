@@ -1,7 +1,8 @@
 //! Whether a plan reads sources that there are.
 ghost use Rattle.std.specs.Prelude.{◌↔◌, IsTrue};
 ghost use Rattle.compound_results.specs.Arms.{ArePlannedOver, arms_data};
-ghost use Rattle.operators.specs.Left.{IsNestOf, IsPlanOf};
+ghost use Rattle.nested_loops.specs.Inner.{IsNestOf};
+ghost use Rattle.operators.specs.Left.{IsPlanOf};
 ghost use Rattle.plans.specs.PlanView.{nested_data, plan_data};
 ghost use Rattle.query_plans.specs.Answers.{IsPlannedOver, planned_data};
 ghost use Rattle.sources.specs.SourceData.{sources_of};

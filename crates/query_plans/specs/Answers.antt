@@ -12,7 +12,8 @@ use Rattle.meaning.specs.Query.{Body, QueryData}
 use Rattle.meaning.specs.Typed.{IsTyped}
 use Rattle.plans.specs.Plan.{table_rows, table_size, work}
 use Rattle.sources.specs.SourceData.{SourceData}
-use Rattle.operators.specs.Left.{IsNestOf, IsPlanOf}
+use Rattle.nested_loops.specs.Inner.{IsNestOf}
+use Rattle.operators.specs.Left.{IsPlanOf}
 use Rattle.results.specs.Coming.{SelectionData, answer_of, selection_data}
 use Rattle.sorted_results.specs.Sorted.{IsSortedAnswer, SortedData, sorted_data}
 use Rattle.distinct_results.specs.Coming.{distinct_answer_of}

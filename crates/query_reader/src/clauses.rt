@@ -12,9 +12,10 @@ ghost use Rattle.window_reader.specs.Views.{present_of};
 use crate::trees::defined;
 use clause_reader::{Read, a_name};
 use fronts::after_group_by;
+use keywords::Keyword;
 use phrases::{after_keyword, after_sign, needed};
 use statement_trees::{Expr, NamedWindow};
-use tokens::{Keyword, Sign, Token};
+use tokens::{Sign, Token};
 use values::Fault;
 use window_reader::{Inner, list, present, window};
 

@@ -13,10 +13,11 @@ use crate::result_columns::columns;
 use crate::trees::selected;
 use clause_reader::Read;
 use fronts::quantifier_at;
+use keywords::Keyword;
 use phrases::{after_keyword, needed};
 use source_reader::from;
 use statement_trees::{Core, Expr, NamedWindow, ResultColumn, Sources};
-use tokens::{Keyword, Token};
+use tokens::Token;
 use values::Fault;
 use window_reader::Inner;
 

@@ -12,10 +12,11 @@ ghost use Rattle.syntax.specs.SelectView.{name_of};
 use crate::trees::{all, all_of, value};
 use clause_reader::{Read, a_name};
 use fronts::{Beginning, OR_LEVEL, beginning_at};
+use keywords::Keyword;
 use phrases::after_sign;
 use statement_trees::ResultColumn;
 use syntax::ResultName;
-use tokens::{Keyword, Sign, Token, TokenKind, name_content};
+use tokens::{Sign, Token, TokenKind, name_content};
 use values::Fault;
 use window_reader::Inner;
 

@@ -16,9 +16,9 @@ use Rattle.plans.proofs.HitLemmas.{any_here}
 use Rattle.scan.specs.Coming.{Asks}
 use Rattle.scan.proofs.ComingLemmas.{Asks-then}
 use Rattle.operators.specs.declared.tree.Op.{Op}
-use Rattle.operators.specs.Basis.{AreStored, Basis, GivesNext, GivesNone, IsCause}
+use Rattle.nested_loops.specs.Basis.{AreStored, Basis, GivesNext, GivesNone, IsCause}
 use Rattle.operators.specs.Left.{IsLeft}
-use Rattle.operators.proofs.RowLemmas.{Asks-less, at_start}
+use Rattle.nested_loops.proofs.RowLemmas.{Asks-less, at_start}
 use Rattle.operators.proofs.StepLemmas.{Called}
 use Rattle.results.specs.declared.limits.Slice.{Slice}
 use Rattle.results.specs.declared.stream.Results.{Results}

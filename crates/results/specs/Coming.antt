@@ -16,7 +16,7 @@ use Rattle.meaning.specs.Valuation.{term_values}
 use Rattle.plans.specs.Plan.{Hits, PlanData, ReachesOverflow, rows_of}
 use Rattle.plans.specs.PlanView.{plan_data}
 use Rattle.operators.specs.declared.tree.Op.{Op}
-use Rattle.operators.specs.Basis.{Basis}
+use Rattle.nested_loops.specs.Basis.{Basis}
 use Rattle.operators.specs.Left.{IsLeft, plan_of}
 use Rattle.results.specs.Slices.{sliced}
 use Rattle.results.specs.declared.limits.Slice.{Slice}

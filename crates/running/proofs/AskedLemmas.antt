@@ -13,7 +13,7 @@ use Rattle.meaning.specs.Hits.{order_terms}
 use Rattle.plans.specs.Plan.{PlanData, table_size, work}
 use Rattle.scan.specs.Coming.{Asks}
 use Rattle.scan.proofs.ComingLemmas.{Asks-none}
-use Rattle.operators.specs.Basis.{AreStored, Basis, GivesNext, GivesNone, GivesRowOrNone}
+use Rattle.nested_loops.specs.Basis.{AreStored, Basis, GivesNext, GivesNone, GivesRowOrNone}
 use Rattle.operators.specs.Left.{plan_of}
 use Rattle.results.specs.Coming.{IsComing, IsResultCause, SelectionData, answer_of}
 use Rattle.results.specs.declared.stream.Results.{Results}

@@ -16,7 +16,7 @@ use Rattle.expr.specs.View.{term}
 use Rattle.meaning.specs.Hits.{order_terms}
 use Rattle.plans.specs.Plan.{PlanData, work}
 use Rattle.scan.specs.Coming.{Asks}
-use Rattle.operators.specs.Basis.{AreStored, Basis, GivesRowOrNone, GivesNext, GivesNone}
+use Rattle.nested_loops.specs.Basis.{AreStored, Basis, GivesRowOrNone, GivesNext, GivesNone}
 use Rattle.operators.specs.Left.{IsPlanOf, plan_of}
 use Rattle.results.specs.Coming.{IsComing, IsResultCause, SelectionData, answer_of}
 use Rattle.results.specs.declared.stream.Results.{Results}

@@ -17,7 +17,7 @@ use Rattle.expr.specs.Term.{Term}
 use Rattle.expr.specs.View.{term}
 use Rattle.plans.specs.Plan.{PlanData}
 use Rattle.scan.specs.Coming.{Asks}
-use Rattle.operators.specs.Basis.{AreStored, Basis}
+use Rattle.nested_loops.specs.Basis.{AreStored, Basis}
 use Rattle.operators.specs.Left.{IsPlanOf, plan_of, steps}
 use Rattle.results.specs.Coming.{IsComing}
 use Rattle.distinct_results.specs.Coming.{IsDistinctComing}

@@ -5,7 +5,7 @@ ghost use Rattle.values.specs.Datum.{datum_of};
 ghost use Rattle.sources.specs.Coming.{IsRooted};
 ghost use Rattle.image.specs.Pages.{WhereSteady};
 ghost use Rattle.scan.specs.Coming.{Asks};
-ghost use Rattle.operators.specs.Basis.{AreStored, Basis, ReadsRows};
+ghost use Rattle.nested_loops.specs.Basis.{AreStored, Basis, ReadsRows};
 ghost use Rattle.query_plans.specs.Answers.{IsAnswerOf, IsPlannedOver, work_of};
 ghost use Rattle.running.specs.Given.{GivesFirst, IsRowCause, rows_left};
 ghost use Rattle.values.specs.Row.{rows_data};

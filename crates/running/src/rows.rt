@@ -6,7 +6,7 @@ ghost use Rattle.sources.specs.Coming.{IsRooted};
 ghost use Rattle.image.specs.Pages.{WhereSteady};
 ghost use Rattle.compound_results.specs.Chains.{IsUnionChain};
 ghost use Rattle.compound_results.specs.Compounds.{compound_data};
-ghost use Rattle.operators.specs.Basis.{AreStored, Basis, ReadsRows};
+ghost use Rattle.nested_loops.specs.Basis.{AreStored, Basis, ReadsRows};
 ghost use Rattle.query_plans.specs.Answers.{PlannedData, planned_data};
 ghost use Rattle.results.specs.Coming.{selection_data};
 ghost use Rattle.running.specs.GatheredView.{gathered_data};

@@ -25,8 +25,8 @@ use Rattle.meaning.proofs.KeyLemmas.{keys_cmp_total}
 use Rattle.meaning.proofs.OrderLemmas.{IsSortedBy-ascending, ascending-same}
 use Rattle.plans.specs.Plan.{rows_of, table_rows, table_size, work}
 use Rattle.scan.specs.Coming.{Asks}
-use Rattle.operators.specs.Basis.{AreStored, Basis, IsOperatorFault}
-use Rattle.operators.proofs.RowLemmas.{some_one}
+use Rattle.nested_loops.specs.Basis.{AreStored, Basis, IsOperatorFault}
+use Rattle.nested_loops.proofs.RowLemmas.{some_one}
 use Rattle.results.specs.Coming.{IsResultCause, result_rows}
 use Rattle.sorted_results.specs.Sorted.{SortedData, outputs_over}
 use Rattle.distinct_results.specs.Firsts.{firsts}

@@ -16,8 +16,8 @@ use Rattle.image.specs.Pages.{Pages, WhereSteady, pages_seen}
 use Rattle.sources.specs.SourceData.{SourceData}
 use Rattle.scan.specs.Coming.{Asks}
 use Rattle.scan.proofs.ComingLemmas.{Asks-none, Asks-then}
-use Rattle.operators.specs.Basis.{AreStored, Basis, GivesNext, GivesNone, IsOperatorFault}
-use Rattle.operators.proofs.RowLemmas.{at_start}
+use Rattle.nested_loops.specs.Basis.{AreStored, Basis, GivesNext, GivesNone, IsOperatorFault}
+use Rattle.nested_loops.proofs.RowLemmas.{at_start}
 use Rattle.compound_results.specs.Arms.{ArePlannedOver, ArmsHit, work_of_arms}
 use Rattle.compound_results.specs.Chains.{IsUnionChain, chain_answer}
 use Rattle.compound_results.specs.Compounds.{CompoundData, IsArmsCause, IsCompoundAnswer}

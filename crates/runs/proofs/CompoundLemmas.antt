@@ -13,7 +13,7 @@ use Rattle.expr.specs.Meaning.{eval}
 use Rattle.meaning.specs.Answer.{limited, skipped}
 use Rattle.meaning.specs.Body.{plain_outputs}
 use Rattle.scan.specs.Coming.{Asks}
-use Rattle.operators.specs.Basis.{AreStored, Basis, IsOperatorFault}
+use Rattle.nested_loops.specs.Basis.{AreStored, Basis, IsOperatorFault}
 use Rattle.compound_results.specs.Arms.{rows_of_arms, work_of_arms}
 use Rattle.compound_results.specs.Compounds.{CompoundData, IsArmsCause, IsCompoundAnswer}
 use Rattle.query_plans.specs.Answers.{PlannedData}

@@ -16,8 +16,8 @@ use Rattle.expr.specs.Term.{Term}
 use Rattle.plans.specs.Plan.{PlanData, work}
 use Rattle.scan.specs.Coming.{Asks}
 use Rattle.scan.proofs.ComingLemmas.{Asks-none, Asks-then}
-use Rattle.operators.specs.Basis.{AreStored, Basis, GivesNext, GivesNone, IsOperatorFault}
-use Rattle.operators.proofs.RowLemmas.{at_start}
+use Rattle.nested_loops.specs.Basis.{AreStored, Basis, GivesNext, GivesNone, IsOperatorFault}
+use Rattle.nested_loops.proofs.RowLemmas.{at_start}
 use Rattle.results.specs.Coming.{IsResultCause, SelectionData}
 use Rattle.select_plans.specs.Laws.{PlanReaches}
 use Rattle.explain.specs.Text.{row_text, rows_text}

@@ -9,7 +9,7 @@ use Rattle.expr.specs.Term.{Term}
 use Rattle.expr.specs.View.{term}
 use Rattle.meaning.specs.Hits.{order_terms}
 use Rattle.plans.specs.Plan.{PlanData}
-use Rattle.operators.specs.Basis.{Basis}
+use Rattle.nested_loops.specs.Basis.{Basis}
 use Rattle.operators.specs.Left.{plan_of}
 use Rattle.results.specs.declared.stream.Results.{Results}
 use Rattle.results.specs.Coming.{IsComing, SelectionData, answer_of}

@@ -3,7 +3,7 @@ use Rattle.std.specs.Prelude.{◌≡◌, ◌⊎◌}
 use Rattle.values.specs.declared.fault.Fault.{Fault}
 use Rattle.values.specs.declared.fault.Fault.TheVariants.{Changed, Overflow, WriteFailed}
 use Rattle.pager.specs.Calls.{IsReadFault}
-use Rattle.operators.specs.Basis.{Basis}
+use Rattle.nested_loops.specs.Basis.{Basis}
 use Rattle.query_plans.specs.Answers.{HitsOf, PlannedData}
 
 -- the faults that come from outside: those of reading, and a failed write

@@ -7,7 +7,7 @@ use Rattle.values.specs.Sink.{SinkFacts}
 use Rattle.values.specs.declared.fault.Fault.{Fault}
 use Rattle.image.specs.Pages.{Pages}
 use Rattle.sources.specs.SourceData.{SourceData}
-use Rattle.operators.specs.Basis.{AreStored, Basis}
+use Rattle.nested_loops.specs.Basis.{AreStored, Basis}
 use Rattle.query_plans.specs.Answers.{IsAnswerOf, PlannedData}
 use Rattle.runs.specs.Faults.{IsRunCause}
 use Rattle.runs.specs.Printed.{Prints, PrintsUntil}

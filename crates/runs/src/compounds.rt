@@ -5,7 +5,7 @@ ghost use Rattle.pager.specs.Calls.{ReadsPages};
 ghost use Rattle.sources.specs.Coming.{IsRooted};
 ghost use Rattle.image.specs.Pages.{WhereSteady};
 ghost use Rattle.scan.specs.Coming.{Asks};
-ghost use Rattle.operators.specs.Basis.{AreStored, Basis};
+ghost use Rattle.nested_loops.specs.Basis.{AreStored, Basis};
 ghost use Rattle.compound_results.specs.Arms.{ArePlannedOver, arms_data, work_of_arms};
 ghost use Rattle.compound_results.specs.Chains.{IsUnionChain};
 ghost use Rattle.compound_results.specs.Compounds.{compound_data};

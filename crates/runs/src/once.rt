@@ -7,7 +7,7 @@ ghost use Rattle.image.specs.Pages.{WhereSteady};
 ghost use Rattle.plans.specs.Plan.{work};
 ghost use Rattle.plans.specs.PlanView.{plan_data};
 ghost use Rattle.scan.specs.Coming.{Asks};
-ghost use Rattle.operators.specs.Basis.{AreStored, Basis};
+ghost use Rattle.nested_loops.specs.Basis.{AreStored, Basis};
 ghost use Rattle.operators.specs.Left.{IsPlanOf};
 ghost use Rattle.results.specs.Coming.{selection_data};
 ghost use Rattle.distinct_results.specs.Sorted.{sorted_distinct_data};

@@ -5,7 +5,7 @@ use Rattle.values.specs.Row.{Row}
 use Rattle.values.specs.declared.fault.Fault.{Fault}
 use Rattle.values.specs.declared.fault.Fault.TheVariants.{Finished, NoStatement}
 use Rattle.meaning.specs.Query.{QueryData}
-use Rattle.operators.specs.Basis.{IsOperatorFault}
+use Rattle.nested_loops.specs.Basis.{IsOperatorFault}
 use Rattle.pager.specs.Calls.{SameImage}
 use Rattle.tables.specs.TableData.{TableData}
 use Rattle.shell.specs.Answer.{IsAnswerOver}

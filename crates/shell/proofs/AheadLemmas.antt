@@ -13,7 +13,7 @@ use Rattle.meaning.specs.Typed.{IsTyped}
 use Rattle.nested_runs.specs.Steps.{work_ahead}
 use Rattle.nested_runs.specs.declared.steps.NestedRun.{NestedRun}
 use Rattle.nested_runs.specs.declared.steps.NestedRun.TheVariants.{Giving, Waiting}
-use Rattle.operators.specs.Basis.{AreStored, Basis}
+use Rattle.nested_loops.specs.Basis.{AreStored, Basis}
 use Rattle.query_plans.proofs.WideLemmas.{typed_wide}
 use Rattle.query_plans.specs.Answers.{PlannedData, work_of}
 use Rattle.running.specs.Given.{HasAhead, HasAsked}

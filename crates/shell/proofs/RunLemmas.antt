@@ -43,7 +43,7 @@ use Rattle.integrity.specs.Checked.{IsCheckFault}
 use Rattle.integrity.specs.Denotes.{Denotes}
 use Rattle.integrity.proofs.DenotesLemmas.{HasDatabase, IsStoredAs, database_of}
 use Rattle.scan.specs.Coming.{Asks, size_of}
-use Rattle.operators.specs.Basis.{AreStored, Basis, IsSourceAt}
+use Rattle.nested_loops.specs.Basis.{AreStored, Basis, IsSourceAt}
 use Rattle.query_plans.specs.Answers.{AreWideFor, HitsOf, IsAnswerOf, PlannedData, work_of}
 use Rattle.query_plans.proofs.WideLemmas.{typed_wide}
 use Rattle.running.specs.Given.{IsRowCause}

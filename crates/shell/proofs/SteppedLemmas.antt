@@ -10,7 +10,7 @@ use Rattle.image.specs.Pages.{Pages, WhereSteady, pages_in, pages_seen}
 use Rattle.meaning.specs.Query.{QueryData}
 use Rattle.meaning.specs.Typed.{IsTyped}
 use Rattle.naming.specs.Statement.{Named}
-use Rattle.operators.specs.Basis.{AreStored, Basis}
+use Rattle.nested_loops.specs.Basis.{AreStored, Basis}
 use Rattle.query_plans.specs.Answers.{PlannedData}
 use Rattle.resolver.specs.Resolved.{Resolves}
 use Rattle.running.specs.Given.{HasAnswered, HasGiven, IsRowCause}

@@ -6,7 +6,7 @@ use Rattle.image.specs.Pages.{pages_of}
 use Rattle.inner_rows.specs.Over.{AreSaid}
 use Rattle.inner_rows.specs.Work.{body_work}
 use Rattle.meaning.specs.Query.{QueryData}
-use Rattle.operators.specs.Basis.{AreStored, Basis}
+use Rattle.nested_loops.specs.Basis.{AreStored, Basis}
 use Rattle.query_plans.specs.Answers.{PlannedData, work_of}
 use Rattle.runs.specs.Faults.{IsRunFault}
 use Rattle.shell.specs.declared.engine.Report.{Report}

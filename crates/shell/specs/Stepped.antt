@@ -16,7 +16,7 @@ use Rattle.naming.specs.Statement.{Named}
 use Rattle.nested_runs.specs.Steps.{HasGivenOf}
 use Rattle.nested_runs.specs.Steps as nested
 use Rattle.nested_runs.specs.declared.steps.NestedRun.{NestedRun}
-use Rattle.operators.specs.Basis.{Basis}
+use Rattle.nested_loops.specs.Basis.{Basis}
 use Rattle.query_plans.specs.Answers.{PlannedData}
 use Rattle.running.specs.Given.{HasAhead, HasGiven, IsOpenedRun, IsRunOver, steps_left}
 use Rattle.running.specs.declared.rows.Running.{Running}

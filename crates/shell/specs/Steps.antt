@@ -9,7 +9,7 @@ use Rattle.inner_rows.specs.Runnable.{IsRunnableBody}
 use Rattle.meaning.specs.Query.{QueryData}
 use Rattle.meaning.specs.Typed.{IsTyped}
 use Rattle.nested_runs.specs.Steps.{HasGivenOf, HasSteppedRows, work_ahead}
-use Rattle.operators.specs.Basis.{AreStored, Basis}
+use Rattle.nested_loops.specs.Basis.{AreStored, Basis}
 use Rattle.query_plans.specs.Answers.{IsAnswerOf, PlannedData}
 use Rattle.running.specs.Given.{HasAhead, HasAsked, HasGiven, IsRowCause}
 use Rattle.running.specs.declared.rows.Running.{Running}

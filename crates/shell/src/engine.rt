@@ -5,7 +5,7 @@ ghost use Rattle.pager.specs.Calls.{HandsBack};
 ghost use Rattle.values.specs.Fault.{Counts};
 ghost use Rattle.values.specs.Row.{Row as RowData};
 ghost use Rattle.meaning.specs.Query.{QueryData};
-ghost use Rattle.operators.specs.Basis.{IsOperatorFault};
+ghost use Rattle.nested_loops.specs.Basis.{IsOperatorFault};
 ghost use Rattle.shell.specs.Prepared.{IsPreparedFor, Means, RefusesText};
 ghost use Rattle.shell.specs.PreparedView.{prepared_data};
 ghost use Rattle.shell.specs.Run.{HasRun, HasStopped};

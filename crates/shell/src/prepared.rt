@@ -14,7 +14,7 @@ ghost use Rattle.inner_rows.specs.Over.{AreSaid};
 ghost use Rattle.inner_rows.specs.Runnable.{IsRunnableBody};
 ghost use Rattle.inner_rows.specs.Work.{body_work};
 ghost use Rattle.meaning.specs.Typed.{IsTyped};
-ghost use Rattle.operators.specs.Basis.{AreStored, Basis};
+ghost use Rattle.nested_loops.specs.Basis.{AreStored, Basis};
 ghost use Rattle.query_plans.specs.Answers.{PlannedData, planned_data, work_of};
 ghost use Rattle.runs.specs.Faults.{IsRunFault};
 ghost use Rattle.settled_sources.specs.Settled.{settled};

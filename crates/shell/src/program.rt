@@ -10,9 +10,10 @@ ghost use Rattle.shell.specs.PreparedView.{prepared_data};
 
 use crate::{Args, Engine, Prepared};
 use pager::Source;
+use sinks::Gathered;
 use std::alloc::Global;
 use std::num::NonZeroUsize;
-use values::{Fault, Gathered, Sink};
+use values::{Fault, Sink};
 
 /// Writes a fault's line, and answers the status 1. It takes no memory; a failure to write changes nothing.
 pub fn fail<E: Sink>(fault: &Fault, err: &mut E) -> u8

@@ -2,7 +2,7 @@
 ghost use Rattle.std.specs.Prelude.{◌<◌, ℕ, [], All, IfOk, List, OnSome};
 ghost use Rattle.values.specs.Row.{Row as RowData};
 ghost use Rattle.image.specs.Pages.{WhereSteady};
-ghost use Rattle.operators.specs.Basis.{AreStored, Basis, ReadsRows};
+ghost use Rattle.nested_loops.specs.Basis.{AreStored, Basis, ReadsRows};
 ghost use Rattle.query_plans.specs.Answers.{PlannedData};
 ghost use Rattle.running.specs.Given.{HasAhead, HasGiven, IsRunOver, steps_left};
 ghost use Rattle.sources.specs.Coming.{IsRooted};

@@ -7,8 +7,8 @@ use Rattle.image.specs.Pages.{Pages, WhereSteady, pages_seen}
 use Rattle.sources.specs.SourceData.{SourceData}
 use Rattle.scan.specs.Coming.{Asks}
 use Rattle.scan.proofs.ComingLemmas.{Asks-none, Asks-then}
-use Rattle.operators.specs.Basis.{AreStored, Basis, GivesNext, GivesRowOrNone}
-use Rattle.operators.proofs.RowLemmas.{at_start}
+use Rattle.nested_loops.specs.Basis.{AreStored, Basis, GivesNext, GivesRowOrNone}
+use Rattle.nested_loops.proofs.RowLemmas.{at_start}
 
 -- what gives rows one by one, and what is still to come of it
 module _ {V : Type 0} (IsToCome : Pages → List SourceData → Basis → V → List Row → ℕ → Type 0) where

@@ -2,7 +2,7 @@
 use Rattle.std.proofs.Common.{◌≡◌, ◌<◌, ◌≤◌, ℕ, zero, suc, max, List, [], ◌∷◌, ◌++◌, length, map, Option, Some, None, Ok, Err, refl, sym, ap, ◌∙◌, arith}
 use Rattle.values.specs.declared.fault.Fault.{Fault}
 use Rattle.tokens.specs.Lexeme.{Lexeme}
-use Rattle.tokens.specs.declared.keyword.Keyword.TheVariants as k
+use Rattle.keywords.specs.declared.keyword.Keyword.TheVariants as k
 use Rattle.tokens.specs.declared.sign.Sign.TheVariants as s
 use Rattle.phrases.specs.Outcomes.{Fails, Outcome, Read, Refusal, ◌>>=◌, needed, read}
 use Rattle.phrases.specs.Steps.{Rest, after_close, after_open}

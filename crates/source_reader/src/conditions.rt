@@ -7,15 +7,16 @@ ghost use Rattle.phrases.specs.Outcomes.{Yields};
 ghost use Rattle.phrases.specs.Steps as steps;
 ghost use Rattle.phrases.specs.Texts.{lexemes_of};
 ghost use Rattle.statement_trees.specs.TreeView.{on_of};
-ghost use Rattle.tokens.specs.declared.keyword.Keyword.TheVariants as k;
+ghost use Rattle.keywords.specs.declared.keyword.Keyword.TheVariants as k;
 ghost use Rattle.window_reader.specs.Setting.{at};
 
 use crate::trees::{always, on_condition, using};
 use clause_reader::{Read, names};
 use fronts::{OR_LEVEL, Wants};
+use keywords::Keyword;
 use phrases::{after_keyword, after_sign, needed, syntax_at};
 use statement_trees::JoinCondition;
-use tokens::{Keyword, Sign, Token};
+use tokens::{Sign, Token};
 use values::Fault;
 use window_reader::Inner;
 

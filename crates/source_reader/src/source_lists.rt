@@ -13,9 +13,10 @@ use crate::conditions::on;
 use crate::trees::{all_joined, derived, joined, table};
 use clause_reader::{Read, a_name, alias};
 use fronts::{Joining, join_at};
+use keywords::Keyword;
 use phrases::{after_keyword, after_sign, needed};
 use statement_trees::{JoinCondition, Source, Sources};
-use tokens::{Keyword, Sign, Token};
+use tokens::{Sign, Token};
 use values::Fault;
 use window_reader::Inner;
 

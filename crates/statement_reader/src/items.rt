@@ -9,9 +9,10 @@ ghost use Rattle.statement_trees.specs.StatementView.{item_of};
 ghost use Rattle.statement_trees.specs.TreeView.{query_of};
 
 use clause_reader::{Read, a_name, columns};
+use keywords::Keyword;
 use phrases::{after_keyword, after_sign, needed};
 use statement_trees::{Item, Query};
-use tokens::{Keyword, Sign, Token};
+use tokens::{Sign, Token};
 use values::Fault;
 use window_reader::Inner;
 

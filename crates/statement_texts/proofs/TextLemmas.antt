@@ -25,7 +25,7 @@ use Rattle.tokens.proofs.ReadLemmas as tokens_read
 use Rattle.tokens.specs.Content.{placed_of}
 use Rattle.tokens.specs.Tokens as tokens
 use Rattle.tokens.specs.Tokens.{Tokens}
-use Rattle.tokens.specs.declared.keyword.Grammar.TheVariants as g
+use Rattle.keywords.specs.declared.keyword.Grammar.TheVariants as g
 use Rattle.tokens.specs.declared.token.Token.{Token}
 
 -- What the reader on lists says, as the program tells it

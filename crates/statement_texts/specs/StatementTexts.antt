@@ -3,7 +3,7 @@ use Rattle.std.specs.Prelude.{◌<◌, ◌≤◌, ◌⊎◌, ℕ, List, length}
 use Rattle.values.specs.declared.fault.Fault.{Fault}
 use Rattle.values.specs.declared.fault.Fault.TheVariants as f
 use Rattle.tokens.specs.Tokens.{Placed, Tokens}
-use Rattle.tokens.specs.declared.keyword.Grammar.TheVariants as g
+use Rattle.keywords.specs.declared.keyword.Grammar.TheVariants as g
 use Rattle.grammar.specs.Statements.{States}
 use Rattle.phrases.specs.Texts.{lexemes, max_levels, max_text}
 use Rattle.source_texts.specs.Sources.{source_text}

@@ -6,12 +6,13 @@ ghost use Rattle.statement_texts.specs.StatementTexts.{IsAllowed, IsRefusedState
 ghost use Rattle.statement_texts.specs.Told.{TellsOfStatement};
 ghost use Rattle.statement_trees.specs.StatementView.{statement_of};
 
+use keywords::Grammar;
 use nested_reader::{MAX_LEVELS, Source, statement_within};
 use phrases::MAX_TEXT;
 use statement_limits::check_limits;
 use statement_trees::Statement;
 use std::alloc::Global;
-use tokens::{Grammar, Token, read_tokens};
+use tokens::{Token, read_tokens};
 use values::Fault;
 
 /// The statement that tokens are. Where there are no more tokens than levels, a limit is met by nothing that is spelt.

@@ -13,11 +13,12 @@ use pager::Source;
 use scripted::{ReadScript, ScriptSource};
 use sessions::{Session, Step, replay};
 use shell::Engine;
+use sinks::{Gathered, WriteSink};
 use std::alloc::Global;
 use std::num::NonZeroUsize;
 use std::rt::{Env, Files};
 use std::{env, fs};
-use values::{Fault, Gathered, Sink, WriteSink};
+use values::{Fault, Sink};
 use written::{Asked, asked_of, write_reply, write_rows};
 
 /// Does what a line asks for, and writes the reply.

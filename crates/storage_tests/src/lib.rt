@@ -2,8 +2,7 @@
 //! SQLite itself answers. They stand apart from the crates that they try, so that none of these is proved a second time for
 //! them. It holds no other code.
 //!
-//! The modules: `literals` and `sinks` (values as text, their order, and where text is written to), `headers` and `pages`
-//! (an image's bytes), `record_rows` (records), `lines` (rows as text) and `failing` (sources and sinks that fail).
+//! The modules: `headers` and `pages` (an image's bytes), `record_rows` (records) and `failing` (sources and sinks that fail).
 #![tactic(auto)]
 
 #[cfg(test)]
@@ -11,12 +10,6 @@ mod failing;
 #[cfg(test)]
 mod headers;
 #[cfg(test)]
-mod lines;
-#[cfg(test)]
-mod literals;
-#[cfg(test)]
 mod pages;
 #[cfg(test)]
 mod record_rows;
-#[cfg(test)]
-mod sinks;

@@ -21,9 +21,10 @@ use keys::sought;
 use pager::{FileSource, Pager, Source};
 use rows::write_rows;
 use searches::{write_entries, write_row_search, write_search};
+use sinks::{Gathered, WriteSink};
 use std::env;
 use std::num::NonZeroUsize;
-use values::{Gathered, Sink, Value, WriteSink};
+use values::{Sink, Value};
 
 /// Writes where the searches for rows stand that standard input asks for.
 fn search_rows<S: Source, O: Sink>(

@@ -19,12 +19,13 @@ mod token_lists;
 use anyhow::{Context, Result};
 use create_reader::{read_create, read_create_index};
 use created::{write_create, write_index};
+use keywords::Grammar;
 use lines::text_of;
 use statement_texts::read_select;
 use statements::{write_headings, write_statement};
 use std::alloc::Global;
 use token_lists::write_tokens;
-use tokens::{Grammar, read_tokens};
+use tokens::read_tokens;
 use values::Fault;
 
 /// Writes the answer for a text.

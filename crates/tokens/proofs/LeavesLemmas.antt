@@ -10,7 +10,7 @@ use Rattle.tokens.specs.Lexeme.{Lexeme, Run, Quoted, Hex, Closes, Begins, Blank}
 use Rattle.tokens.specs.Reading.{token, blank}
 use Rattle.tokens.specs.Sign.{spelling}
 use Rattle.tokens.specs.Tokens.{between, StandsIn}
-use Rattle.tokens.specs.declared.keyword.Grammar.{Grammar}
+use Rattle.keywords.specs.declared.keyword.Grammar.{Grammar}
 use Rattle.tokens.specs.declared.sign.Sign.{Sign}
 use Rattle.tokens.specs.declared.sign.Sign.TheVariants as s
 

@@ -8,13 +8,13 @@ use Rattle.tokens.proofs.FormLemmas.{chosen, run_complete, run_sound, stops_true
 use Rattle.tokens.proofs.SignLemmas.{sign_complete, sign_sound}
 use Rattle.byte_runs.specs.Bytes.{is_digit, begins_word, is_in_word, joins_number, decimal, is_hex_digit, is_x, is_not, first_is}
 use Rattle.tokens.specs.Content.{unhex, content_of}
-use Rattle.tokens.specs.Keyword.{keyword_of}
+use Rattle.keywords.specs.Keyword.{keyword_of}
 use Rattle.tokens.specs.Lexeme.{Lexeme, Run, Stops, Begins, begins_blob}
 use Rattle.byte_runs.specs.Runs.{Taken, run_of, quoted}
 use Rattle.tokens.specs.Reading.{Found, stops, closed, text, name, blob, number, named, word, sign_at, tail, sign, behind, token}
 use Rattle.tokens.specs.Sign.{spelling, joins}
-use Rattle.tokens.specs.declared.keyword.Grammar.{Grammar}
-use Rattle.tokens.specs.declared.keyword.Keyword.{Keyword}
+use Rattle.keywords.specs.declared.keyword.Grammar.{Grammar}
+use Rattle.keywords.specs.declared.keyword.Keyword.{Keyword}
 use Rattle.tokens.specs.declared.sign.Sign.{Sign}
 use Rattle.tokens.specs.declared.sign.Sign.TheVariants as s
 use Rattle.tokens.specs.declared.token.Quoting.{Quoting}

@@ -5,7 +5,7 @@ use Rattle.tokens.proofs.ReadLemmas.{token_step}
 use Rattle.tokens.specs.Content.{lexeme_of, placed_of}
 use Rattle.tokens.specs.Reading.{token}
 use Rattle.tokens.specs.Tokens.{Placed, between, StandsIn, Reads}
-use Rattle.tokens.specs.declared.keyword.Grammar.{Grammar}
+use Rattle.keywords.specs.declared.keyword.Grammar.{Grammar}
 use Rattle.tokens.specs.declared.token.Token.{Token}
 
 map_push : {A B : Type 0} (f : A → B) (xs : List A) (x : A) → map f (xs ++ x ∷ []) ≡ map f xs ++ f x ∷ []

@@ -9,7 +9,7 @@ use Rattle.byte_runs.specs.Bytes.{is_space}
 use Rattle.tokens.specs.Lexeme.{Lexeme, Blank, Begins}
 use Rattle.tokens.specs.Reading.{token, blank}
 use Rattle.tokens.specs.Tokens.{Placed, between, Reads, Tokens, StopsAt}
-use Rattle.tokens.specs.declared.keyword.Grammar.{Grammar}
+use Rattle.keywords.specs.declared.keyword.Grammar.{Grammar}
 
 -- no token begins with a space
 space_begins : (grammar : Grammar) (b : ℕ) (bs : List ℕ) → is_space b ≡ true → token grammar (b ∷ bs) ≡ None

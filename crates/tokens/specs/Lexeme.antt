@@ -2,10 +2,10 @@
 -- long as can be.
 use Rattle.std.specs.Prelude.{◌≡◌, ℕ, Bool, true, false, ◌&&◌, ◌<◌, ◌+◌, ◌*◌, ◌^◌, ℤ, pos, List, [], ◌∷◌, ◌++◌, nat_eq, Some, None}
 use Rattle.byte_runs.specs.Bytes.{is_digit, begins_word, is_in_word, joins_number, decimal, is_hex_digit, hex_value, is_x, is_space, is_not, first_is}
-use Rattle.tokens.specs.Keyword.{keyword_of}
+use Rattle.keywords.specs.Keyword.{keyword_of}
 use Rattle.tokens.specs.Sign as sign
-use Rattle.tokens.specs.declared.keyword.Grammar.{Grammar}
-use Rattle.tokens.specs.declared.keyword.Keyword.{Keyword}
+use Rattle.keywords.specs.declared.keyword.Grammar.{Grammar}
+use Rattle.keywords.specs.declared.keyword.Keyword.{Keyword}
 use Rattle.tokens.specs.declared.sign.Sign.{Sign}
 use Rattle.tokens.specs.declared.token.Quoting.{Quoting}
 use Rattle.tokens.specs.declared.token.Quoting.TheVariants as q

@@ -1,4 +1,3 @@
-pub mod Keyword
 pub mod Sign
 pub mod Lexeme
 pub mod Tokens

@@ -4,10 +4,10 @@ use Rattle.std.specs.Prelude.{ℕ, Bool, true, false, not, ◌&&◌, ◌%◌, �
 use Rattle.byte_runs.specs.Bytes.{is_digit, begins_word, is_in_word, joins_number, decimal, is_hex_digit, is_space, is_not}
 use Rattle.byte_runs.specs.Runs.{Taken, quoted, run_of}
 use Rattle.tokens.specs.Content.{undoubled, unhex, content_of}
-use Rattle.tokens.specs.Keyword.{keyword_of}
+use Rattle.keywords.specs.Keyword.{keyword_of}
 use Rattle.tokens.specs.Lexeme.{Lexeme, begins_blob, ends_comment}
-use Rattle.tokens.specs.declared.keyword.Grammar.{Grammar}
-use Rattle.tokens.specs.declared.keyword.Keyword.{Keyword}
+use Rattle.keywords.specs.declared.keyword.Grammar.{Grammar}
+use Rattle.keywords.specs.declared.keyword.Keyword.{Keyword}
 use Rattle.tokens.specs.declared.sign.Sign.{Sign}
 use Rattle.tokens.specs.declared.sign.Sign.TheVariants as s
 use Rattle.tokens.specs.declared.token.Quoting.{Quoting}

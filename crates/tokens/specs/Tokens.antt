@@ -4,7 +4,7 @@ use Rattle.std.specs.Str.{IsCharBoundary}
 use Rattle.values.specs.declared.fault.Fault.{Fault}
 use Rattle.values.specs.declared.fault.Fault.TheVariants.{NoMemory, Syntax}
 use Rattle.tokens.specs.Lexeme.{Lexeme, Begins, Blank}
-use Rattle.tokens.specs.declared.keyword.Grammar.{Grammar}
+use Rattle.keywords.specs.declared.keyword.Grammar.{Grammar}
 
 -- a token where it stands: how many bytes are before it, and its own bytes
 pub record Placed : Type 0 where

@@ -2,7 +2,7 @@
 ghost use Rattle.std.specs.Prelude.{◌≡◌, List, ℕ};
 ghost use Rattle.tokens.specs.Lexeme.{Begins, Lexeme};
 ghost use Rattle.tokens.specs.Tokens.{Placed, StopsAt, Tokens};
-ghost use Rattle.tokens.specs.declared.keyword.Grammar.{Grammar};
+ghost use Rattle.keywords.specs.declared.keyword.Grammar.{Grammar};
 
 /// At most one token begins a text.
 pub fn one_token()

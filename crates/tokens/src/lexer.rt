@@ -7,8 +7,9 @@ ghost use Rattle.tokens.specs.Reading as spec;
 ghost use Rattle.tokens.specs.Reading.{behind, sign_of};
 
 use crate::sign::sign_at_front;
-use crate::{Grammar, Quoting, Sign, TokenKind};
+use crate::{Quoting, Sign, TokenKind};
 use byte_runs::{Class, after_first, begins_word, quoted_len, run_len, split_before};
+use keywords::Grammar;
 
 /// The number that digits are, unless it leaves 63 bits.
 #[tactic(auto, using(crate::proofs::NumberLemmas::too_large))]

@@ -4,13 +4,12 @@
 //! stand in double quotes, brackets or backquotes, and a comment has to be closed.
 //!
 //! The modules, in the order in which data passes them: `reading` (all tokens of a text), `blank` (spaces and comments),
-//! `lexer` (the token at the front), `keyword` and `sign` (the words and signs),
-//! `token` (what is handed out), `content` (what stands between quotes, as the value that it stands for), and `laws`.
+//! `lexer` (the token at the front), `sign` (the signs), `token` (what is handed out), `content` (what stands between quotes, as the
+//! value that it stands for), and `laws`.
 #![tactic(auto)]
 
 mod blank;
 mod content;
-mod keyword;
 pub mod laws;
 mod lexer;
 mod reading;
@@ -18,7 +17,6 @@ mod sign;
 mod token;
 
 pub use content::{blob_content, name_content, text_content};
-pub use keyword::{Grammar, Keyword};
 pub use reading::read_tokens;
 pub use sign::Sign;
 pub use token::{Quoting, Token, TokenKind};

@@ -4,9 +4,10 @@ ghost use Rattle.tokens.specs.Content.{lexeme_of, placed_of};
 ghost use Rattle.tokens.specs.Reading as spec;
 ghost use Rattle.tokens.specs.Tokens.{HasNoTokens, StandsIn, Tokens, between};
 
+use crate::Token;
 use crate::blank::skip_blank;
 use crate::lexer::token_at_front;
-use crate::{Grammar, Token};
+use keywords::Grammar;
 use std::alloc::Global;
 use values::Fault;
 

@@ -1,5 +1,6 @@
 //! What a text is made of.
-use crate::{Keyword, Sign};
+use crate::Sign;
+use keywords::Keyword;
 
 /// How a name is written. (SQLite Keywords)
 #[derive(Clone, Copy, Debug, PartialEq, Eq)]

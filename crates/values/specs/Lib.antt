@@ -7,5 +7,4 @@ pub mod OrderLaws
 pub mod Hashed
 pub mod Fault
 pub mod Sink
-pub mod Gathered
 pub mod Literal

@@ -3,23 +3,18 @@
 //! exact bytes of a value's literal, and that a write that fails has written a beginning of its text.
 //!
 //! The modules, in the order in which data passes them: `value` (a value, owned or borrowed), `row` (a list of
-//! values), `fault`, `sink` (the trait, and whole texts), `sinks` (over memory and over a writer), `gathered` (a sink
-//! that gathers small pieces), `literal` (a value as SQL text), and `laws`.
+//! values), `fault`, `sink` (where bytes go, and whole texts), `literal` (a value as SQL text), and `laws`.
 #![tactic(auto)]
 
 mod fault;
-mod gathered;
 pub mod laws;
 mod literal;
 mod row;
 mod sink;
-mod sinks;
 mod value;
 
 pub use fault::Fault;
-pub use gathered::Gathered;
 pub use literal::write_literal;
 pub use row::Row;
-pub use sink::{Sink, SinkFault, write_all};
-pub use sinks::{MemSink, WriteSink};
+pub use sink::{Sink, SinkFault, write_all, write_front};
 pub use value::{Ty, Value, ValueRef, compare};

@@ -30,7 +30,7 @@ impl<S: Sink> Sink for &mut S {
 
 /// Writes until the text is whole or the sink fails, and tells how many bytes were written.
 #[inline]
-pub(crate) fn write_front<S: Sink>(out: &mut S, text: &[u8]) -> (usize, Result<(), SinkFault>)
+pub fn write_front<S: Sink>(out: &mut S, text: &[u8]) -> (usize, Result<(), SinkFault>)
     ensures within { result.0 ≤ length text.now }
     ensures whole { OnOk result.1 (result.0 ≡ length text.now) }
     ensures writes { WritesTo text.now result.0 result.1 (S.facts out.old) (S.facts out.new) }

@@ -13,9 +13,10 @@ use crate::lists::{list, present};
 use crate::trees::{directed, over_name, over_nothing, over_window, standing, windowed};
 use clause_reader::{Read, direction, frame};
 use fronts::{OR_LEVEL, after_order_by, after_partition_by};
+use keywords::Keyword;
 use phrases::{after_keyword, after_sign, needed};
 use statement_trees::{Behind, Expr, Over, Term, Window};
-use tokens::{Keyword, Sign, Token, TokenKind, name_content};
+use tokens::{Sign, Token, TokenKind, name_content};
 use values::Fault;
 
 /// An expression of ORDER BY, and how it sorts.

@@ -5,7 +5,7 @@ use Rattle.window_reader.specs.Setting.{at}
 use Rattle.grammar.specs.Reading.{arm, arms}
 use Rattle.phrases.specs.Steps.{after_keyword}
 use Rattle.statement_trees.specs.TreeView.{arm_of}
-use Rattle.tokens.specs.declared.keyword.Keyword.TheVariants as k
+use Rattle.keywords.specs.declared.keyword.Keyword.TheVariants as k
 use Rattle.case_reader.proofs.choices.arms.Given as goal
 
 -- what was read so far, before what is still to come, is all

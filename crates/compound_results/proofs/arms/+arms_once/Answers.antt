@@ -2,7 +2,7 @@ use Rattle.std.proofs.Common.{◌≡◌, ◌∙◌, [], List, ap, sym}
 use Rattle.std.proofs.lemmas.Result.{err_from_is_err_and}
 use Rattle.values.specs.Row.{Row}
 use Rattle.naming.specs.Statement.{operator_of}
-use Rattle.operators.specs.Basis.{Basis}
+use Rattle.nested_loops.specs.Basis.{Basis}
 use Rattle.distinct_results.specs.Firsts.{firsts}
 use Rattle.compound_results.specs.Arms.{arm_data, arm_rows, arms_data, joined, rows_of_arms}
 use Rattle.compound_results.specs.Joined.{joined_rows}

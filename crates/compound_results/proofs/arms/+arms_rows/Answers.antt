@@ -4,7 +4,7 @@ use Rattle.std.proofs.lemmas.Result.{err_from_is_err_and}
 use Rattle.values.specs.Row.{Row, rows_data}
 use Rattle.meaning.specs.Query.{Operator, union_all}
 use Rattle.naming.specs.Statement.{operator_of}
-use Rattle.operators.specs.Basis.{Basis}
+use Rattle.nested_loops.specs.Basis.{Basis}
 use Rattle.distinct_results.specs.Firsts.{firsts}
 use Rattle.compound_results.specs.Arms.{ArmsData, arm_data, arm_rows, arms_data, joined, rows_of_arms}
 use Rattle.compound_results.specs.Joined.{joined_rows}

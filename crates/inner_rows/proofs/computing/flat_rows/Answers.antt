@@ -4,7 +4,7 @@ use Rattle.std.proofs.lemmas.Result.{err_from_is_err_and}
 use Rattle.body_trees.specs.BodyView.{body_of}
 use Rattle.flat_bodies.specs.FlatView.{lists_of}
 use Rattle.image.specs.Pages.{pages_seen}
-use Rattle.operators.specs.Basis.{AreStored, Basis}
+use Rattle.nested_loops.specs.Basis.{AreStored, Basis}
 use Rattle.query_plans.specs.Answers.{IsAnswerOf, planned_data, work_of}
 use Rattle.running.specs.Given.{IsRowCause}
 use Rattle.scan.specs.Coming.{Asks}

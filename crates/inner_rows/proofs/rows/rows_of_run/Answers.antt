@@ -4,7 +4,7 @@ use Rattle.std.proofs.lemmas.List.{map_push}
 use Rattle.values.specs.Datum.{datum_of}
 use Rattle.values.specs.Row.{Row, rows_data}
 use Rattle.pager.proofs.CallLemmas.{SameImage-none, SameImage-trans}
-use Rattle.operators.specs.Basis.{AreStored, Basis}
+use Rattle.nested_loops.specs.Basis.{AreStored, Basis}
 use Rattle.query_plans.specs.Answers.{IsAnswerOf, PlannedData}
 use Rattle.running.specs.Given.{HasAhead, HasAsked, HasGiven, IsRowCause}
 use Rattle.scan.proofs.ComingLemmas.{Asks-none, Asks-then}

@@ -1,7 +1,7 @@
 use Rattle.std.proofs.Common.{◌≡◌, ℕ, []}
 use Rattle.pager.specs.Calls.{SameImage}
 use Rattle.image.specs.Pages.{WhereSteady}
-use Rattle.operators.specs.Basis.{AreStored, Basis}
+use Rattle.nested_loops.specs.Basis.{AreStored, Basis}
 use Rattle.query_plans.specs.Answers.{PlannedData}
 use Rattle.running.specs.Given.{HasAhead, HasGiven, IsRunOver, steps_left}
 use Rattle.values.specs.Row.{rows_data}

@@ -3,7 +3,7 @@ use Rattle.std.proofs.lemmas.Result.{err_from_is_err_and}
 use Rattle.image.specs.Pages.{Pages, pages_seen}
 use Rattle.inner_rows.proofs.AskedLemmas.{whole_asks}
 use Rattle.inner_rows.proofs.KeptLemmas.{kept_rooted}
-use Rattle.operators.specs.Basis.{AreStored, Basis}
+use Rattle.nested_loops.specs.Basis.{AreStored, Basis}
 use Rattle.pager.specs.declared.header.Header.{Header}
 use Rattle.query_plans.specs.Answers.{IsPlannedOver, planned_data, work_of}
 use Rattle.runs.proofs.GivenLemmas.{operator_fault}

@@ -3,7 +3,7 @@ use Rattle.std.proofs.lemmas.Result.{err_from_is_err_and}
 use Rattle.values.specs.Datum.{datum_of}
 use Rattle.pager.proofs.CallLemmas.{SameImage-trans}
 use Rattle.expr.specs.View.{term}
-use Rattle.operators.specs.Basis.{IsCause}
+use Rattle.nested_loops.specs.Basis.{IsCause}
 use Rattle.results.specs.declared.limits.Slice.{Slice}
 use Rattle.results.specs.Coming.{IsResultCause}
 use Rattle.results.proofs.StreamLemmas.{column_cause, op_ended, op_says, plan_cause, row_given, row_passed, slice_ended}

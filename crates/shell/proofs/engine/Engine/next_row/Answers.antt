@@ -1,6 +1,6 @@
 use Rattle.std.proofs.Common.{◌∙◌, All, List, [], ap, refl, subst, sym}
 use Rattle.integrity.specs.CheckedView.{checked_data}
-use Rattle.operators.proofs.BasisLemmas.{tables_are_rooted}
+use Rattle.nested_loops.proofs.BasisLemmas.{tables_are_rooted}
 use Rattle.shell.proofs.AheadLemmas.{stays_within}
 use Rattle.shell.proofs.SteppedLemmas.{stepped}
 use Rattle.shell.specs.Stepped.{IsSteppingOver}

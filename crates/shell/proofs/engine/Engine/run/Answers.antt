@@ -1,7 +1,7 @@
 use Rattle.std.proofs.Common.{◌∙◌, All, List, [], ap, sym, subst}
 use Rattle.std.proofs.lemmas.Result.{err_from_is_err_and}
 use Rattle.integrity.specs.CheckedView.{checked_data}
-use Rattle.operators.proofs.BasisLemmas.{tables_are_rooted}
+use Rattle.nested_loops.proofs.BasisLemmas.{tables_are_rooted}
 use Rattle.sources.specs.Coming.{IsRooted}
 use Rattle.sources.specs.SourceData.{SourceData, sources_of}
 use Rattle.shell.specs.PreparedView.{prepared_data}
