@@ -1,5 +1,5 @@
 //! The columns of a cell that are read, put behind the front of a row.
-ghost use Rattle.std.specs.Prelude.{◌≡◌, ◌⊎◌, ◌<◌, ◌≤◌, ◌+◌, ◌++◌, ℕ, All, IfErr, IfOk, List, MatchResult, None, length, map, take};
+ghost use Rattle.std.specs.Prelude.{◌≡◌, ◌⊎◌, ◌<◌, ◌≤◌, ◌+◌, ◌++◌, ℕ, All, IfErr, IfOk, List, MatchResult, None, length, map, min, take};
 ghost use Rattle.std.specs.Cow.{cow_slice_items};
 ghost use Rattle.values.specs.Datum.{datum_of};
 ghost use Rattle.values.specs.Row.{Row, Grows};
@@ -85,6 +85,7 @@ fn put_values(
     ensures shown { (whole : Row) → IsAnyRecord table.now rowid payload.now whole
         → MatchResult result (λ _. map datum_of row.new.items ≡ take before (map datum_of row.old.items) ++ shown columns.now whole) (λ e. e ≡ Fault.NoMemory) }
     ensures front { IfOk result (λ _. Grows (take before (map datum_of row.old.items)) (map datum_of row.new.items)) }
+    ensures long { IfOk result (λ _. length row.new.items ≡ min before (length row.old.items) + length columns.now) }
     ensures only { IfErr result (λ e. (e ≡ Fault.NoMemory) ⊎ (e ≡ Fault.Changed)) }
 {
     let Some(mut reader) = ValueReader::new(table, rowid, payload) else {
@@ -110,6 +111,7 @@ pub(crate) fn put_cell<S: Source>(
     ensures shown { WhereSteady pager.old.state (λ pages. (whole : Row) → IsAnyRow pages table.now (cell_data cell.now) whole
         → MatchResult result (λ _. map datum_of row.new.items ≡ take before (map datum_of row.old.items) ++ shown columns.now whole) IsReadFault) }
     ensures front { IfOk result (λ _. Grows (take before (map datum_of row.old.items)) (map datum_of row.new.items)) }
+    ensures long { IfOk result (λ _. length row.new.items ≡ min before (length row.old.items) + length columns.now) }
     ensures only { IfErr result IsScanFault }
     ensures reads { ReadsChainPages result pager.old.state pager.new.state }
     ensures unread { cell.now.payload.overflow ≡ None → pager.new.state ≡ pager.old.state }

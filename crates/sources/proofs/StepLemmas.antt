@@ -20,7 +20,7 @@ opened_are_few (here ∷ sources) (suc at) source found =
     omega (arith, e, few)
 
 module _ (sources : List SourceData) (at : ℕ) (source : SourceData) (found : slice_get sources at ≡ Some source) where
-  source_found : source_at sources at ≡ source
+  pub source_found : source_at sources at ≡ source
   source_found = get_or_from_slice_get sources at source (of_rows []) found
 
   -- a cursor at the first row has fewer steps than there are at most
