@@ -6,12 +6,11 @@ ghost use Rattle.meaning.specs.Sequence.{directed_cmp, keys_cmp, value_at};
 ghost use Rattle.query_trees.specs.SelectView.{direction_of};
 ghost use Rattle.ordered_rows.specs.Keys.{directions, key_values};
 
-use crate::ranks::{Rank, rank_at};
 use std::alloc::AllocError;
 use std::cmp::Ordering;
 use syntax::Direction;
 use values::Value;
-use window_order::compare_by;
+use window_order::{Rank, compare_by, rank_at};
 
 /// A value of the rows themselves that ORDER BY puts them in order by, and how it sorts. (SELECT, "The ORDER BY clause")
 #[derive(Clone, Copy, Drop)]

@@ -2,4 +2,5 @@ pub mod KeyLemmas
 pub mod SortLemmas
 pub mod GroupLemmas
 pub mod EntryLemmas
+pub mod RankLemmas
 pub mod WalkLemmas
