@@ -6,17 +6,16 @@ use Rattle.std.proofs.lemmas.Cmp.{tied_itself}
 use Rattle.std.proofs.lemmas.List.{get_or-append-add, get_or-drop, get_or-take, get_or_past, length-take}
 use Rattle.std.specs.List.{slice_get}
 use Rattle.std.specs.List.Sorted.{IsStableBy, IsStableByKey, ties}
-use Rattle.std.specs.Ordering.{is_eq, is_lt, ordering_reverse, ordering_then}
-use Rattle.values.specs.Row.{Row}
+use Rattle.std.specs.Ordering.{is_lt, ordering_reverse, ordering_then}
 use Rattle.meaning.specs.Query.{Direction}
-use Rattle.meaning.specs.Sequence.{directed_cmp, keys_cmp, value_at}
+use Rattle.meaning.specs.Sequence.{keys_cmp, value_at}
 use Rattle.query_trees.specs.SelectView.{direction_of}
 use Rattle.syntax.specs.declared.query.Direction.{Direction as Given}
 use Rattle.window_order.specs.contracts.ranks.RankOrd.TheImpl.{ghosts}
 use Rattle.window_order.specs.contracts.ranks.RankOrd.TheImpl.Laws.{total-law}
 use Rattle.window_order.specs.declared.ranks.Rank.{Rank}
 use Rattle.window_order.specs.declared.sorting.Entry.{Entry}
-use Rattle.window_order.specs.Entries.{Keyed, entry_cmp, view}
+use Rattle.window_order.specs.Entries.{entry_cmp, view}
 use Rattle.window_order.specs.Ranks.{rank_of}
 use Rattle.window_order.proofs.GroupLemmas.{directed-ties}
 use Rattle.window_order.proofs.SortLemmas.{entry_total}

@@ -1,4 +1,3 @@
-use Rattle.std.proofs.Common.{rules, ◌≡◌, take}
 use Rattle.window_order.proofs.RankLemmas.{padded_at}
 use Rattle.window_order.proofs.ranks.front_of.Goals as goal
 
