@@ -3,4 +3,5 @@ pub mod SortLemmas
 pub mod GroupLemmas
 pub mod EntryLemmas
 pub mod RankLemmas
+pub mod NumberLemmas
 pub mod WalkLemmas

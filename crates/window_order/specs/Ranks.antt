@@ -1,5 +1,5 @@
 -- Numbers that tell most of an order. (SELECT, "The ORDER BY clause")
-use Rattle.std.specs.Prelude.{◌+◌, ◌-◌, ◌%◌, ◌^◌, Bool, if◌then◌else◌}
+use Rattle.std.specs.Prelude.{◌+◌, ◌-◌, ◌%◌, ◌^◌, ⊤, Bool, FitsSigned, if◌then◌else◌}
 use Rattle.std.specs.Int.{cast_unsigned, from_be_bytes, w64}
 use Rattle.values.specs.Datum.{Datum, null, int, text, blob}
 use Rattle.meaning.specs.Query.{Direction}
@@ -25,3 +25,10 @@ rank_of d null = record { class = if d.nulls_first then 0 else 4; bits = 0 }
 rank_of d (int n) = along d.descending (ascending_rank (int n))
 rank_of d (text s) = along d.descending (ascending_rank (text s))
 rank_of d (blob s) = along d.descending (ascending_rank (blob s))
+
+-- NULL, or a number of 64 bits: among such values ranks tell the whole order
+abbrev pub IsNumber : Datum → Type 0
+IsNumber null = ⊤
+IsNumber (int n) = FitsSigned w64 n
+IsNumber (text _) = ⊥
+IsNumber (blob _) = ⊥

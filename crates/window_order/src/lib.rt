@@ -15,5 +15,5 @@ mod sorting;
 pub use keys::{compare_by, compare_keys, compare_keys_from};
 pub use peers::{PeerGroups, peer_groups};
 pub use placed::Sequence;
-pub use ranks::{Rank, rank_at};
+pub use ranks::{Rank, is_number_at, rank_at};
 pub use sorting::{Entry, sort};

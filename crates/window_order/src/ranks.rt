@@ -1,13 +1,13 @@
 //! Numbers that tell most of an order.
-ghost use Rattle.std.specs.Prelude.{◌≡◌, ◌<◌, ℕ, map, slice_index};
+ghost use Rattle.std.specs.Prelude.{◌≡◌, ◌<◌, ℕ, IsTrue, map, slice_index};
 ghost use Rattle.std.specs.Int.{from_be_bytes, w64};
-ghost use Rattle.values.specs.Datum.{datum_of};
+ghost use Rattle.values.specs.Datum.{datum_of, datum_of_ref};
 ghost use Rattle.meaning.specs.Sequence.{value_at};
 ghost use Rattle.query_trees.specs.SelectView.{direction_of};
-ghost use Rattle.window_order.specs.Ranks.{ascending_rank, rank_of};
+ghost use Rattle.window_order.specs.Ranks.{IsNumber, ascending_rank, rank_of};
 
 use syntax::Direction;
-use values::Value;
+use values::{Value, ValueRef};
 
 /// A number that is less than that of another value only where the value comes before it. Only the time of a sort depends on
 /// ranks: what they leave open, values that tie and texts that begin alike, is told by the values.
@@ -78,4 +78,22 @@ pub fn rank_at(direction: Direction, row: &[Value], at: usize) -> Rank
     ensures { result ≡ rank_of (direction_of direction) (value_at (map datum_of row.now) at) }
 {
     rank_by(direction, row.get(at).unwrap_or(&Value::Null))
+}
+
+/// Whether a value is a number or NULL.
+fn is_number(value: ValueRef<'_>) -> bool
+    ensures { IsTrue result → IsNumber (datum_of_ref value.entry) }
+{
+    match value {
+        ValueRef::Null => true,
+        ValueRef::Int(_number) => true,
+        _ => false,
+    }
+}
+
+/// Whether the value at a place of a row is a number or NULL: among such values ranks tell the whole order.
+pub fn is_number_at(row: &[Value], at: usize) -> bool
+    ensures { IsTrue result → IsNumber (value_at (map datum_of row.now) at) }
+{
+    is_number(row.get(at).unwrap_or(&Value::Null).as_ref())
 }
