@@ -15,11 +15,11 @@ pub enum Windowing {
     Giving(IntoIter<Vec<Value>>),
 }
 
-/// A copy of a row.
-pub(crate) fn row_copy(alloc: Global, row: &[Value]) -> Result<Vec<Value>, AllocError>
+/// A copy of a row, with room for so many more values.
+pub(crate) fn row_copy(alloc: Global, row: &[Value], more: usize) -> Result<Vec<Value>, AllocError>
     ensures { IfOk result (λ copied. map datum_of copied.items ≡ map datum_of row.now) }
 {
-    let mut copied = Vec::with_capacity(alloc, row.len())?;
+    let mut copied = Vec::with_capacity(alloc, row.len().saturating_add(more))?;
     for value in row {
         copied.push(value.as_ref().to_value(alloc)?)?;
     }

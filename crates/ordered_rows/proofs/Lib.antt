@@ -1,3 +1,4 @@
 pub mod OrderLemmas
+pub mod RankLemmas
 pub mod LimitLemmas
 pub mod FirstLemmas

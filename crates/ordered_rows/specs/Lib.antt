@@ -1,3 +1,4 @@
 pub mod Keys
+pub mod Ranked
 pub mod Firsts
 pub mod FirstView

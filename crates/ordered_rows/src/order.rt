@@ -1,17 +1,18 @@
 //! Rows in order by their own values.
-ghost use Rattle.std.specs.Prelude.{◌≡◌, IsPermutation, OnOk, map};
+ghost use Rattle.std.specs.Prelude.{◌≡◌, IsPermutation, IsTrue, OnOk, map};
 ghost use Rattle.std.specs.List.Sorted.{IsSortedByKey};
 ghost use Rattle.values.specs.Datum.{datum_of};
+ghost use Rattle.values.specs.Row.{rows_data};
 ghost use Rattle.meaning.specs.Sequence.{directed_cmp, keys_cmp, value_at};
 ghost use Rattle.query_trees.specs.SelectView.{direction_of};
 ghost use Rattle.ordered_rows.specs.Keys.{directions, key_values};
+ghost use Rattle.ordered_rows.specs.Ranked.{AreRanked, first_rank};
 
-use crate::ranks::{Rank, rank_at};
 use std::alloc::AllocError;
 use std::cmp::Ordering;
 use syntax::Direction;
 use values::Value;
-use window_order::compare_by;
+use window_order::{Rank, compare_by, is_number_at, rank_at};
 
 /// A value of the rows themselves that ORDER BY puts them in order by, and how it sorts. (SELECT, "The ORDER BY clause")
 #[derive(Clone, Copy, Drop)]
@@ -47,11 +48,29 @@ pub fn compare_rows(order: &[ResultKey], a: &[Value], b: &[Value]) -> Ordering
     Ordering::Equal
 }
 
+/// Whether ranks tell the whole order of rows: they are put in order by one value, which is a number or NULL in each.
+fn are_ranked(order: &[ResultKey], rows: &[Vec<Value>]) -> bool
+    ensures { IsTrue result → AreRanked order.now (rows_data rows.now) }
+{
+    if order.len() != 1 {
+        return false;
+    }
+    let at = order[0].at;
+    for row in rows {
+        if !is_number_at(row.as_slice(), at) {
+            return false;
+        }
+    }
+    true
+}
+
 /// The rank of the first value that a row is put in order by.
-fn first_rank(order: &[ResultKey], row: &[Value]) -> Rank {
+fn first_rank(order: &[ResultKey], row: &[Value]) -> Rank
+    ensures { result ≡ first_rank order.now (map datum_of row.now) }
+{
     match order.first() {
         Some(key) => rank_at(key.direction, row, key.at),
-        None => Rank::default(),
+        None => Rank { class: 0, bits: 0 },
     }
 }
 
@@ -60,7 +79,11 @@ pub fn sort_rows(order: &[ResultKey], rows: &mut Vec<Vec<Value>>) -> Result<(), 
     ensures same { IsPermutation rows.old.items rows.new.items }
     ensures sorted { OnOk result (IsSortedByKey (λ row. key_values order.now (map datum_of row.items)) (keys_cmp (directions order.now)) rows.new.items) }
 {
+    let ranked = are_ranked(order, rows.as_slice());
     // Ranks stand side by side in memory, so that most of the order is found without a look at the rows.
     rows.sort_by_cached_key(|row| first_rank(order, row.as_slice()))?;
+    if ranked {
+        return Ok(());
+    }
     rows.sort_by(|a, b| compare_rows(order, a.as_slice(), b.as_slice()))
 }

@@ -83,6 +83,11 @@ impl<S: Sink> Sink for Gathered<S> {
 
     #[inline(always)]
     fn write(&mut self, piece: &[u8]) -> Result<usize, SinkFault> {
+        // A comma or the end of a line needs no copy of a slice.
+        if piece.len() == 1 && self.held.len() < HELD_MOST {
+            self.held.push(piece[0]).unwrap();
+            return Ok(1);
+        }
         if piece.len() > HELD_MOST - self.held.len() {
             self.hand_on()?;
         }

@@ -29,7 +29,7 @@ same_too : (x v : Datum) → datum_cmp v x ≡ Equal → is_eq (datum_cmp x v) �
 same_too x v tie =
     ap is_eq (ap (datum_cmp x) (datum_cmp-IsAntisymmetric v x tie) ∙ tied_itself datum_cmp_total x)
 
-reversed : (r : Ordering) → ((r ≡ Less) ⊎ (r ≡ Greater)) → is_eq (ordering_reverse r) ≡ false
+pub reversed : (r : Ordering) → ((r ≡ Less) ⊎ (r ≡ Greater)) → is_eq (ordering_reverse r) ≡ false
 reversed r (inl e) = ap (λ o. is_eq (ordering_reverse o)) e
 reversed r (inr e) = ap (λ o. is_eq (ordering_reverse o)) e
 

@@ -1,6 +1,5 @@
 -- A value against each of a list, by whether it is one of them and whether NULL is.
 use Rattle.std.proofs.Common.{◌≡◌, ◌≢◌, ◌∙◌, ◌==◌, ◌||◌, Bool, true, false, None, Option, Some, List, [], ◌∷◌, if◌then◌else◌, is_eq, length, map, refl, sym, ap}
-use Rattle.std.proofs.Math.Dec.{eqb-suc-zero}
 use Rattle.std.specs.List.{list_any}
 use Rattle.values.specs.Datum.{Datum, datum_of, null, int, text, blob}
 use Rattle.values.specs.declared.value.Value.{Value}

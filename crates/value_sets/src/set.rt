@@ -1,9 +1,11 @@
 //! Values that are asked whether one of them equals another.
-ghost use Rattle.std.specs.Prelude.{◌≡◌, ◌↔◌, IfOk, IsTrue, map};
+ghost use Rattle.std.specs.Prelude.{◌≡◌, ◌≢◌, ◌↔◌, IfOk, IsTrue, map};
 ghost use Rattle.std.specs.List.{list_any};
-ghost use Rattle.values.specs.Datum.{datum_of};
+ghost use Rattle.values.specs.Datum.{datum_of, null};
 ghost use Rattle.operations.specs.Operations.{any_equal, is_null};
+ghost use Rattle.value_sets.specs.Order.{is_among};
 
+use crate::numbers::{has_number, numbers_of};
 use crate::order::{is_among, order_of};
 use operations::is_null;
 use std::alloc::{AllocError, Global};
@@ -16,6 +18,8 @@ pub struct ValueSet {
     values: Vec<Value>,
     /// The places of the values, in the order of the values.
     order: Vec<usize>,
+    /// The whole numbers among them, ascending: a number is searched side by side in memory.
+    numbers: Vec<i64>,
     /// Whether one of the values is NULL.
     has_null: bool,
 }
@@ -29,7 +33,7 @@ impl Model for ValueSet {
 
     ghost view = { λ s. map datum_of s.values.items };
 
-    ghost invariant = { λ s. IsSetOf (map datum_of s.values.items) s.order.items s.has_null };
+    ghost invariant = { λ s. IsSetOf (map datum_of s.values.items) s.order.items s.numbers.items s.has_null };
 }
 
 /// Whether one of these values is NULL.
@@ -61,10 +65,12 @@ impl ValueSet {
         ensures { IfOk result (λ set. set ≡ map datum_of values.items) }
     {
         let order = order_of(alloc, values.as_slice())?;
+        let numbers = numbers_of(alloc, values.as_slice())?;
         let has_null = any_null(values.as_slice());
         Ok(ValueSet {
             values,
             order,
+            numbers,
             has_null,
         })
     }
@@ -75,9 +81,11 @@ impl ValueSet {
     {
         let values = copies(alloc, self.values.as_slice())?;
         let order = Vec::from_slice(alloc, self.order.as_slice())?;
+        let numbers = Vec::from_slice(alloc, self.numbers.as_slice())?;
         Ok(ValueSet {
             values,
             order,
+            numbers,
             has_null: self.has_null,
         })
     }
@@ -96,6 +104,18 @@ impl ValueSet {
         self.values == other.values
     }
 
+    /// Whether a value that is not NULL is one of the set.
+    #[inline(always)]
+    fn has(&self, value: &Value) -> bool
+        requires { datum_of value.now ≢ null }
+        ensures { result ≡ is_among (datum_of value.now) self.now }
+    {
+        match value {
+            Value::Int(number) => has_number(self.numbers.as_slice(), *number),
+            value => is_among(self.values.as_slice(), self.order.as_slice(), value),
+        }
+    }
+
     /// Whether a value equals one of the set: true where one is the same, and else unknown where one of them or the value is NULL;
     /// but of no values none is equal.
     pub fn any_equal(&self, value: &Value) -> Option<bool>
@@ -107,7 +127,7 @@ impl ValueSet {
         if is_null(value) {
             return None;
         }
-        if is_among(self.values.as_slice(), self.order.as_slice(), value) {
+        if self.has(value) {
             return Some(true);
         }
         if self.has_null { None } else { Some(false) }

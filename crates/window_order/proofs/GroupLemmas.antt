@@ -30,7 +30,7 @@ along-ties : (descending : Bool) (a b : Datum) → along descending datum_cmp a 
 along-ties true a b e = sym (datum_cmp-IsAntisymmetric b a e)
 along-ties false a b e = datum_cmp-IsAntisymmetric a b e
 
-directed-ties : (d : Direction) (a b : Datum) → directed_cmp d a b ≡ Equal → a ≡ b
+pub directed-ties : (d : Direction) (a b : Datum) → directed_cmp d a b ≡ Equal → a ≡ b
 directed-ties d a b e = along-ties d.descending a b (both_tie _ _ e).1
 
 pub keys-ties : (ds : List Direction) (x y : Row) → length x ≡ length ds → length y ≡ length ds → keys_cmp ds x y ≡ Equal → x ≡ y

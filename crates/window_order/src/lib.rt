@@ -2,16 +2,18 @@
 //! whole row. It promises that the sequence is exactly that of the definition of windows, and that each of its places has the
 //! number of the peer group that the definition gives it.
 //!
-//! The modules, in the order in which data passes them: `keys` (rows compared by the values of ORDER BY), `sorting` (the
-//! sequence), `peers` (its peer groups) and `placed` (both together).
+//! The modules, in the order in which data passes them: `keys` (rows compared by the values of ORDER BY), `ranks`
+//! (numbers that tell most of an order), `sorting` (the sequence), `peers` (its peer groups) and `placed` (both together).
 #![tactic(auto)]
 
 mod keys;
 mod peers;
 mod placed;
+mod ranks;
 mod sorting;
 
 pub use keys::{compare_by, compare_keys, compare_keys_from};
 pub use peers::{PeerGroups, peer_groups};
 pub use placed::Sequence;
+pub use ranks::{Rank, is_number_at, rank_at};
 pub use sorting::{Entry, sort};

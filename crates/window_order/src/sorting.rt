@@ -8,6 +8,7 @@ ghost use Rattle.query_trees.specs.SelectView.{direction_of};
 ghost use Rattle.window_order.specs.Entries.{IsInWindowOrder, IsOf, IsSequence, entry_cmp, keys_of, view};
 
 use crate::keys::compare_keys;
+use crate::ranks::rank_at;
 use std::alloc::AllocError;
 use std::cmp::Ordering;
 use syntax::Direction;
@@ -33,6 +34,34 @@ fn compare_entries(directions: &[Direction], a: &Entry, b: &Entry) -> Ordering
     }
 }
 
+/// Whether the ranks of the first keys ascend already.
+fn are_in_order(direction: Direction, entries: &[Entry]) -> bool {
+    for at in 1..entries.len() {
+        let one = rank_at(direction, entries[at - 1].keys.as_slice(), 0);
+        let next = rank_at(direction, entries[at].keys.as_slice(), 0);
+        if next < one {
+            return false;
+        }
+    }
+    true
+}
+
+/// Puts entries in the order of the ranks of their first keys; those that tie stay as they were. Ranks stand side by side in
+/// memory, so that most of the order is found without a look at the keys.
+fn sort_by_ranks(directions: &[Direction], entries: &mut Vec<Entry>) -> Result<(), AllocError>
+    ensures same { IsPermutation entries.old.items entries.new.items }
+    ensures stable { IsStableByKey view (entry_cmp (map direction_of directions.now)) entries.old.items entries.new.items }
+{
+    let Some(first) = directions.first() else {
+        return Ok(());
+    };
+    let direction = *first;
+    if are_in_order(direction, entries.as_slice()) {
+        return Ok(());
+    }
+    entries.sort_by_cached_key(|entry| rank_at(direction, entry.keys.as_slice(), 0))
+}
+
 /// Puts the rows of a partition in their sequence; equal rows stay as they were. (Window Functions)
 pub fn sort(directions: &[Direction], entries: &mut Vec<Entry>) -> Result<(), AllocError>
     ensures same { IsPermutation entries.old.items entries.new.items }
@@ -41,5 +70,6 @@ pub fn sort(directions: &[Direction], entries: &mut Vec<Entry>) -> Result<(), Al
     ensures sequence { OnOk result ((value : Valuation) (order : List SortTerm) → windows.directions order ≡ map direction_of directions.now
         → All (IsOf value order) entries.old.items → IsSequence value order entries.old.items entries.new.items) }
 {
+    sort_by_ranks(directions, entries)?;
     entries.sort_by(|a, b| compare_entries(directions, a, b))
 }

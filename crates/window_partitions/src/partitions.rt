@@ -7,12 +7,11 @@ ghost use Rattle.meaning.specs.Query as query;
 ghost use Rattle.window_entries.specs.Tags.{tags_of};
 ghost use Rattle.window_partitions.specs.Partition.{ArePartitions};
 
-use crate::order::ordered;
+use crate::order::rows_in_order;
 use expr::Expr;
 use std::alloc::{AllocError, Global};
 use syntax::Direction;
 use values::{Fault, Value};
-use window_entries::entries;
 use window_order::{Entry, peer_groups};
 
 /// Rows in partitions, one behind the other.
@@ -50,8 +49,7 @@ pub fn partitioned<'a>(
     ensures only { IfErr result (λ e. (e ≡ Fault.Overflow) ⊎ (e ≡ Fault.NoMemory)) }
 {
     let directions = ascending(alloc, terms.len())?;
-    let given = entries(alloc, &[], rows)?;
-    let placed = ordered(alloc, terms, directions.as_slice(), given.as_slice())?;
+    let placed = rows_in_order(alloc, terms, directions.as_slice(), rows)?;
     let groups = peer_groups(alloc, directions.as_slice(), placed.as_slice())?;
     Ok(Partitions {
         entries: placed,

@@ -3,10 +3,21 @@ use Rattle.std.proofs.lemmas.Result.{on_ok_weaker}
 use Rattle.std.proofs.lemmas.List.Sorted.{IsPermutation-trans, ranks_by}
 use Rattle.std.proofs.lemmas.Fn.{always_returns_same}
 use Rattle.values.specs.Datum.{datum_of}
+use Rattle.values.specs.Row.{rows_data}
 use Rattle.meaning.specs.Sequence.{keys_cmp}
 use Rattle.meaning.proofs.KeyLemmas.{keys_cmp_total}
 use Rattle.ordered_rows.specs.Keys.{directions, key_values}
+use Rattle.ordered_rows.specs.Ranked.{AreRanked, first_rank}
+use Rattle.ordered_rows.proofs.RankLemmas.{ranks_tell}
 use Rattle.ordered_rows.proofs.order.sort_rows.Goals as goal
+
+pub returns-then-ranked-clause-sorted : goal.returns-then-ranked-clause-sorted
+returns-then-ranked-clause-sorted c =
+    let order = c.args.order.now in
+    let are : AreRanked order (rows_data c.args.rows.now.items) = rw c.as_slice.ensures.value at (c.are_ranked-ranked.ensures c.if-ranked.true) in
+    ranks_tell order c.args.rows.now.items c.sort_by_cached_key.new.self.items are c.sort_by_cached_key.ensures.permutation
+    (c.in_ok-sort_by_cached_key.ensures.sorted (λ row. first_rank order (map datum_of row.items))
+    (always_returns_same _ _ _ (λ a r f k. search rules)))
 
 pub returns-clause-same : goal.returns-clause-same
 returns-clause-same c = IsPermutation-trans _ _ _ c.sort_by_cached_key.ensures.permutation c.sort_by.ensures.permutation

@@ -1,9 +1,9 @@
-use Rattle.std.proofs.Common.{◌≡◌, ◌∙◌, ◌+◌, ℕ, List, [], ◌∷◌, length, map, refl, sym, ap, subst, arith, IsPermutation, Vec, Global}
-use Rattle.std.specs.List.{range_with_len}
+use Rattle.std.proofs.Common.{◌≡◌, ◌∙◌, ℕ, List, map, sym, ap, subst, arith, Vec, Global}
 use Rattle.std.proofs.lemmas.List.{length-map}
+use Rattle.std.proofs.lemmas.List.Sorted.{length_permutation}
 use Rattle.values.specs.Datum.{datum_of}
 use Rattle.values.specs.declared.value.Value.{Value}
-use Rattle.values.specs.Row.{Row}
+use Rattle.values.specs.Row.{Row, rows_data}
 use Rattle.expr.specs.Meaning.{eval}
 use Rattle.expr.specs.View.{term}
 use Rattle.meaning.specs.Valuation.{term_values}
@@ -11,28 +11,16 @@ use Rattle.syntax.specs.declared.query.Direction.{Direction as Way}
 use Rattle.query_trees.specs.SelectView.{direction_of}
 use Rattle.window_order.specs.declared.peers.PeerGroups.{PeerGroups}
 use Rattle.window_order.specs.declared.sorting.Entry.{Entry}
-use Rattle.window_order.specs.Entries.{IsInWindowOrder, keys_of, rows_of}
+use Rattle.window_order.specs.Entries.{IsInWindowOrder, keys_of}
 use Rattle.window_order.specs.Groups.{AreGroups}
 use Rattle.window_order.proofs.EntryLemmas.{length-keys_of}
 use Rattle.window_entries.specs.Tags.{tags_of}
 use Rattle.window_entries.proofs.ValueLemmas.{map-map}
-use Rattle.window_partitions.specs.Tagged.{AreAlike, tagged}
-use Rattle.window_partitions.proofs.AlikeLemmas.{as_many_entries, rows-of_tags}
+use Rattle.window_partitions.specs.Tagged.{tagged}
+use Rattle.window_partitions.proofs.AlikeLemmas.{rows-of_tags}
+use Rattle.window_partitions.proofs.TagLemmas.{length-tagged}
 use Rattle.window_partitions.proofs.PartLemmas.{are_partitions, start_rises}
 use Rattle.window_partitions.proofs.partitions.partitioned.Goals as goal
-
-tags_from : (es : List Entry) (n : ℕ) → map (λ (e : Entry). e.index) es ≡ range_with_len n (length es) → tags_of es ≡ tagged n (rows_of es)
-tags_from [] n is = refl
-tags_from (e ∷ es) n is =
-    let first : e.index ≡ n = cc in
-    let rest : map (λ (e : Entry). e.index) es ≡ range_with_len (n + 1) (length es) = cc in
-    (λ i. (map datum_of e.row.now, first i) ∷ tags_from es (n + 1) rest i)
-
-all_tags : (es : List Entry) (rows : List (Vec Value Global)) → rows_of es ≡ map (λ (row : Vec Value Global). map datum_of row.items) rows
-    → map (λ (e : Entry). e.index) es ≡ range_with_len 0 (length rows) → tags_of es ≡ tagged 0 (map (λ (row : Vec Value Global). map datum_of row.items) rows)
-all_tags es rows are places =
-    let size : length rows ≡ length es = sym (length-map rows (λ (row : Vec Value Global). map datum_of row.items)) ∙ ap length (sym are) ∙ length-map es (λ (e : Entry). map datum_of e.row.now) in
-    tags_from es 0 (places ∙ ap (range_with_len 0) size) ∙ ap (tagged 0) are
 
 same_groups : (given before after : List Way) (es placed : List Entry) (groups : PeerGroups) → before ≡ given → after ≡ given → placed ≡ es
     → IsInWindowOrder (map direction_of before) (keys_of es) → AreGroups (map direction_of after) (keys_of placed) groups
@@ -47,7 +35,7 @@ invariant_of-result c =
     let placed = c.in_ok-placed.placed.items in
     let groups = c.in_ok-groups.groups in
     let ways = c.in_ok-directions.directions.items in
-    let both = same_groups ways c.as_slice.result.now c.as_slice-3.result.now placed c.as_slice-4.result.now groups c.as_slice.ensures.value c.as_slice-3.ensures.value c.as_slice-4.ensures.value
+    let both = same_groups ways c.as_slice.result.now c.as_slice-2.result.now placed c.as_slice-3.result.now groups c.as_slice.ensures.value c.as_slice-2.ensures.value c.as_slice-3.ensures.value
     c.in_ok-placed.ensures.in_order c.in_ok-groups.ensures in
     record {
       rises = λ g h. start_rises (map direction_of ways) (keys_of placed) groups both.0 both.1 g h;
@@ -60,21 +48,17 @@ returns-clause-parts c = λ w window is.
     let placed = c.in_ok-placed.placed.items in
     let groups = c.in_ok-groups.groups in
     let ways = c.in_ok-directions.directions.items in
-    let both = same_groups ways c.as_slice.result.now c.as_slice-3.result.now placed c.as_slice-4.result.now groups c.as_slice.ensures.value c.as_slice-3.ensures.value c.as_slice-4.ensures.value
+    let both = same_groups ways c.as_slice.result.now c.as_slice-2.result.now placed c.as_slice-3.result.now groups c.as_slice.ensures.value c.as_slice-2.ensures.value c.as_slice-3.ensures.value
     c.in_ok-placed.ensures.in_order c.in_ok-groups.ensures in
     let K : Row → Row = term_values (eval w) (map term c.args.terms.now) in
-    let given : tags_of c.as_slice-2.result.now ≡ tagged 0 rows =
-    ap tags_of c.as_slice-2.ensures.value ∙ all_tags c.in_ok-given.given.items c.args.rows.now c.in_ok-given.ensures.rows c.in_ok-given.ensures.places in
     let keys : keys_of placed ≡ map (λ (t : Row × ℕ). K t.0) (tags_of placed) =
     c.in_ok-placed.ensures.keys w ∙ ap (map K) (sym (rows-of_tags placed)) ∙ map-map K (λ (t : Row × ℕ). t.0) (tags_of placed) in
     are_partitions (map direction_of ways) (keys_of placed) groups both.0 both.1 K (tags_of placed) keys rows
-    (subst (λ (l : List (Row × ℕ)). IsPermutation l (tags_of placed)) given c.in_ok-placed.ensures.same)
-    (subst (λ (l : List (Row × ℕ)). AreAlike l (tags_of placed)) given c.in_ok-placed.ensures.ties)
+    c.in_ok-placed.ensures.same c.in_ok-placed.ensures.ties
     (eval w) window (ap (term_values (eval w)) (sym is))
 
 pub returns-clause-size : goal.returns-clause-size
 returns-clause-size c =
-    let given = c.in_ok-given.given.items in
-    as_many_entries c.as_slice-2.result.now c.in_ok-placed.placed.items c.in_ok-placed.ensures.same ∙ ap length c.as_slice-2.ensures.value
-    ∙ sym (length-map given (λ (e : Entry). map datum_of e.row.now)) ∙ ap length c.in_ok-given.ensures.rows
-    ∙ length-map c.args.rows.now (λ (row : Vec Value Global). map datum_of row.items)
+    sym (length-map c.in_ok-placed.placed.items (λ (e : Entry). (map datum_of e.row.now, e.index)))
+    ∙ length_permutation (tagged 0 (rows_data c.args.rows.now)) (tags_of c.in_ok-placed.placed.items) c.in_ok-placed.ensures.same
+    ∙ length-tagged 0 (rows_data c.args.rows.now) ∙ length-map c.args.rows.now (λ (row : Vec Value Global). map datum_of row.items)

@@ -12,16 +12,16 @@ returns-then-is_null c =
     null_against (datum_of c.args.value.now) values.items _ (c.is_empty.ensures ∙ ap (λ n. n == 0) values.ok.0) c.if-is_empty.false
     (sym c.is_null.ensures ∙ c.if-is_null.true)))
 
-pub is_among-requires-clause-known : goal.is_among-requires-clause-known
-is_among-requires-clause-known c = known_is (datum_of c.args.value.now) (sym c.is_null.ensures ∙ c.if-is_null.false)
+pub has-requires : goal.has-requires
+has-requires c = known_is (datum_of c.args.value.now) (sym c.is_null.ensures ∙ c.if-is_null.false)
 
-pub returns-then-is_among : goal.returns-then-is_among
-returns-then-is_among c =
+pub returns-then-has : goal.returns-then-has
+returns-then-has c =
     let values = c.self.inside.values.items in
     let x = datum_of c.args.value.now in
     let known : is_null x ≡ false = sym c.is_null.ensures ∙ c.if-is_null.false in
     let same : is_among x (map datum_of values) ≡ true =
-    ap (λ vs. is_among x (map datum_of vs)) (sym c.as_slice.ensures.value) ∙ sym c.is_among.ensures ∙ c.if-is_among.true in
+    ap (is_among x) c.self.view_is ∙ sym c.has.ensures ∙ c.if-has.true in
     rw (← c.self.view_is) (sym (found x known (map datum_of values) same))
 
 pub returns-then-self : goal.returns-then-self
@@ -30,7 +30,7 @@ returns-then-self c =
     let x = datum_of c.args.value.now in
     let known : is_null x ≡ false = sym c.is_null.ensures ∙ c.if-is_null.false in
     let other : is_among x (map datum_of values) ≡ false =
-    ap (λ vs. is_among x (map datum_of vs)) (sym c.as_slice.ensures.value) ∙ sym c.is_among.ensures ∙ c.if-is_among.false in
+    ap (is_among x) c.self.view_is ∙ sym c.has.ensures ∙ c.if-has.false in
     rw (← c.self.view_is) (sym (missing_null x known (map datum_of values) other (sym c.self.invariant.nulls ∙ c.if-self.true)))
 
 pub returns-else-self : goal.returns-else-self
@@ -39,5 +39,5 @@ returns-else-self c =
     let x = datum_of c.args.value.now in
     let known : is_null x ≡ false = sym c.is_null.ensures ∙ c.if-is_null.false in
     let other : is_among x (map datum_of values) ≡ false =
-    ap (λ vs. is_among x (map datum_of vs)) (sym c.as_slice.ensures.value) ∙ sym c.is_among.ensures ∙ c.if-is_among.false in
+    ap (is_among x) c.self.view_is ∙ sym c.has.ensures ∙ c.if-has.false in
     rw (← c.self.view_is) (sym (missing_known x known (map datum_of values) other (sym c.self.invariant.nulls ∙ c.if-self.false)))
