@@ -95,7 +95,7 @@ class Schedule:
 
     def __init__(self, tasks: list[Task], jobs: int, memory: float) -> None:
         self.tasks, self.jobs, self.memory = {it.name: it for it in tasks}, jobs, memory
-        self.began, self.spent, self.has_failed = time.time(), 0.0, False
+        self.began, self.spent = time.time(), 0.0
 
     def those(self, state: str) -> list[Task]:
         return [it for it in self.tasks.values() if it.state == state]
@@ -108,7 +108,7 @@ class Schedule:
 
     def take(self) -> Task | None:
         """The next task, with its jobs; none where none is ready for which there is room."""
-        ready, running = ([] if self.has_failed else self.ready()), self.those("runs")
+        ready, running = self.ready(), self.those("runs")
         idle, room = self.jobs - sum(it.jobs for it in running), self.memory - sum(it.memory_with(it.jobs) for it in running)
         fitting = [it for it in ready if it.memory <= room or not running]
         if idle <= 0 or not fitting:
@@ -122,12 +122,11 @@ class Schedule:
     def end(self, task: Task, is_well: bool, seconds: float) -> None:
         """Notes that a task has ended."""
         task.state = "done" if is_well else "failed"
-        self.has_failed = self.has_failed or not is_well
         self.spent += seconds * task.jobs
 
     def is_over(self) -> bool:
         """Whether nothing runs and nothing more can."""
-        return not self.those("runs") and (self.has_failed or not self.those("waits"))
+        return not self.those("runs") and not self.ready()
 
     def seconds_left(self) -> float:
         """How long the rest is likely to take, at the pace of what is done."""
@@ -148,21 +147,23 @@ class Builder:
         lanes = [threading.Thread(target=self.work, daemon=True) for _ in range(self.schedule.jobs)]
         for it in lanes:
             it.start()
-        while any(it.is_alive() for it in lanes):
+        while alive := [it for it in lanes if it.is_alive()]:
             self.show("")
-            lanes[0].join(1) if lanes[0].is_alive() else lanes.append(lanes.pop(0))
+            alive[0].join(1)
         self.end_line()
-        return not self.schedule.has_failed
+        return len(self.schedule.those("done")) == len(self.schedule.tasks)
 
     def work(self) -> None:
         """Builds one crate after the other."""
         while task := self.take():
-            began = time.time()
-            is_well = build_one(task)
-            with self.changed:
-                self.schedule.end(task, is_well, time.time() - began)
-                self.show(f"{task.name}: {task.state} after {time.time() - began:.0f} s")
-                self.changed.notify_all()
+            began, is_well = time.time(), False
+            try:
+                is_well = build_one(task)
+            finally:
+                with self.changed:
+                    self.schedule.end(task, is_well, time.time() - began)
+                    self.show(f"{task.name}: {task.state} after {time.time() - began:.0f} s")
+                    self.changed.notify_all()
 
     def take(self) -> Task | None:
         """The next task, once there is one, or none where nothing more can be done."""
@@ -243,10 +244,17 @@ def build(names: list[str], jobs: int, memory: float) -> bool:
     builder = Builder(Schedule(tasks_of(not_built(crates)), jobs, memory), len(crates))
     is_well = builder.run()
     for task in builder.schedule.those("failed"):
-        print(f"{task.said[-4000:]}\n{task.name} isn't proved", file=sys.stderr)
+        print(f"{told_of(task.said)}\n{task.name} isn't proved", file=sys.stderr)
     for it in held:
         os.close(it)
     return is_well
+
+
+def told_of(said: str) -> str:
+    """What the prover says of a crate that it doesn't prove: its first errors, or its last lines where it names none."""
+    lines = said.rstrip("\n").split("\n")
+    errors = [it for it in lines if "error" in it or ": not proved" in it]
+    return "\n".join(it[:400] for it in errors[:20] or lines[-20:])
 
 
 def stop(*_: object) -> None:
