@@ -4,8 +4,8 @@
     python3 gate/build.py [--jobs N] [--memory GB] [CRATE ..]     the crates named and all below them; without names all
 
 What is built and of which no source differs is left alone. Of what waits for nothing those crates come first that stand at
-the foot of the longest chain, as many at once as there are jobs and as their likely memory leaves room for; jobs that find
-no crate go to one that has begun later. What comes of it is what `rt lib` and `rt run` leave, which find it built; but
+the foot of the longest chain, as many at once as there are jobs and as their likely memory leaves room for; where fewer
+are ready than jobs are idle, the first of them gets the rest. What comes of it is what `rt lib` and `rt run` leave, which find it built; but
 there is no pass over all sources at once before it, for which they take more memory than for any proof.
 
 On a terminal standard error has one line that tells how far the build is, elsewhere a line for each crate. It may be ended
