@@ -22,12 +22,8 @@ answer="$folder/answer"
 build() {
     crate=$1
     shift
-    if test -n "$BUILT"; then
-        set -- "out/$crate" "$@"
-    else
-        set -- rt run -- "$@"
-    fi
-    if ! (cd "crates/$crate" && "$@") >"$folder/run.log" 2>&1; then
+    if ! { test -n "$BUILT" || python3 -B gate/build.py "$crate"; } >"$folder/run.log" 2>&1 ||
+        ! (cd "crates/$crate" && "out/$crate" "$@") >>"$folder/run.log" 2>&1; then
         cat "$folder/run.log"
         echo "0 passed, 1 failed"
         exit 1

@@ -4,7 +4,8 @@
                     must-fail edits of this turn, and compares with the sqlite3 program
     ./check --all   the same with every must-fail edit
     ./check quick   what one runs while working: the layout of all crates; proofs over what earlier checks kept; the tests
-                    and the edits of the crates that differ from the commit in gate/passed; the comparisons at their smallest
+                    of the crates that differ from the commit in gate/passed, and their edits that this concerns; the
+                    comparisons at their smallest
 
 Each part ends with a line 'N passed, M failed'; the last line adds these. Before it stand how many edits were tried, and the
 processor time, user and system, of all that was started.
@@ -143,30 +144,29 @@ def check_whole(is_all: bool, total: Sum, began: float) -> None:
 
 def turn() -> list[str]:
     """What tells the edits their turn: nothing where all are to be tried."""
-    changed = changed_crates()
     commit = subprocess.run(["git", "-C", str(TOP), "rev-parse", "HEAD"], capture_output=True, text=True, check=False)
-    if changed is None or commit.returncode:
-        return []
-    return ["--turn", commit.stdout.strip(), "--changed", ",".join(sorted(changed))]
+    return [] if commit.returncode else ["--changed-in", str(TOP), "--turn", commit.stdout.strip()]
 
 
 def check_quick(total: Sum) -> None:
     """Checks over kept work what differs from the commit on which the gate passed."""
     crates = rt.rtlib.crates_below(str(TOP))
-    changed = changed_crates()
+    changed = changed_crates(TOP)
     names = {it.name for it in crates} if changed is None else changed
     print(f"differing crates: {' '.join(sorted(names)) or 'none'}", flush=True)
     laid_out = [rt.rtlib.fmt(it.folder, "--check", sys.stdout) == 0 for it in crates]
     total.add_one("the layout", all(laid_out))
-    is_proved = passes([*RT, "all", "check", "--jobs", str(rt.processors())], TOP)
-    total.add_one("the proofs", is_proved)
-    built = is_proved and all(passes([*RT, "run", "--", *words], TOP / "crates" / name) for name, words in PROGRAMS.items())
+    built = passes(["python3", "-B", "gate/build.py"], TOP)
+    total.add_one("the proofs", built)
+    if not built:
+        return
+    built = all(passes([f"out/{name}", *words], TOP / "crates" / name) for name, words in PROGRAMS.items())
     total.add_one("the programs", built)
     if not built:
         return
     total.add_one("the worked texts", has_worked_texts(TOP / "crates/text_trees"))
     edited = [it.name for it in crates if it.name in names and rt.edits_of(it)[0]]
-    parts = [Part("edits", ["python3", "gate/edits.py", "--kept", *edited])] if edited else []
+    parts = [Part("edits", ["python3", "gate/edits.py", "--kept", "--changed-in", str(TOP), *edited])] if edited else []
     parts += scripts(TOP, {"SMALL": "1"}, ["--rounds", "50"])
     with ThreadPoolExecutor(1) as pool:
         tests = pool.submit(test_crates, [it for it in crates if it.name in names and it.has_tests()], total)

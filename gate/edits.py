@@ -34,7 +34,7 @@ from pathlib import Path
 
 from kit import rt
 from sources import functions_of, path_of
-from turns import Turn
+from turns import Turn, turn_of
 
 # How many edits one check takes. More save little, since each one's own failing proof remains.
 MOST_IN_ONE = 8
@@ -44,10 +44,11 @@ NAMES = re.compile(r"has no field|is not in scope|has no `|was not admitted")
 
 @dataclass(frozen=True)
 class Edit:
-    """An edit, and the function in whose body all of it stands, by its names from that of its file on: a method's are the
-    file's, its type's (for an impl of a trait, those of both) and its own."""
+    """An edit, the last file that it changes, and the function in whose body all of it stands, by its names from that of its file
+    on: a method's are the file's, its type's (for an impl of a trait, those of both) and its own."""
 
     file: str
+    source: str
     function: tuple[str, ...] | None
     is_method: bool = False
 
@@ -113,14 +114,18 @@ def edit_of(edit: str, folder: str) -> Edit:
         if line.startswith("file: "):
             file = line.removeprefix("file: ").strip()
         elif line.startswith("old: "):
-            old = line.removeprefix("old: ")
-            text = Path(folder, file).read_text(encoding="utf-8") if file.startswith("src/") else ""
-            first = text.find(old)
-            around = [it for it in functions_of(text) if it.body <= first and first + len(old) < it.end]
-            if not around or around[-1].is_const:
-                return Edit(edit, None)
-            found.add((tuple(path_of(around[-1], file)), bool(around[-1].owner)))
-    return Edit(edit, *found.pop()) if len(found) == 1 else Edit(edit, None)
+            found.add(function_around(folder, file, line.removeprefix("old: ")))
+    return Edit(edit, file, *(found.pop() if len(found) == 1 else (None, False)))
+
+
+def function_around(folder: str, file: str, old: str) -> tuple[tuple[str, ...] | None, bool]:
+    """The function in whose body a text of a file stands, if there is one, and whether it is a method."""
+    text = Path(folder, file).read_text(encoding="utf-8") if file.startswith("src/") else ""
+    first = text.find(old)
+    around = [it for it in functions_of(text) if it.body <= first and first + len(old) < it.end]
+    if not around or around[-1].is_const:
+        return None, False
+    return tuple(path_of(around[-1], file)), bool(around[-1].owner)
 
 
 def own_refusal(edit: Edit, room: Room, lines: list[str]) -> str | None:
@@ -150,9 +155,9 @@ def function_at(room: Room, file: str, line: int) -> tuple[str, ...] | None:
 class Trial:
     """The edits of one crate, which take a slot for each check."""
 
-    def __init__(self, crate, edits: list[str], slots: threading.Semaphore, kept: Path | None, until: float) -> None:
+    def __init__(self, crate, edits: list[Edit], slots: threading.Semaphore, kept: Path | None, until: float) -> None:
         self.crate, self.slots, self.began, self.until = crate, slots, time.time(), until
-        self.edits = [edit_of(file, crate.folder) for file in edits]
+        self.edits = edits
         # What the checks begin with, and whether it has the proofs of all functions.
         self.kept = kept or Path(tempfile.mkdtemp(prefix="kept-", dir=os.environ.get("EDITS_ROOM")))
         self.is_lent = self.is_whole = kept is not None
@@ -269,9 +274,9 @@ def read_words() -> argparse.Namespace:
     parser.add_argument("crates", nargs="*", help="the crates whose edits are tried (all)")
     parser.add_argument("--lanes", type=int, default=rt.processors(), help="how many checks run side by side")
     parser.add_argument("--kept", action="store_true", help="over what the crates' own checks kept: no verdict of the gate")
-    parser.add_argument("--turn", help="not all: those that are always tried and a third of the others, which this word chooses")
+    parser.add_argument("--changed-in", type=Path, help="not all: those that concern what differs in this repository")
+    parser.add_argument("--turn", help="with these those that are always tried and a third of the others, which this word chooses")
     parser.add_argument("--until", type=float, default=float("inf"), help="begin no check behind this time, in seconds of the epoch")
-    parser.add_argument("--changed", default="", help="in a turn, the names of the crates that changed, joined by commas")
     return parser.parse_args()
 
 
@@ -282,10 +287,11 @@ def main() -> int:
     found = {it: rt.edits_of(it) for it in crates}
     for file in (file for _, bad in found.values() for file in bad):
         print(f"{file}: no edit, by its name or its place")
-    turn = Turn(words.turn, set(words.changed.split(","))) if words.turn else None
-    chosen = {crate: [it for it in good if turn is None or turn.takes(crate, it)] for crate, (good, _) in found.items()}
+    turn = turn_of(words.changed_in, words.turn) if words.changed_in else Turn(None, None)
+    edits = {crate: [edit_of(it, crate.folder) for it in good] for crate, (good, _) in found.items()}
+    chosen = {crate: [it for it in edits[crate] if turn.takes(crate, it)] for crate in crates}
     # What changed comes first, since the time may end the turn; and a large crate takes the longest, so that it begins first.
-    order = sorted((it for it in crates if chosen[it]), key=lambda it: (bool(turn) and not turn.has_changed(it), -it.count(rb"\n")))
+    order = sorted((it for it in crates if chosen[it]), key=lambda it: (not turn.concern(it, chosen[it]), -it.count(rb"\n")))
     slots = threading.Semaphore(words.lanes)
     trials = [Trial(it, chosen[it], slots, kept_work(it) if words.kept else None, words.until) for it in order]
     # A crate's kept work stays on the disk until its last edit is tried: few crates are begun at once, as many as the slots need.

@@ -8,6 +8,8 @@ import os
 import shutil
 import sys
 import threading
+from collections.abc import Iterator
+from contextlib import contextmanager
 from types import ModuleType
 
 
@@ -27,22 +29,33 @@ def load() -> ModuleType:
     return module
 
 
+# The sums of crates that one sum, or one look at several crates, has made so far.
+SUMS = threading.local()
+
+
+@contextmanager
+def with_one_sum() -> Iterator[None]:
+    """Has the sum of each crate's sources be made once in what follows, in which no source may change."""
+    SUMS.held = {}
+    try:
+        yield
+    finally:
+        SUMS.held = None
+
+
 def sum_once(crates: type) -> None:
     """Has one sum of a crate's sources take that of each crate below it once. By itself the command makes it anew on each way down
     to that crate, and with each crate of a chain there are twice as many ways."""
-    whole, held = crates.stamp, threading.local()
+    whole = crates.stamp
 
     def stamp(crate) -> str:
-        sums = getattr(held, "sums", None)
-        if sums is not None:
-            if crate.folder not in sums:
-                sums[crate.folder] = whole(crate)
-            return sums[crate.folder]
-        held.sums = {}
-        try:
-            return whole(crate)
-        finally:
-            held.sums = None
+        sums = getattr(SUMS, "held", None)
+        if sums is None:
+            with with_one_sum():
+                return stamp(crate)
+        if crate.folder not in sums:
+            sums[crate.folder] = whole(crate)
+        return sums[crate.folder]
 
     crates.stamp = stamp
 

@@ -8,6 +8,7 @@ from dataclasses import dataclass
 IGNORED = re.compile(r'//[^\n]*|/\*.*?\*/|b?"(?:\\.|[^"\\])*"|b?\'(?:\\.|[^\'\\])\'', re.DOTALL)
 OWNER = re.compile(r"\bimpl\b[^{};]*\{|\btrait\s+\w+[^{};]*\{")
 HEAD = re.compile(r"\b((?:const\s+|unsafe\s+)*)fn\s+(\w+)")
+BRACE = re.compile(r"[{}]")
 CLAUSE = re.compile(r"\b(requires|ensures|ghost|decreases)\b[^{}]*$")
 
 
@@ -43,10 +44,11 @@ def functions_of(text: str) -> list[Function]:
 def closing(text: str, place: int) -> int:
     """The place behind the brace that closes the one before this place."""
     depth = 1
-    while place < len(text) and depth:
-        depth += {"{": 1, "}": -1}.get(text[place], 0)
-        place += 1
-    return place
+    for brace in BRACE.finditer(text, place):
+        depth += 1 if brace[0] == "{" else -1
+        if not depth:
+            return brace.end()
+    return len(text)
 
 
 def body_behind(text: str, place: int) -> int | None:
