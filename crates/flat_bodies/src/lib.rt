@@ -14,5 +14,5 @@ mod terms;
 
 pub use answers::answer;
 pub use copies::flat_body;
-pub use parts::{inner_body, inner_queries, kept_sources, last_answers};
+pub use parts::{inner_queries, kept_sources, last_answers};
 pub use terms::filled_term;

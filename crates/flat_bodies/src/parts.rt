@@ -3,7 +3,7 @@ ghost use Rattle.std.specs.Prelude.{◌≡◌, ◌↔◌, ◌++◌, [], IfOk, Is
 ghost use Rattle.body_trees.specs.BodyView.{body_of, inner_of, joined_of, source_of};
 ghost use Rattle.flat_bodies.specs.FlatView.{kept_among, lists_of, queries_found, sources_in};
 ghost use Rattle.flat_queries.specs.Flat.{kept_of, kept_source};
-ghost use Rattle.flat_queries.specs.FlatWith.{body_in, last_answers, queries_of};
+ghost use Rattle.flat_queries.specs.FlatWith.{last_answers, queries_of};
 
 use body_trees::{Body, InnerQuery, Joined, Source};
 use std::alloc::{AllocError, Global};
@@ -82,16 +82,6 @@ pub fn inner_queries<'a>(alloc: Global, body: &'a Body) -> Result<Vec<&'a InnerQ
     let mut found = Vec::new(alloc);
     add_queries(body, &mut found)?;
     Ok(found)
-}
-
-/// What an inner query computes.
-pub fn inner_body(query: &InnerQuery) -> &Body
-    ensures { body_of result.now ≡ body_in (inner_of query.now) }
-{
-    match query {
-        InnerQuery::Values(body) => body,
-        InnerQuery::Exists(body) => body,
-    }
 }
 
 /// Of the values of each inner query of a query, those of its one SELECT, or of the last, over which ORDER BY stands. (SELECT, "The

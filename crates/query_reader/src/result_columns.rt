@@ -7,7 +7,7 @@ ghost use Rattle.phrases.specs.Texts.{lexemes_of};
 ghost use Rattle.window_reader.specs.Setting.{at};
 ghost use Rattle.query_reader.specs.Views.{columns_of, column_list_of};
 ghost use Rattle.statement_trees.specs.TreeView.{result_of};
-ghost use Rattle.syntax.specs.SelectView.{name_of};
+ghost use Rattle.syntax.specs.NameView.{name_of};
 
 use crate::trees::{all, all_of, value};
 use clause_reader::{Read, a_name};

@@ -4,7 +4,7 @@ ghost use Rattle.std.specs.Prelude.{◌≡◌, map, string_bytes};
 ghost use Rattle.query_reader.specs.Views.{columns_of, definitions_of_vec};
 ghost use Rattle.source_reader.specs.Views.{from_of};
 ghost use Rattle.syntax.specs.ExprTree.{CoreTree, QueryTree, ResultTree};
-ghost use Rattle.syntax.specs.SelectView.{name_of};
+ghost use Rattle.syntax.specs.NameView.{name_of};
 ghost use Rattle.window_reader.specs.Views.{present_of, some_of};
 
 use crate::cores::Parts;

@@ -2,7 +2,7 @@
 ghost use Rattle.std.specs.Prelude.{◌≡◌, IfOk, string_bytes};
 ghost use Rattle.naming.specs.Statement as spec;
 ghost use Rattle.statement_trees.specs.TreeView.{expr_of};
-ghost use Rattle.syntax.specs.SelectView.{name_of};
+ghost use Rattle.syntax.specs.NameView.{name_of};
 
 use scopes::Scope;
 use statement_trees::Expr;

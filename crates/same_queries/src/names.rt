@@ -1,6 +1,6 @@
 //! Names, and what else has no expression in it.
 ghost use Rattle.std.specs.Prelude.{◌≡◌, IsTrue, map, option_map, string_bytes};
-ghost use Rattle.syntax.specs.SelectView.{name_of};
+ghost use Rattle.syntax.specs.NameView.{name_of};
 
 use syntax::{Edge, Frame, ResultName};
 

@@ -16,7 +16,7 @@ use Rattle.syntax.specs.ExprTree.{
   arms_of,
   trees_of,
 }
-use Rattle.syntax.specs.SelectView.{name_of}
+use Rattle.syntax.specs.NameView.{name_of}
 use Rattle.syntax.specs.Tree.{Name}
 use Rattle.grammar.specs.Reading.{definitions_of, results_of, terms_of}
 use Rattle.statement_trees.specs.declared.expressions.Arm.{Arm}

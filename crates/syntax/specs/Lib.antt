@@ -3,5 +3,4 @@ pub mod ExprTree
 pub mod StatementTree
 pub mod ExprView
 pub mod Functions
-pub mod SelectTrees
-pub mod SelectView
+pub mod NameView

@@ -1,4 +1,4 @@
-//! What joins sources, queries and rows, as it is written.
+//! What joins sources, queries and rows, and what result columns are called, as it is written.
 
 /// How a source is joined to those before it. A comma, CROSS JOIN and JOIN are inner. (SELECT, "Determination of input
 /// data")
@@ -62,4 +62,13 @@ pub struct Frame {
     pub start: Edge,
     pub end: Edge,
     pub exclusion: Exclusion,
+}
+
+/// What a result column is called. (SELECT, "Generation of the set of result rows")
+#[derive(Debug, Drop)]
+pub enum ResultName {
+    /// What is written behind it, with AS or without.
+    Alias(String),
+    /// Nothing is written: the text of its expression, from the first token to the last.
+    SourceText(String),
 }

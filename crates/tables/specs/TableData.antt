@@ -33,14 +33,6 @@ pub record TableData : Type 0 where
   pub columns : List ColumnData
   pub key : RowKeyData
 
--- a table whose rows have rowids
-abbrev pub IsByRowid : RowKeyData → Type 0
-IsByRowid (RowKeyData.Rowid place) = Unit {0}
-IsByRowid (RowKeyData.Primary places) = ⊥
-
-abbrev pub HasRowids : TableData → Type 0
-HasRowids table = IsByRowid table.key
-
 -- the place of the column that is the rowid, where there is one
 abbrev pub rowid_of : RowKeyData → Option ℕ
 rowid_of (RowKeyData.Rowid place) = place

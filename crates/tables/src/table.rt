@@ -1,8 +1,8 @@
 //! Tables and their columns.
-ghost use Rattle.std.specs.Prelude.{◌≡◌, ◌↔◌, IfOk, IsTrue, length, string_bytes};
+ghost use Rattle.std.specs.Prelude.{◌≡◌, IfOk, length, string_bytes};
 ghost use Rattle.tables.specs.MissingView.{missing_of};
 ghost use Rattle.tables.specs.RowKeyView.{row_key_of};
-ghost use Rattle.tables.specs.TableData.{HasRowids, IsKeyWithin, IsPlaceIn, nullable, rowid_of, schema_table};
+ghost use Rattle.tables.specs.TableData.{IsKeyWithin, IsPlaceIn, nullable, rowid_of, schema_table};
 
 use crate::{Missing, RowKey};
 use std::alloc::{AllocError, Global};
@@ -167,13 +167,6 @@ impl Table {
             RowKey::Rowid(place) => *place,
             RowKey::Primary(_) => None,
         }
-    }
-
-    /// Whether the rows have rowids. (WITHOUT ROWID Tables)
-    pub fn has_rowids(&self) -> bool
-        ensures { IsTrue result ↔ HasRowids self.now }
-    {
-        matches!(self.key, RowKey::Rowid(_))
     }
 
     /// How the rows are found in the table's tree.

@@ -48,7 +48,7 @@ impl Totals {
     }
 
     /// How many values in three ranges aren't NULL.
-    pub fn count_in(&self, ranges: &Ranges) -> usize
+    fn count_in(&self, ranges: &Ranges) -> usize
         requires { AreInside ranges.now (length (map datum_of self.now.values.items)) }
         ensures { result ≡ length (kept (slices ranges.now (map datum_of self.now.values.items))) }
     {
@@ -59,7 +59,7 @@ impl Totals {
     }
 
     /// The exact total of the values in three ranges.
-    pub fn total_in(&self, ranges: &Ranges) -> i128
+    fn total_in(&self, ranges: &Ranges) -> i128
         requires { AreInside ranges.now (length (map datum_of self.now.values.items)) }
         ensures { result ≡ total (slices ranges.now (map datum_of self.now.values.items)) }
     {
