@@ -2,7 +2,8 @@
 //! by ORDER BY, each term ascending or descending with NULLs first or last; and that of many rows those that are kept while they
 //! come begin such a permutation of all of them, as far as LIMIT and OFFSET look.
 //!
-//! The modules, in the order in which data passes them: `order` (rows in order), `limits` (how many rows are looked at) and `first_in_order` (the first rows in order, kept while they come).
+//! The modules, in the order in which data passes them: `order` (rows in order), `limits` (how many rows are looked at) and
+//! `first_in_order` (the first rows in order, kept while they come).
 #![tactic(auto)]
 
 mod first_in_order;

@@ -9,8 +9,8 @@ ghost use Rattle.window_order.specs.Ranks.{IsNumber, ascending_rank, rank_of};
 use syntax::Direction;
 use values::{Value, ValueRef};
 
-/// A number that is less than that of another value only where the value comes before it. Only the time of a sort depends on
-/// ranks: what they leave open, values that tie and texts that begin alike, is told by the values.
+/// Less than the rank of another value only where the value comes before it. What ranks leave open, values that tie and texts
+/// that begin alike, is told by the values; among numbers and NULL they leave nothing open.
 #[derive(Clone, Copy, Default, PartialEq, Eq, PartialOrd, Ord)]
 pub struct Rank {
     /// NULLs first or last, and between them integers, texts and blobs.
