@@ -27,9 +27,9 @@ from tried import FOR_A_FILE, how_many, read_words, try_files, try_statements
 STATEMENTS, FEW = 400, 40
 COLUMNS = ("id", "n", "s", "g", "h")
 TABLES = {
-    "t": "t(id INTEGER PRIMARY KEY, n INT, s TEXT, g INT, h TEXT) STRICT",
-    "u": "u(id INT, n INT, s TEXT, g INT, h TEXT) STRICT",
-    "v": "v(id INT, n INT, s TEXT, g INT, h TEXT, PRIMARY KEY (g, id)) STRICT, WITHOUT ROWID",
+    "t": "t(id INTEGER PRIMARY KEY, n INT, s TEXT, g INT, h BLOB) STRICT",
+    "u": "u(id INT, n INT, s TEXT, g INT, h BLOB) STRICT",
+    "v": "v(id INT, n INT, s TEXT, g INT, h BLOB, PRIMARY KEY (g, id)) STRICT, WITHOUT ROWID",
 }
 ORDERS = {"t": "rowid", "u": "rowid", "v": "g, id"}
 # The equalities of a join: a column of a source before, and one of this. With few values alone, few rows stand before.
@@ -51,7 +51,7 @@ NARROW: dict[str, Holds] = {
     "{0} < {1} AND {1} < {0} + 4": lambda one, other: None not in (one, other) and one < other < one + 4,
 }
 
-Row = tuple[int | str | None, ...]
+Row = tuple[int | str | bytes | None, ...]
 
 
 @dataclass
@@ -68,15 +68,15 @@ class Source:
 
 
 def many_rows(rng: Random, count: int) -> list[Row]:
-    """Rows of numbers and texts that meet one or two rows of another table, of some that many have, and of NULLs."""
+    """Rows of numbers and texts that meet one or two rows of another table, of numbers and blobs that many have, and of NULLs."""
 
-    def perhaps(value: int | str) -> int | str | None:
+    def perhaps(value: int | str | bytes) -> int | str | bytes | None:
         return None if rng.random() < 0.06 else value
 
     numbers = rng.sample(range(2 * count), count)
     texts = ("", "a text that is longer than sixteen bytes, ", "\u00e4b ")
     return [
-        (number, perhaps(rng.randrange(2 * count)), perhaps(f"{texts[number % 3]}{rng.randrange(count)}"), perhaps(rng.randrange(7)), perhaps("abc"[number % 3]))
+        (number, perhaps(rng.randrange(2 * count)), perhaps(f"{texts[number % 3]}{rng.randrange(count)}"), perhaps(rng.randrange(7)), perhaps(bytes(number % 3)))
         for number in numbers
     ]
 
