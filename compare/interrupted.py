@@ -185,8 +185,12 @@ def try_joins(interrupter: Interrupter) -> None:
     image, statements = joined()
     interrupter.path.write_bytes(image)
     _, opening = interrupter.run(Case("no table", image, "SELECT 1", "", 0, 0))
-    for sql, lines, running in statements:
-        interrupter.try_reads(Case(f"joined, {sql}", image, sql, lines, opening, running))
+    cases = [Case(f"joined, {sql}", image, sql, lines, opening, running) for sql, lines, running in statements]
+    for case in cases:
+        interrupter.try_reads(case)
+    further, _ = numbers(1000, 60, leaf=3, fan=2)
+    interrupter.try_change("a table of other rows", cases[0], bytes(further.image()))
+    interrupter.try_change("zeros", cases[0], bytes(len(image)), CHANGED)
 
 
 def try_rows(interrupter: Interrupter) -> None:
