@@ -76,7 +76,13 @@ def many_rows(rng: Random, count: int) -> list[Row]:
     numbers = rng.sample(range(2 * count), count)
     texts = ("", "a text that is longer than sixteen bytes, ", "\u00e4b ")
     return [
-        (number, perhaps(rng.randrange(2 * count)), perhaps(f"{texts[number % 3]}{rng.randrange(count)}"), perhaps(rng.randrange(7)), perhaps(bytes(number % 3)))
+        (
+            number,
+            perhaps(rng.randrange(2 * count)),
+            perhaps(f"{texts[number % 3]}{rng.randrange(count)}"),
+            perhaps(rng.randrange(7)),
+            perhaps(bytes(number % 3)),
+        )
         for number in numbers
     ]
 
@@ -205,7 +211,8 @@ def answer_problem(connection: sqlite3.Connection, asked: Asked, out: bytes) -> 
     if asked.is_ordered:
         places = [place for place, (one, other) in enumerate(zip(found, lines)) if one != other]
         place = places[0] if places else min(len(found), len(lines))
-        return "" if found == lines else f"{len(found)} rows, and not {len(lines)}; at {place} {found[place:place + 2]}, and not {lines[place:place + 2]}"
+        shown = f"at {place} {found[place:place + 2]}, and not {lines[place:place + 2]}"
+        return "" if found == lines else f"{len(found)} rows, and not {len(lines)}; {shown}"
     strange, lost = Counter(found) - Counter(lines), Counter(lines) - Counter(found)
     return f"rows {list(strange)[:3]}, and not {list(lost)[:3]}" if strange or lost else ""
 
