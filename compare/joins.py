@@ -2,7 +2,7 @@
 """Compares what the program answers to random joins of two to five sources, of each kind, by ON, by USING or by neither, with what
 SQLite answers. Many of them have rows that are kept in memory, derived tables and the tables of RIGHT and FULL joins, and conditions
 that want columns of both sides to be equal, so that the kept rows are looked up; the tables have rows enough for that, many of them
-with the same values, and NULLs. Behind them stand joins of tables of some thousand rows, which `large.py` makes.
+with the same values, and NULLs. After them come joins of tables of some thousand rows, which `large.py` makes.
 
 Run from any folder. The last line is 'N passed, M failed'. `--seed S --only N` makes one statement anew and prints it; of the large
 tables `large.py` does.

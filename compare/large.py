@@ -193,12 +193,12 @@ def random_join(rng: Random, tables: dict[str, list[Row]]) -> Asked:
     if rng.random() < 0.2:
         where.append(f"{'xyz'[len(sources) - 1]}.n IS NULL")
         rows = [row for row in rows if row[-4] is None]
-    behind = f" FROM {text}" + (f" WHERE {' AND '.join(where)}" if where else "")
+    rest = f" FROM {text}" + (f" WHERE {' AND '.join(where)}" if where else "")
     if rng.random() < 0.1:
-        return Asked(f"SELECT count(*){behind}", [(len(rows),)], True)
+        return Asked(f"SELECT count(*){rest}", [(len(rows),)], True)
     shown = sorted(rng.sample(range(len(COLUMNS) * len(sources)), rng.choice((1, 3, 6))))
     columns = ", ".join(f"{'xyz'[at // len(COLUMNS)]}.{COLUMNS[at % len(COLUMNS)]}" for at in shown)
-    return Asked(f"SELECT {columns}{behind}", [tuple(row[at] for at in shown) for row in rows], not is_outer)
+    return Asked(f"SELECT {columns}{rest}", [tuple(row[at] for at in shown) for row in rows], not is_outer)
 
 
 def answer_problem(connection: sqlite3.Connection, asked: Asked, out: bytes) -> str:

@@ -45,7 +45,7 @@ def try_files(tally: Tally, path: Path, seed: int, numbers: range, try_file: Try
 
 
 def try_statements(words: argparse.Namespace, try_file: TryFile, try_more: Callable[[Tally, Path, int], None] | None = None) -> int:
-    """Builds the program, and has all statements tried, or the one that is asked for; and behind all of them what there is more, of this
+    """Builds the program, and has all statements tried, or the one that is asked for; and after all of them what there is more, of this
     seed."""
     tally = Tally()
     build()
