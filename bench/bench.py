@@ -11,7 +11,6 @@ from __future__ import annotations
 
 import argparse
 import math
-import re
 import shutil
 import subprocess
 import sys
@@ -23,15 +22,16 @@ FOLDER = Path(__file__).resolve().parent
 TOP = FOLDER.parent
 sys.path.insert(0, str(TOP / "compare"))
 
-from costs import Command, Cost, measure_all  # noqa: E402
+from costs import CACHE, Command, Cost, measure_all, met, peak_of, seleq, sqlite  # noqa: E402
+from joined import joined_lines  # noqa: E402
 from lookups import build_table_rows, lookup_lines  # noqa: E402
 from measured import GATHERED, INDEXED_TARGET, INDEXES, JOINS, STATEMENTS, WINDOWS, Statement  # noqa: E402
-from program import PROGRAM, build, give_up  # noqa: E402
+from program import build, give_up  # noqa: E402
 from reading import reading_lines  # noqa: E402
 
 ROWS = 1_000_000
 RUNS = 5
-PAGE, CACHE = 4096, 256
+PAGE = 4096
 TEXT = 40
 # The longest payload of the table: a header, two numbers and the text.
 PAYLOAD = 5 + 2 * 8 + TEXT
@@ -54,26 +54,6 @@ def make_table(path: Path, rows: int) -> None:
         INSERT INTO item SELECT i, i * 7919 % 1000003, i * i * 31,
             substr(printf('the name of item %d, filled with letters up to forty', i), 1, {TEXT}) FROM n;"""
     subprocess.run(["sqlite3", "-bail", str(path)], input=script.encode(), check=True)
-
-
-def peak_of(command: Command) -> int:
-    """The most bytes of memory that a command had when it wrote its output, of which a pipe holds back a page."""
-    peak = 0
-    with subprocess.Popen(command.words, stdin=subprocess.DEVNULL, stdout=subprocess.PIPE, pipesize=4096) as child:
-        while child.stdout.read1():
-            told = re.search(r"VmHWM:\s+([0-9]+) kB", Path(f"/proc/{child.pid}/status").read_text())
-            peak = max(peak, int(told[1]) * 1024 if told else 0)
-    return peak
-
-
-def sqlite(path: Path, *texts: str) -> list[str]:
-    """The words that have sqlite3 answer texts over a file."""
-    return ["sqlite3", "-batch", "-readonly", "-quote", str(path), *texts]
-
-
-def seleq(path: Path, text: str) -> list[str]:
-    """The words that have seleq answer a text over a file."""
-    return [str(PROGRAM), "--cache", str(CACHE), str(path), text]
 
 
 def commands_for(path: Path) -> list[Command]:
@@ -101,11 +81,6 @@ def statement_commands(path: Path, statements: list[Statement]) -> list[Command]
 def indexed_commands(path: Path) -> list[Command]:
     """Opening a file whose table has indexes, and the check of sqlite3."""
     return [Command("open", seleq(path, OPENED), 1), Command("sqlite check", sqlite(path, "PRAGMA integrity_check"))]
-
-
-def met(holds: bool) -> str:
-    """Whether a target is met, as a word."""
-    return "met" if holds else "missed"
 
 
 def time_rows(costs: dict[str, Cost]) -> list[str]:
@@ -212,7 +187,13 @@ def window_growth_lines(sizes: list[int], all_costs: list[dict[str, Cost]]) -> l
 
 
 def report(
-    sizes: list[int], all_costs: list[dict[str, Cost]], indexed: list[str], lookups: list[str], memory: list[str], runs: int
+    sizes: list[int],
+    all_costs: list[dict[str, Cost]],
+    indexed: list[str],
+    joined: list[str],
+    lookups: list[str],
+    memory: list[str],
+    runs: int,
 ) -> str:
     """The text of RESULTS.md."""
     version = subprocess.run(["sqlite3", "--version"], capture_output=True, check=True).stdout.decode().split()[0]
@@ -229,6 +210,8 @@ def report(
         "\n".join(indexed),
         "## Statements",
         "\n".join(statement_rows(all_costs[-1])),
+        "## Joins without an index",
+        "\n".join(joined),
         "## Searches",
         "\n".join(lookups),
         "## The peak of memory",
@@ -270,8 +253,9 @@ def main() -> int:
         subprocess.run(["sqlite3", "-bail", str(path), INDEXES], check=True)
         memory += [*indexed_memory(path), *gathered]
         indexed = indexed_lines(measure_all(indexed_commands(path), words.runs))
+        joined = joined_lines(Path(folder), sizes[1:], words.runs)
         lookups = lookup_lines(path, Path(folder), CACHE, words.runs)
-    words.out.write_text(report(sizes, all_costs, indexed, lookups, memory, words.runs))
+    words.out.write_text(report(sizes, all_costs, indexed, joined, lookups, memory, words.runs))
     return 0
 
 

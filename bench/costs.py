@@ -3,11 +3,16 @@
 from __future__ import annotations
 
 import os
+import re
 import subprocess
 import time
 from dataclasses import dataclass
+from pathlib import Path
 
-from program import give_up
+from program import PROGRAM, give_up
+
+# How many pages seleq keeps.
+CACHE = 256
 
 
 @dataclass(frozen=True)
@@ -52,3 +57,28 @@ def measure_all(commands: list[Command], runs: int) -> dict[str, Cost]:
         for command in commands:
             costs[command.name] = costs[command.name].least(measure(command))
     return costs
+
+
+def peak_of(command: Command) -> int:
+    """The most bytes of memory that a command had when it wrote its output, of which a pipe holds back a page."""
+    peak = 0
+    with subprocess.Popen(command.words, stdin=subprocess.DEVNULL, stdout=subprocess.PIPE, pipesize=4096) as child:
+        while child.stdout.read1():
+            told = re.search(r"VmHWM:\s+([0-9]+) kB", Path(f"/proc/{child.pid}/status").read_text())
+            peak = max(peak, int(told[1]) * 1024 if told else 0)
+    return peak
+
+
+def sqlite(path: Path, *texts: str) -> list[str]:
+    """The words that have sqlite3 answer texts over a file."""
+    return ["sqlite3", "-batch", "-readonly", "-quote", str(path), *texts]
+
+
+def seleq(path: Path, text: str) -> list[str]:
+    """The words that have seleq answer a text over a file."""
+    return [str(PROGRAM), "--cache", str(CACHE), str(path), text]
+
+
+def met(holds: bool) -> str:
+    """Whether a target is met, as a word."""
+    return "met" if holds else "missed"

@@ -1,8 +1,9 @@
 #!/usr/bin/env python3
 """Interrupts the program: each of its reads fails in turn, each byte of its output is the last that is taken, and the image is
 another from each read on. It calls the C library's pread and write, which devices.c stands before. How many reads there are
-is what the documents promise: the header, each page once at opening and each page of the answer's table once more, and no more
-of them than the answer wants; nor than there are pages, where many places of an image name one page.
+is what the documents promise: the header, each page once at opening and each page of the answer's table once more, of each table that
+is joined by an equality too, and no more of them than the answer wants; nor than there are pages, where many places of an image name
+one page.
 
 Run from any folder. The last line is 'N passed, M failed'.
 """
@@ -150,6 +151,48 @@ def long_schema() -> Case:
     return Case("a long schema", image, "SELECT body FROM t", "1\n2\n3\n", len(writer.pages) + 3, len(tree.leaves) + 1)
 
 
+def joined() -> tuple[bytes, list[tuple[str, str, int]]]:
+    """An image of the sixty rows, thirty others, rows without rowids on five pages, and eight rows on one page; and joins of them, with
+    what they answer and how many pages they read: those of each table once, where a condition is an equality or the table has no more
+    pages than are kept, however many rows stand before it. Else those of the inner table are read for each of them."""
+    writer, tree = numbers(1, 60, leaf=4, fan=3)
+    others = [(rowid, record([2 * rowid, f"row {rowid}"])) for rowid in range(1, 31)]
+    other = writer.table("u", "CREATE TABLE u(c INT, d TEXT) STRICT", others, leaf=4, fan=3)
+    keyed = [record([key, 3 * key]) for key in range(1, 24)]
+    rowless = writer.rowless("w", "CREATE TABLE w(k INT PRIMARY KEY, e INT) STRICT, WITHOUT ROWID", keyed, leaf=5)
+    writer.table("few", "CREATE TABLE few(g INT) STRICT", [(rowid, record([rowid])) for rowid in range(1, 9)])
+    t, u, w = (sum(len(level) for level in tree.levels) for tree in (tree, other, rowless))
+    even = "".join(f"{number},'row {number // 2}'\n" for number in range(2, 61, 2))
+    every = "".join(f"{number},NULL\n{number + 1},'row {number // 2 + 1}'\n" for number in range(1, 60, 2))
+    three = "".join(f"{number},{'NULL' if number % 3 else number // 3}\n" for number in range(2, 61, 2))
+    less = "".join(f"{number},{other}\n" for number in (58, 59, 60) for other in range(2, number, 2))
+    far = "".join(f"{number},{other}\n" for number in range(54, 61) for other in range(1, number - 52))
+    return bytes(writer.image()), [
+        ("SELECT a, d FROM t JOIN u ON c = a", even, t + u),
+        ("SELECT a, d FROM u, t WHERE a = c", even, t + u),
+        ("SELECT a, d FROM t LEFT JOIN u ON c = a", every, t + u),
+        ("SELECT a, k FROM t JOIN u ON c = a LEFT JOIN w ON e = a", three, t + u + w),
+        ("SELECT x.a, y.d FROM u AS z JOIN t AS x ON z.c = x.a JOIN u AS y ON x.a = y.c AND y.d = z.d", even, t + 2 * u),
+        ("SELECT a, d FROM t JOIN u ON c = a LIMIT 1", "2,'row 1'\n", len(tree.levels) + u),
+        ("SELECT a, c FROM t JOIN u ON c < a WHERE a > 57", less, t + 3 * u),
+        ("SELECT a, g FROM t JOIN few ON g + 52 < a", far, t + 1),
+    ]
+
+
+def try_joins(interrupter: Interrupter) -> None:
+    """Joins of two and three tables. What opening reads is what a statement without a table does: it goes along a tree of rows without
+    rowids twice."""
+    image, statements = joined()
+    interrupter.path.write_bytes(image)
+    _, opening = interrupter.run(Case("no table", image, "SELECT 1", "", 0, 0))
+    cases = [Case(f"joined, {sql}", image, sql, lines, opening, running) for sql, lines, running in statements]
+    for case in cases:
+        interrupter.try_reads(case)
+    further, _ = numbers(1000, 60, leaf=3, fan=2)
+    interrupter.try_change("a table of other rows", cases[0], bytes(further.image()))
+    interrupter.try_change("zeros", cases[0], bytes(len(image)), CHANGED)
+
+
 def try_rows(interrupter: Interrupter) -> None:
     """A table of some levels."""
     case, writer, tree = small()
@@ -285,7 +328,7 @@ def main() -> int:
     tally = Tally()
     with tempfile.TemporaryDirectory() as folder:
         interrupter = Interrupter(tally, Path(folder))
-        for attempt in (try_rows, try_chains, try_outputs, try_costs):
+        for attempt in (try_rows, try_joins, try_chains, try_outputs, try_costs):
             attempt(interrupter)
     return tally.finish()
 

@@ -2,9 +2,10 @@
 """Compares what the program answers to random joins of two to five sources, of each kind, by ON, by USING or by neither, with what
 SQLite answers. Many of them have rows that are kept in memory, derived tables and the tables of RIGHT and FULL joins, and conditions
 that want columns of both sides to be equal, so that the kept rows are looked up; the tables have rows enough for that, many of them
-with the same values, and NULLs.
+with the same values, and NULLs. After them come joins of tables of some thousand rows, which `large.py` makes.
 
-Run from any folder. The last line is 'N passed, M failed'. `--seed S --only N` makes one statement anew and prints it.
+Run from any folder. The last line is 'N passed, M failed'. `--seed S --only N` makes one statement anew and prints it; of the large
+tables `large.py` does.
 """
 
 from __future__ import annotations
@@ -14,6 +15,7 @@ import sys
 from pathlib import Path
 from random import Random
 
+from large import try_large
 from program import Tally
 from recipes import fill
 from statements import Statement, ask_each, small_value
@@ -97,5 +99,11 @@ def try_file(tally: Tally, path: Path, seed: int, numbers: range, is_shown: bool
     ask_each(tally, path, seed, numbers, is_shown, make, table_of_many)
 
 
+def try_more(tally: Tally, path: Path, seed: int) -> None:
+    """Joins of large tables. Those by keys that were chosen for one bucket, `try_buckets` of buckets.py, are switched off: they take
+    seventy times as long as by other keys, and more."""
+    try_large(tally, path, seed)
+
+
 if __name__ == "__main__":
-    sys.exit(try_statements(read_words("Compares random joins with SQLite.", STATEMENTS, FEW), try_file))
+    sys.exit(try_statements(read_words("Compares random joins with SQLite.", STATEMENTS, FEW), try_file, try_more))

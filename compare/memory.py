@@ -23,12 +23,14 @@ from statements import line
 
 SOURCE = Path(__file__).resolve().parent / "refuse.c"
 NO_MEMORY = fault_line(28)
-# Statements whose rows are computed, and leave no choice: values that are made, an order, groups, windows, joins and compounds.
+# Statements whose rows are computed, and leave no choice: values that are made, an order, groups, windows, compounds, and joins, of
+# which some hold the rows of a table.
 COMPUTED = (
     "SELECT DISTINCT a || '!', length(a) FROM item ORDER BY 2 DESC, 1 LIMIT 2 OFFSET 1",
     "SELECT c0 % 3, count(*), sum(c1), min(c2) FROM sale GROUP BY c0 % 3 HAVING count(*) > 2 ORDER BY 1",
     "SELECT id FROM item UNION SELECT c0 FROM sale WHERE c0 < 9 EXCEPT SELECT 2 ORDER BY id DESC",
     "SELECT id, sum(id) OVER (ORDER BY id ROWS 1 PRECEDING), lag(hex(b)) OVER (ORDER BY id) FROM item WHERE length(b) < 99 ORDER BY id",
+    "SELECT c0, item.a, y.id FROM sale LEFT JOIN item ON item.id = c0 AND c1 < 1 JOIN item AS y ON y.id > c0 ORDER BY c0, y.id",
     "SELECT item.id, c0 FROM item FULL JOIN sale ON c0 = id * 2 WHERE id IS NOT NULL OR c0 > 87 ORDER BY c0, id",
 )
 

@@ -215,10 +215,13 @@ def try_again(tally: Tally, path: Path) -> None:
     behind = ["next\t0"] * 1000
     few, many = peak_of(path, steps * 400 + behind), peak_of(path, steps * 2000 + behind)
     tally.add("memory of 2,000 times", "" if many < few + MORE_MEMORY else f"{many} bytes, {few} of 400 times")
-    gathered = "SELECT count(*) FROM (SELECT DISTINCT pad, id FROM big)"
-    ended = [[f"open\t{slot}\t{gathered}", f"next\t{slot}", f"next\t{slot}"] for slot in range(16)]
-    one, each = peak_of(path, ended[0] + behind), peak_of(path, [step for steps in ended for step in steps] + behind)
-    tally.add("memory of ended statements", "" if each < one + MORE_MEMORY else f"{each} bytes, {one} of one")
+    for gathered in (
+        "SELECT count(*) FROM (SELECT DISTINCT pad, id FROM big)",
+        "SELECT count(*) FROM item JOIN big ON item.id = big.id AND big.pad > ''",
+    ):
+        ended = [[f"open\t{slot}\t{gathered}", f"next\t{slot}", f"next\t{slot}"] for slot in range(16)]
+        one, each = peak_of(path, ended[0] + behind), peak_of(path, [step for steps in ended for step in steps] + behind)
+        tally.add(f"memory of ended statements, {gathered}", "" if each < one + MORE_MEMORY else f"{each} bytes, {one} of one")
 
 
 def build() -> None:
