@@ -1,4 +1,5 @@
 pub mod TreeLemmas
+pub mod AskedLemmas
 pub mod StepLemmas
 pub mod StartLemmas
 pub mod GroupLemmas
