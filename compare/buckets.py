@@ -1,7 +1,7 @@
 #!/usr/bin/env python3
 """Joins tables whose keys the hash of `row_lookups` sends to one bucket, as the writer of a file can choose them: twenty thousand whole
 numbers that differ by numbers whose products leave the places alone which tell a bucket; pairs of whole numbers and texts that all
-have one hash. Each join takes at most four times the time of the processor that it takes with other keys of the same form.
+have one hash. Each join takes at most eight times the time of the processor that it takes with other keys of the same form.
 
 A part of joins.py; run by itself it makes these joins alone. The last line is 'N passed, M failed'.
 """
@@ -25,7 +25,7 @@ from recipes import fill, make_file
 ROWS = 20_000
 COUNT = ROWS + 1
 # How many times as long a join may take, and how often each is made at most, of which the least time is taken.
-MOST_TIMES, RUNS = 4, 3
+MOST_TIMES, RUNS = 8, 3
 # More seconds of the processor than any of them takes.
 MOST_SECONDS = 2
 

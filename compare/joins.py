@@ -2,7 +2,8 @@
 """Compares what the program answers to random joins of two to five sources, of each kind, by ON, by USING or by neither, with what
 SQLite answers. Many of them have rows that are kept in memory, derived tables and the tables of RIGHT and FULL joins, and conditions
 that want columns of both sides to be equal, so that the kept rows are looked up; the tables have rows enough for that, many of them
-with the same values, and NULLs. After them come joins of tables of some thousand rows, which `large.py` makes.
+with the same values, and NULLs. After them come joins of tables of some thousand rows, which `large.py` makes, and joins by keys of one
+bucket, which `buckets.py` makes.
 
 Run from any folder. The last line is 'N passed, M failed'. `--seed S --only N` makes one statement anew and prints it; of the large
 tables `large.py` does.
@@ -15,6 +16,7 @@ import sys
 from pathlib import Path
 from random import Random
 
+from buckets import try_buckets
 from large import try_large
 from program import Tally
 from recipes import fill
@@ -100,9 +102,9 @@ def try_file(tally: Tally, path: Path, seed: int, numbers: range, is_shown: bool
 
 
 def try_more(tally: Tally, path: Path, seed: int) -> None:
-    """Joins of large tables. Those by keys that were chosen for one bucket, `try_buckets` of buckets.py, are switched off: they take
-    seventy times as long as by other keys, and more."""
+    """Joins of large tables, and joins by keys that were chosen for one bucket."""
     try_large(tally, path, seed)
+    try_buckets(tally, path)
 
 
 if __name__ == "__main__":

@@ -45,7 +45,7 @@ PROGRAMS = {
 # The scripts of compare/ that ask the built program.
 OURS = (
     *("worked", "conditions", "interrupted", "sessions", "catalogs", "searches"),
-    *("statements", "nested", "joins", "flooded", "windows", "names"),
+    *("statements", "nested", "joins", "windows", "names"),
 )
 # The kit's command.
 RT = ["python3", "-B", str(TOP / "gate" / "command.py")]
