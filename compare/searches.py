@@ -1,7 +1,8 @@
-"""Has sqlite3 make tables with indexes at several page sizes, and compares the entries that our cursor lists of each index, and
-where its searches of indexes and of tables stand, at a key and behind it, with the order that sqlite3 gives. Each search of an
-index asks for no more pages than the tree has levels; one of a table for a row that is there neither, and else for one less than
-twice as many. Run from the top of the repository; the last line is 'N passed, M failed'."""
+"""Has sqlite3 make tables with indexes at several page sizes, and compares the entries that our cursor lists of each index, where
+its searches of indexes and of tables stand, at a key and behind it, and the one entry or row that is found by a key, with the
+order that sqlite3 gives. Each search of an index asks for no more pages than the tree has levels, and so does each that finds one
+cell; a search of a table for a row that is there neither, and else for one less than twice as many. Run from the top of the
+repository; the last line is 'N passed, M failed'."""
 
 from __future__ import annotations
 
@@ -27,8 +28,12 @@ KEYS = 100 if os.environ.get("SMALL") else 1000
 MOST_LEVELS = 5
 
 Value = int | str | bytes | None
-# The first columns of entries, and whether a search goes behind the entries that have these.
-Sought = tuple[list[Value], bool]
+# The first columns of entries, and how they are sought: by a search that stands at the entries that have these or behind them, or as
+# the first of these alone.
+Sought = tuple[list[Value], str]
+WAYS = ("at", "behind", "find")
+# How the rowid of the row that is answered stands to the one that is sought.
+RELATIONS = {"at": ">=", "behind": ">", "find": "="}
 
 
 @dataclass(frozen=True)
@@ -91,6 +96,11 @@ def comes_before(entry: list[Value], key: list[Value], signs: str, is_behind: bo
     return is_behind
 
 
+def is_answer(entry: list[Value], key: list[Value], way: str) -> bool:
+    """Whether the first entry that doesn't come before what is sought is the answer: one that is found has the key's values."""
+    return way != "find" or list(map(rank, entry[: len(key)])) == list(map(rank, key))
+
+
 def literal(value: Value) -> str:
     """A value as the program prints it."""
     if value is None:
@@ -100,7 +110,7 @@ def literal(value: Value) -> str:
     return str(value) if isinstance(value, int) else "'" + value.replace("'", "''") + "'"
 
 
-def key_line(key: list[Value], is_behind: bool) -> str:
+def key_line(key: list[Value], way: str) -> str:
     """A key as the program reads it."""
     written = []
     for value in key:
@@ -110,7 +120,7 @@ def key_line(key: list[Value], is_behind: bool) -> str:
             written.append(f"i{value}")
         else:
             written.append(f"t{value}" if isinstance(value, str) else f"b{value.decode()}")
-    return "\t".join(["behind" if is_behind else "at", *written]) + "\n"
+    return "\t".join([way, *written]) + "\n"
 
 
 def make(path: Path, size: int, random: Random) -> sqlite3.Connection:
@@ -135,14 +145,14 @@ def make(path: Path, size: int, random: Random) -> sqlite3.Connection:
 
 
 def sought_keys(random: Random, entries: list[list[Value]], columns: tuple[str, ...]) -> list[Sought]:
-    """Keys of some of the first columns, half of them those of entries, each for a search at it and for one behind it. A blob with a
+    """Keys of some of the first columns or of a whole entry, half of them those of entries, each sought in each way. A blob with a
     tab can't be written in a line."""
     found: list[Sought] = []
-    while len(found) < 2 * KEYS:
-        whole = random.choice(entries)[:-1] if random.random() < 0.5 else [random_value(random, column) for column in columns]
-        key = whole[: random.randint(0, len(columns))]
+    while len(found) < len(WAYS) * KEYS:
+        whole = random.choice(entries) if random.random() < 0.5 else [random_value(random, column) for column in columns]
+        key = whole[: random.randint(0, len(whole))]
         if not any(isinstance(value, bytes) and b"\t" in value for value in key):
-            found += [(key, False), (key, True)]
+            found += [(key, way) for way in WAYS]
     return found
 
 
@@ -164,12 +174,12 @@ def compare_entries(
         tally.add(what, f"{len(lines)} lines, {said!r}")
         return
     tally.add(what, "")
-    for (key, is_behind), line in zip(keys, lines[len(wanted) :]):
-        place = bisect_left(entries, True, key=lambda entry: not comes_before(entry, key, signs, is_behind))
+    for (key, way), line in zip(keys, lines[len(wanted) :]):
+        place = bisect_left(entries, True, key=lambda entry: not comes_before(entry, key, signs, way == "behind"))
         found, _, asked = line.rpartition(",")
-        stands = wanted[place] if place < len(wanted) else ""
+        stands = wanted[place] if place < len(wanted) and is_answer(entries[place], key, way) else ""
         problem = "" if found == stands and int(asked) <= levels else f"{line}; wanted {stands}, {levels} levels"
-        tally.add(f"{what} {key} {is_behind}", problem)
+        tally.add(f"{what} {way} {key}", problem)
 
 
 def compare(tally: Tally, path: Path, database: sqlite3.Connection, index: Index, random: Random) -> None:
@@ -196,9 +206,9 @@ def compare_worked(tally: Tally, path: Path) -> None:
         tally.add("three entries, SQLite's check", "" if reader.is_sound() and len(tree.leaves) == 2 else "it finds something")
     keys: list[list[Value]] = [[], [None], *([number] for number in range(4, 11))]
     keys += [[number, rowid] for number in (5, 7, 9) for rowid in range(5)]
-    sought = [(key, is_behind) for key in keys for is_behind in (False, True)]
+    sought = [(key, way) for key in keys for way in WAYS]
     compare_entries(tally, "three entries", path, tree.root, "+", entries, sought, 2)
-    lines, _ = listed(path, tree.root, "+", [([7], False)])
+    lines, _ = listed(path, tree.root, "+", [([7], "at")])
     tally.add("three entries, at 7", "" if lines[3:] in (["7,3,1"], ["7,3,2"]) else str(lines[3:]))
 
 
@@ -214,25 +224,25 @@ def levels_of(database: sqlite3.Connection, name: str) -> int:
 
 
 def compare_rows(tally: Tally, path: Path, database: sqlite3.Connection, random: Random) -> None:
-    """Compares where searches for rows stand, at a rowid and behind it, half of them for rows that there are."""
+    """Compares where searches for rows stand, at a rowid and behind it, and the rows that are found, half of them rows that there are."""
     rows = dict(database.execute("SELECT id, name FROM k"))
     there = sorted(rows)
     found = [random.choice(there) if random.random() < 0.5 else random_rowid(random) for _ in range(KEYS)]
-    keys = [(rowid, is_behind) for rowid in found for is_behind in (False, True)]
-    lines, said = listed(path, root_of(database, "k"), "rowid", [([rowid], is_behind) for rowid, is_behind in keys])
+    keys = [(rowid, way) for rowid in found for way in WAYS]
+    lines, said = listed(path, root_of(database, "k"), "rowid", [([rowid], way) for rowid, way in keys])
     if len(lines) != len(keys):
         tally.add(f"{path.name}: rows", f"{len(lines)} lines, {said!r}")
         return
     levels = levels_of(database, "k")
-    for (rowid, is_behind), line in zip(keys, lines):
-        relation = ">" if is_behind else ">="
+    for (rowid, way), line in zip(keys, lines):
+        relation = RELATIONS[way]
         query = f"SELECT id || ',NULL,' || quote(name) || ',' FROM k WHERE id {relation} ? ORDER BY id LIMIT 1"
         row = database.execute(query, (rowid,)).fetchone()
         wanted = row[0] if row else ""
-        most = levels if rowid in rows and not is_behind else 2 * levels - 1
+        most = levels if way == "find" or (rowid in rows and way == "at") else 2 * levels - 1
         asked = line.removeprefix(wanted)
         problem = "" if wanted + asked == line and asked.isdigit() and int(asked) <= most else f"{line}; {levels} levels"
-        tally.add(f"{path.name}: rowid {rowid} {is_behind}", problem)
+        tally.add(f"{path.name}: rowid {way} {rowid}", problem)
 
 
 def main() -> int:

@@ -30,8 +30,9 @@ PROGRAM = CRATE / "out" / "stepped_statements"
 
 # More reads than any schedule makes.
 MOST_READS = 5000
-# How many bytes more a run may have where memory is given back: less than a third of what one statement gathers.
-MORE_MEMORY = 256 << 10
+# How many bytes more a run may have where memory is given back. Linux counts the pages of a process by batches on each
+# processor, so that its peak is right to some hundred kB; sixteen statements that kept their rows would have 16 MB more.
+MORE_MEMORY = 1 << 20
 
 READ_FAILED, NO_MEMORY, FINISHED = (fault_line(number).decode() for number in (27, 28, 53))
 NO_STATEMENT, TAKEN = fault_line(54).decode(), fault_line(55).decode()

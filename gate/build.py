@@ -32,9 +32,9 @@ TOP = Path(__file__).resolve().parent.parent
 # What the build of a crate takes from nothing with one job, in seconds of a processor and in megabytes: fitted to builds of today's
 # crates, so that little depends on it.
 SECONDS, SECONDS_A_FUNCTION = 25.0, 4.5
-MEGABYTES, MEGABYTES_A_SECOND, MEGABYTES_A_KILOBYTE_BELOW = 900.0, 3.0, 0.15
+MEGABYTES, MEGABYTES_A_SECOND, MEGABYTES_A_KILOBYTE_BELOW = 460.0, 3.3, 0.33
 # The share of the seconds that a crate takes of which an earlier build kept work, and that of the memory which a further job takes.
-KEPT_SHARE, JOB_SHARE = 0.2, 0.7
+KEPT_SHARE, JOB_SHARE = 0.2, 0.5
 
 
 @dataclass

@@ -7,8 +7,9 @@
                     of the crates that differ from the commit in gate/passed, and their edits that this concerns; the
                     comparisons at their smallest
 
-Each part ends with a line 'N passed, M failed'; the last line adds these. Before it stand how many edits were tried, and the
-processor time, user and system, of all that was started.
+Each part ends with a line 'N passed, M failed'; the last line adds these. Before it come the last lines of each part that failed,
+a table of the minutes of each part, how many edits were tried, and the minutes of the whole. Processor time is user and system, of all
+that was started.
 """
 
 from __future__ import annotations
@@ -52,6 +53,8 @@ RT = ["python3", "-B", str(TOP / "gate" / "command.py")]
 # How many minutes after its beginning the whole begins no further check of an edit of a turn, so that it ends on a slow machine too.
 MINUTES = 140
 COUNTS = re.compile(r"(\d+) passed, (\d+) failed")
+# How many lines of a part that failed are shown again at the end, and how much of each.
+LAST_LINES, MOST_OF_A_LINE = 12, 300
 
 
 @dataclass
@@ -61,9 +64,14 @@ class Sum:
     passed: int = 0
     failed: int = 0
     tried: str = ""
+    # The lines that are shown at the end: of the parts that failed, and of the minutes of each.
+    failures: list[str] = field(default_factory=list)
+    table: list[str] = field(default_factory=list)
 
-    def add(self, part: Part, lines: list[str], status: int) -> None:
+    def add(self, part: Part, ran: Ran) -> None:
         """Adds the last line of a part. One that ended otherwise is a failure."""
+        lines, status = ran.lines, ran.status
+        self.table.append(f"| {part.name} | {ran.clock / 60:.1f} | {ran.processor / 60:.1f} |")
         counts = COUNTS.fullmatch(lines[-1]) if lines else None
         if counts:
             self.passed += int(counts[1])
@@ -71,6 +79,9 @@ class Sum:
         if not counts or bool(status) != bool(int(counts[2])):
             print(f"{part.name} ended with status {status}")
             self.failed += 1
+        if status:
+            last = [line[:MOST_OF_A_LINE] for line in lines if ": refused, as" not in line and ": left, as" not in line][-LAST_LINES:]
+            self.failures += [f"{part.name} failed with status {status}; its last lines:", *(f"    {line}" for line in last)]
         self.tried = next((line for line in lines if line.endswith(" edits were tried")), self.tried)
 
     def add_one(self, what: str, is_well: bool) -> None:
@@ -78,6 +89,26 @@ class Sum:
         print(f"{what}: {'passed' if is_well else 'FAILED'}", flush=True)
         self.passed += is_well
         self.failed += not is_well
+
+    def show(self, began: float) -> None:
+        """Prints what failed, the table of minutes, and the sums."""
+        used = [resource.getrusage(who) for who in (resource.RUSAGE_CHILDREN, resource.RUSAGE_SELF)]
+        minutes = sum(it.ru_utime + it.ru_stime for it in used) / 60
+        heads = ["| Part | minutes | of processor time |", "|---|---|---|"] if self.table else []
+        print("\n".join([*self.failures, *heads, *self.table]))
+        print(f"{(time.time() - began) / 60:.0f} minutes, {minutes:.0f} minutes of processor time")
+        print(self.tried or "no edits were tried")
+        print(f"{self.passed} passed, {self.failed} failed")
+
+
+@dataclass(frozen=True)
+class Ran:
+    """What came of a part: its lines, its exit status, and its seconds by the clock and of the processor."""
+
+    lines: list[str]
+    status: int
+    clock: float
+    processor: float
 
 
 @dataclass
@@ -89,8 +120,8 @@ class Part:
     folder: Path = TOP
     more: dict[str, str] = field(default_factory=dict)
 
-    def run(self, is_shown: bool = False) -> tuple[list[str], int]:
-        """Runs the command: its lines, and its exit status. The lines are shown while it runs, or behind it."""
+    def run(self, is_shown: bool = False) -> Ran:
+        """Runs the command. Its lines are shown while it runs, or after it."""
         began, lines = time.time(), []
         how = {"stdin": subprocess.DEVNULL, "stdout": subprocess.PIPE, "stderr": subprocess.STDOUT, "errors": "replace"}
         with subprocess.Popen(self.words, cwd=self.folder, env={**os.environ, **self.more}, **how) as ran:
@@ -98,9 +129,11 @@ class Part:
                 lines.append(line.rstrip("\n"))
                 if is_shown:
                     print(lines[-1], flush=True)
-        shown = [] if is_shown else lines
-        print("\n".join([*shown, f"-- {self.name}: {time.time() - began:.0f} s"]), flush=True)
-        return lines, ran.returncode
+            _, status, used = os.wait4(ran.pid, 0)
+            ran.returncode = os.waitstatus_to_exitcode(status)
+        clock, shown = time.time() - began, [] if is_shown else lines
+        print("\n".join([*shown, f"-- {self.name}: {clock:.0f} s"]), flush=True)
+        return Ran(lines, ran.returncode, clock, used.ru_utime + used.ru_stime)
 
 
 def scripts(folder: Path, more: dict[str, str], rounds: list[str]) -> list[Part]:
@@ -114,8 +147,8 @@ def scripts(folder: Path, more: dict[str, str], rounds: list[str]) -> list[Part]
 def run_beside(parts: list[Part], total: Sum) -> None:
     """Runs parts side by side."""
     with ThreadPoolExecutor(len(parts)) as pool:
-        for part, (lines, status) in zip(parts, pool.map(Part.run, parts)):
-            total.add(part, lines, status)
+        for part, ran in zip(parts, pool.map(Part.run, parts)):
+            total.add(part, ran)
 
 
 def check_whole(is_all: bool, total: Sum, began: float) -> None:
@@ -126,11 +159,11 @@ def check_whole(is_all: bool, total: Sum, began: float) -> None:
         for edits in copy.glob("crates/*/must-fail"):
             shutil.rmtree(edits)
         proved = Part("rt ci", [*RT, "ci"], copy)
-        lines, status = proved.run(is_shown=True)
-        total.add(proved, lines, status)
+        ran = proved.run(is_shown=True)
+        total.add(proved, ran)
         for edits in TOP.glob("crates/*/must-fail"):
             shutil.copytree(edits, copy / edits.relative_to(TOP))
-        if not status:
+        if not ran.status:
             # The edits begin with nothing that the proofs kept, and need the disk.
             for kept in copy.glob(f"crates/*/{rt.rtlib.KEPT[1]}"):
                 shutil.rmtree(kept)
@@ -164,7 +197,7 @@ def check_quick(total: Sum) -> None:
     total.add_one("the programs", built)
     if not built:
         return
-    total.add_one("the worked texts", has_worked_texts(TOP / "crates/text_trees"))
+    total.add_one("the worked texts", all(has_worked_texts(TOP / "crates" / name, words) for name, words in PROGRAMS.items()))
     edited = [it.name for it in crates if it.name in names and rt.edits_of(it)[0]]
     parts = [Part("edits", ["python3", "gate/edits.py", "--kept", "--changed-in", str(TOP), *edited])] if edited else []
     parts += scripts(TOP, {"SMALL": "1"}, ["--rounds", "50"])
@@ -174,10 +207,12 @@ def check_quick(total: Sum) -> None:
         tests.result()
 
 
-def has_worked_texts(crate: Path) -> bool:
-    """Whether the program writes of the texts in `stdin` what stands in `stdout`, as `rt ci` asks of it too."""
+def has_worked_texts(crate: Path, words: list[str]) -> bool:
+    """Whether a program that has a file `stdin` writes of it what stands in `stdout`, as `rt ci` asks of it too."""
+    if not (crate / "stdin").exists():
+        return True
     with (crate / "stdin").open("rb") as texts:
-        ran = subprocess.run([crate / "out" / crate.name], stdin=texts, capture_output=True, check=False)
+        ran = subprocess.run([f"out/{crate.name}", *words], cwd=crate, stdin=texts, capture_output=True, check=False)
     return ran.returncode == 0 and ran.stdout == (crate / "stdout").read_bytes()
 
 
@@ -210,11 +245,7 @@ def main() -> int:
         check_quick(total)
     else:
         check_whole(words.all, total, began)
-    used = [resource.getrusage(who) for who in (resource.RUSAGE_CHILDREN, resource.RUSAGE_SELF)]
-    minutes = sum(it.ru_utime + it.ru_stime for it in used) / 60
-    print(f"{(time.time() - began) / 60:.0f} minutes, {minutes:.0f} minutes of processor time")
-    print(total.tried or "no edits were tried")
-    print(f"{total.passed} passed, {total.failed} failed")
+    total.show(began)
     return 1 if total.failed else 0
 
 

@@ -4,14 +4,14 @@ use Rattle.std.specs.Prelude.{IfNone}
 use Rattle.std.proofs.lemmas.List.{take_rest, drop-drop}
 use Rattle.records.specs.Varint.{BeginsVarint}
 use Rattle.records.proofs.VarintLemmas.{varint_some}
-use Rattle.image.specs.declared.kind.Level.TheVariants.{Interior}
-use Rattle.image.specs.Layout.{cell_place, places_end}
-use Rattle.image.specs.declared.kind.TreeKind.{TreeKind}
-use Rattle.image.specs.declared.kind.TreeKind.TheVariants.{Table, Index}
+use Rattle.btree.specs.declared.image.kind.Level.TheVariants.{Interior}
+use Rattle.btree.specs.image.Layout.{cell_place, places_end}
+use Rattle.btree.specs.declared.image.kind.TreeKind.{TreeKind}
+use Rattle.btree.specs.declared.image.kind.TreeKind.TheVariants.{Table, Index}
 use Rattle.std.proofs.lemmas.Bool.Decides.{nat_tests}
 use Rattle.pager.specs.Header.{field}
-use Rattle.image.specs.Cell.{most_local, local_size, overflow_size, overflow_of, CellData, PayloadData, IsPayload, IsTableCell, IsIndexCell}
-use Rattle.image.specs.Cell.{FitsIn}
+use Rattle.btree.specs.image.Cell.{most_local, local_size, overflow_size, overflow_of, CellData, PayloadData, IsPayload, IsTableCell, IsIndexCell}
+use Rattle.btree.specs.image.Cell.{FitsIn}
 use Rattle.btree.specs.Bytes.{IsDividerCell}
 
 pub IfNone-always : {T : Type 0} {P : Type 0} (r : Option T) → P → IfNone r P
@@ -39,6 +39,25 @@ overflow_size-long kind usable size long = grind (arith, nat_tests)
 pub overflow_of-long : (kind : TreeKind) (usable size : ℕ) (bytes : List ℕ) → most_local kind usable < size
     → overflow_of kind usable size bytes ≡ Some (field bytes (local_size kind usable size) 4)
 overflow_of-long kind usable size bytes long = grind (arith, nat_tests)
+
+-- one that is
+pub local_size-short : (kind : TreeKind) (usable size : ℕ) → size ≤ most_local kind usable → local_size kind usable size ≡ size
+local_size-short kind usable size short = grind (arith, nat_tests)
+
+pub overflow_size-short : (kind : TreeKind) (usable size : ℕ) → size ≤ most_local kind usable → overflow_size kind usable size ≡ 0
+overflow_size-short kind usable size short = grind (arith, nat_tests)
+
+pub overflow_of-short : (kind : TreeKind) (usable size : ℕ) (bytes : List ℕ) → size ≤ most_local kind usable → overflow_of kind usable size bytes ≡ None
+overflow_of-short kind usable size bytes short = grind (arith, nat_tests)
+
+-- no payload stands in fewer bytes than it has there
+pub no_short : (kind : TreeKind) (usable size : ℕ) (bytes : List ℕ) → size ≤ most_local kind usable → length bytes < size
+    → (payload : PayloadData) → payload.size ≡ size → ¬ IsPayload kind usable bytes payload
+no_short kind usable size bytes short few payload same is =
+    let local = local_size-short kind usable size short in
+    let at : local_size kind usable payload.size ≡ local_size kind usable size = ap (local_size kind usable) same in
+    let within = is.within in
+    omega (arith, local, at, within, few)
 
 -- a varint has a byte
 pub begins_some : (xs : List ℕ) (v : ℤ) (len : ℕ) → BeginsVarint xs v len → 0 < length xs

@@ -4,9 +4,9 @@ use Rattle.std.proofs.lemmas.Bool.{cases_lt}
 use Rattle.std.proofs.lemmas.List.{take_all}
 use Rattle.byteorder.specs.Endian.{big_number}
 use Rattle.pager.specs.Header.{field}
-use Rattle.image.specs.Pages.{Pages, IsNumber}
-use Rattle.image.specs.Chain.{IsChain, end, more, chain_room, next_page}
-use Rattle.image.proofs.ChainLemmas.{chain_end}
+use Rattle.btree.specs.image.Pages.{Pages, IsNumber}
+use Rattle.btree.specs.image.Chain.{IsChain, end, more, chain_room, next_page}
+use Rattle.btree.proofs.lemmas.image.ChainLemmas.{chain_end}
 
 pub first_field : (bytes : List ℕ) (n : ℕ) → n ≡ big_number 4 bytes → n ≡ field bytes 0 4
 unfolding field

@@ -3,14 +3,14 @@ use Rattle.std.proofs.Common.{◌≡◌, ℕ, ℤ, ◌+◌, ◌*◌, ◌-◌, �
 use Rattle.std.proofs.lemmas.Bool.Decides.{nat_tests}
 use Rattle.std.proofs.lemmas.List.{drop_min, take_rest}
 use Rattle.pager.specs.Header.{field}
-use Rattle.image.specs.Cell.{CellData, IsIndexCell, IsTableCell}
-use Rattle.image.specs.declared.kind.TreeKind.{TreeKind}
-use Rattle.image.specs.declared.kind.TreeKind.TheVariants.{Table, Index}
-use Rattle.image.specs.declared.kind.Level.{Level}
-use Rattle.image.specs.declared.kind.Level.TheVariants.{Leaf, Interior}
-use Rattle.image.specs.Layout.{flag, flag_of, cell_count, cell_place, child, header_size, right_child, places_end}
-use Rattle.image.specs.Layout.{HasHeaderAt}
-use Rattle.image.specs.Cell.{FitsIn}
+use Rattle.btree.specs.image.Cell.{CellData, IsIndexCell, IsTableCell}
+use Rattle.btree.specs.declared.image.kind.TreeKind.{TreeKind}
+use Rattle.btree.specs.declared.image.kind.TreeKind.TheVariants.{Table, Index}
+use Rattle.btree.specs.declared.image.kind.Level.{Level}
+use Rattle.btree.specs.declared.image.kind.Level.TheVariants.{Leaf, Interior}
+use Rattle.btree.specs.image.Layout.{flag, flag_of, cell_count, cell_place, child, header_size, right_child, places_end}
+use Rattle.btree.specs.image.Layout.{HasHeaderAt}
+use Rattle.btree.specs.image.Cell.{FitsIn}
 use Rattle.btree.specs.Bytes.{HasKeyOf, IsDividerCell, IsEntryCell, IsRowCell, child_size}
 
 -- a flag tells the level

@@ -5,7 +5,7 @@ use Rattle.pager.specs.declared.header.Header.{Header}
 use Rattle.pager.specs.Header.{page_sizes}
 use Rattle.pager.specs.PagerState.{PagerState, IsSoundHeader}
 use Rattle.pager.specs.Calls.{SameImage}
-use Rattle.image.specs.Pages.{pages_seen, pages_in}
+use Rattle.btree.specs.image.Pages.{pages_seen, pages_in}
 use Rattle.btree.specs.ViewData.{AreReadable}
 
 module _ (a b : PagerState) (stays : SameImage a b) where

@@ -1,9 +1,9 @@
 -- What a page's used bytes alone say, of a page whose header begins at a place.
 use Rattle.std.specs.Prelude.{◌≡◌, ℕ, ℤ, ◌+◌, ◌<◌, ◌≤◌, List, length, drop, Some}
-use Rattle.image.specs.declared.kind.Level.{Level}
-use Rattle.image.specs.declared.kind.Level.TheVariants.{Leaf, Interior}
-use Rattle.image.specs.Layout.{places_end, cell_place}
-use Rattle.image.specs.Cell.{CellData, FitsIn, IsTableCell, IsIndexCell, IsDivider}
+use Rattle.btree.specs.declared.image.kind.Level.{Level}
+use Rattle.btree.specs.declared.image.kind.Level.TheVariants.{Leaf, Interior}
+use Rattle.btree.specs.image.Layout.{places_end, cell_place}
+use Rattle.btree.specs.image.Cell.{CellData, FitsIn, IsTableCell, IsIndexCell, IsDivider}
 
 -- cell i of a table's leaf lies behind the cell places, and is such a cell
 pub record IsRowCell (at most : ℕ) (page : List ℕ) (i : ℕ) (cell : CellData) : Type 0 where

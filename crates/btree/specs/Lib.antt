@@ -2,3 +2,5 @@ pub mod Bytes
 pub mod ViewData
 pub mod Views
 pub mod Calls
+pub mod image
+pub mod page_use

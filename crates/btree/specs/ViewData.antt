@@ -1,9 +1,9 @@
 -- What contracts see of a page.
 use Rattle.std.specs.Prelude.{◌≡◌, ℕ, ◌<◌, ◌≤◌, List, length}
-use Rattle.image.specs.declared.kind.TreeKind.{TreeKind}
-use Rattle.image.specs.declared.kind.Level.{Level}
-use Rattle.image.specs.Layout.{HasHeaderAt, cell_count, header_at}
-use Rattle.image.specs.Pages.{Pages}
+use Rattle.btree.specs.declared.image.kind.TreeKind.{TreeKind}
+use Rattle.btree.specs.declared.image.kind.Level.{Level}
+use Rattle.btree.specs.image.Layout.{HasHeaderAt, cell_count, header_at}
+use Rattle.btree.specs.image.Pages.{Pages}
 
 -- where a page's header begins, of which kind and level the page is, and its used bytes
 pub record ViewData : Type 0 where

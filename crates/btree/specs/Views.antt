@@ -1,5 +1,5 @@
 -- What contracts see of a cell.
-use Rattle.image.specs.Cell.{CellData, PayloadData}
+use Rattle.btree.specs.image.Cell.{CellData, PayloadData}
 use Rattle.btree.specs.declared.cell.Cell.{Cell}
 use Rattle.btree.specs.declared.cell.Payload.{Payload}
 

@@ -1,10 +1,10 @@
-//! Cells, and the part of a payload that stands in one.
-ghost use Rattle.std.specs.Prelude.{◌≡◌, ◌≤◌, ℕ, pos, IfNone, IfSome};
-ghost use Rattle.image.specs.Cell.{CellData, FitsIn, PayloadData, IsIndexCell, IsPayload, IsTableCell, local_size, most_local};
+//! Cells, and the part of a payload that is stored in its cell.
+ghost use Rattle.std.specs.Prelude.{◌≡◌, ◌<◌, ◌≤◌, ℕ, pos, IfNone, IfSome};
+ghost use Rattle.btree.specs.image.Cell.{CellData, FitsIn, PayloadData, IsIndexCell, IsPayload, IsTableCell, local_size, most_local};
 ghost use Rattle.btree.specs.Views.{cell_data, payload_data};
 
+use crate::image::TreeKind;
 use byteorder::{BigEndian, ByteOrder};
-use image::TreeKind;
 use records::varint;
 
 /// The part of a payload that stands in its cell, and where the rest is.
@@ -29,7 +29,7 @@ pub struct Cell<'p> {
 }
 
 /// The most bytes of a payload that stand in its cell whole, where so many bytes of each page are used.
-#[inline]
+#[inline(always)]
 fn most_local_of(kind: TreeKind, usable: u64) -> u64
     requires low { 480 ≤ usable }
     requires high { usable ≤ 65536 }
@@ -57,11 +57,13 @@ fn local_size_of(kind: TreeKind, usable: u64, size: u64) -> u64
     if cut <= most { cut } else { least }
 }
 
-/// The payload of this size with which the bytes begin; `None` where they end before its local part does.
-#[inline]
-fn read_payload(kind: TreeKind, usable: u64, size: u64, bytes: &[u8]) -> Option<Payload<'_>>
+/// The payload of this size with which the bytes begin, which has overflow pages; `None` where the bytes end before its
+/// local part does.
+#[inline(never)]
+fn read_chained(kind: TreeKind, usable: u64, size: u64, bytes: &[u8]) -> Option<Payload<'_>>
     requires low { 480 ≤ usable }
     requires high { usable ≤ 65536 }
+    requires long { most_local kind usable < size }
     ensures found { IfSome result (λ payload. IsPayload kind usable bytes.now (payload_data payload)) }
     ensures size { IfSome result (λ payload. payload.size ≡ size) }
     ensures none { IfNone result ((payload : PayloadData) → payload.size ≡ size → ¬ IsPayload kind usable bytes.now payload) }
@@ -71,13 +73,6 @@ fn read_payload(kind: TreeKind, usable: u64, size: u64, bytes: &[u8]) -> Option<
         return None;
     }
     let (local, rest) = bytes.split_at(local_size);
-    if size <= most_local_of(kind, usable) {
-        return Some(Payload {
-            size,
-            local,
-            overflow: None,
-        });
-    }
     if rest.len() < 4 {
         return None;
     }
@@ -89,8 +84,32 @@ fn read_payload(kind: TreeKind, usable: u64, size: u64, bytes: &[u8]) -> Option<
     })
 }
 
+/// The payload of this size with which the bytes begin; `None` where they end before its local part does.
+#[inline(always)]
+fn read_payload(kind: TreeKind, usable: u64, size: u64, bytes: &[u8]) -> Option<Payload<'_>>
+    requires low { 480 ≤ usable }
+    requires high { usable ≤ 65536 }
+    ensures found { IfSome result (λ payload. IsPayload kind usable bytes.now (payload_data payload)) }
+    ensures size { IfSome result (λ payload. payload.size ≡ size) }
+    ensures none { IfNone result ((payload : PayloadData) → payload.size ≡ size → ¬ IsPayload kind usable bytes.now payload) }
+{
+    if size > most_local_of(kind, usable) {
+        return read_chained(kind, usable, size, bytes);
+    }
+    let whole = size as usize;
+    if whole > bytes.len() {
+        return None;
+    }
+    let (local, _) = bytes.split_at(whole);
+    Some(Payload {
+        size,
+        local,
+        overflow: None,
+    })
+}
+
 /// The size of a payload, which is none where it is negative or more than the image has bytes.
-#[inline]
+#[inline(always)]
 fn size_of(size: i64, most: u64) -> Option<u64>
     ensures found { IfSome result (λ n. (size ≡ pos n) × (n ≤ most)) }
     ensures none { IfNone result ((n : ℕ) → size ≡ pos n → ¬ (n ≤ most)) }
@@ -102,7 +121,7 @@ fn size_of(size: i64, most: u64) -> Option<u64>
 }
 
 /// The cell of a table's leaf with which the bytes begin, with a payload of at most `most` bytes.
-#[inline]
+#[inline(always)]
 pub(crate) fn table_cell(usable: u64, most: u64, bytes: &[u8]) -> Option<Cell<'_>>
     requires low { 480 ≤ usable }
     requires high { usable ≤ 65536 }

@@ -1,10 +1,10 @@
-//! The whole of a payload, with its overflow pages.
+//! A whole payload, with its overflow pages.
 ghost use Rattle.std.specs.Prelude.{◌≡◌, ◌++◌, ◌≤◌, List, ℕ, length, option_map, take, IfErr, IfNone, IfOk, IfSome, IsFalse, IsTrue, MatchResult, None, Ok, Some};
 ghost use Rattle.std.specs.Cow.{cow_slice_items};
 ghost use Rattle.std.specs.declared.borrow.CowSlice.TheVariants.{Borrowed};
 ghost use Rattle.pager.specs.Calls.{IsReadFault, ReadsChainPages};
-ghost use Rattle.image.specs.Pages.{IsNumber, WhereSteady, pages_seen};
-ghost use Rattle.image.specs.Chain.{IsChain};
+ghost use Rattle.btree.specs.image.Pages.{IsNumber, WhereSteady, pages_seen};
+ghost use Rattle.btree.specs.image.Chain.{IsChain};
 ghost use Rattle.btree.specs.Calls.{IsBytesOf};
 ghost use Rattle.btree.specs.Views.{payload_data};
 

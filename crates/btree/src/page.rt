@@ -1,18 +1,18 @@
 //! A tree page, read in place.
 ghost use Rattle.std.specs.Prelude.{◌≡◌, ◌≢◌, ◌+◌, ◌*◌, ◌≤◌, ◌<◌, ℤ, length, take, IfNone, IfSome};
-ghost use Rattle.image.specs.declared.kind.TreeKind.TheVariants.{Table, Index};
-ghost use Rattle.image.specs.declared.kind.Level.{Level};
-ghost use Rattle.image.specs.declared.kind.Level.TheVariants.{Leaf, Interior};
-ghost use Rattle.image.specs.Cell.{CellData};
+ghost use Rattle.btree.specs.declared.image.kind.TreeKind.TheVariants.{Table, Index};
+ghost use Rattle.btree.specs.declared.image.kind.Level.{Level};
+ghost use Rattle.btree.specs.declared.image.kind.Level.TheVariants.{Leaf, Interior};
+ghost use Rattle.btree.specs.image.Cell.{CellData};
 ghost use Rattle.pager.specs.Header.{field};
-ghost use Rattle.image.specs.Layout.{HasHeaderAt, cell_count, cell_place, child, flag, flag_of, header_at, header_size};
+ghost use Rattle.btree.specs.image.Layout.{HasHeaderAt, cell_count, cell_place, child, flag, flag_of, header_at, header_size};
 ghost use Rattle.btree.specs.Bytes.{HasKeyOf, IsDividerCell, IsEntryCell, IsRowCell, LacksChild};
 ghost use Rattle.btree.specs.ViewData.{IsViewOf, TellsOfCell};
 ghost use Rattle.btree.specs.Views.{cell_data};
 
 use crate::cell::{Cell, index_cell, table_cell};
+use crate::image::{Level, TreeKind};
 use byteorder::{BigEndian, ByteOrder};
-use image::{Level, TreeKind};
 use pager::Page;
 use records::varint;
 use std::marker::Model;
@@ -28,7 +28,7 @@ pub struct PageView<'p> {
 
 impl<'p> Model for PageView<'p> {
     ghost use Rattle.std.specs.Prelude.{◌≤◌, length};
-    ghost use Rattle.image.specs.Layout.{HasHeaderAt};
+    ghost use Rattle.btree.specs.image.Layout.{HasHeaderAt};
     ghost use Rattle.btree.specs.ViewData.{ViewData, IsView};
 
     ghost Value = { ViewData };
@@ -98,7 +98,7 @@ fn flag_at(at: usize, page: &[u8]) -> u8
 }
 
 #[inline]
-#[tactic(auto, unfolding(image::specs::Layout::cell_count))]
+#[tactic(auto, unfolding(crate::specs::image::Layout::cell_count))]
 fn count_of(at: usize, page: &[u8]) -> u16
     requires { at + 5 ≤ length page.now }
     ensures { result ≡ cell_count at page.now }
@@ -107,7 +107,7 @@ fn count_of(at: usize, page: &[u8]) -> u16
 }
 
 #[inline]
-#[tactic(auto, unfolding(image::specs::Layout::cell_place))]
+#[tactic(auto, unfolding(crate::specs::image::Layout::cell_place))]
 fn place_of(at: usize, level: Level, page: &[u8], i: u32) -> u16
     requires { at + header_size level + 2 * i + 2 ≤ length page.now }
     ensures { result ≡ cell_place at level page.now i }
@@ -175,6 +175,7 @@ impl<'p> PageView<'p> {
     }
 
     /// Cell i of a table's leaf, with a payload of at most `most` bytes; `None` where none is there.
+    #[inline(always)]
     pub fn row(&self, most: u64, i: u32) -> Option<Cell<'p>>
         requires { TellsOfCell self.now Table Leaf i }
         ensures found { IfSome result (λ cell. IsRowCell self.now.at most self.now.page i (cell_data cell)) }

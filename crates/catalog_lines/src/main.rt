@@ -1,6 +1,6 @@
-//! Writes the catalogs that rows of schemas say, so that they can be compared with what SQLite tells of the same files. A line of
-//! standard input is a row, its five values with tabs between them and nothing for NULL; an empty line ends a schema, and is
-//! answered by its catalog, or by its fault's line.
+//! Writes the catalogs that rows of schemas describe, so that they can be compared with what SQLite reports
+//! of the same files. A line of standard input is a row, its five values with tabs between them and nothing
+//! for NULL; an empty line ends a schema, and is answered by its catalog, or by its fault's line.
 //!
 //! The one module is `written` (catalogs as lines).
 #![tactic(auto)]
@@ -8,7 +8,7 @@
 mod written;
 
 use anyhow::{Context, Result};
-use catalog::Catalog;
+use schema::Catalog;
 use std::alloc::Global;
 use values::{Row, Value};
 use written::written_catalog;

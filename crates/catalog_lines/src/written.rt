@@ -1,9 +1,8 @@
 //! Catalogs as lines.
-use catalog::Catalog;
-use create_trees::KeyOrder;
-use indexes::Index;
+use schema::{Catalog, Index};
+use schema_tables::{Column, Missing, RowKey, Table};
+use sql_reader_grammar::KeyOrder;
 use std::alloc::{AllocError, Global};
-use tables::{Column, Missing, RowKey, Table};
 use values::{Ty, Value};
 
 /// The word for a type.

@@ -1,8 +1,8 @@
-//! What a user reads: rows as text. It promises the exact bytes of each row, that a write that fails has written a
-//! beginning of them, and that a text is that of one list of rows alone.
+//! Rows as the text that a user reads. It promises the exact bytes of each row, that a write that fails has
+//! written a beginning of them, and that no two lists of rows have the same text.
 //!
-//! The modules, in the order in which data passes them: `shown` (a value that is written as a literal), `lines` (rows),
-//! and `laws`.
+//! The modules, in the order in which data passes them: `shown` (a value written as a literal), `lines` (rows
+//! as lines), and `laws`.
 #![tactic(auto)]
 
 pub mod laws;

@@ -1,4 +1,4 @@
-//! A value that is written as a literal, whatever memory it lies in.
+//! A value written as a literal, wherever in memory it is.
 ghost use Rattle.std.specs.Prelude.{◌≡◌, IfErr};
 ghost use Rattle.values.specs.Datum.{Datum};
 ghost use Rattle.values.specs.Literal.{literal};

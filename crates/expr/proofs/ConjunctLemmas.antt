@@ -3,9 +3,9 @@ use Rattle.std.proofs.Common.{◌≡◌, ◌&&◌, ◌||◌, Bool, true, false, 
 use Rattle.std.specs.List.{list_all, list_any}
 use Rattle.std.proofs.lemmas.List.Folds.{list_all-append, list_any-append}
 use Rattle.std.proofs.Math.Bool.{and-true}
-use Rattle.operations.specs.declared.kinds.Comparison.TheVariants.{Ge, Le}
+use Rattle.expr.specs.declared.operations.kinds.Comparison.TheVariants.{Ge, Le}
 use Rattle.values.specs.Datum.{Datum}
-use Rattle.operations.specs.Operations.{truth, condition, and3}
+use Rattle.expr.specs.operations.Operations.{truth, condition, and3}
 use Rattle.expr.specs.Term.{Term, compare, and, between}
 use Rattle.expr.specs.Meaning.{and_then, compared, run, exact}
 use Rattle.expr.specs.Conjuncts.{conjuncts, keeps, is_conjunction, is_true}

@@ -6,10 +6,10 @@ use Rattle.std.proofs.lemmas.List.{map-append}
 use Rattle.std.proofs.lemmas.List.Sorted.{IsPermutation-cons, IsPermutation-refl}
 use Rattle.values.specs.declared.value.Ty.{Ty}
 use Rattle.values.specs.declared.value.Ty.TheVariants.{Int, Text}
-use Rattle.operations.specs.declared.kinds.Comparison.TheVariants.{Eq}
+use Rattle.expr.specs.declared.operations.kinds.Comparison.TheVariants.{Eq}
 use Rattle.values.specs.Datum.{Datum}
 use Rattle.expr.specs.Conjuncts.{conjuncts}
-use Rattle.operations.specs.Operations.{any_equal, comparison, condition, or3}
+use Rattle.expr.specs.operations.Operations.{any_equal, comparison, condition, or3}
 use Rattle.expr.specs.Meaning.{both, or_otherwise, run, run_all, run_arms, run_first}
 use Rattle.expr.specs.Term.{Term, Terms, Arms, literal, column, call, arithmetic, concat, compare, is, and, or, between, among, coalesce, choice, choice_of, null_if, like, none, more, answer, no_arms, arm}
 use Rattle.expr.specs.Types.{ArmsHaveTypes, FitsType, HasType, HaveType, IsOfType}

@@ -8,3 +8,4 @@ pub mod TypeLemmas
 pub mod TermTypeLemmas
 pub mod BagLemmas
 pub mod FilledLemmas
+pub mod lemmas

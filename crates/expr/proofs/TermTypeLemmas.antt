@@ -3,8 +3,8 @@ use Rattle.std.proofs.Common.{◌≡◌, ◌⊎◌, ℕ, List, Option, Some, Non
 use Rattle.values.specs.declared.value.Ty.{Ty}
 use Rattle.values.specs.declared.value.Ty.TheVariants.{Int, Text, Blob, Null}
 use Rattle.values.specs.Datum.{Datum, null, int, text, blob, type_of}
-use Rattle.operations.specs.declared.kinds.Function.{Function}
-use Rattle.operations.specs.declared.kinds.Function.TheVariants.{Neg, BitNot, Not, Abs, Length, Lower, Upper, Hex, TypeOf}
+use Rattle.expr.specs.declared.operations.kinds.Function.{Function}
+use Rattle.expr.specs.declared.operations.kinds.Function.TheVariants.{Neg, BitNot, Not, Abs, Length, Lower, Upper, Hex, TypeOf}
 use Rattle.expr.specs.Term.{Term, Terms, Arms, literal, column, call, arithmetic, concat, compare, is, and, or, between, among, coalesce, choice, choice_of, null_if, like, none, answer, more, no_arms, arm}
 use Rattle.expr.specs.Types.{ArmsHaveTypes, FitsAt, FitsType, HasType, HaveType, IsOfType, Takes, gives}
 use Rattle.expr.specs.TermType.{Finds, TypesAreFound, behind, giving, of_bytes, one_of, one_type, type_of_call, type_of_term, type_of_terms, type_of_thens, type_of_whens, wanted}

@@ -6,14 +6,14 @@ use Rattle.std.specs.Option.{IfSome, option_and_then}
 use Rattle.values.specs.declared.value.Ty.{Ty}
 use Rattle.values.specs.declared.value.Ty.TheVariants.{Int, Text, Blob, Null}
 use Rattle.values.specs.Datum.{Datum, null, int, text, blob}
-use Rattle.operations.specs.declared.kinds.Arithmetic.{Arithmetic}
-use Rattle.operations.specs.declared.kinds.Arithmetic.TheVariants.{Add, Sub, Mul, Div, Rem, BitAnd, BitOr}
-use Rattle.operations.specs.declared.kinds.Comparison.TheVariants.{Ge, Le}
-use Rattle.operations.specs.declared.kinds.Function.{Function}
-use Rattle.operations.specs.declared.kinds.Function.TheVariants.{Neg, BitNot, Not, Abs, Length, Lower, Upper, Hex, TypeOf}
-use Rattle.operations.specs.Operations.{settle, fits_64, is_zero, of_integers, arithmetic_of, condition, comparison, concat_of, is_null, unless_true, null_if_equal}
-use Rattle.operations.specs.Functions.{of_int, of_text, length_of, hex_of, call_of}
-use Rattle.operations.specs.Like.{like_of}
+use Rattle.expr.specs.declared.operations.kinds.Arithmetic.{Arithmetic}
+use Rattle.expr.specs.declared.operations.kinds.Arithmetic.TheVariants.{Add, Sub, Mul, Div, Rem, BitAnd, BitOr}
+use Rattle.expr.specs.declared.operations.kinds.Comparison.TheVariants.{Ge, Le}
+use Rattle.expr.specs.declared.operations.kinds.Function.{Function}
+use Rattle.expr.specs.declared.operations.kinds.Function.TheVariants.{Neg, BitNot, Not, Abs, Length, Lower, Upper, Hex, TypeOf}
+use Rattle.expr.specs.operations.Operations.{settle, fits_64, is_zero, of_integers, arithmetic_of, condition, comparison, concat_of, is_null, unless_true, null_if_equal}
+use Rattle.expr.specs.operations.Functions.{of_int, of_text, length_of, hex_of, call_of}
+use Rattle.expr.specs.operations.Like.{like_of}
 use Rattle.expr.specs.Meaning.{both, and_then, or_else, first_value, chosen, or_otherwise, holds, eval, run, run_first, run_arms}
 use Rattle.expr.specs.Term.{Term, Terms, Arms, literal, column, call, arithmetic, concat, compare, is, and, or, between, among, coalesce, choice, choice_of, null_if, like, none, answer, more, no_arms, arm}
 use Rattle.expr.specs.Conjuncts.{conjuncts}

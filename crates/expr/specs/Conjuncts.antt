@@ -1,8 +1,8 @@
 -- A condition split at AND, a BETWEEN as two.
 use Rattle.std.specs.Prelude.{Bool, true, false, List, [], ◌∷◌, ◌++◌, Option, Some, None}
-use Rattle.operations.specs.declared.kinds.Comparison.TheVariants.{Ge, Le}
+use Rattle.expr.specs.declared.operations.kinds.Comparison.TheVariants.{Ge, Le}
 use Rattle.values.specs.Datum.{Datum}
-use Rattle.operations.specs.Operations.{truth}
+use Rattle.expr.specs.operations.Operations.{truth}
 use Rattle.expr.specs.Term.{Term, and, between, compare}
 
 abbrev pub conjuncts : Term → List Term

@@ -9,3 +9,5 @@ pub mod Columns
 pub mod Types
 pub mod TermType
 pub mod Filled
+pub mod operations
+pub mod value_sets

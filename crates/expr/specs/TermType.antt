@@ -3,8 +3,8 @@ use Rattle.std.specs.Prelude.{◌↔◌, List, Option, Some, None, option_map, s
 use Rattle.values.specs.declared.value.Ty.{Ty}
 use Rattle.values.specs.declared.value.Ty.TheVariants.{Int, Text, Blob, Null}
 use Rattle.values.specs.Datum.{type_of}
-use Rattle.operations.specs.declared.kinds.Function.{Function}
-use Rattle.operations.specs.declared.kinds.Function.TheVariants.{Neg, BitNot, Not, Abs, Length, Lower, Upper, Hex, TypeOf}
+use Rattle.expr.specs.declared.operations.kinds.Function.{Function}
+use Rattle.expr.specs.declared.operations.kinds.Function.TheVariants.{Neg, BitNot, Not, Abs, Length, Lower, Upper, Hex, TypeOf}
 use Rattle.expr.specs.Term.{Term, Terms, Arms, literal, column, call, arithmetic, concat, compare, is, and, or, between, among, coalesce, choice, choice_of, null_if, like, none, answer, more, no_arms, arm}
 use Rattle.expr.specs.Types.{FitsType, HasType}
 

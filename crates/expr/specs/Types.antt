@@ -2,9 +2,9 @@
 use Rattle.std.specs.Prelude.{◌≡◌, ◌⊎◌, ⊤, ℕ, List, [], ◌∷◌, pos, Option, Some, slice_get}
 use Rattle.std.specs.List.{All, AllZip}
 use Rattle.std.specs.Option.{IfSome}
-use Rattle.operations.specs.declared.kinds.Arithmetic.TheVariants.{Add}
-use Rattle.operations.specs.declared.kinds.Function.{Function}
-use Rattle.operations.specs.declared.kinds.Function.TheVariants.{Neg, BitNot, Not, Abs, Length, Lower, Upper, Hex, TypeOf}
+use Rattle.expr.specs.declared.operations.kinds.Arithmetic.TheVariants.{Add}
+use Rattle.expr.specs.declared.operations.kinds.Function.{Function}
+use Rattle.expr.specs.declared.operations.kinds.Function.TheVariants.{Neg, BitNot, Not, Abs, Length, Lower, Upper, Hex, TypeOf}
 use Rattle.values.specs.declared.value.Ty.{Ty}
 use Rattle.values.specs.declared.value.Ty.TheVariants.{Int, Text, Blob, Null}
 use Rattle.values.specs.Datum.{Datum, null, int, text, blob, type_of}

@@ -2,13 +2,14 @@
 ghost use Rattle.std.specs.Prelude.{◌≡◌, ◌⊎◌, ◌++◌, map, Err, IfErr, IfOk, OnOk};
 ghost use Rattle.values.specs.Datum.{Datum, datum_of};
 ghost use Rattle.expr.specs.Meaning.{eval, Overflows};
-ghost use Rattle.operations.specs.Operations.{truth};
+ghost use Rattle.expr.specs.operations.Operations.{truth};
 ghost use Rattle.expr.specs.View.{term, arm_terms};
 ghost use Rattle.expr.specs.Conjuncts.{conjuncts, keeps};
 
+use crate::numbers::numbers_compare;
+use crate::operations::{Comparison, truth};
 use crate::tree::case_of;
 use crate::{Arm, Expr, eval};
-use operations::{Comparison, truth};
 use std::alloc::{AllocError, Global};
 use values::{Fault, Value};
 
@@ -106,12 +107,16 @@ pub fn conjuncts(alloc: Global, e: Expr, out: &mut Vec<Expr>) -> Result<(), Allo
 }
 
 /// Whether a condition is true on a row, whatever stands for results out of range; faults as those of `eval`.
+#[inline(always)]
 pub fn is_true(alloc: Global, condition: &Expr, row: &[Value]) -> Result<bool, Fault>
     ensures value { IfOk result (λ b. (w : Datum) → keeps (truth (eval w (term condition.now) (map datum_of row.now))) ≡ b) }
     ensures whole { IfOk result (λ _. ¬ Overflows (term condition.now) (map datum_of row.now)) }
     ensures overflow { result ≡ Err Fault.Overflow → Overflows (term condition.now) (map datum_of row.now) }
     ensures faults { IfErr result (λ fault. (fault ≡ Fault.Overflow) ⊎ (fault ≡ Fault.NoMemory)) }
 {
+    if let Some(holds) = numbers_compare(condition, row) {
+        return Ok(holds);
+    }
     let value = eval(alloc, condition, row)?;
     Ok(truth(&value) == Some(true))
 }

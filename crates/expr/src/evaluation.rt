@@ -3,24 +3,25 @@ ghost use Rattle.std.specs.Prelude.{◌≡◌, ◌⊎◌, Some, None, Err, map, 
 ghost use Rattle.std.specs.Option.{option_and_then, option_copied};
 ghost use Rattle.std.specs.Cow.{cow_value};
 ghost use Rattle.values.specs.Datum.{Datum, datum_of, null};
-ghost use Rattle.operations.specs.Functions.{call_of};
-ghost use Rattle.operations.specs.Like.{like_of};
-ghost use Rattle.operations.specs.Operations.{any_equal, arithmetic_of, comparison, concat_of, condition, null_if_equal, same, truth};
+ghost use Rattle.expr.specs.operations.Functions.{call_of};
+ghost use Rattle.expr.specs.operations.Like.{like_of};
+ghost use Rattle.expr.specs.operations.Operations.{any_equal, arithmetic_of, comparison, concat_of, condition, null_if_equal, same, truth};
 ghost use Rattle.expr.specs.Filled.{literals};
 ghost use Rattle.expr.specs.Term.{among};
 ghost use Rattle.expr.specs.View.{term};
 ghost use Rattle.expr.specs.Meaning.{eval, exact, Overflows, and_then, both, compared, or_else, or_otherwise, run_all, run_first, run_arms};
-ghost use Rattle.operations.specs.Contract.{ComputesAs, Computes};
+ghost use Rattle.expr.specs.operations.Contract.{ComputesAs, Computes};
 ghost use Rattle.expr.specs.Contract.{trees, arm_trees, value_on};
 
-use crate::{Arm, Expr};
-use operations::{
+use crate::numbers::number;
+use crate::operations::{
     Arithmetic, Comparison, Function, Stop, and3, arithmetic, call, comparison, concat,
     from_condition, is_null, is_same, like, null_if_equal, or3, truth,
 };
+use crate::value_sets::ValueSet;
+use crate::{Arm, Expr};
 use std::alloc::Global;
 use std::borrow::Cow;
-use value_sets::ValueSet;
 use values::{Fault, Value};
 
 /// The value of an expression on a row, whatever stands for results out of range; `Overflow` exactly where an
@@ -31,6 +32,9 @@ pub fn eval(alloc: Global, expr: &Expr, row: &[Value]) -> Result<Value, Fault>
     ensures overflow { result ≡ Err Fault.Overflow → Overflows (term expr.now) (map datum_of row.now) }
     ensures faults { IfErr result (λ fault. (fault ≡ Fault.Overflow) ⊎ (fault ≡ Fault.NoMemory)) }
 {
+    if let Some(n) = number(expr, row) {
+        return Ok(Value::Int(n));
+    }
     match (Evaluator { alloc, row }).compute(expr) {
         Ok(value) => Ok(value),
         Err(stop) => Err(Fault::from(stop)),

@@ -3,9 +3,9 @@ ghost use Rattle.std.specs.Prelude.{◌≡◌, IfOk, map};
 ghost use Rattle.expr.specs.Term.{choice, choice_of, iif, if_null};
 ghost use Rattle.expr.specs.View.{term, arms as arms_of, arm_terms};
 
-use operations::{Arithmetic, Comparison, Function};
+use crate::operations::{Arithmetic, Comparison, Function};
+use crate::value_sets::ValueSet;
 use std::alloc::{AllocError, Global};
-use value_sets::ValueSet;
 use values::Value;
 
 /// An expression over the columns of one row. (SQL Language Expressions)

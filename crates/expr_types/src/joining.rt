@@ -2,7 +2,7 @@
 ghost use Rattle.std.specs.Prelude.{◌≡◌};
 ghost use Rattle.expr.specs.TermType as spec;
 
-use operations::Function;
+use expr::Function;
 use values::Ty;
 
 /// The one type that both may stand for. (STRICT Tables)

@@ -1,19 +1,19 @@
-//! Runs statements over two images, `further_runs ROWS CHAINS`, by an engine that fails now and then: each read of a run fails
-//! in turn, and each byte of its output is the last that is taken. Behind each such run the same engine runs the statement
-//! once more. A line of output tells of each: the fault, whether what was written is a beginning of the answer, and the
-//! further run. compare/worked.py writes the images.
+//! Runs statements over two images, `further_runs ROWS CHAINS`, by an engine that fails now and then: each
+//! read of a run fails in turn, and each byte of its output is the last that is taken. After each such run
+//! the same engine runs the statement once more. A line of output reports each: the fault, whether what was
+//! written is a beginning of the answer, and the further run. compare/worked.py writes the images.
 #![tactic(auto)]
 
 use anyhow::{Context, Result};
 use pager::{MemSource, Source};
 use scripted::{ReadScript, ScriptSink, ScriptSource};
 use shell::{Engine, Report};
-use sinks::MemSink;
+use shell_sessions::{Session, Step};
 use std::alloc::Global;
 use std::num::NonZeroUsize;
 use std::rt::{Env, Files};
 use std::{env, fs};
-use values::{Fault, Sink};
+use values::{Fault, MemSink, Sink};
 
 /// An image, a statement over it, its answer, and how many reads opening the image takes.
 #[derive(Drop)]
@@ -38,6 +38,18 @@ fn reads_of_opening(alloc: Global, image: &Vec<u8>) -> Result<u64> {
         }
     }
     Ok(1000)
+}
+
+/// The engine that a session gives back after one row of a statement.
+fn after_session<S: Source + Drop>(
+    alloc: Global,
+    engine: Engine<S>,
+    sql: &str,
+) -> Result<Engine<S>> {
+    let mut session = Session::open(alloc, engine).map_err(|(fault, _)| fault)?;
+    session.step(&Step::Open(0, String::from_str(alloc, sql)?));
+    session.step(&Step::Next(0));
+    Ok(session.into_engine())
 }
 
 /// How a run ended: with a report or a fault, what it wrote, and what the run behind it wrote.
@@ -127,13 +139,14 @@ where
     Ok(())
 }
 
-/// Each byte of the answer is the last that is taken, three at a time.
+/// Each byte of the answer is the last that is taken, three at a time, by an engine that a session gave back.
 fn fail_writes<R>(rt: &R, trial: &Trial) -> Result<()>
 where
     R: AllocGlobal + Print,
 {
     let alloc = rt.alloc();
-    let mut engine = open(alloc, MemSource::new(trial.image.clone()?))?;
+    let engine = open(alloc, MemSource::new(trial.image.clone()?))?;
+    let mut engine = after_session(alloc, engine, trial.sql)?;
     for room in 0..trial.answer.as_slice().len() {
         let mut out = ScriptSink::in_steps(alloc, 3, room);
         let mut again = MemSink::new(alloc);

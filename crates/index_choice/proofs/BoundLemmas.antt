@@ -8,13 +8,13 @@ use Rattle.std.specs.declared.cmp.Ordering.TheVariants.{Less, Equal as Same, Gre
 use Rattle.values.specs.Datum.{Datum, null, int, text, blob}
 use Rattle.values.specs.Order.{datum_cmp}
 use Rattle.values.specs.OrderLaws.{datum_cmp_total}
-use Rattle.operations.specs.declared.kinds.Comparison.{Comparison}
-use Rattle.operations.specs.declared.kinds.Comparison.TheVariants.{Eq, Ne, Lt, Le, Gt, Ge}
+use Rattle.expr.specs.declared.operations.kinds.Comparison.{Comparison}
+use Rattle.expr.specs.declared.operations.kinds.Comparison.TheVariants.{Eq, Ne, Lt, Le, Gt, Ge}
 use Rattle.expr.specs.Conjuncts.{is_true, keeps}
 use Rattle.expr.specs.Meaning.{run}
-use Rattle.operations.specs.Operations.{comparison, condition, is_null as is_null_value, test_of, truth}
+use Rattle.expr.specs.operations.Operations.{comparison, condition, is_null as is_null_value, test_of, truth}
 use Rattle.expr.specs.Term.{Term, column, compare}
-use Rattle.key_ranges.specs.Ranges.{holds, is_null}
+use Rattle.btree_cursor.specs.key_ranges.Ranges.{holds, is_null}
 use Rattle.index_choice.specs.ColumnBounds.{BoundSaysConjunct, BoundTerm, bound_by, bounds_of, column_bound, says, turned}
 
 truth_condition : (b : Option Bool) → truth (condition b) ≡ b

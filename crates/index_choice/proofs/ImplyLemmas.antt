@@ -7,14 +7,14 @@ use Rattle.std.proofs.lemmas.Bool.{eqb-true, ltb-false, ltb-true}
 use Rattle.std.specs.declared.cmp.Ordering.{Ordering}
 use Rattle.values.specs.Datum.{Datum, null, int, text, blob}
 use Rattle.values.specs.Order.{datum_cmp}
-use Rattle.operations.specs.declared.kinds.Comparison.{Comparison}
-use Rattle.operations.specs.declared.kinds.Function.TheVariants.{Not}
+use Rattle.expr.specs.declared.operations.kinds.Comparison.{Comparison}
+use Rattle.expr.specs.declared.operations.kinds.Function.TheVariants.{Not}
 use Rattle.expr.specs.Conjuncts.{is_true}
-use Rattle.operations.specs.Functions.{call_of}
+use Rattle.expr.specs.operations.Functions.{call_of}
 use Rattle.expr.specs.Meaning.{compared, run}
-use Rattle.operations.specs.Operations.{condition, same, test_of, truth}
+use Rattle.expr.specs.operations.Operations.{condition, same, test_of, truth}
 use Rattle.expr.specs.Term.{Term, call, column, compare, is, literal}
-use Rattle.key_ranges.specs.Ranges.{holds, is_null}
+use Rattle.btree_cursor.specs.key_ranges.Ranges.{holds, is_null}
 use Rattle.index_choice.specs.ColumnBounds.{column_of}
 use Rattle.index_choice.specs.Conditions.{ImpliedIsTrue, Implies, compares, compares_some, is_column, is_null_literal, not_null_column, null_column}
 use Rattle.index_choice.proofs.BoundLemmas.{compare_holds}

@@ -9,9 +9,9 @@ use Rattle.values.specs.Datum.{Datum, null}
 use Rattle.expr.specs.Conjuncts.{is_true}
 use Rattle.expr.specs.Meaning.{run}
 use Rattle.expr.specs.Term.{Term}
-use Rattle.key_ranges.specs.Ranges.{Edge, bounded_columns, holds, is_above, is_below, is_within, from_cut, meets, to_cut}
-use Rattle.key_ranges.proofs.BagLemmas.{search_is_filter}
-use Rattle.key_ranges.proofs.RangeLemmas.{cuts_are_range, null_meets_nothing}
+use Rattle.btree_cursor.specs.key_ranges.Ranges.{Edge, bounded_columns, holds, is_above, is_below, is_within, from_cut, meets, to_cut}
+use Rattle.btree_cursor.proofs.lemmas.key_ranges.BagLemmas.{search_is_filter}
+use Rattle.btree_cursor.proofs.lemmas.key_ranges.RangeLemmas.{cuts_are_range, null_meets_nothing}
 use Rattle.index_choice.specs.declared.comparisons.Side.{Side}
 use Rattle.index_choice.specs.declared.comparisons.Side.TheVariants.{Equal, Lower, Upper}
 use Rattle.index_choice.specs.ColumnBounds.{says}

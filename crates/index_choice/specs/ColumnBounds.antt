@@ -3,12 +3,12 @@ use Rattle.std.specs.Prelude.{◌≡◌, Bool, true, false, ℕ, List, [], ◌++
 use Rattle.std.specs.List.{Contains}
 use Rattle.std.specs.Ordering.{is_eq}
 use Rattle.values.specs.Datum.{Datum, null}
-use Rattle.operations.specs.declared.kinds.Comparison.{Comparison}
-use Rattle.operations.specs.declared.kinds.Comparison.TheVariants.{Eq, Ne, Lt, Le, Gt, Ge}
+use Rattle.expr.specs.declared.operations.kinds.Comparison.{Comparison}
+use Rattle.expr.specs.declared.operations.kinds.Comparison.TheVariants.{Eq, Ne, Lt, Le, Gt, Ge}
 use Rattle.expr.specs.Conjuncts.{is_true}
 use Rattle.expr.specs.Meaning.{run}
 use Rattle.expr.specs.Term.{Term, column, compare}
-use Rattle.key_ranges.specs.Ranges.{above, below, holds}
+use Rattle.btree_cursor.specs.key_ranges.Ranges.{above, below, holds}
 use Rattle.index_choice.specs.declared.comparisons.Side.{Side}
 use Rattle.index_choice.specs.declared.comparisons.Side.TheVariants.{Equal, Lower, Upper}
 

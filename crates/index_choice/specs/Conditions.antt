@@ -2,7 +2,7 @@
 use Rattle.std.specs.Prelude.{◌≡◌, ◌⊎◌, ◌↔◌, ◌<◌, Bool, true, false, ◌||◌, ℕ, nat_eq, length, if◌then◌else◌, List, Option, Some, None}
 use Rattle.std.specs.List.{Contains, HoldsAt}
 use Rattle.values.specs.Datum.{Datum, null}
-use Rattle.operations.specs.declared.kinds.Function.TheVariants.{Not}
+use Rattle.expr.specs.declared.operations.kinds.Function.TheVariants.{Not}
 use Rattle.expr.specs.Conjuncts.{is_true}
 use Rattle.expr.specs.Meaning.{run}
 use Rattle.expr.specs.Term.{Term, call, compare, is, literal}

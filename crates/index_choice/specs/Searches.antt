@@ -5,7 +5,7 @@ use Rattle.values.specs.Datum.{Datum, null}
 use Rattle.expr.specs.Conjuncts.{is_true}
 use Rattle.expr.specs.Meaning.{run}
 use Rattle.expr.specs.Term.{Term}
-use Rattle.key_ranges.specs.Ranges.{Edge, Range, from_cut, has_null, is_within, to_cut}
+use Rattle.btree_cursor.specs.key_ranges.Ranges.{Edge, Range, from_cut, has_null, is_within, to_cut}
 use Rattle.index_choice.specs.declared.comparisons.Side.{Side}
 use Rattle.index_choice.specs.declared.comparisons.Side.TheVariants.{Equal, Lower, Upper}
 use Rattle.index_choice.specs.ColumnBounds.{BoundTerm, bounds_of}

@@ -1,11 +1,10 @@
-//! The bounds of columns that an expression says.
+//! The bounds on columns that an expression states.
 ghost use Rattle.std.specs.Prelude.{◌≡◌, ◌++◌, option_map, option_to_list};
 ghost use Rattle.expr.specs.View.{term};
 ghost use Rattle.index_choice.specs.ColumnBounds.{bounds_of, column_bound, column_of, turned};
 ghost use Rattle.index_choice.specs.View.{bound_term};
 
-use expr::Expr;
-use operations::Comparison;
+use expr::{Comparison, Expr};
 
 /// The side on which a column is bounded: by `=`, by `>` or `>=`, by `<` or `<=`.
 #[derive(Clone, Copy, Debug, PartialEq, Eq)]

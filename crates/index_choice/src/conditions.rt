@@ -5,9 +5,8 @@ ghost use Rattle.index_choice.specs.ColumnBounds.{column_of};
 ghost use Rattle.index_choice.specs.Conditions.{AreImplying, Implies, compares, compares_some, is_column, is_null_literal, not_null_column, null_column};
 
 use crate::comparisons::column_of;
-use expr::Expr;
-use operations::Function;
-use same_trees::same_tree;
+use expr::{Expr, Function};
+use expr_types::same_tree;
 use std::alloc::{AllocError, Global};
 use values::Value;
 

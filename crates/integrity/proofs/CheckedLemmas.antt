@@ -4,28 +4,28 @@ use Rattle.std.specs.List.{AllZip}
 use Rattle.std.proofs.lemmas.List.Elements.{All-cons, All-nil}
 use Rattle.values.specs.declared.fault.Fault.{Fault}
 use Rattle.values.specs.declared.fault.Fault.TheVariants.{ReadFailed, NoMemory, PageUse, BadFreelist, SchemaRow, SchemaText, UnsupportedObject, IndexDiffers, NotUnique}
-use Rattle.image.specs.Pages.{Pages}
-use Rattle.image.specs.Shape.{most_levels}
-use Rattle.image.specs.Tree.{Place}
-use Rattle.page_use.specs.Marks.{IsUseFault}
+use Rattle.btree.specs.image.Pages.{Pages}
+use Rattle.btree.specs.image.Shape.{most_levels}
+use Rattle.btree.specs.image.Tree.{Place}
+use Rattle.btree.specs.page_use.Marks.{IsUseFault}
 use Rattle.values.specs.Row.{Row}
-use Rattle.tables.specs.TableData.{IsKeyWithin, RowKeyData, TableData, schema_table}
-use Rattle.tree_walk.specs.declared.counts.TreeCounts.{TreeCounts}
-use Rattle.catalog.proofs.LawLemmas.{row_of_table}
-use Rattle.catalog.specs.CatalogData.{CatalogData}
-use Rattle.catalog.specs.Refused.{IsRefusedSchema}
+use Rattle.schema_tables.specs.TableData.{IsKeyWithin, RowKeyData, TableData, schema_table}
+use Rattle.integrity_trees.specs.declared.tree_walk.counts.TreeCounts.{TreeCounts}
+use Rattle.schema.proofs.LawLemmas.{row_of_table}
+use Rattle.schema.specs.CatalogData.{CatalogData}
+use Rattle.schema.specs.Refused.{IsRefusedSchema}
 use Rattle.integrity.specs.Checked.{HasCause, IsCheckFault, IsTableOf, said}
 use Rattle.integrity.specs.Denotes.{HasCatalog, HasTables}
-use Rattle.stored_tables.specs.Tables.{IsAnyStored, IsStoredBy}
+use Rattle.records_tables.specs.Tables.{IsAnyStored, IsStoredBy}
 use Rattle.integrity.specs.Tables.{IsAnyBroken, IsAnyChecked}
-use Rattle.index_rows.specs.Checked.{IsCheckedBy}
-use Rattle.primary_walk.specs.Checked.{IsCheckedPrimary}
-use Rattle.primary_walk.proofs.HeldLemmas.{rows_held, rows_stand}
-use Rattle.stored_rows.specs.Stored.{HoldsRows, StoresRow}
-use Rattle.table_walk.specs.Checked.{IsCheckedTree}
-use Rattle.table_walk.specs.Walked.{IsWalkFault}
-use Rattle.table_walk.proofs.CheckedLemmas.{stored_table}
-use Rattle.image.proofs.ListLemmas.{in_head, in_tail}
+use Rattle.integrity_indexes.specs.index_rows.Checked.{IsCheckedBy}
+use Rattle.integrity_trees.specs.primary_walk.Checked.{IsCheckedPrimary}
+use Rattle.integrity_trees.proofs.lemmas.primary_walk.HeldLemmas.{rows_held, rows_stand}
+use Rattle.records_tables.specs.stored_rows.Stored.{HoldsRows, StoresRow}
+use Rattle.integrity_trees.specs.table_walk.Checked.{IsCheckedTree}
+use Rattle.integrity_trees.specs.table_walk.Walked.{IsWalkFault}
+use Rattle.integrity_trees.proofs.lemmas.table_walk.CheckedLemmas.{stored_table}
+use Rattle.btree.proofs.lemmas.image.ListLemmas.{in_head, in_tail}
 use Rattle.integrity.proofs.OwnerLemmas.{within_key}
 
 module _ (pages : Pages) where

@@ -2,16 +2,16 @@
 use Rattle.std.proofs.Common.{◌≡◌, ℕ, All, List, [], ◌∷◌, refl}
 use Rattle.std.specs.List.{AllZip}
 use Rattle.std.proofs.lemmas.List.Elements.{All-head, All-tail}
-use Rattle.image.specs.declared.kind.TreeKind.TheVariants.{Table}
-use Rattle.image.specs.Pages.{pages_of, Pages}
-use Rattle.image.specs.Shape.{places_under}
+use Rattle.btree.specs.declared.image.kind.TreeKind.TheVariants.{Table}
+use Rattle.btree.specs.image.Pages.{pages_of, Pages}
+use Rattle.btree.specs.image.Shape.{places_under}
 use Rattle.values.specs.Row.{Row}
 use Rattle.values.specs.Database.{Database}
-use Rattle.tables.specs.TableData.{RowKeyData, TableData, schema_table}
-use Rattle.stored_rows.specs.Stored.{Fits}
-use Rattle.stored_rows.proofs.OneLemmas.{one_rows}
+use Rattle.schema_tables.specs.TableData.{RowKeyData, TableData, schema_table}
+use Rattle.records_tables.specs.stored_rows.Stored.{Fits}
+use Rattle.records_tables.proofs.lemmas.stored_rows.OneLemmas.{one_rows}
 use Rattle.integrity.specs.Denotes.{Denotes, HasTables}
-use Rattle.stored_tables.specs.Tables.{IsAnyStored, IsStoredBy}
+use Rattle.records_tables.specs.Tables.{IsAnyStored, IsStoredBy}
 use Rattle.integrity.specs.Tables.{HoldsAnyRows, HoldsRowsBy}
 
 -- a table is stored with these rows

@@ -1,24 +1,23 @@
 -- What the entries of an index show of its first columns.
-use Rattle.std.proofs.Common.{◌≡◌, ◌⊎◌, ◌∙◌, ◌≤◌, ℕ, Bool, IsTrue, List, Result, Err, Ok, IfErr, MatchResult, length, subst, sym, inl, inr, arith}
+use Rattle.std.proofs.Common.{◌≡◌, ◌⊎◌, ◌∙◌, ◌≤◌, ℕ, Bool, IsTrue, List, Result, Err, Ok, IfErr, IfOk, MatchResult, length, subst, sym, inl, inr, arith}
 use Rattle.values.specs.declared.fault.Fault.{Fault}
 use Rattle.values.specs.declared.fault.Fault.TheVariants.{BadRecord, NotUnique}
 use Rattle.pager.specs.Calls.{IsReadFault}
 use Rattle.pager.specs.PagerState.{PagerState}
-use Rattle.image.specs.Pages.{IsNumber, Pages, pages_seen}
-use Rattle.indexes.specs.IndexData.{IndexData}
-use Rattle.tables.specs.TableData.{RowKeyData, TableData}
-use Rattle.index_rows.specs.Entries.{width_by}
-use Rattle.tree_walk.specs.declared.counts.TreeCounts.{TreeCounts}
-use Rattle.tree_walk.specs.Used.{IsTreeTwice}
-use Rattle.index_walk.specs.declared.tree.EntryWidths.{EntryWidths}
-use Rattle.index_walk.specs.Widths.{exactly}
-use Rattle.index_walk.specs.Broken.{BreaksIndexEntry, IsBrokenIndex}
-use Rattle.index_walk.specs.Checked.{HasCheckedIndex, IsCheckedIndex, IsIndexFailure, IsIndexWalkFault, index_tree}
-use Rattle.entry_prefixes.specs.declared.counting.Prefixes.{Prefixes}
-use Rattle.entry_prefixes.specs.Entries.{HoldsEntries}
-use Rattle.entry_prefixes.specs.Prefixes.{HasPrefixes}
-use Rattle.entry_prefixes.specs.Repeats.{HasRepeats, IsUniqueIndex}
-use Rattle.integrity.specs.Indexes.{HasDistinct, IsBrokenIndexTree, IsCheckedIndexTree, IsIndexCheckFault, columns_of, descends_of, places_of, width_of}
+use Rattle.btree.specs.image.Pages.{Pages, pages_seen}
+use Rattle.schema.specs.indexes.IndexData.{IndexData}
+use Rattle.schema_tables.specs.TableData.{RowKeyData, TableData}
+use Rattle.integrity_indexes.specs.index_rows.Entries.{width_by}
+use Rattle.integrity_trees.specs.tree_walk.Used.{IsTreeTwice}
+use Rattle.integrity_trees.specs.declared.index_walk.tree.EntryWidths.{EntryWidths}
+use Rattle.integrity_trees.specs.index_walk.Widths.{exactly}
+use Rattle.integrity_trees.specs.index_walk.Broken.{BreaksIndexEntry, IsBrokenIndex}
+use Rattle.integrity_trees.specs.index_walk.Checked.{IsIndexFailure, IsIndexWalkFault, index_tree}
+use Rattle.integrity_trees.specs.declared.entry_prefixes.counting.Prefixes.{Prefixes}
+use Rattle.integrity_trees.specs.entry_prefixes.Entries.{HoldsEntries}
+use Rattle.integrity_trees.specs.entry_prefixes.Prefixes.{HasPrefixes}
+use Rattle.integrity_trees.specs.entry_prefixes.Repeats.{HasRepeats, IsUniqueIndex}
+use Rattle.integrity.specs.Indexes.{HasDistinct, IsBrokenIndexTree, IsIndexCheckFault, columns_of, descends_of, places_of, width_of}
 use Rattle.integrity.specs.Used.{index_tree_of}
 
 module _ (pages : Pages) (index : IndexData) (root width : ℕ) (root_is : root ≡ index.root) (width_is : width ≡ length (places_of index)) where
@@ -26,14 +25,16 @@ module _ (pages : Pages) (index : IndexData) (root width : ℕ) (root_is : root 
   wide (RowKeyData.Rowid place) = omega (arith, width_is)
   wide (RowKeyData.Primary places) = omega (arith, width_is)
 
-  -- what is told of an index whose tree was checked
-  pub told_of_index : (told : Prefixes → Type 0) (result : Result Prefixes Fault)
-      → ((widths : EntryWidths) (descends : List Bool) (counts : TreeCounts) → width ≤ widths.key → IsNumber pages root → IsCheckedIndex pages widths descends root counts
-      → MatchResult result told IsReadFault)
-      → (table : TableData) (counts : TreeCounts) → IsNumber pages index.root → IsCheckedIndexTree pages table index counts → MatchResult result told IsReadFault
-  told_of_index told result each table counts number checked =
-      each (exactly (width_of table index)) (descends_of index) counts (wide table.key) (subst (λ (n : ℕ). IsNumber pages n) (sym root_is) number)
-      (subst (λ (n : ℕ). IsCheckedIndex pages (exactly (width_of table index)) (descends_of index) n counts) (sym root_is) checked)
+  -- as many columns are counted as an entry has at least
+  pub wide_enough : (table : TableData) (widths : EntryWidths) → widths ≡ exactly (width_of table index) → width ≤ widths.key
+  wide_enough table widths is = subst (λ (w : EntryWidths). width ≤ w.key) (sym is) (wide table.key)
+
+  -- what its entries show
+  pub shown_of : {T : Type 0} (part : T → Prefixes) (result : Result T Fault) → IfOk result (λ x. HasPrefixes pages root width (part x))
+      → IfOk result (λ x. HasPrefixes pages index.root (length (places_of index)) (part x))
+  shown_of part (Ok x) has = subst (λ (n : ℕ). HasPrefixes pages n (length (places_of index)) (part x)) root_is
+      (subst (λ (w : ℕ). HasPrefixes pages root w (part x)) width_is has)
+  shown_of part (Err e) has = tt
 
   module _ (prefixes : Prefixes) (has : HasPrefixes pages root width prefixes) where
     here : HoldsEntries pages index.root has.entries
@@ -70,12 +71,12 @@ abbrev HasWalkCause : Pages → List Bool → Fault → EntryWidths → List Boo
 HasWalkCause pages marks fault widths descends root =
     IsReadFault fault ⊎ IsBrokenIndex pages widths descends root fault ⊎ IsTreeTwice pages (index_tree root) marks fault
 
-pub told_alone : (state : PagerState) (table : TableData) (index : IndexData) (widths : EntryWidths) (root : ℕ) (descends marks : List Bool) (result : Result TreeCounts Fault)
-    → MatchResult result (HasCheckedIndex state widths descends root) (IsIndexFailure state widths descends root marks)
+pub told_alone : {T : Type 0} (P : T → Type 0) (state : PagerState) (table : TableData) (index : IndexData) (widths : EntryWidths) (root : ℕ) (descends marks : List Bool) (result : Result T Fault)
+    → MatchResult result P (IsIndexFailure state widths descends root marks)
     → widths ≡ exactly (width_of table index) → descends ≡ descends_of index → root ≡ index.root → IsTrue state.source.steady
     → IfErr result (λ e. IsReadFault e ⊎ IsBrokenIndexTree (pages_seen state) table index e ⊎ IsTreeTwice (pages_seen state) (index_tree_of index) marks e)
-told_alone state table index widths root descends marks (Ok counts) told widths_is descends_is root_is steady = tt
-told_alone state table index widths root descends marks (Err fault) told widths_is descends_is root_is steady =
+told_alone P state table index widths root descends marks (Ok counts) told widths_is descends_is root_is steady = tt
+told_alone P state table index widths root descends marks (Err fault) told widths_is descends_is root_is steady =
     by_case (subst (HasWalkCause (pages_seen state) marks fault (exactly (width_of table index)) (descends_of index)) root_is
     (subst (λ (d : List Bool). HasWalkCause (pages_seen state) marks fault (exactly (width_of table index)) d root) descends_is
     (subst (λ (w : EntryWidths). HasWalkCause (pages_seen state) marks fault w descends root) widths_is (told.cause steady))))

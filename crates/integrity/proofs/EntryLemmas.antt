@@ -2,20 +2,20 @@
 use Rattle.std.proofs.Common.{◌≡◌, ℕ, zero, suc, All, Bool, Contains, List, [], ◌∷◌, Option, sym, subst, arith}
 use Rattle.std.specs.List.{AllZip}
 use Rattle.std.proofs.lemmas.List.Elements.{All-cons, All-head, All-nil, All-tail}
-use Rattle.image.specs.Pages.{IsNumber, Pages}
-use Rattle.wanted_entries.specs.Wanted.{IndexedPlaces}
+use Rattle.btree.specs.image.Pages.{IsNumber, Pages}
+use Rattle.integrity_trees.specs.wanted_entries.Wanted.{IndexedPlaces}
 use Rattle.expr.specs.Term.{Term}
-use Rattle.indexes.specs.IndexData.{IndexData}
-use Rattle.schema.specs.Names.{IsSameName}
-use Rattle.tables.specs.TableData.{TableData}
-use Rattle.tree_walk.specs.declared.counts.TreeCounts.{TreeCounts}
-use Rattle.index_walk.specs.Widths.{exactly}
-use Rattle.index_walk.specs.Checked.{IsCheckedIndex}
-use Rattle.index_rows.specs.declared.index.TableIndex.{TableIndex}
-use Rattle.index_rows.specs.Checked.{IsCheckedTable, IsCheckedTableIndex}
-use Rattle.index_rows.specs.Compared.{IsDifferentIndex, IsIndexOf}
-use Rattle.index_rows.specs.Entries.{TellsRow, indexed_by, width_by}
-use Rattle.index_rows.specs.Kept.{condition_of}
+use Rattle.schema.specs.indexes.IndexData.{IndexData}
+use Rattle.schema_keys.specs.Names.{IsSameName}
+use Rattle.schema_tables.specs.TableData.{TableData}
+use Rattle.integrity_trees.specs.declared.tree_walk.counts.TreeCounts.{TreeCounts}
+use Rattle.integrity_trees.specs.index_walk.Widths.{exactly}
+use Rattle.integrity_trees.specs.index_walk.Checked.{IsCheckedIndex}
+use Rattle.integrity_indexes.specs.declared.index_rows.index.TableIndex.{TableIndex}
+use Rattle.integrity_indexes.specs.index_rows.Checked.{IsCheckedTable, IsCheckedTableIndex}
+use Rattle.integrity_indexes.specs.index_rows.Compared.{IsDifferentIndex, IsIndexOf}
+use Rattle.integrity_indexes.specs.index_rows.Entries.{TellsRow, indexed_by, width_by}
+use Rattle.integrity_indexes.specs.index_rows.Kept.{condition_of}
 use Rattle.integrity.specs.declared.index_trees.IndexCounts.{IndexCounts}
 use Rattle.integrity.specs.Indexes.{IsCheckedIndexOf, IsCheckedIndexTree, IsCheckedIndexWith, IsCheckedWith, columns_of, descends_of, places_of}
 use Rattle.integrity.specs.Tables.{IsAnyChecked}

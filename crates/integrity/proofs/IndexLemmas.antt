@@ -6,18 +6,18 @@ use Rattle.values.specs.Row.{Row}
 use Rattle.values.specs.declared.fault.Fault.{Fault}
 use Rattle.values.specs.declared.fault.Fault.TheVariants.{ReadFailed, NoMemory, BadPage, BadChain, PageUse, BadOrder, BadDepth, BadRecord, FloatValue, BadText, IndexDiffers, NotUnique}
 use Rattle.pager.specs.PagerState.{IsPageNumber, PagerState}
-use Rattle.image.specs.Pages.{Pages}
-use Rattle.indexes.specs.IndexData.{IndexData}
-use Rattle.schema.specs.Names.{IsSameName}
-use Rattle.tables.specs.TableData.{TableData}
-use Rattle.catalog.specs.CatalogData.{CatalogData}
-use Rattle.catalog.specs.Picks.{Picks}
-use Rattle.catalog.specs.Says.{IsCatalog, IsNoIndex, SaysAnyIndex}
+use Rattle.btree.specs.image.Pages.{Pages}
+use Rattle.schema.specs.indexes.IndexData.{IndexData}
+use Rattle.schema_keys.specs.Names.{IsSameName}
+use Rattle.schema_tables.specs.TableData.{TableData}
+use Rattle.schema.specs.CatalogData.{CatalogData}
+use Rattle.schema.specs.Picks.{Picks}
+use Rattle.schema.specs.Says.{IsCatalog, IsNoIndex, SaysAnyIndex}
 use Rattle.integrity.specs.declared.index_trees.IndexCounts.{IndexCounts}
-use Rattle.index_walk.proofs.CheckedLemmas.{unbroken_index}
-use Rattle.index_rows.proofs.CompareLemmas.{not_different}
-use Rattle.entry_prefixes.proofs.EntryLemmas.{still_repeated}
-use Rattle.entry_prefixes.specs.Repeats.{IsUniqueIndex}
+use Rattle.integrity_trees.proofs.lemmas.index_walk.CheckedLemmas.{unbroken_index}
+use Rattle.integrity_indexes.proofs.lemmas.index_rows.CompareLemmas.{not_different}
+use Rattle.integrity_trees.proofs.lemmas.entry_prefixes.EntryLemmas.{still_repeated}
+use Rattle.integrity_trees.specs.entry_prefixes.Repeats.{IsUniqueIndex}
 use Rattle.integrity.specs.Checked.{HasBrokenIndex, HasCause, IsCheckFault}
 use Rattle.integrity.specs.Denotes.{HasCatalog}
 use Rattle.integrity.specs.Indexes.{AreBrokenEntries, AreItsEntries, IsBrokenIndexTree, IsCheckedAlone, IsCheckedIndexOf, IsIndexCheckFault, IsTableIndex, columns_of, places_of}

@@ -2,17 +2,17 @@
 use Rattle.std.proofs.Common.{◌≡◌, ◌∙◌, ◌≤◌, ℕ, Bool, List, [], Result, MatchResult, length, subst, sym, arith}
 use Rattle.values.specs.declared.fault.Fault.{Fault}
 use Rattle.pager.specs.Calls.{IsReadFault}
-use Rattle.image.specs.Pages.{IsNumber, Pages}
-use Rattle.tables.specs.TableData.{RowKeyData, TableData}
-use Rattle.tree_walk.specs.declared.counts.TreeCounts.{TreeCounts}
-use Rattle.index_walk.specs.declared.tree.EntryWidths.{EntryWidths}
-use Rattle.index_walk.specs.Checked.{IsCheckedIndex}
-use Rattle.primary_rows.specs.Order.{key_order}
-use Rattle.primary_walk.specs.Checked.{IsCheckedPrimary, widths_of}
-use Rattle.entry_prefixes.specs.declared.counting.Prefixes.{Prefixes}
-use Rattle.entry_prefixes.specs.Entries.{HoldsEntries}
-use Rattle.entry_prefixes.specs.Prefixes.{HasPrefixes}
-use Rattle.index_rows.specs.Checked.{IsCheckedBy, IsCheckedTable}
+use Rattle.btree.specs.image.Pages.{IsNumber, Pages}
+use Rattle.schema_tables.specs.TableData.{RowKeyData, TableData}
+use Rattle.integrity_trees.specs.declared.tree_walk.counts.TreeCounts.{TreeCounts}
+use Rattle.integrity_trees.specs.declared.index_walk.tree.EntryWidths.{EntryWidths}
+use Rattle.integrity_trees.specs.index_walk.Checked.{IsCheckedIndex}
+use Rattle.records_tables.specs.primary_rows.Order.{key_order}
+use Rattle.integrity_trees.specs.primary_walk.Checked.{IsCheckedPrimary, widths_of}
+use Rattle.integrity_trees.specs.declared.entry_prefixes.counting.Prefixes.{Prefixes}
+use Rattle.integrity_trees.specs.entry_prefixes.Entries.{HoldsEntries}
+use Rattle.integrity_trees.specs.entry_prefixes.Prefixes.{HasPrefixes}
+use Rattle.integrity_indexes.specs.index_rows.Checked.{IsCheckedBy, IsCheckedTable}
 use Rattle.integrity.specs.Indexes.{HasDistinct}
 use Rattle.integrity.specs.Keys.{HasKeyBy, HasKeyCounts}
 use Rattle.integrity.specs.declared.keys.KeyCounts.{KeyCounts}

@@ -5,6 +5,8 @@ pub mod ListLemmas
 pub mod ZipLemmas
 pub mod OneLemmas
 pub mod IndexLemmas
+pub mod RowIndexLemmas
+pub mod ListedLemmas
 pub mod EntryLemmas
 pub mod DistinctLemmas
 pub mod KeyLemmas

@@ -2,14 +2,14 @@
 use Rattle.std.proofs.Common.{◌≡◌, List, subst}
 use Rattle.values.specs.Row.{Row}
 use Rattle.values.specs.declared.fault.Fault.{Fault}
-use Rattle.image.specs.Pages.{Pages}
-use Rattle.tables.specs.TableData.{schema_table}
-use Rattle.catalog.proofs.LawLemmas.{no_broken_schema, one_catalog}
-use Rattle.catalog.specs.CatalogData.{CatalogData}
-use Rattle.catalog.specs.Refused.{IsBrokenSchema}
-use Rattle.catalog.specs.Says.{IsCatalog}
-use Rattle.stored_rows.specs.Stored.{HoldsRows}
-use Rattle.stored_rows.proofs.OneLemmas.{one_rows}
+use Rattle.btree.specs.image.Pages.{Pages}
+use Rattle.schema_tables.specs.TableData.{schema_table}
+use Rattle.schema.proofs.LawLemmas.{no_broken_schema, one_catalog}
+use Rattle.schema.specs.CatalogData.{CatalogData}
+use Rattle.schema.specs.Refused.{IsBrokenSchema}
+use Rattle.schema.specs.Says.{IsCatalog}
+use Rattle.records_tables.specs.stored_rows.Stored.{HoldsRows}
+use Rattle.records_tables.proofs.lemmas.stored_rows.OneLemmas.{one_rows}
 use Rattle.integrity.specs.Denotes.{HasCatalog}
 
 module _ (pages : Pages) where

@@ -4,20 +4,20 @@ use Rattle.std.specs.Char.{to_ascii_lowercase}
 use Rattle.std.specs.List.{filter}
 use Rattle.std.proofs.lemmas.List.Elements.{All-cons, All-nil, Contains-append_left, Contains-append_right}
 use Rattle.values.specs.Row.{Row}
-use Rattle.image.proofs.ListLemmas.{cons_cases, in_head, in_none, in_tail}
-use Rattle.wanted_entries.proofs.KeptLemmas.{kept_first, left_first}
-use Rattle.indexes.specs.IndexData.{IndexData, IndexedData}
-use Rattle.indexes.specs.Others.{has_place, others_of}
-use Rattle.schema.specs.Names.{IsSameName}
-use Rattle.schema.specs.Rows.{SaysTable}
-use Rattle.tables.specs.TableData.{IsKeyWithin, RowKeyData, TableData}
-use Rattle.schema.proofs.CreatedLemmas.{key_within}
-use Rattle.catalog.specs.CatalogData.{CatalogData}
-use Rattle.catalog.specs.Picks.{Picks}
-use Rattle.catalog.specs.Says.{IsCatalog, IsNoIndex, SaysAnyIndex}
-use Rattle.catalog.proofs.LawLemmas.{row_of_table, said_of_them}
-use Rattle.catalog.proofs.TableLemmas.{same_table}
-use Rattle.index_rows.specs.Entries.{TellsRow}
+use Rattle.btree.proofs.lemmas.image.ListLemmas.{cons_cases, in_head, in_none, in_tail}
+use Rattle.integrity_trees.proofs.lemmas.wanted_entries.KeptLemmas.{kept_first, left_first}
+use Rattle.schema.specs.indexes.IndexData.{IndexData, IndexedData}
+use Rattle.schema.specs.indexes.Others.{has_place, others_of}
+use Rattle.schema_keys.specs.Names.{IsSameName}
+use Rattle.schema_keys.specs.Rows.{SaysTable}
+use Rattle.schema_tables.specs.TableData.{IsKeyWithin, RowKeyData, TableData}
+use Rattle.schema_keys.proofs.CreatedLemmas.{key_within}
+use Rattle.schema.specs.CatalogData.{CatalogData}
+use Rattle.schema.specs.Picks.{Picks}
+use Rattle.schema.specs.Says.{IsCatalog, IsNoIndex, SaysAnyIndex}
+use Rattle.schema.proofs.LawLemmas.{row_of_table, said_of_them}
+use Rattle.schema.proofs.TableLemmas.{same_table}
+use Rattle.integrity_indexes.specs.index_rows.Entries.{TellsRow}
 use Rattle.integrity.specs.Indexes.{IsOwned, columns_of}
 
 by_test : {P : Type 0} (b : Bool) → (b ≡ true → P) → (b ≡ false → P) → P

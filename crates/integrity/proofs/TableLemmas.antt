@@ -4,17 +4,17 @@ use Rattle.values.specs.declared.fault.Fault.{Fault}
 use Rattle.values.specs.declared.fault.Fault.TheVariants.{ReadFailed, NoMemory, BadPage, BadChain, PageUse, BadOrder, BadDepth, BadRecord, FloatValue, BadText, ValueBreaksColumn}
 use Rattle.pager.specs.Calls.{IsReadFault}
 use Rattle.pager.specs.PagerState.{PagerState}
-use Rattle.image.specs.Pages.{pages_seen}
-use Rattle.image.specs.Use.{TreeData}
-use Rattle.tables.specs.TableData.{RowKeyData, TableData}
-use Rattle.tree_walk.specs.declared.counts.TreeCounts.{TreeCounts}
-use Rattle.tree_walk.specs.Used.{IsTreeTwice, MarksTree}
-use Rattle.index_walk.specs.Checked.{index_tree}
-use Rattle.table_walk.specs.Checked.{HasCheckedTable, IsTableFault, tree_of}
-use Rattle.table_walk.specs.Walked.{IsWalkFault}
-use Rattle.primary_walk.specs.Checked.{HasCheckedPrimary, IsPrimaryFailure, IsPrimaryWalkFault}
-use Rattle.index_rows.specs.Checked.{IsCheckedBy}
-use Rattle.stored_tables.specs.Tables.{kind_of}
+use Rattle.btree.specs.image.Pages.{pages_seen}
+use Rattle.btree.specs.image.Use.{TreeData}
+use Rattle.schema_tables.specs.TableData.{RowKeyData, TableData}
+use Rattle.integrity_trees.specs.declared.tree_walk.counts.TreeCounts.{TreeCounts}
+use Rattle.integrity_trees.specs.tree_walk.Used.{IsTreeTwice, MarksTree}
+use Rattle.integrity_trees.specs.index_walk.Checked.{index_tree}
+use Rattle.integrity_trees.specs.table_walk.Checked.{HasCheckedTable, IsTableFault, tree_of}
+use Rattle.integrity_trees.specs.table_walk.Walked.{IsWalkFault}
+use Rattle.integrity_trees.specs.primary_walk.Checked.{HasCheckedPrimary, IsPrimaryFailure, IsPrimaryWalkFault}
+use Rattle.integrity_indexes.specs.index_rows.Checked.{IsCheckedBy}
+use Rattle.records_tables.specs.Tables.{kind_of}
 use Rattle.integrity.specs.Tables.{IsAnyBroken, IsAnyChecked, IsBrokenBy, any_tree}
 
 -- the tree of a table whose rows are found so

@@ -5,21 +5,21 @@ use Rattle.std.proofs.lemmas.Option.{slice_get-get_or, slice_get_within}
 use Rattle.values.specs.declared.fault.Fault.{Fault}
 use Rattle.values.specs.declared.fault.Fault.TheVariants.{PageUse, BadFreelist}
 use Rattle.pager.specs.declared.header.Header.{Header}
-use Rattle.image.specs.Freelist.{IsFreelist}
-use Rattle.image.specs.Pages.{Pages, IsNumber}
-use Rattle.image.specs.Tree.{Reaches}
-use Rattle.image.specs.Use.{Use, as_root, as_child, as_link, as_trunk, as_leaf, IsBrokenUse, IsUsedOnce, Names, TreeData, Users}
-use Rattle.image.proofs.ListLemmas.{cons_cases, in_head, in_none}
-use Rattle.page_use.specs.Free.{header_on}
-use Rattle.page_use.specs.Marks.{AreAllOfTrees, AreTreeMarks, IsUsedTwice}
-use Rattle.page_use.proofs.FrontLemmas.{none_gone}
-use Rattle.page_use.proofs.WalkLemmas.{twice_not, twice_number}
+use Rattle.btree.specs.image.Freelist.{IsFreelist}
+use Rattle.btree.specs.image.Pages.{Pages, IsNumber}
+use Rattle.btree.specs.image.Tree.{Reaches}
+use Rattle.btree.specs.image.Use.{Use, as_root, as_child, as_link, as_trunk, as_leaf, IsBrokenUse, IsUsedOnce, Names, TreeData, Users}
+use Rattle.btree.proofs.lemmas.image.ListLemmas.{cons_cases, in_head, in_none}
+use Rattle.btree.specs.page_use.Free.{header_on}
+use Rattle.btree.specs.page_use.Marks.{AreAllOfTrees, AreTreeMarks, IsUsedTwice}
+use Rattle.btree.proofs.lemmas.page_use.FrontLemmas.{none_gone}
+use Rattle.btree.proofs.lemmas.page_use.WalkLemmas.{twice_not, twice_number}
 use Rattle.values.specs.Row.{Row}
-use Rattle.schema.proofs.ListLemmas.{get_front}
-use Rattle.tables.specs.TableData.{schema_table}
-use Rattle.catalog.specs.CatalogData.{CatalogData}
-use Rattle.tree_walk.specs.Used.{IsDoneOn, IsTreeComing, IsTreeGone, IsTreeTwice, MarksTree}
-use Rattle.tree_walk.proofs.UsedLemmas.{done_on_later}
+use Rattle.schema_keys.proofs.ListLemmas.{get_front}
+use Rattle.schema_tables.specs.TableData.{schema_table}
+use Rattle.schema.specs.CatalogData.{CatalogData}
+use Rattle.integrity_trees.specs.tree_walk.Used.{IsDoneOn, IsTreeComing, IsTreeGone, IsTreeTwice, MarksTree}
+use Rattle.integrity_trees.proofs.lemmas.tree_walk.UsedLemmas.{done_on_later}
 use Rattle.integrity.specs.Checked.{IsMisused, empty_catalog}
 use Rattle.integrity.specs.Denotes.{HasCatalog}
 use Rattle.integrity.specs.Used.{AreTreesComing, AreTreesGone, AreTreesTwice, MarksTrees, index_tree_of, users_of}

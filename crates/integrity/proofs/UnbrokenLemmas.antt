@@ -3,20 +3,20 @@ use Rattle.std.proofs.Common.{◌≡◌, Contains, ℕ, zero, suc, List, [], ◌
 use Rattle.std.specs.List.{AllZip}
 use Rattle.values.specs.declared.fault.Fault.{Fault}
 use Rattle.values.specs.Row.{Row}
-use Rattle.image.specs.Pages.{Pages}
-use Rattle.image.specs.Tree.{Place}
-use Rattle.tables.specs.TableData.{RowKeyData, TableData, schema_table}
-use Rattle.catalog.proofs.LawLemmas.{said_of_them}
-use Rattle.catalog.specs.CatalogData.{CatalogData}
-use Rattle.catalog.specs.Refused.{IsBrokenSchema}
-use Rattle.catalog.specs.Says.{IsCatalog}
-use Rattle.tree_walk.specs.declared.counts.TreeCounts.{TreeCounts}
-use Rattle.stored_rows.specs.Stored.{HoldsRows, StoresRow}
-use Rattle.stored_rows.proofs.OneLemmas.{one_stored}
-use Rattle.table_walk.specs.Checked.{IsCheckedTree}
-use Rattle.table_walk.proofs.CheckedLemmas.{rows_fit, unbroken_table}
-use Rattle.index_rows.specs.Checked.{IsCheckedBy}
-use Rattle.primary_walk.proofs.UnbrokenLemmas.{unbroken}
+use Rattle.btree.specs.image.Pages.{Pages}
+use Rattle.btree.specs.image.Tree.{Place}
+use Rattle.schema_tables.specs.TableData.{RowKeyData, TableData, schema_table}
+use Rattle.schema.proofs.LawLemmas.{said_of_them}
+use Rattle.schema.specs.CatalogData.{CatalogData}
+use Rattle.schema.specs.Refused.{IsBrokenSchema}
+use Rattle.schema.specs.Says.{IsCatalog}
+use Rattle.integrity_trees.specs.declared.tree_walk.counts.TreeCounts.{TreeCounts}
+use Rattle.records_tables.specs.stored_rows.Stored.{HoldsRows, StoresRow}
+use Rattle.records_tables.proofs.lemmas.stored_rows.OneLemmas.{one_stored}
+use Rattle.integrity_trees.specs.table_walk.Checked.{IsCheckedTree}
+use Rattle.integrity_trees.proofs.lemmas.table_walk.CheckedLemmas.{rows_fit, unbroken_table}
+use Rattle.integrity_indexes.specs.index_rows.Checked.{IsCheckedBy}
+use Rattle.integrity_trees.proofs.lemmas.primary_walk.UnbrokenLemmas.{unbroken}
 use Rattle.integrity.specs.Denotes.{HasCatalog}
 use Rattle.integrity.specs.Tables.{IsAnyChecked, IsBrokenBy}
 use Rattle.integrity.specs.Checked.{HasBrokenIndex, IsBrokenImage, IsMisused, said, schema}

@@ -6,30 +6,30 @@ use Rattle.values.specs.declared.fault.Fault.{Fault}
 use Rattle.values.specs.declared.fault.Fault.TheVariants.{BadPage, BadChain, PageUse, BadFreelist, BadOrder, BadDepth, BadRecord, FloatValue, BadText, SchemaRow, SchemaText, UnsupportedObject, ValueBreaksColumn, IndexDiffers, NotUnique}
 use Rattle.pager.specs.Calls.{IsReadFault}
 use Rattle.pager.specs.PagerState.{IsPageNumber, PagerState}
-use Rattle.image.specs.declared.kind.TreeKind.TheVariants.{Table}
-use Rattle.image.specs.Pages.{IsNumber, Pages, WhereSteady}
-use Rattle.image.specs.Tree.{Place, IsPlaceOf}
-use Rattle.image.specs.Freelist.{IsFreelist}
-use Rattle.image.specs.Use.{IsUsedOnce}
-use Rattle.page_use.specs.Free.{header_on}
-use Rattle.page_use.specs.Marks.{IsUsedTwice}
+use Rattle.btree.specs.declared.image.kind.TreeKind.TheVariants.{Table}
+use Rattle.btree.specs.image.Pages.{IsNumber, Pages, WhereSteady}
+use Rattle.btree.specs.image.Tree.{Place, IsPlaceOf}
+use Rattle.btree.specs.image.Freelist.{IsFreelist}
+use Rattle.btree.specs.image.Use.{IsUsedOnce}
+use Rattle.btree.specs.page_use.Free.{header_on}
+use Rattle.btree.specs.page_use.Marks.{IsUsedTwice}
 use Rattle.values.specs.Row.{Row}
-use Rattle.schema.specs.Rows.{SaysTable}
-use Rattle.tables.specs.TableData.{TableData, schema_table}
-use Rattle.indexes.specs.IndexData.{IndexData}
-use Rattle.catalog.specs.CatalogData.{CatalogData}
-use Rattle.catalog.specs.Refused.{IsBrokenSchema}
-use Rattle.tree_walk.specs.declared.counts.TreeCounts.{TreeCounts}
-use Rattle.table_walk.specs.Checked.{IsCheckedTree}
-use Rattle.table_walk.specs.Walked.{IsWalkFault}
+use Rattle.schema_keys.specs.Rows.{SaysTable}
+use Rattle.schema_tables.specs.TableData.{TableData, schema_table}
+use Rattle.schema.specs.indexes.IndexData.{IndexData}
+use Rattle.schema.specs.CatalogData.{CatalogData}
+use Rattle.schema.specs.Refused.{IsBrokenSchema}
+use Rattle.integrity_trees.specs.declared.tree_walk.counts.TreeCounts.{TreeCounts}
+use Rattle.integrity_trees.specs.table_walk.Checked.{IsCheckedTree}
+use Rattle.integrity_trees.specs.table_walk.Walked.{IsWalkFault}
 use Rattle.integrity.specs.declared.index_trees.IndexCounts.{IndexCounts}
 use Rattle.integrity.specs.declared.keys.KeyCounts.{KeyCounts}
 use Rattle.integrity.specs.Denotes.{HasCatalog, HasTables}
-use Rattle.integrity.specs.Indexes.{AreBrokenEntries, AreItsEntries, IsBrokenIndexTree, IsCheckedIndexOf, IsTableIndex}
+use Rattle.integrity.specs.Indexes.{AreBrokenEntries, AreItsEntries, IsBrokenIndexTree, ListsRows, IsTableIndex}
 use Rattle.integrity.specs.Keys.{HasKeyCounts}
 use Rattle.integrity.specs.Tables.{IsAnyBroken, IsAnyChecked}
 use Rattle.integrity.specs.Used.{users_of}
-use Rattle.stored_rows.specs.Stored.{HoldsRows, StoresRow}
+use Rattle.records_tables.specs.stored_rows.Stored.{HoldsRows, StoresRow}
 
 -- the tables and indexes that an image has, and what the check counts of each, of the tables' keys and of the schema's own tree
 pub record CheckedData : Type 0 where
@@ -39,6 +39,22 @@ pub record CheckedData : Type 0 where
   pub key_counts : List KeyCounts
   pub indexes : List IndexData
   pub index_counts : List IndexCounts
+
+-- what was counted of the trees of tables, of their keys and of indexes
+pub record FoundData : Type 0 where
+  pub trees : List TreeCounts
+  pub key_counts : List KeyCounts
+  pub index_counts : List IndexCounts
+
+abbrev pub found_data : CheckedData → FoundData
+found_data checked = record { trees = checked.trees; key_counts = checked.key_counts; index_counts = checked.index_counts }
+
+-- These are the counts of the trees of these tables, of their keys and of these indexes of theirs, each of which lists rows of its table
+-- in the order of its entries.
+pub record AreFound (pages : Pages) (tables : List TableData) (indexes : List IndexData) (found : FoundData) : Type 0 where
+  pub trees : AllZip (IsAnyChecked pages) tables found.trees
+  pub key_counts : AllZip (HasKeyCounts pages) tables found.key_counts
+  pub listed : AllZip (ListsRows pages tables) indexes found.index_counts
 
 -- a table of the image: that of the schema, or one that a row of the schema says
 pub data IsTableOf (pages : Pages) : TableData → Type 0 where
@@ -105,7 +121,8 @@ IsCheckFault (NotUnique _) = Unit {0}
 IsCheckFault fault = IsWalkFault fault
 
 -- An image was checked: these are its tables and indexes, all that the rows of its schema say, with what was counted of each and
--- of the schema's own tree, and each index has just the entries that its table's rows want; no condition is broken.
+-- of the schema's own tree, and each index has just the entries that its table's rows want, so that it lists these rows in its
+-- order; no condition is broken.
 pub record HasCheckedImage (pager : PagerState) (checked : CheckedData) : Type 0 where
   pub own_root : IsPageNumber pager schema_table.root
   pub roots : All (λ table. IsPageNumber pager table.root) checked.tables
@@ -113,9 +130,7 @@ pub record HasCheckedImage (pager : PagerState) (checked : CheckedData) : Type 0
       × HasCatalog pages rows (record { tables = checked.tables; indexes = checked.indexes }))
   pub tables : WhereSteady pager (λ pages. HasTables pages checked.tables)
   pub schema_tree : WhereSteady pager (λ pages. IsCheckedTree pages schema_table checked.schema_tree)
-  pub trees : WhereSteady pager (λ pages. AllZip (IsAnyChecked pages) checked.tables checked.trees)
-  pub key_counts : WhereSteady pager (λ pages. AllZip (HasKeyCounts pages) checked.tables checked.key_counts)
-  pub index_counts : WhereSteady pager (λ pages. AllZip (IsCheckedIndexOf pages checked.tables) checked.indexes checked.index_counts)
+  pub found : WhereSteady pager (λ pages. AreFound pages checked.tables checked.indexes (found_data checked))
   pub entries : WhereSteady pager (λ pages. (table : TableData) (index : IndexData) → IsTableIndex pages table index → AreItsEntries pages table index)
   pub whole : WhereSteady pager (λ pages. (fault : Fault) → ¬ IsBrokenImage pages fault)
   pub unbroken : WhereSteady pager (λ pages. (fault : Fault) → IsExamined fault → ¬ IsBrokenImage pages fault)

@@ -1,5 +1,5 @@
 -- What the program's findings are.
-use Rattle.catalog.specs.CatalogView.{catalog_data}
+use Rattle.schema.specs.CatalogView.{catalog_data}
 use Rattle.integrity.specs.Checked.{CheckedData}
 use Rattle.integrity.specs.declared.checked.Checked.{Checked}
 

@@ -1,15 +1,15 @@
 -- The tables that an image denotes. (Database File Format, section 2; The Schema Table)
 use Rattle.std.specs.Prelude.{ℕ, All, List}
 use Rattle.std.specs.List.{AllZip}
-use Rattle.image.specs.Pages.{pages_of, Pages}
+use Rattle.btree.specs.image.Pages.{pages_of, Pages}
 use Rattle.values.specs.Row.{Row}
 use Rattle.values.specs.Database.{Database}
-use Rattle.tables.specs.TableData.{TableData, schema_table}
-use Rattle.indexes.specs.IndexData.{IndexData}
-use Rattle.catalog.specs.CatalogData.{CatalogData}
-use Rattle.catalog.specs.Says.{IsCatalog}
-use Rattle.stored_rows.specs.Stored.{Fits, HoldsRows}
-use Rattle.stored_tables.specs.Tables.{IsAnyStored}
+use Rattle.schema_tables.specs.TableData.{TableData, schema_table}
+use Rattle.schema.specs.indexes.IndexData.{IndexData}
+use Rattle.schema.specs.CatalogData.{CatalogData}
+use Rattle.schema.specs.Says.{IsCatalog}
+use Rattle.records_tables.specs.stored_rows.Stored.{Fits, HoldsRows}
+use Rattle.records_tables.specs.Tables.{IsAnyStored}
 use Rattle.integrity.specs.Tables.{HoldsAnyRows}
 
 -- the schema's own table has these rows, whose values are of its columns, and they say this catalog

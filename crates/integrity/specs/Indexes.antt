@@ -4,24 +4,25 @@ use Rattle.std.specs.Prelude.{◌≡◌, ℕ, suc, Bool, true, false, Contains, 
 use Rattle.values.specs.declared.fault.Fault.{Fault}
 use Rattle.values.specs.declared.fault.Fault.TheVariants.{IndexDiffers, NotUnique}
 use Rattle.values.specs.Row.{Row}
-use Rattle.create_trees.specs.declared.create.KeyOrder.{KeyOrder}
-use Rattle.create_trees.specs.declared.create.KeyOrder.TheVariants.{Ascending, Descending}
-use Rattle.image.specs.Pages.{IsNumber, Pages}
-use Rattle.wanted_entries.specs.Wanted.{IndexedPlaces}
-use Rattle.schema.specs.Names.{IsSameName}
-use Rattle.tables.specs.TableData.{TableData}
-use Rattle.indexes.specs.IndexData.{IndexData}
-use Rattle.catalog.specs.CatalogData.{CatalogData}
-use Rattle.tree_walk.specs.declared.counts.TreeCounts.{TreeCounts}
-use Rattle.index_walk.specs.Widths.{exactly}
-use Rattle.index_walk.specs.Broken.{IsBrokenIndex}
-use Rattle.index_walk.specs.Checked.{IsCheckedIndex, IsIndexWalkFault}
-use Rattle.entry_prefixes.specs.Entries.{HoldsEntries}
-use Rattle.entry_prefixes.specs.Prefixes.{HasCount}
-use Rattle.entry_prefixes.specs.Repeats.{HasRepeats, IsUniqueIndex}
-use Rattle.index_rows.specs.Checked.{IsCheckedTable}
-use Rattle.index_rows.specs.Compared.{IsDifferentIndex, IsIndexOf}
-use Rattle.index_rows.specs.Entries.{TellsRow, width_by}
+use Rattle.sql_reader_grammar.specs.declared.create_trees.create.KeyOrder.{KeyOrder}
+use Rattle.sql_reader_grammar.specs.declared.create_trees.create.KeyOrder.TheVariants.{Ascending, Descending}
+use Rattle.btree.specs.image.Pages.{IsNumber, Pages}
+use Rattle.integrity_trees.specs.wanted_entries.Wanted.{IndexedPlaces, KeyedRow}
+use Rattle.schema_keys.specs.Names.{IsSameName}
+use Rattle.schema_tables.specs.TableData.{TableData}
+use Rattle.schema.specs.indexes.IndexData.{IndexData}
+use Rattle.schema.specs.CatalogData.{CatalogData}
+use Rattle.integrity_trees.specs.declared.tree_walk.counts.TreeCounts.{TreeCounts}
+use Rattle.integrity_trees.specs.index_walk.Widths.{exactly}
+use Rattle.integrity_trees.specs.index_walk.Broken.{IsBrokenIndex}
+use Rattle.integrity_trees.specs.index_walk.Checked.{IsCheckedIndex, IsIndexWalkFault}
+use Rattle.integrity_trees.specs.entry_prefixes.Entries.{HoldsEntries}
+use Rattle.integrity_trees.specs.entry_prefixes.Prefixes.{HasCount}
+use Rattle.integrity_trees.specs.entry_prefixes.Repeats.{HasRepeats, IsUniqueIndex}
+use Rattle.integrity_indexes.specs.index_rows.Checked.{IsCheckedTable}
+use Rattle.integrity_indexes.specs.index_rows.Compared.{IsDifferentIndex, IsIndexOf}
+use Rattle.integrity_indexes.specs.index_rows.Entries.{TellsRow, width_by}
+use Rattle.integrity_indexes.specs.index_rows.Indexed.{HoldsIndexedRows}
 use Rattle.integrity.specs.declared.index_trees.IndexCounts.{IndexCounts}
 use Rattle.integrity.specs.Denotes.{HasCatalog}
 
@@ -76,7 +77,13 @@ pub record IsCheckedIndexOf (pages : Pages) (tables : List TableData) (index : I
   pub owned : IsOwned tables index
   pub checked : IsCheckedAlone pages owned.table index counts
 
--- and has so many entries
+-- and it lists rows of its table, in the order of its entries, in a tree of as many levels as were counted
+pub record ListsRows (pages : Pages) (tables : List TableData) (index : IndexData) (counts : IndexCounts) : Type 0 where
+  pub counted : IsCheckedIndexOf pages tables index counts
+  pub rows : List KeyedRow
+  pub holds : HoldsIndexedRows pages counted.owned.table (columns_of index) index.condition (descends_of index) counts.tree.levels index.root rows
+
+-- an index of one of these tables was checked, and has so many entries
 pub record IsCheckedIndexWith (pages : Pages) (tables : List TableData) (index : IndexData) (entries : ℕ) : Type 0 where
   pub owned : IsOwned tables index
   pub counts : TreeCounts

@@ -1,8 +1,8 @@
 -- What is counted of the keys of tables. (Database File Format, section 2.4 "Representation Of WITHOUT ROWID Tables")
 use Rattle.std.specs.Prelude.{◌≡◌, [], length}
-use Rattle.image.specs.Pages.{Pages}
-use Rattle.tables.specs.TableData.{RowKeyData, TableData}
-use Rattle.primary_rows.specs.Order.{key_order}
+use Rattle.btree.specs.image.Pages.{Pages}
+use Rattle.schema_tables.specs.TableData.{RowKeyData, TableData}
+use Rattle.records_tables.specs.primary_rows.Order.{key_order}
 use Rattle.integrity.specs.declared.keys.KeyCounts.{KeyCounts}
 use Rattle.integrity.specs.Indexes.{HasDistinct}
 

@@ -3,15 +3,16 @@
 use Rattle.std.specs.Prelude.{List}
 use Rattle.values.specs.declared.fault.Fault.{Fault}
 use Rattle.values.specs.Row.{Row}
-use Rattle.image.specs.Pages.{Pages}
-use Rattle.image.specs.Use.{TreeData}
-use Rattle.tables.specs.TableData.{RowKeyData, TableData}
-use Rattle.stored_rows.specs.RowFaults.{IsBrokenTable}
-use Rattle.stored_rows.specs.Stored.{HoldsRows}
-use Rattle.tree_walk.specs.declared.counts.TreeCounts.{TreeCounts}
-use Rattle.primary_walk.specs.Checked.{HoldsPrimaryRows, IsBrokenPrimary}
-use Rattle.index_rows.specs.Checked.{IsCheckedBy}
-use Rattle.stored_tables.specs.Tables.{kind_of}
+use Rattle.btree.specs.image.Pages.{Pages}
+use Rattle.btree.specs.image.Use.{TreeData}
+use Rattle.schema_tables.specs.TableData.{RowKeyData, TableData}
+use Rattle.records_tables.specs.stored_rows.RowFaults.{IsBrokenTable}
+use Rattle.records_tables.specs.stored_rows.Stored.{HoldsRows}
+use Rattle.integrity_trees.specs.declared.tree_walk.counts.TreeCounts.{TreeCounts}
+use Rattle.records_tables.specs.primary_rows.Held.{HoldsPrimaryRows}
+use Rattle.integrity_trees.specs.primary_walk.Checked.{IsBrokenPrimary}
+use Rattle.integrity_indexes.specs.index_rows.Checked.{IsCheckedBy}
+use Rattle.records_tables.specs.Tables.{kind_of}
 
 -- the tree of a table
 abbrev pub any_tree : TableData → TreeData

@@ -2,16 +2,16 @@
 use Rattle.std.specs.Prelude.{◌≡◌, ℕ, ◌+◌, ◌<◌, ◌≤◌, Bool, Contains, List, ◌∷◌, ◌++◌, length, map, slice_get, Some}
 use Rattle.values.specs.declared.fault.Fault.{Fault}
 use Rattle.values.specs.declared.fault.Fault.TheVariants.{PageUse}
-use Rattle.image.specs.Pages.{Pages}
-use Rattle.image.specs.Tree.{Reaches}
-use Rattle.image.specs.Use.{Use, as_root, TreeData, Users}
-use Rattle.page_use.specs.Free.{header_on}
-use Rattle.page_use.specs.Marks.{AreTreeMarks, IsUsedTwice}
-use Rattle.tree_walk.specs.Used.{IsDoneOn}
-use Rattle.tables.specs.TableData.{schema_table}
-use Rattle.indexes.specs.IndexData.{IndexData}
-use Rattle.catalog.specs.CatalogData.{CatalogData}
-use Rattle.index_walk.specs.Checked.{index_tree}
+use Rattle.btree.specs.image.Pages.{Pages}
+use Rattle.btree.specs.image.Tree.{Reaches}
+use Rattle.btree.specs.image.Use.{Use, as_root, TreeData, Users}
+use Rattle.btree.specs.page_use.Free.{header_on}
+use Rattle.btree.specs.page_use.Marks.{AreTreeMarks, IsUsedTwice}
+use Rattle.integrity_trees.specs.tree_walk.Used.{IsDoneOn}
+use Rattle.schema_tables.specs.TableData.{schema_table}
+use Rattle.schema.specs.indexes.IndexData.{IndexData}
+use Rattle.schema.specs.CatalogData.{CatalogData}
+use Rattle.integrity_trees.specs.index_walk.Checked.{index_tree}
 use Rattle.integrity.specs.Tables.{any_tree}
 
 abbrev pub index_tree_of : IndexData → TreeData

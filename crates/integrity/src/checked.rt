@@ -1,7 +1,7 @@
 //! The check of a whole image.
 ghost use Rattle.std.specs.Prelude.{◌≡◌, MatchResult, map};
 ghost use Rattle.pager.specs.Calls.{ReadsPages};
-ghost use Rattle.indexes.specs.IndexView.{index_data};
+ghost use Rattle.schema.specs.indexes.IndexView.{index_data};
 ghost use Rattle.integrity.specs.CheckedView.{checked_data};
 ghost use Rattle.integrity.specs.Checked.{HasCheckedImage, IsCheckFailure};
 
@@ -9,13 +9,12 @@ use crate::entries::check_entries;
 use crate::index_trees::{IndexCounts, check_indexes};
 use crate::keys::{KeyCounts, count_keys};
 use crate::trees::{check_tables, read_schema};
-use catalog::Catalog;
-use indexes::Index;
-use page_use::check_rest;
+use btree::check_rest;
+use integrity_trees::TreeCounts;
 use pager::{Pager, Source};
+use schema::{Catalog, Index};
+use schema_tables::Table;
 use std::alloc::Global;
-use tables::Table;
-use tree_walk::TreeCounts;
 use values::Fault;
 
 /// What the check of an image finds: its tables and indexes, and what the tree of each has, and that of the schema.

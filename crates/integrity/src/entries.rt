@@ -1,25 +1,24 @@
-//! The entries of an image's indexes, beside the rows of its tables.
+//! The entries of an image's indexes, compared with the rows of its tables.
 ghost use Rattle.std.specs.Prelude.{◌⊎◌, All, Contains, IfErr, OnOk, map};
 ghost use Rattle.std.specs.List.{AllZip};
 ghost use Rattle.pager.specs.Calls.{IsReadFault, ReadsPages};
 ghost use Rattle.pager.specs.PagerState.{IsPageNumber};
-ghost use Rattle.image.specs.Pages.{WhereSteady};
-ghost use Rattle.indexes.specs.IndexData.{IndexData};
-ghost use Rattle.indexes.specs.IndexView.{index_data};
-ghost use Rattle.schema.specs.Names.{IsSameName};
-ghost use Rattle.tables.specs.TableData.{TableData};
-ghost use Rattle.index_rows.specs.Checked.{IsCheckedTable};
+ghost use Rattle.btree.specs.image.Pages.{WhereSteady};
+ghost use Rattle.schema.specs.indexes.IndexData.{IndexData};
+ghost use Rattle.schema.specs.indexes.IndexView.{index_data};
+ghost use Rattle.schema_keys.specs.Names.{IsSameName};
+ghost use Rattle.schema_tables.specs.TableData.{TableData};
+ghost use Rattle.integrity_indexes.specs.index_rows.Checked.{IsCheckedTable};
 ghost use Rattle.integrity.specs.Checked.{IsCheckFault};
 ghost use Rattle.integrity.specs.Indexes.{AreBrokenEntries, AreItsEntries, IsCheckedIndexOf, IsCheckedIndexWith, IsCheckedWith};
 
 use crate::index_trees::{IndexCounts, directions_of, places_of};
-use index_rows::TableIndex;
-use indexes::Index;
+use integrity_indexes::{TableIndex, is_index_of};
 use pager::{Pager, Source};
-use row_batches::is_index_of;
-use schema::is_same_name;
+use schema::Index;
+use schema_keys::is_same_name;
+use schema_tables::Table;
 use std::alloc::Global;
-use tables::Table;
 use values::Fault;
 
 /// Holds the entries of an index, of which there are so many, against the rows of its table: they have to be just those that

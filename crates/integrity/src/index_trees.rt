@@ -1,30 +1,28 @@
-//! The indexes of an image, each alone: its tree, and its entries beside one another.
-ghost use Rattle.std.specs.Prelude.{◌≡◌, ◌⊎◌, true, All, Contains, IfErr, IfNone, IfOk, IfSome, MatchResult, OnOk, ◌<◌, length, map};
+//! The indexes of an image, each alone: its tree, and its entries compared with one another.
+ghost use Rattle.std.specs.Prelude.{◌≡◌, ◌≢◌, ◌⊎◌, true, All, Contains, IfErr, IfNone, IfOk, IfSome, MatchResult, OnOk, ◌<◌, length, map};
 ghost use Rattle.std.specs.List.{AllZip};
 ghost use Rattle.pager.specs.Calls.{IsReadFault, ReadsPages};
 ghost use Rattle.pager.specs.PagerState.{IsPageNumber};
-ghost use Rattle.image.specs.Pages.{IsNumber, WhereSteady};
-ghost use Rattle.indexes.specs.IndexData.{IndexData};
-ghost use Rattle.indexes.specs.IndexView.{index_data};
-ghost use Rattle.tree_walk.specs.Used.{IsTreeTwice, MarksTree};
-ghost use Rattle.tree_walk.specs.declared.counts.TreeCounts.{TreeCounts};
-ghost use Rattle.index_walk.specs.Checked.{IsIndexWalkFault};
-ghost use Rattle.entry_prefixes.specs.Repeats.{IsUniqueIndex};
+ghost use Rattle.btree.specs.image.Pages.{Pages, WhereSteady};
+ghost use Rattle.schema.specs.indexes.IndexData.{IndexData};
+ghost use Rattle.schema.specs.indexes.IndexView.{index_data};
+ghost use Rattle.integrity_trees.specs.tree_walk.Used.{IsTreeTwice, MarksTree};
+ghost use Rattle.integrity_trees.specs.index_walk.Checked.{IsIndexWalkFault};
+ghost use Rattle.integrity_trees.specs.entry_prefixes.Prefixes.{HasPrefixes};
+ghost use Rattle.integrity_trees.specs.entry_prefixes.Repeats.{IsUniqueIndex};
 ghost use Rattle.integrity.specs.Indexes as spec;
-ghost use Rattle.schema.specs.Names.{IsSameName};
-ghost use Rattle.tables.specs.TableData.{TableData};
+ghost use Rattle.schema_keys.specs.Names.{IsSameName};
+ghost use Rattle.schema_tables.specs.TableData.{TableData};
 ghost use Rattle.integrity.specs.Indexes.{HasDistinct, IsBrokenIndexTree, IsCheckedAlone, IsCheckedIndexOf, IsCheckedIndexTree, IsIndexCheckFault, IsOwned, descends_of};
 ghost use Rattle.integrity.specs.Used.{AreTreesTwice, MarksTrees, index_tree_of};
 
-use create_trees::KeyOrder;
-use entry_prefixes::read_prefixes;
-use index_walk::{EntryWidths, IndexTree, check_index};
-use indexes::Index;
+use integrity_trees::{EntryWidths, IndexTree, Prefixes, TreeCounts, check_counted};
 use pager::{Pager, Source};
-use schema::is_same_name;
+use schema::Index;
+use schema_keys::is_same_name;
+use schema_tables::{RowKey, Table};
+use sql_reader_grammar::KeyOrder;
 use std::alloc::{AllocError, Global};
-use tables::{RowKey, Table};
-use tree_walk::TreeCounts;
 use values::Fault;
 
 /// What the check counts of an index.
@@ -77,17 +75,19 @@ fn width_of(table: &Table, index: &Index) -> usize
     }
 }
 
-/// Checks the tree of an index of a table, and gives its pages and chains their marks.
+/// Checks the tree of an index of a table, counts the first values of its entries, and gives its pages and chains their marks.
 fn check_tree<S: Source>(
     alloc: Global,
     pager: &mut Pager<S>,
     table: &Table,
     index: &Index,
     used: &mut [bool],
-) -> Result<TreeCounts, Fault>
+) -> Result<(TreeCounts, Prefixes), Fault>
     requires number { IsPageNumber pager.old.state (index_data index.now).root }
     requires long { pager.old.state.header.pages < length used.old }
-    ensures checked { WhereSteady pager.old.state (λ pages. IfOk result (IsCheckedIndexTree pages table.now (index_data index.now))) }
+    ensures checked { WhereSteady pager.old.state (λ pages. IfOk result (λ counted. IsCheckedIndexTree pages table.now (index_data index.now) counted.0)) }
+    ensures prefixes { WhereSteady pager.old.state (λ pages. IfOk result (λ counted.
+        HasPrefixes pages (index_data index.now).root (length (spec.places_of (index_data index.now))) counted.1)) }
     ensures marks { WhereSteady pager.old.state (λ pages. OnOk result
         (MarksTree pages (index_tree_of (index_data index.now)) used.old used.new)) }
     ensures fault { WhereSteady pager.old.state (λ pages. IfErr result (λ e. IsReadFault e
@@ -101,26 +101,21 @@ fn check_tree<S: Source>(
         widths: EntryWidths::exactly(width_of(table, index)),
         descends: descends.as_slice(),
     };
-    check_index(alloc, pager, &tree, used)
+    check_counted(alloc, pager, &tree, index.columns().len(), used)
 }
 
-/// How many different values the first columns of an index have, for each number of columns, where its tree was checked. The
-/// fault is `NotUnique` where it is unique and two of its entries agree in all of its columns, none of which is NULL; or one of
-/// reading.
-fn count_distinct<S: Source>(
-    alloc: Global,
-    pager: &mut Pager<S>,
-    index: &Index,
-) -> Result<Vec<u64>, Fault>
-    ensures counts { WhereSteady pager.old.state (λ pages. (table : TableData) (counts : TreeCounts) → IsNumber pages (index_data index.now).root
-        → IsCheckedIndexTree pages table (index_data index.now) counts → MatchResult result
+/// How many different values the first columns of an index have, for each number of columns, where this is what its entries show.
+/// The fault is `NotUnique` where it is unique and two of its entries agree in all of its columns, none of which is NULL; or one of
+/// memory.
+fn distinct_of(alloc: Global, index: &Index, prefixes: Prefixes) -> Result<Vec<u64>, Fault>
+    ensures counts { (pages : Pages) → HasPrefixes pages (index_data index.now).root (length (spec.places_of (index_data index.now))) prefixes
+        → (table : TableData) → MatchResult result
         (λ distinct. HasDistinct pages (index_data index.now).root (length (spec.places_of (index_data index.now))) distinct.items × ((index_data index.now).is_unique ≡ true
         → IsUniqueIndex pages (index_data index.now).root (length (spec.places_of (index_data index.now)))))
-        (λ e. IsReadFault e ⊎ IsBrokenIndexTree pages table (index_data index.now) e)) }
+        (λ e. IsReadFault e ⊎ IsBrokenIndexTree pages table (index_data index.now) e) }
     ensures only { IfErr result IsIndexCheckFault }
-    ensures reads { ReadsPages result pager.old.state pager.new.state }
+    ensures read { IfErr result (λ e. e ≢ Fault.ReadFailed) }
 {
-    let prefixes = read_prefixes(alloc, pager, index.root(), index.columns().len())?;
     if index.is_unique() && prefixes.repeats {
         return Err(Fault::NotUnique(String::from_str(alloc, index.name())?));
     }
@@ -145,8 +140,8 @@ fn check_alone<S: Source>(
     ensures only { IfErr result IsIndexCheckFault }
     ensures reads { ReadsPages result pager.old.state pager.new.state }
 {
-    let tree = check_tree(alloc, pager, table, index, used)?;
-    let distinct = count_distinct(alloc, pager, index)?;
+    let (tree, prefixes) = check_tree(alloc, pager, table, index, used)?;
+    let distinct = distinct_of(alloc, index, prefixes)?;
     Ok(IndexCounts { tree, distinct })
 }
 

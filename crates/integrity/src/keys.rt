@@ -2,16 +2,16 @@
 ghost use Rattle.std.specs.Prelude.{All, IfErr, MatchResult};
 ghost use Rattle.std.specs.List.{AllZip};
 ghost use Rattle.pager.specs.Calls.{IsReadFault, ReadsPages};
-ghost use Rattle.image.specs.Pages.{WhereSteady};
-ghost use Rattle.index_rows.specs.Checked.{IsCheckedTable};
+ghost use Rattle.btree.specs.image.Pages.{WhereSteady};
+ghost use Rattle.integrity_indexes.specs.index_rows.Checked.{IsCheckedTable};
 ghost use Rattle.integrity.specs.Checked.{IsCheckFault};
 ghost use Rattle.integrity.specs.Keys.{HasKeyCounts};
 
-use entry_prefixes::read_prefixes;
+use integrity_trees::read_prefixes;
 use pager::{Pager, Source};
-use primary_rows::RecordOrder;
+use records_tables::RecordOrder;
+use schema_tables::{RowKey, Table};
 use std::alloc::Global;
-use tables::{RowKey, Table};
 use values::Fault;
 
 /// What the check counts of the key by which the rows of a table without rowids are found.

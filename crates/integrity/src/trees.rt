@@ -3,22 +3,20 @@ ghost use Rattle.std.specs.Prelude.{◌≡◌, ◌⊎◌, All, Contains, IfErr, 
 ghost use Rattle.std.specs.List.{AllZip};
 ghost use Rattle.pager.specs.Calls.{IsReadFault, ReadsPages};
 ghost use Rattle.pager.specs.PagerState.{IsPageNumber};
-ghost use Rattle.image.specs.Pages.{WhereSteady};
-ghost use Rattle.tables.specs.TableData.{TableData, schema_table};
+ghost use Rattle.btree.specs.image.Pages.{WhereSteady};
+ghost use Rattle.schema_tables.specs.TableData.{TableData, schema_table};
 ghost use Rattle.integrity.specs.Checked.{HasCause};
-ghost use Rattle.tree_walk.specs.Used.{IsTreeTwice, MarksTree};
+ghost use Rattle.integrity_trees.specs.tree_walk.Used.{IsTreeTwice, MarksTree};
 ghost use Rattle.integrity.specs.Used.{AreTreesTwice, MarksTrees};
 ghost use Rattle.integrity.specs.Tables.{IsAnyBroken, IsAnyChecked, any_tree};
-ghost use Rattle.stored_rows.specs.Stored.{HoldsRows};
-ghost use Rattle.table_walk.specs.Checked.{IsCheckedTree, tree_of};
-ghost use Rattle.table_walk.specs.Walked.{IsWalkFault};
+ghost use Rattle.records_tables.specs.stored_rows.Stored.{HoldsRows};
+ghost use Rattle.integrity_trees.specs.table_walk.Checked.{IsCheckedTree, tree_of};
+ghost use Rattle.integrity_trees.specs.table_walk.Walked.{IsWalkFault};
 
+use integrity_trees::{TreeCounts, all_rows, check_primary, check_table};
 use pager::{Pager, Source};
-use primary_walk::check_primary;
+use schema_tables::{RowKey, Table};
 use std::alloc::Global;
-use table_walk::{all_rows, check_table};
-use tables::{RowKey, Table};
-use tree_walk::TreeCounts;
 use values::{Fault, Row};
 
 /// What is read of the schema: the counts of its own tree, and its rows.

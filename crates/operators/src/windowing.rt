@@ -1,4 +1,4 @@
-//! Rows with the values of windows behind them, and which of them are still to be given.
+//! Rows followed by the values of windows, and which of them are still to be given.
 ghost use Rattle.std.specs.Prelude.{◌≡◌, ◌<◌, IfOk, IsTrue, map};
 ghost use Rattle.std.specs.Vec.Iter.{into_iter_len};
 ghost use Rattle.values.specs.Datum.{datum_of};

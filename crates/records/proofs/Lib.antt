@@ -6,3 +6,4 @@ pub mod BodyLemmas
 pub mod RecordLemmas
 pub mod Examples
 pub mod UnreadLemmas
+pub mod AsciiLemmas

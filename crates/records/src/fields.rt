@@ -29,7 +29,7 @@ impl<'p> Model for FieldReader<'p> {
 impl<'p> FieldReader<'p> {
     /// A reader before the first field of a record; `None` where the bytes have no header. (Database File Format,
     /// section 2.1)
-    #[inline]
+    #[inline(always)]
     pub fn new(bytes: &'p [u8]) -> Option<FieldReader<'p>>
         ensures found { IfSome result (λ reader. (values : List Datum) → AreUnread reader values ↔ IsRecord bytes.now values) }
         ensures none { IfNone result ((values : List Datum) → ¬ IsRecord bytes.now values) }
@@ -39,7 +39,7 @@ impl<'p> FieldReader<'p> {
     }
 
     /// Whether every field was read, and no byte is left behind them.
-    #[inline]
+    #[inline(always)]
     pub fn is_done(&self) -> bool
         ensures { IsTrue result ↔ AreUnread self.now [] }
     {
@@ -66,7 +66,7 @@ impl<'p> FieldReader<'p> {
     }
 
     /// Goes past one field without a look at its value. The answer is `false` where there is none; the reader stays then.
-    #[inline]
+    #[inline(always)]
     fn skip_one(&mut self) -> bool
         ensures past { IsTrue result → (values : List Datum) → AreUnread self.old values
             → (1 ≤ length values) × AreUnread self.new (drop 1 values) }
@@ -87,7 +87,7 @@ impl<'p> FieldReader<'p> {
 
     /// Goes past so many fields without a look at their values. The answer is `false` where there are fewer, and none is
     /// left then.
-    #[inline]
+    #[inline(always)]
     pub fn skip(&mut self, count: usize) -> bool
         ensures past { IsTrue result → (values : List Datum) → AreUnread self.old values
             → (count ≤ length values) × AreUnread self.new (drop count values) }

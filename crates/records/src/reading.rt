@@ -1,4 +1,4 @@
-//! The parts of a record: its header, the types that are spelt there, and the fields whose bodies stand behind it.
+//! The parts of a record: its header, the serial types written there, and the fields whose bodies follow it.
 //! (Database File Format, section 2.1)
 ghost use Rattle.std.specs.Prelude.{ℕ, ℤ, List, map, IfSome, IfNone, IfOk, IfErr};
 ghost use Rattle.values.specs.Datum.{datum_of_ref};
@@ -12,7 +12,7 @@ use std::alloc::Global;
 use values::ValueRef;
 
 /// The types of a record's header, as they are spelt, and the bodies behind it; `None` where there is no such header.
-#[inline]
+#[inline(always)]
 pub(crate) fn split_header(bytes: &[u8]) -> Option<(&[u8], &[u8])>
     ensures found { IfSome result (λ parts. SplitsHeader bytes.now parts.0.now parts.1.now) }
     ensures none { IfNone result ((spelt bodies : List ℕ) → ¬ (SplitsHeader bytes.now spelt bodies)) }

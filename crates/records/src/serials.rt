@@ -1,9 +1,11 @@
-//! Serial types: how long a field's body is, and the value that it stands for. (Database File Format, section 2.1)
+//! Serial types: how long a field's body is, and the value that it encodes. (Database File Format, section
+//! 2.1)
 ghost use Rattle.std.specs.Prelude.{◌≡◌, ◌≤ℤ◌, pos, IfOk, IfErr};
 ghost use Rattle.values.specs.Datum.{datum_of_ref};
 ghost use Rattle.records.specs.Serial.{body_len, BeginsField, BreaksFront};
 
 use crate::fault::RecordFault;
+use crate::texts::text_of;
 use byteorder::{BigEndian, ByteOrder};
 use values::ValueRef;
 
@@ -53,9 +55,9 @@ fn first_string(serial: i64, bytes: &[u8]) -> Result<(ValueRef<'_>, &[u8]), Reco
     if serial % 2 == 0 {
         return Ok((ValueRef::Blob(body), rest));
     }
-    match str::from_utf8(body) {
-        Ok(text) => Ok((ValueRef::Text(text), rest)),
-        Err(_) => Err(RecordFault::Text),
+    match text_of(body) {
+        Some(text) => Ok((ValueRef::Text(text), rest)),
+        None => Err(RecordFault::Text),
     }
 }
 

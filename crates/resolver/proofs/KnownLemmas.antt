@@ -1,15 +1,15 @@
 -- The tables of a catalog, one after the other.
 use Rattle.std.proofs.Common.{◌≡◌, ◌<◌, ◌≤◌, ◌+◌, ℕ, suc, List, [], ◌∷◌, ◌++◌, map, drop, length, get_or, codes, Ok, refl, sym, ap, ◌∙◌, arith, append-nil, append_assoc}
 use Rattle.std.proofs.lemmas.List.{at_drop_all, at_drop_more, map-append}
-use Rattle.source_names.specs.GivenView.{known_of}
-use Rattle.source_names.specs.declared.given.Known as mention
-use Rattle.syntax.specs.Tree.{Name}
-use Rattle.meaning.specs.Query.{Source}
-use Rattle.naming.specs.Sources.{Known}
-use Rattle.naming.specs.Typed as naming
-use Rattle.naming.specs.Typed.{known_from}
-use Rattle.tables.specs.ColumnTypes as schema
-use Rattle.tables.specs.TableData.{ColumnData, TableData}
+use Rattle.resolver_sources.specs.source_names.GivenView.{known_of}
+use Rattle.resolver_sources.specs.declared.source_names.given.Known as mention
+use Rattle.sql_reader_syntax.specs.Tree.{Name}
+use Rattle.semantics.specs.Query.{Source}
+use Rattle.semantics_names.specs.Sources.{Known}
+use Rattle.semantics_names.specs.Typed as naming
+use Rattle.semantics_names.specs.Typed.{known_from}
+use Rattle.schema_tables.specs.ColumnTypes as schema
+use Rattle.schema_tables.specs.TableData.{ColumnData, TableData}
 use Rattle.resolver.specs.Resolved.{column_of, table_of, tables_of}
 
 same_names : (columns : List ColumnData) → map (λ c. c.name) columns ≡ map (λ c. c.name) (map column_of columns)

@@ -1,3 +1,4 @@
 mod KnownLemmas
 mod RefusalLemmas
 mod ResolvedLemmas
+pub mod lemmas

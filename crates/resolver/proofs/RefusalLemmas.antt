@@ -4,14 +4,14 @@ use Rattle.std.specs.List.{list_any}
 use Rattle.std.proofs.lemmas.Bool.{eq-eqb, eqb-true}
 use Rattle.values.specs.declared.fault.Fault.{Fault}
 use Rattle.values.specs.declared.fault.Fault.TheVariants.{Ambiguous, ColumnCount, DuplicateName, UnknownColumn, WrongPlace}
-use Rattle.meaning.specs.Query.{KeyTerm}
-use Rattle.syntax.specs.ExprTree.{ExprTree, TermTrees}
-use Rattle.syntax.specs.Tree.{Name}
-use Rattle.naming.specs.Laws.{AmbiguousIsTwo, AreSameSources, UnknownIsNone}
-use Rattle.naming.specs.Outcome.{also, both, checked}
-use Rattle.naming.specs.Scope.{bare_term, places_of}
-use Rattle.naming.specs.Sources.{is_same_source}
-use Rattle.naming.specs.Statement.{are_distinct, key_term, keys_of, named_at, no_row, one_or}
+use Rattle.semantics.specs.Query.{KeyTerm}
+use Rattle.sql_reader_syntax.specs.ExprTree.{ExprTree, TermTrees}
+use Rattle.sql_reader_syntax.specs.Tree.{Name}
+use Rattle.semantics_names.specs.Laws.{AmbiguousIsTwo, AreSameSources, UnknownIsNone}
+use Rattle.semantics_names.specs.Outcome.{also, both, checked}
+use Rattle.semantics_names.specs.Scope.{bare_term, places_of}
+use Rattle.semantics_names.specs.Sources.{is_same_source}
+use Rattle.semantics_names.specs.Statement.{are_distinct, key_term, keys_of, named_at, no_row, one_or}
 use Rattle.resolver.specs.Refusals.{CompoundWidths, InnerWidth, ItemWidths, RepeatedSource, UsingAmbiguous, UsingUnknown}
 
 -- this fault isn't handed on

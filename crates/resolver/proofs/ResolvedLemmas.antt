@@ -2,18 +2,18 @@
 use Rattle.std.proofs.Common.{◌≡◌, List, Result, Ok, Err, IfOk, sym, ap, subst, ◌∙◌}
 use Rattle.values.specs.declared.fault.Fault.{Fault}
 use Rattle.values.specs.declared.value.Ty.{Ty}
-use Rattle.meaning.specs.Typed.{IsTyped}
-use Rattle.naming.specs.Outcome.{followed}
-use Rattle.naming.specs.Sources.{Known}
-use Rattle.naming.specs.Statement.{Named, named}
-use Rattle.naming.specs.Typed as naming
-use Rattle.naming.specs.Typed.{known_tables, typed_query, with_types}
-use Rattle.query_trees.specs.Outcome.{Gives}
-use Rattle.tables.specs.ColumnTypes as schema
-use Rattle.tables.specs.TableData.{TableData}
-use Rattle.statement_names.specs.NamedView.{named_data, query_data}
-use Rattle.statement_names.specs.declared.trees.NamedStatement.{NamedStatement}
-use Rattle.syntax.specs.StatementTree.{StatementTree}
+use Rattle.semantics.specs.Typed.{IsTyped}
+use Rattle.semantics_names.specs.Outcome.{followed}
+use Rattle.semantics_names.specs.Sources.{Known}
+use Rattle.semantics_names.specs.Statement.{Named, named}
+use Rattle.semantics_names.specs.Typed as naming
+use Rattle.semantics_names.specs.Typed.{known_tables, typed_query, with_types}
+use Rattle.resolver_terms.specs.Outcome.{Gives}
+use Rattle.schema_tables.specs.ColumnTypes as schema
+use Rattle.schema_tables.specs.TableData.{TableData}
+use Rattle.resolver.specs.statement_names.NamedView.{named_data, query_data}
+use Rattle.resolver.specs.declared.statement_names.trees.NamedStatement.{NamedStatement}
+use Rattle.sql_reader_syntax.specs.StatementTree.{StatementTree}
 use Rattle.resolver.specs.Resolved.{tables_of}
 use Rattle.resolver.proofs.KnownLemmas.{same_types}
 

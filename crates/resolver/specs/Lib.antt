@@ -1,2 +1,5 @@
 pub mod Refusals
 pub mod Resolved
+pub mod query_names
+pub mod statement_names
+pub mod query_types

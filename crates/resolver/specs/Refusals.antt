@@ -2,15 +2,15 @@
 -- or two. (SELECT; SQL Language Expressions, "The IN and NOT IN Operators")
 use Rattle.std.specs.Prelude.{◌≡◌, ◌≢◌, ◌↔◌, ◌<◌, ℕ, List, [], Option, Some, None, Err, length, slice_get}
 use Rattle.values.specs.declared.fault.Fault.TheVariants.{Ambiguous, ColumnCount, DuplicateName, UnknownColumn}
-use Rattle.meaning.specs.Query.{JoinKind}
-use Rattle.syntax.specs.ExprTree.{OnTree, TermTrees}
-use Rattle.syntax.specs.Tree.{Name}
-use Rattle.syntax.specs.declared.query.CompoundOperator.{CompoundOperator}
-use Rattle.naming.specs.Expression.{Answers}
-use Rattle.naming.specs.Laws.{AreSameSources, IsCalledAt}
-use Rattle.naming.specs.Scope.{Scope, places_of}
-use Rattle.naming.specs.Sources.{Given, Sources, joined}
-use Rattle.naming.specs.Statement.{Queried, Single, compounded, item_columns, values_inner}
+use Rattle.semantics.specs.Query.{JoinKind}
+use Rattle.sql_reader_syntax.specs.ExprTree.{OnTree, TermTrees}
+use Rattle.sql_reader_syntax.specs.Tree.{Name}
+use Rattle.sql_reader_syntax.specs.declared.query.CompoundOperator.{CompoundOperator}
+use Rattle.semantics_names.specs.Expression.{Answers}
+use Rattle.semantics_names.specs.Laws.{AreSameSources, IsCalledAt}
+use Rattle.semantics_names.specs.Scope.{Scope, places_of}
+use Rattle.semantics_names.specs.Sources.{Given, Sources, joined}
+use Rattle.semantics_names.specs.Statement.{Queried, Single, compounded, item_columns, values_inner}
 
 -- ---- numbers of columns
 

@@ -1,10 +1,10 @@
 -- Which query a statement is over the tables of a catalog, and why it is none. (SELECT; STRICT Tables)
 use Rattle.std.specs.Prelude.{List, map}
 use Rattle.values.specs.declared.fault.Fault.{Fault}
-use Rattle.syntax.specs.StatementTree.{StatementTree}
-use Rattle.naming.specs.Statement.{Named}
-use Rattle.naming.specs.Typed as naming
-use Rattle.tables.specs.TableData.{ColumnData, TableData}
+use Rattle.sql_reader_syntax.specs.StatementTree.{StatementTree}
+use Rattle.semantics_names.specs.Statement.{Named}
+use Rattle.semantics_names.specs.Typed as naming
+use Rattle.schema_tables.specs.TableData.{ColumnData, TableData}
 
 -- a table of the catalog by the names and types of its columns
 abbrev pub column_of : ColumnData → naming.Column

@@ -1,16 +1,16 @@
-//! What a statement may mention: the tables of a catalog, and the table of the schema's rows.
+//! What a statement may mention: the tables of a catalog, and the schema table.
 ghost use Rattle.std.specs.Prelude.{◌≡◌, ◌∷◌, [], IfOk, map, string_bytes};
-ghost use Rattle.body_trees.specs.BodyView.{source_of};
-ghost use Rattle.meaning.specs.Query as q;
-ghost use Rattle.naming.specs.Typed as naming;
+ghost use Rattle.resolver_bodies.specs.BodyView.{source_of};
+ghost use Rattle.semantics.specs.Query as q;
+ghost use Rattle.semantics_names.specs.Typed as naming;
 ghost use Rattle.resolver.specs.Resolved.{table_of, tables_of};
-ghost use Rattle.tables.specs.ColumnTypes as schema;
-ghost use Rattle.source_names.specs.GivenView.{known_of};
+ghost use Rattle.schema_tables.specs.ColumnTypes as schema;
+ghost use Rattle.resolver_sources.specs.source_names.GivenView.{known_of};
 
-use body_trees::Source;
-use source_names::Known;
+use resolver_bodies::Source;
+use resolver_sources::Known;
+use schema_tables::{Column, Table};
 use std::alloc::{AllocError, Global};
-use tables::{Column, Table};
 use values::Ty;
 
 // The names of columns, as they were declared.

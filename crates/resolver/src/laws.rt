@@ -2,15 +2,15 @@
 ghost use Rattle.std.specs.Prelude.{◌≡◌, ◌≢◌, List};
 ghost use Rattle.values.specs.declared.fault.Fault.{Fault};
 ghost use Rattle.values.specs.declared.fault.Fault.TheVariants.{NoMemory};
-ghost use Rattle.meaning.specs.Typed.{IsTyped};
-ghost use Rattle.naming.specs.Statement.{Named};
-ghost use Rattle.tables.specs.ColumnTypes.{column_types};
-ghost use Rattle.tables.specs.TableData.{TableData};
-ghost use Rattle.syntax.specs.StatementTree.{StatementTree};
+ghost use Rattle.semantics.specs.Typed.{IsTyped};
+ghost use Rattle.semantics_names.specs.Statement.{Named};
+ghost use Rattle.schema_tables.specs.ColumnTypes.{column_types};
+ghost use Rattle.schema_tables.specs.TableData.{TableData};
+ghost use Rattle.sql_reader_syntax.specs.StatementTree.{StatementTree};
 ghost use Rattle.resolver.specs.Refusals.{CompoundWidths, InnerWidth, ItemWidths, RepeatedSource, UsingAmbiguous, UsingUnknown};
 ghost use Rattle.resolver.specs.Resolved.{IsNoQueryOver, Resolves};
 
-use naming::laws::{names_are_columns, typed_as_meaning};
+use semantics_names::laws::{names_are_columns, typed_as_meaning};
 
 /// A statement is one query at most, whose result columns have one name each.
 pub fn one_query()

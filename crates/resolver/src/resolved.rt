@@ -1,20 +1,20 @@
 //! The query of a statement.
 ghost use Rattle.std.specs.Prelude.{IfErr, IfOk, map};
-ghost use Rattle.meaning.specs.Typed.{IsTyped};
-ghost use Rattle.naming.specs.Typed as naming;
-ghost use Rattle.query_trees.specs.Outcome.{Gives};
-ghost use Rattle.tables.specs.ColumnTypes.{column_types};
-ghost use Rattle.statement_names.specs.NamedView.{named_data, query_data};
-ghost use Rattle.statement_trees.specs.StatementView.{statement_of};
+ghost use Rattle.semantics.specs.Typed.{IsTyped};
+ghost use Rattle.semantics_names.specs.Typed as naming;
+ghost use Rattle.resolver_terms.specs.Outcome.{Gives};
+ghost use Rattle.schema_tables.specs.ColumnTypes.{column_types};
+ghost use Rattle.resolver.specs.statement_names.NamedView.{named_data, query_data};
+ghost use Rattle.sql_reader_grammar.specs.statement_trees.StatementView.{statement_of};
 ghost use Rattle.resolver.specs.Resolved.{IsNoQueryOver, Resolves, tables_of};
 
 use crate::known::{column_types, known_tables};
-use naming::laws::typed_as_meaning;
-use query_types::check_types;
-use statement_names::{NamedStatement, named_statement};
-use statement_trees::Statement;
+use crate::query_types::check_types;
+use crate::statement_names::{NamedStatement, named_statement};
+use schema_tables::Table;
+use semantics_names::laws::typed_as_meaning;
+use sql_reader_grammar::Statement;
 use std::alloc::Global;
-use tables::Table;
 use values::{Fault, Ty};
 
 // A statement by its names, where it is typed. The fault is one of `check_types`.

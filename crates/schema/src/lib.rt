@@ -1,22 +1,26 @@
-//! The table that a CREATE TABLE makes. It promises that `table_from` answers Ok only with the table that the text says, that
-//! a row of the schema says one table at most, and that, want of memory aside, a text is refused only where it makes none.
-//! Names and collations are compared here for the crates above too.
-//! A text makes a table that is STRICT, with columns of the types INT, INTEGER, TEXT and BLOB, at most one PRIMARY KEY, no two
-//! keys of the same columns, and without DESC, AUTOINCREMENT, and a collation other than BINARY; WITHOUT ROWID, PRIMARY KEY is
-//! its only key, and the rows are found by it.
+//! The catalog of an image: the tables and indexes that the rows of its schema describe. It promises that a
+//! catalog has exactly those, and that, unless memory runs out, a schema is refused only for a reason:
+//! `SchemaRow` where a row isn't as SQLite writes it, an index that SQLite makes for a key of a table has no
+//! row, or an index without a text is none of these; `SchemaText` where a table's or an index's text can't be
+//! read, and `UnsupportedObject` where such a text says what is left out, or a row is a view's. Triggers are
+//! ignored. An index is given only where its text makes it on its table, one at most, with its condition as a
+//! typed expression.
 //!
-//! The modules, in the order in which data passes them: `served` (constraints and options of a table), `keys` (which keys a table
-//! may have, the column that is the rowid, and the places of the PRIMARY KEY), `missing` (what rows that are older than a column
-//! have in it), `types` (of columns), `created` (the table of a text), and `laws`.
+//! The modules, in the order in which data passes them: `indexes` (the index that a CREATE INDEX makes, and
+//! those that SQLite makes for a table's keys), `objects` (what a row has of an object), `keyed` (tables with
+//! the indexes that their keys require), `table_said` (the table that a row describes), `index_said` (the
+//! index that one describes), `doubles` (names that two rows have), `whole` (the rows of the schema), and
+//! `laws`.
 #![tactic(auto)]
 
-mod created;
-mod keys;
+mod doubles;
+mod index_said;
+pub mod indexes;
+mod keyed;
 pub mod laws;
-mod missing;
-mod served;
-mod types;
+mod objects;
+mod table_said;
+mod whole;
 
-pub use created::{is_same_name, table_from};
-pub use served::{is_binary, is_rowless};
-pub use types::is_integer;
+pub use indexes::Index;
+pub use whole::Catalog;

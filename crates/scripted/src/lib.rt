@@ -1,5 +1,5 @@
-//! Sources and sinks for tests, which fail, or give other bytes, where a script says so. It promises that each says of
-//! itself what it does: which bytes it has, whether they stay, and how often it failed.
+//! Sources and sinks for tests, which fail, or give other bytes, where a script says so. It promises that
+//! each says of itself what it does: which bytes it has, whether they stay, and how often it failed.
 //!
 //! The modules: `script_source` and `script_sink`.
 #![tactic(auto)]

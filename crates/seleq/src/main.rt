@@ -4,13 +4,12 @@
 use clap::error::ErrorKind;
 use pager::FileSource;
 use shell::{Args, fail, serve};
-use sinks::WriteSink;
 use std::alloc::{AllocError, Global};
 use std::fs::{self, File};
 use std::process::ExitCode;
 use std::rt::{Env, Files};
 use std::{env, io};
-use values::{Fault, Sink};
+use values::{Fault, Sink, WriteSink};
 
 /// The status where the command line is refused.
 const REFUSED: u8 = 2;

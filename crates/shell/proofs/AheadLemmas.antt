@@ -4,25 +4,26 @@ use Rattle.values.specs.Row.{Row}
 use Rattle.values.specs.declared.fault.Fault.{Fault}
 use Rattle.pager.specs.Calls.{SameImage}
 use Rattle.pager.specs.PagerState.{PagerState}
-use Rattle.image.specs.Pages.{Pages, pages_in, pages_of, pages_seen}
-use Rattle.inner_rows.specs.Over.{AreSaid}
-use Rattle.inner_rows.specs.Work.{body_work}
-use Rattle.inner_rows.proofs.WorkLemmas.{body_is}
-use Rattle.meaning.specs.Query.{QueryData}
-use Rattle.meaning.specs.Typed.{IsTyped}
-use Rattle.nested_runs.specs.Steps.{work_ahead}
-use Rattle.nested_runs.specs.declared.steps.NestedRun.{NestedRun}
-use Rattle.nested_runs.specs.declared.steps.NestedRun.TheVariants.{Giving, Waiting}
-use Rattle.nested_loops.specs.Basis.{AreStored, Basis}
-use Rattle.query_plans.proofs.WideLemmas.{typed_wide}
-use Rattle.query_plans.specs.Answers.{PlannedData, work_of}
-use Rattle.running.specs.Given.{HasAhead, HasAsked}
-use Rattle.running.specs.declared.rows.Running.{Running}
-use Rattle.scan.specs.Coming.{Asks}
-use Rattle.table_copies.specs.Whole.{all_tables}
-use Rattle.tables.specs.ColumnTypes.{column_types}
-use Rattle.tables.specs.TableData.{TableData}
-use Rattle.shell.specs.Prepared.{IsPlannedFor, IsPreparedFor, RunsFor, settled_over}
+use Rattle.btree.specs.image.Pages.{Pages, pages_in, pages_of, pages_seen}
+use Rattle.operators_runs.specs.inner_rows.Over.{AreSaid}
+use Rattle.operators_runs.specs.inner_rows.Work.{body_work}
+use Rattle.operators_runs.proofs.lemmas.inner_rows.WorkLemmas.{body_is}
+use Rattle.semantics.specs.Query.{QueryData}
+use Rattle.semantics.specs.Typed.{IsTyped}
+use Rattle.operators_runs.specs.nested_runs.Steps.{work_ahead}
+use Rattle.operators_runs.specs.declared.nested_runs.steps.NestedRun.{NestedRun}
+use Rattle.operators_runs.specs.declared.nested_runs.steps.NestedRun.TheVariants.{Giving, Waiting}
+use Rattle.operators_loops.specs.Basis.{AreStored, Basis}
+use Rattle.logical_plan_queries.proofs.WideLemmas.{typed_wide}
+use Rattle.logical_plan_queries.specs.Answers.{PlannedData, work_of}
+use Rattle.operators_runs.specs.execution.Given.{HasAhead, HasAsked}
+use Rattle.operators_runs.specs.declared.execution.rows.Execution.{Execution}
+use Rattle.operators_scan.specs.scan.Coming.{Asks}
+use Rattle.schema_tables.specs.table_copies.Whole.{all_tables}
+use Rattle.schema_tables.specs.ColumnTypes.{column_types}
+use Rattle.schema_tables.specs.TableData.{TableData}
+use Rattle.integrity.specs.Checked.{FoundData}
+use Rattle.shell.specs.Prepared.{IsPlannedFor, IsPreparedFor, RunsFor, with_schema_over}
 use Rattle.shell.specs.PreparedView.{PreparedData}
 use Rattle.shell.specs.State.{EngineState, IsReady, sources_over}
 use Rattle.shell.specs.Steps.{AsksStep}
@@ -48,11 +49,11 @@ nested_less on query (Giving left) = omega arith
 pub started_asks : (engine : EngineState) (prepared : PreparedData) → IsPreparedFor engine.tables prepared → (statement : Statement) (stepping : Stepping)
     → statement.stepping ≡ stepping → IsSteppingOf prepared.settled prepared.planned stepping
     → (on : Basis) → AreSaid (pages_of engine.pager.source.bytes) (all_tables engine.tables) on
-    → MayAsk engine.pager.source.bytes engine.tables on prepared.query statement (body_work on.w on.db on.sizes (settled_over engine.tables prepared.query).body)
+    → MayAsk engine.pager.source.bytes engine.tables on prepared.query statement (body_work on.w on.db on.sizes (with_schema_over engine.tables prepared.query).body)
 started_asks engine prepared is statement (Planned running) stands found on said =
     let pages = pages_of engine.pager.source.bytes in
     let tables = all_tables engine.tables in
-    let query = settled_over engine.tables prepared.query in
+    let query = with_schema_over engine.tables prepared.query in
     let ahead = work_of on.w on.db on.sizes found.plan in
     let less = (plan_found engine.tables prepared found.plan is found.plan_is).plan.few on.w on.db on.sizes
     (typed_wide (column_types tables) on.db said.fits query (typed_over engine.tables prepared.query is.typed)) in
@@ -65,7 +66,7 @@ started_asks engine prepared is statement (Planned running) stands found on said
 started_asks engine prepared is statement (Nested run) stands found on said =
     let pages = pages_of engine.pager.source.bytes in
     let tables = all_tables engine.tables in
-    let query = settled_over engine.tables prepared.query in
+    let query = with_schema_over engine.tables prepared.query in
     record {
       ahead = work_ahead on query run;
       is_ahead = subst (λ (s : Stepping). IsAhead pages tables on query s (work_ahead on query run)) (sym stands) refl;
@@ -80,13 +81,14 @@ asks_more local old new ahead most left asks within = record {
   chains = λ unchained. asks.chains unchained;
 }
 
-module _ (pager : PagerState) (tables : List TableData) (ready : IsReady pager tables) (query : QueryData) (given : List Row) (typed : IsTyped (column_types tables) query)
-    (new : EngineState) (image : SameImage pager new.pager) (same : new.tables ≡ tables) (was statement : Statement) where
+module _ (pager : PagerState) (tables : List TableData) (counts : FoundData) (ready : IsReady pager tables) (query : QueryData) (given : List Row)
+    (typed : IsTyped (column_types tables) query) (new : EngineState) (image : SameImage pager new.pager) (same : new.tables ≡ tables)
+    (was statement : Statement) where
   abbrev engine : EngineState
-  engine = record { pager = pager; tables = tables }
+  engine = record { pager = pager; tables = tables; found = counts }
 
   abbrev over : QueryData
-  over = settled_over tables query
+  over = with_schema_over tables query
 
   same_pages : IsTrue pager.source.steady → pages_of pager.source.bytes ≡ pages_seen pager
   same_pages steady = λ k. pages_in (sym (ready.header steady) k) pager.source.bytes
@@ -104,7 +106,7 @@ module _ (pager : PagerState) (tables : List TableData) (ready : IsReady pager t
       }))
 
   -- of a plan
-  module _ (old running : Running) (was_is : was.stepping ≡ Planned old) (is : statement.stepping ≡ Planned running) where
+  module _ (old running : Execution) (was_is : was.stepping ≡ Planned old) (is : statement.stepping ≡ Planned running) where
     pub planned_asks : (result : Result (Option Row) Fault) → AsksStep pager (all_tables tables) (Planned old) new.pager (Planned running) result
         → StaysWithin engine new query was statement result
     planned_asks (Ok (Some row)) asks = λ steady on said most may.

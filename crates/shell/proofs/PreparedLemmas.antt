@@ -2,33 +2,33 @@
 use Rattle.std.proofs.Common.{◌≡◌, ◌∙◌, inl, inr, refl, true, ℕ, List, length, Option, Some, None, ap, sym, subst}
 use Rattle.values.specs.declared.fault.Fault.{Fault}
 use Rattle.values.specs.declared.fault.Fault.TheVariants.{NoMemory, NotYet}
-use Rattle.meaning.specs.Query.{QueryData}
-use Rattle.meaning.specs.Typed.{IsTyped}
-use Rattle.naming.specs.Statement.{Named}
-use Rattle.query_plans.specs.Answers.{IsPlanFor, IsPlannedAsTyped, PlannedData}
+use Rattle.semantics.specs.Query.{QueryData}
+use Rattle.semantics.specs.Typed.{IsTyped}
+use Rattle.semantics_names.specs.Statement.{Named}
+use Rattle.logical_plan_queries.specs.Answers.{IsPlanFor, IsPlannedAsTyped, PlannedData}
 use Rattle.resolver.specs.Resolved.{Resolves}
-use Rattle.select_plans.proofs.ColumnLemmas.{tables_have_columns}
-use Rattle.table_copies.specs.Whole.{all_tables}
-use Rattle.tables.specs.ColumnTypes.{column_types}
-use Rattle.tables.specs.TableData.{TableData}
-use Rattle.statement_texts.specs.StatementTexts.{IsAllowed, IsRefusedStatement, SpellsStatement}
-use Rattle.syntax.specs.StatementTree.{StatementTree}
-use Rattle.settled_sources.specs.Settled.{settled}
+use Rattle.logical_plan_queries.proofs.lemmas.select_plans.ColumnLemmas.{tables_have_columns}
+use Rattle.schema_tables.specs.table_copies.Whole.{all_tables}
+use Rattle.schema_tables.specs.ColumnTypes.{column_types}
+use Rattle.schema_tables.specs.TableData.{TableData}
+use Rattle.sql_reader.specs.StatementTexts.{IsAllowed, IsRefusedStatement, SpellsStatement}
+use Rattle.sql_reader_syntax.specs.StatementTree.{StatementTree}
+use Rattle.semantics_rewrites.specs.schema_sources.Settled.{settled}
 use Rattle.shell.proofs.SettledLemmas.{typed_over}
-use Rattle.shell.specs.Prepared.{IsPlannedAs, IsPlannedFor, IsPreparedFor, RefusesText, RunsFor, settled_over}
+use Rattle.shell.specs.Prepared.{IsPlannedAs, IsPlannedFor, IsPreparedFor, RefusesText, RunsFor, with_schema_over}
 use Rattle.shell.specs.PreparedView.{PreparedData}
 use Rattle.shell.specs.State.{sources_over}
 
 -- the plan of a query, over tables over which that is typed
 planned_for : (tables : List TableData) (query : QueryData) (planned : PlannedData) → IsTyped (column_types tables) query
-    → IsPlanFor (settled_over tables query) planned → IsPlannedAsTyped (settled_over tables query) planned → IsPlannedFor tables query planned
+    → IsPlanFor (with_schema_over tables query) planned → IsPlannedAsTyped (with_schema_over tables query) planned → IsPlannedFor tables query planned
 planned_for tables query planned typed plan over = record {
   plan = plan;
   over = over (column_types (all_tables tables)) (sources_over tables) (tables_have_columns (all_tables tables)) (typed_over tables query typed);
 }
 
 runs_for : (tables : List TableData) (query : QueryData) (planned : Option PlannedData) → IsTyped (column_types tables) query
-    → IsPlannedAs (settled_over tables query) planned → RunsFor tables query planned
+    → IsPlannedAs (with_schema_over tables query) planned → RunsFor tables query planned
 runs_for tables query None typed is = tt
 runs_for tables query (Some planned) typed is = planned_for tables query planned typed is.0 is.1
 
@@ -36,12 +36,12 @@ runs_for tables query (Some planned) typed is = planned_for tables query planned
 pub prepared_for : (tables : List TableData) (prepared : PreparedData) (named : Named) (place : ℕ) → place ≡ length tables → IsTyped (column_types tables) named.query
     → prepared.query ≡ named.query → prepared.settled ≡ settled place named.query → IsPlannedAs (settled place named.query) prepared.planned
     → IsPreparedFor tables prepared
-prepared_for tables prepared named place last typed same settled_is runs =
+prepared_for tables prepared named place last typed same with_schema_is runs =
     let here : IsTyped (column_types tables) prepared.query = subst (λ (q : QueryData). IsTyped (column_types tables) q) (sym same) typed in
-    let over : settled place named.query ≡ settled_over tables prepared.query = ap (λ (n : ℕ). settled n named.query) last ∙ ap (settled_over tables) (sym same) in
+    let over : settled place named.query ≡ with_schema_over tables prepared.query = ap (λ (n : ℕ). settled n named.query) last ∙ ap (with_schema_over tables) (sym same) in
     record {
       typed = here;
-      settled = settled_is ∙ over;
+      settled = with_schema_is ∙ over;
       runs = runs_for tables prepared.query prepared.planned here (subst (λ (q : QueryData). IsPlannedAs q prepared.planned) over runs);
     }
 

@@ -14,46 +14,46 @@ use Rattle.pager.specs.Calls.{IsOpenFault, IsReadFault}
 use Rattle.pager.specs.Header.{header_of}
 use Rattle.pager.specs.PagerState.{PagerState, opened}
 use Rattle.pager.specs.Source.{SourceFacts}
-use Rattle.image.specs.Pages.{pages_seen, Pages, WhereSteady, pages_in, pages_of}
+use Rattle.btree.specs.image.Pages.{pages_seen, Pages, WhereSteady, pages_in, pages_of}
 use Rattle.expr.specs.Types.{IsOfType}
-use Rattle.meaning.specs.Answer.{Begins, IsStandIn, Permits}
-use Rattle.meaning.specs.Hits.{Hits}
-use Rattle.meaning.specs.Query.{QueryData}
-use Rattle.meaning.specs.Typed.{FitTypes, IsTyped}
-use Rattle.meaning.specs.Typed as meant
-use Rattle.meaning.proofs.BodyLemmas.{AllZip-append}
-use Rattle.meaning.proofs.TypedLemmas.{Permits-typed}
-use Rattle.inner_rows.specs.Over.{AreSaid, IsQueryCause}
-use Rattle.inner_rows.specs.Runnable.{IsRunnableBody}
-use Rattle.inner_rows.specs.Work.{body_work}
-use Rattle.inner_rows.proofs.WorkLemmas.{body_is}
-use Rattle.nested_runs.specs.Steps.{IsPermitted}
-use Rattle.nested_runs.specs.Writes.{IsNestedCause, WritesPermitted}
-use Rattle.nested_runs.specs.Writes as nested
-use Rattle.plans.specs.Plan.{once}
-use Rattle.table_copies.specs.Whole.{all_tables}
-use Rattle.tables.specs.ColumnTypes.{column_types, types_of}
-use Rattle.tables.specs.TableData.{ColumnData, TableData, schema_table}
-use Rattle.stored_rows.specs.Stored.{Fits, FitsColumn}
-use Rattle.stored_tables.specs.Tables.{IsAnyStored}
-use Rattle.sources.specs.Coming.{IsStoredSource}
-use Rattle.sources.specs.SourceData.{SourceData, of_table, sources_of}
-use Rattle.sources.proofs.StepLemmas.{tables_alone}
-use Rattle.integrity.specs.Checked.{IsCheckFault}
+use Rattle.semantics.specs.Answer.{Begins, IsStandIn, Permits}
+use Rattle.semantics.specs.Hits.{Hits}
+use Rattle.semantics.specs.Query.{QueryData}
+use Rattle.semantics.specs.Typed.{FitTypes, IsTyped}
+use Rattle.semantics.specs.Typed as meant
+use Rattle.semantics.proofs.BodyLemmas.{AllZip-append}
+use Rattle.semantics.proofs.TypedLemmas.{Permits-typed}
+use Rattle.operators_runs.specs.inner_rows.Over.{AreSaid, IsQueryCause}
+use Rattle.operators_runs.specs.inner_rows.Runnable.{IsRunnableBody}
+use Rattle.operators_runs.specs.inner_rows.Work.{body_work}
+use Rattle.operators_runs.proofs.lemmas.inner_rows.WorkLemmas.{body_is}
+use Rattle.operators_runs.specs.nested_runs.Steps.{IsPermitted}
+use Rattle.operators_runs.specs.nested_runs.Writes.{IsNestedCause, WritesPermitted}
+use Rattle.operators_runs.specs.nested_runs.Writes as nested
+use Rattle.logical_plan.specs.Plan.{once}
+use Rattle.schema_tables.specs.table_copies.Whole.{all_tables}
+use Rattle.schema_tables.specs.ColumnTypes.{column_types, types_of}
+use Rattle.schema_tables.specs.TableData.{ColumnData, TableData, schema_table}
+use Rattle.records_tables.specs.stored_rows.Stored.{Fits, FitsColumn}
+use Rattle.records_tables.specs.Tables.{IsAnyStored}
+use Rattle.operators_scan.specs.Coming.{IsStoredSource}
+use Rattle.logical_plan.specs.answers.Sources.{SourceData, of_table, sources_of}
+use Rattle.operators_scan.proofs.StepLemmas.{tables_alone}
+use Rattle.integrity.specs.Checked.{FoundData, IsCheckFault}
 use Rattle.integrity.specs.Denotes.{Denotes}
 use Rattle.integrity.proofs.DenotesLemmas.{HasDatabase, IsStoredAs, database_of}
-use Rattle.scan.specs.Coming.{Asks, size_of}
-use Rattle.nested_loops.specs.Basis.{AreStored, Basis, IsSourceAt}
-use Rattle.query_plans.specs.Answers.{AreWideFor, HitsOf, IsAnswerOf, PlannedData, work_of}
-use Rattle.query_plans.proofs.WideLemmas.{typed_wide}
-use Rattle.running.specs.Given.{IsRowCause}
-use Rattle.runs.specs.Faults.{IsOutsideFault, IsRunCause, IsRunFault}
-use Rattle.runs.specs.Runs.{WritesAnswer, WritesBeginning}
+use Rattle.operators_scan.specs.scan.Coming.{Asks, size_of}
+use Rattle.operators_loops.specs.Basis.{AreStored, Basis, IsSourceAt}
+use Rattle.logical_plan_queries.specs.Answers.{AreWideFor, HitsOf, IsAnswerOf, PlannedData, work_of}
+use Rattle.logical_plan_queries.proofs.WideLemmas.{typed_wide}
+use Rattle.operators_runs.specs.execution.Given.{IsRowCause}
+use Rattle.operators_runs.specs.Faults.{IsOutsideFault, IsRunCause, IsRunFault}
+use Rattle.operators_runs.specs.Runs.{WritesAnswer, WritesBeginning}
 use Rattle.shell.specs.Answer.{IsAnswerOver, PrintsAnswer, PrintsBeginning}
-use Rattle.settled_sources.specs.Settled.{with_schema}
+use Rattle.semantics_rewrites.specs.schema_sources.Settled.{with_schema}
 use Rattle.shell.proofs.RunnableLemmas.{settled_runs}
 use Rattle.shell.proofs.SettledLemmas.{fits_over, hits_over, permits_over, typed_over}
-use Rattle.shell.specs.Prepared.{IsPlannedFor, IsPreparedFor, RunsFor, settled_over}
+use Rattle.shell.specs.Prepared.{IsPlannedFor, IsPreparedFor, RunsFor, with_schema_over}
 use Rattle.shell.specs.PreparedView.{PreparedData}
 use Rattle.shell.specs.Run.{HasRun, HasStopped, TookFew, TookOnce}
 use Rattle.shell.specs.State.{EngineState, IsEngineFault, IsReady, sources_over}
@@ -186,13 +186,13 @@ module _ (pager : PagerState) (tables : List TableData) (query : QueryData) (typ
   fits = denoted_fits pager.source.bytes tables has.db has.denotes
 
   -- each row has as many values as its table has columns
-  wide : AreWideFor (with_schema has.db) (settled_over tables query).body
-  wide = typed_wide (column_types (all_tables tables)) (with_schema has.db) (fits_over tables has.db fits) (settled_over tables query)
+  wide : AreWideFor (with_schema has.db) (with_schema_over tables query).body
+  wide = typed_wide (column_types (all_tables tables)) (with_schema has.db) (fits_over tables has.db fits) (with_schema_over tables query)
       (typed_over tables query typed)
 
   -- ---- what is permitted, what begins so and what is hit with the schema's table as one more table
 
-  answer_of : (given : List Row) → ((w : Datum) → IsStandIn w → Permits w (with_schema has.db) (settled_over tables query) given)
+  answer_of : (given : List Row) → ((w : Datum) → IsStandIn w → Permits w (with_schema has.db) (with_schema_over tables query) given)
       → IsAnswerOver pager.source.bytes tables query given
   answer_of given permitted = λ w stand.
       let permits = permits_over tables has.db query typed fits w given (permitted w stand) in
@@ -206,7 +206,7 @@ module _ (pager : PagerState) (tables : List TableData) (query : QueryData) (typ
         };
       }
 
-  beginning_of : (given : List Row) → ((w : Datum) → IsStandIn w → Begins w (with_schema has.db) (settled_over tables query) given)
+  beginning_of : (given : List Row) → ((w : Datum) → IsStandIn w → Begins w (with_schema has.db) (with_schema_over tables query) given)
       → IsBeginningOver pager.source.bytes tables query given
   beginning_of given begun = λ w stand.
       let begins = begun w stand in
@@ -219,7 +219,7 @@ module _ (pager : PagerState) (tables : List TableData) (query : QueryData) (typ
         };
       }
 
-  hits_of : ((w : Datum) → IsStandIn w → Hits w (with_schema has.db) (settled_over tables query)) → HitsOver pager.source.bytes tables query
+  hits_of : ((w : Datum) → IsStandIn w → Hits w (with_schema has.db) (with_schema_over tables query)) → HitsOver pager.source.bytes tables query
   hits_of hit = λ w stand. record {
     database = has.db;
     denotes = has.denotes;
@@ -288,10 +288,10 @@ module _ (pager : PagerState) (tables : List TableData) (query : QueryData) (typ
     pub took_once : (new : PagerState) (report : Report)
         → ((on : Basis) → AreStored (pages_seen pager) (sources_over tables) on → Asks on.local pager (work_of on.w on.db on.sizes planned) new 0)
         → report.asked ≡ new.asked - pager.asked → report.chained ≡ new.chained - pager.chained
-        → (on : Basis) → AreSaid (pages_of pager.source.bytes) (all_tables tables) on → TookOnce on (settled_over tables query) report
+        → (on : Basis) → AreSaid (pages_of pager.source.bytes) (all_tables tables) on → TookOnce on (with_schema_over tables query) report
     took_once new report few asked chained on said =
         let took = took_few new report few asked chained on said.stored in
-        let settled = settled_over tables query in
+        let settled = with_schema_over tables query in
         let less = is.plan.few on.w on.db on.sizes (typed_wide (column_types (all_tables tables)) on.db said.fits settled (typed_over tables query typed)) in
         let whole = body_is on.w on.db on.sizes settled.body in
         record {
@@ -303,9 +303,9 @@ module _ (pager : PagerState) (tables : List TableData) (query : QueryData) (typ
 
   pub nested_once : (new : PagerState) (report : Report)
       → ((on : Basis) → AreSaid (pages_seen pager) (all_tables tables) on
-      → Asks on.local pager (body_work on.w on.db on.sizes (settled_over tables query).body) new 0)
+      → Asks on.local pager (body_work on.w on.db on.sizes (with_schema_over tables query).body) new 0)
       → report.asked ≡ new.asked - pager.asked → report.chained ≡ new.chained - pager.chained
-      → (on : Basis) → AreSaid (pages_of pager.source.bytes) (all_tables tables) on → TookOnce on (settled_over tables query) report
+      → (on : Basis) → AreSaid (pages_of pager.source.bytes) (all_tables tables) on → TookOnce on (with_schema_over tables query) report
   nested_once new report each_once asked chained on said_of =
       let asks = each_once on (subst (λ (p : Pages). AreSaid p (all_tables tables) on) same_pages said_of) in
       record {
@@ -317,29 +317,29 @@ module _ (pager : PagerState) (tables : List TableData) (query : QueryData) (typ
   unfolding on
   said w stand = record { stored = stored_on w; fits = fits_over tables has.db fits; stand_in = stand }
 
-  pub nested_permitted : (given : List Row) → IsPermitted (pages_seen pager) (all_tables tables) (settled_over tables query) given
+  pub nested_permitted : (given : List Row) → IsPermitted (pages_seen pager) (all_tables tables) (with_schema_over tables query) given
       → IsAnswerOver pager.source.bytes tables query given
   unfolding on
   nested_permitted given permitted = answer_of given (λ w stand. permitted (on w) (said w stand))
 
   pub nested_begun : (given : List Row)
-      → ((on : Basis) → AreSaid (pages_seen pager) (all_tables tables) on → Begins on.w on.db (settled_over tables query) given)
+      → ((on : Basis) → AreSaid (pages_seen pager) (all_tables tables) on → Begins on.w on.db (with_schema_over tables query) given)
       → IsBeginningOver pager.source.bytes tables query given
   unfolding on
   nested_begun given begun = beginning_of given (λ w stand. begun (on w) (said w stand))
 
   -- why it stops
   pub nested_cause : (e : Fault)
-      → ((on : Basis) → AreSaid (pages_seen pager) (all_tables tables) on → IsQueryCause on (settled_over tables query) e)
+      → ((on : Basis) → AreSaid (pages_seen pager) (all_tables tables) on → IsQueryCause on (with_schema_over tables query) e)
       → IsStepCause pager.source.bytes tables query e
   unfolding on
   nested_cause e causes = by_cause (causes (on null) (said null tt))
     where
-      by_cause : IsQueryCause (on null) (settled_over tables query) e → IsStepCause pager.source.bytes tables query e
+      by_cause : IsQueryCause (on null) (with_schema_over tables query) e → IsStepCause pager.source.bytes tables query e
       by_cause (inl read) = inl read
-      by_cause (inr over) = inr (over.0, hits_of (λ w stand. query_hits (on w) (settled_over tables query) e over.0 (causes (on w) (said w stand))))
+      by_cause (inr over) = inr (over.0, hits_of (λ w stand. query_hits (on w) (with_schema_over tables query) e over.0 (causes (on w) (said w stand))))
 
-  pub nested_answer : (n : ℕ) (old new : SinkFacts) → WritesPermitted (pages_seen pager) (all_tables tables) (settled_over tables query) old new n
+  pub nested_answer : (n : ℕ) (old new : SinkFacts) → WritesPermitted (pages_seen pager) (all_tables tables) (with_schema_over tables query) old new n
       → PrintsAnswer pager.source.bytes tables query n old new
   unfolding on
   nested_answer n old new wrote = record {
@@ -349,15 +349,15 @@ module _ (pager : PagerState) (tables : List TableData) (query : QueryData) (typ
   }
 
   pub nested_beginning : (e : Fault) (old new : SinkFacts)
-      → nested.WritesBeginning (pages_seen pager) (all_tables tables) (settled_over tables query) old new e
+      → nested.WritesBeginning (pages_seen pager) (all_tables tables) (with_schema_over tables query) old new e
       → PrintsBeginning e pager.source.bytes tables query old new
   unfolding on
   nested_beginning e old new wrote = record {
     given = wrote.given;
     begins = beginning_of wrote.given (λ w stand. wrote.begins (on w) (said w stand));
     prints = wrote.prints;
-    same_image = nested_unchanged (on null) (settled_over tables query) e (wrote.cause (on null) (said null tt));
-    hits = λ over. hits_of (λ w stand. nested_hits (on w) (settled_over tables query) e over (wrote.cause (on w) (said w stand)));
+    same_image = nested_unchanged (on null) (with_schema_over tables query) e (wrote.cause (on null) (said null tt));
+    hits = λ over. hits_of (λ w stand. nested_hits (on w) (with_schema_over tables query) e over (wrote.cause (on w) (said w stand)));
   }
 
 -- ---- what was written of a query that was prepared, with a plan and without
@@ -392,9 +392,10 @@ module _ (pager : PagerState) (tables : List TableData) (query : QueryData) (pla
       in_each (Err e) wrote = wrote
 
 -- From what a run promises to what the engine's run does.
-module _ (pager : PagerState) (tables : List TableData) (prepared : PreparedData) (ready : IsReady pager tables) (is : IsPreparedFor tables prepared) where
+module _ (pager : PagerState) (tables : List TableData) (counts : FoundData) (prepared : PreparedData) (ready : IsReady pager tables)
+    (is : IsPreparedFor tables prepared) where
   abbrev engine : EngineState
-  engine = record { pager = pager; tables = tables }
+  engine = record { pager = pager; tables = tables; found = counts }
 
   pub stored : IsTrue pager.source.steady → All (IsStoredSource (pages_seen pager)) (sources_over tables)
   stored steady =
@@ -404,13 +405,13 @@ module _ (pager : PagerState) (tables : List TableData) (prepared : PreparedData
       (All-append (IsAnyStored (pages_of pager.source.bytes)) tables (schema_table ∷ []) has.stored
       (All-cons (IsAnyStored (pages_of pager.source.bytes)) schema_table [] has.own (All-nil (IsAnyStored (pages_of pager.source.bytes))))))
 
-  typed_all : IsTyped (column_types (all_tables tables)) (settled_over tables prepared.query)
+  typed_all : IsTyped (column_types (all_tables tables)) (with_schema_over tables prepared.query)
   typed_all = typed_over tables prepared.query is.typed
 
   planned_for : (planned : PlannedData) → prepared.planned ≡ Some planned → IsPlannedFor tables prepared.query planned
   planned_for planned found = subst (λ (p : Option PlannedData). RunsFor tables prepared.query p) found is.runs
 
-  runnable : IsRunnableBody (settled_over tables prepared.query).body
+  runnable : IsRunnableBody (with_schema_over tables prepared.query).body
   runnable = settled_runs (length tables) prepared.query.body
 
   -- its plan reads some of the tables
@@ -442,7 +443,7 @@ module _ (pager : PagerState) (tables : List TableData) (prepared : PreparedData
   }
     where
       took : IsTrue pager.source.steady → (planned : Option PlannedData) → prepared.planned ≡ planned
-          → (on : Basis) → AreSaid (pages_of pager.source.bytes) (all_tables tables) on → TookOnce on (settled_over tables prepared.query) report
+          → (on : Basis) → AreSaid (pages_of pager.source.bytes) (all_tables tables) on → TookOnce on (with_schema_over tables prepared.query) report
       took steady (Some planned) found =
           took_once pager tables prepared.query is.typed ready steady planned (planned_for planned found) new.pager report (few planned found steady) asked chained
       took steady None found =

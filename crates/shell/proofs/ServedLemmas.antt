@@ -1,9 +1,9 @@
 -- What is written behind the line of names, and what a gathering sink hands on.
 use Rattle.std.proofs.Common.{◌∙◌, ◌++◌, ℕ, Bool, List, [], Option, None, Some, ap, append-nil, option_map}
 use Rattle.std.specs.Io.KnownBytes.{Appends}
-use Rattle.sinks.specs.Gathered.{Gathering, gathered_facts}
+use Rattle.values.specs.sinks.Gathered.{Gathering, gathered_facts}
 use Rattle.values.specs.Sink.{SinkFacts}
-use Rattle.tables.specs.TableData.{TableData}
+use Rattle.schema_tables.specs.TableData.{TableData}
 use Rattle.shell.specs.PreparedView.{PreparedData}
 use Rattle.shell.specs.Served.{HasLines}
 

@@ -6,28 +6,29 @@ use Rattle.values.specs.declared.fault.Fault.{Fault}
 use Rattle.values.specs.declared.fault.Fault.TheVariants.{NoMemory, WrongPlace}
 use Rattle.pager.specs.Calls.{SameImage}
 use Rattle.pager.specs.PagerState.{PagerState}
-use Rattle.image.specs.Pages.{Pages, WhereSteady, pages_in, pages_seen}
-use Rattle.meaning.specs.Query.{QueryData}
-use Rattle.meaning.specs.Typed.{IsTyped}
-use Rattle.naming.specs.Statement.{Named}
-use Rattle.nested_loops.specs.Basis.{AreStored, Basis}
-use Rattle.query_plans.specs.Answers.{PlannedData}
+use Rattle.btree.specs.image.Pages.{Pages, WhereSteady, pages_in, pages_seen}
+use Rattle.semantics.specs.Query.{QueryData}
+use Rattle.semantics.specs.Typed.{IsTyped}
+use Rattle.semantics_names.specs.Statement.{Named}
+use Rattle.operators_loops.specs.Basis.{AreStored, Basis}
+use Rattle.logical_plan_queries.specs.Answers.{PlannedData}
 use Rattle.resolver.specs.Resolved.{Resolves}
-use Rattle.running.specs.Given.{HasAnswered, HasGiven, IsRowCause}
-use Rattle.running.proofs.GivenLemmas.{given_begins}
-use Rattle.running.specs.declared.rows.Running.{Running}
-use Rattle.nested_runs.proofs.StepLemmas.{query_begins}
-use Rattle.nested_runs.specs.Steps.{HasGivenOf}
-use Rattle.nested_runs.specs.Steps as nested
-use Rattle.nested_runs.specs.declared.steps.NestedRun.{NestedRun}
-use Rattle.inner_rows.specs.Over.{AreSaid, IsQueryCause}
-use Rattle.inner_rows.specs.Runnable.{IsRunnableBody}
-use Rattle.table_copies.specs.Whole.{all_tables}
-use Rattle.statement_texts.specs.StatementTexts.{IsAllowed, IsRefusedStatement, SpellsStatement}
-use Rattle.syntax.specs.StatementTree.{StatementTree}
-use Rattle.tables.specs.ColumnTypes.{column_types}
-use Rattle.tables.specs.TableData.{TableData}
-use Rattle.shell.specs.Prepared.{IsPlannedFor, IsPreparedFor, settled_over}
+use Rattle.operators_runs.specs.execution.Given.{HasAnswered, HasGiven, IsRowCause}
+use Rattle.operators_runs.proofs.lemmas.execution.GivenLemmas.{given_begins}
+use Rattle.operators_runs.specs.declared.execution.rows.Execution.{Execution}
+use Rattle.operators_runs.proofs.lemmas.nested_runs.StepLemmas.{query_begins}
+use Rattle.operators_runs.specs.nested_runs.Steps.{HasGivenOf}
+use Rattle.operators_runs.specs.nested_runs.Steps as nested
+use Rattle.operators_runs.specs.declared.nested_runs.steps.NestedRun.{NestedRun}
+use Rattle.operators_runs.specs.inner_rows.Over.{AreSaid, IsQueryCause}
+use Rattle.operators_runs.specs.inner_rows.Runnable.{IsRunnableBody}
+use Rattle.schema_tables.specs.table_copies.Whole.{all_tables}
+use Rattle.sql_reader.specs.StatementTexts.{IsAllowed, IsRefusedStatement, SpellsStatement}
+use Rattle.sql_reader_syntax.specs.StatementTree.{StatementTree}
+use Rattle.schema_tables.specs.ColumnTypes.{column_types}
+use Rattle.schema_tables.specs.TableData.{TableData}
+use Rattle.integrity.specs.Checked.{FoundData}
+use Rattle.shell.specs.Prepared.{IsPlannedFor, IsPreparedFor, with_schema_over}
 use Rattle.shell.specs.PreparedView.{PreparedData}
 use Rattle.shell.specs.State.{EngineState, IsReady, sources_over}
 use Rattle.shell.specs.Steps.{PlanSteps, TakesStep}
@@ -112,8 +113,8 @@ given_kept old new query given (Planned running) image tables gave = record {
       (gave.gave (subst (λ (b : Bool). IsTrue b) image.steady steady)));
 }
 given_kept old new query given (Nested run) image tables gave = λ steady.
-    subst (λ (ts : List TableData). HasGivenOf (pages_seen new.pager) (all_tables ts) (settled_over ts query) run given) (sym tables)
-    (subst (λ (p : Pages). HasGivenOf p (all_tables old.tables) (settled_over old.tables query) run given) (pages_kept old.pager new.pager image)
+    subst (λ (ts : List TableData). HasGivenOf (pages_seen new.pager) (all_tables ts) (with_schema_over ts query) run given) (sym tables)
+    (subst (λ (p : Pages). HasGivenOf p (all_tables old.tables) (with_schema_over old.tables query) run given) (pages_kept old.pager new.pager image)
     (gave (subst (λ (b : Bool). IsTrue b) image.steady steady)))
 
 -- the statement stands as it stood
@@ -126,15 +127,15 @@ stands_kept old new query statement given image tables stands = record {
 
 -- ---- a step
 
-module _ (pager : PagerState) (tables : List TableData) (ready : IsReady pager tables) (query : QueryData) (given : List Row)
+module _ (pager : PagerState) (tables : List TableData) (counts : FoundData) (ready : IsReady pager tables) (query : QueryData) (given : List Row)
     (typed : IsTyped (column_types tables) query) where
   abbrev engine : EngineState
-  engine = record { pager = pager; tables = tables }
+  engine = record { pager = pager; tables = tables; found = counts }
 
   -- of a plan
-  module _ (old : Running) (gave : HasPlanGiven engine query old given) where
+  module _ (old : Execution) (gave : HasPlanGiven engine query old given) where
     -- a row comes
-    pub row_step : (new : EngineState) (running : Running) (statement : Statement) (row : Row) → statement.stepping ≡ Planned running
+    pub row_step : (new : EngineState) (running : Execution) (statement : Statement) (row : Row) → statement.stepping ≡ Planned running
         → SameImage pager new.pager → new.tables ≡ tables
         → WhereSteady pager (λ pages. (planned : PlannedData) (given : List Row) → HasGiven pages (sources_over tables) planned old given
         → HasAnswered true pages (sources_over tables) planned running given row)
@@ -153,7 +154,7 @@ module _ (pager : PagerState) (tables : List TableData) (ready : IsReady pager t
         then steady = answers steady gave.planned given (gave.gave steady)
 
     -- none comes
-    pub end_step : (new : EngineState) (running : Running) (statement : Statement) (row : Row)
+    pub end_step : (new : EngineState) (running : Execution) (statement : Statement) (row : Row)
         → WhereSteady pager (λ pages. (planned : PlannedData) (given : List Row) → HasGiven pages (sources_over tables) planned old given
         → HasAnswered false pages (sources_over tables) planned running given row)
         → HasSteppedStatement engine new query given statement (Ok None)
@@ -168,7 +169,7 @@ module _ (pager : PagerState) (tables : List TableData) (ready : IsReady pager t
     fault_step new statement fault causes = λ steady.
         step_cause pager tables query typed ready steady gave.planned gave.is fault (causes steady gave.planned given (gave.gave steady))
 
-    pub planned_step : (new : EngineState) (running : Running) (statement : Statement) (result : Result (Option Row) Fault)
+    pub planned_step : (new : EngineState) (running : Execution) (statement : Statement) (result : Result (Option Row) Fault)
         → statement.stepping ≡ Planned running → SameImage pager new.pager → new.tables ≡ tables
         → WhereSteady pager (λ pages. (planned : PlannedData) (given : List Row) → HasGiven pages (sources_over tables) planned old given
         → PlanSteps pages (sources_over tables) planned given running result)
@@ -180,7 +181,7 @@ module _ (pager : PagerState) (tables : List TableData) (ready : IsReady pager t
   -- of a query with queries in it
   module _ (old : NestedRun) (gave : HasQueryGiven engine query old given) where
     abbrev over : QueryData
-    over = settled_over tables query
+    over = with_schema_over tables query
 
     pub nested_row : (new : EngineState) (run : NestedRun) (statement : Statement) (row : Row) → statement.stepping ≡ Nested run
         → SameImage pager new.pager → new.tables ≡ tables
@@ -228,13 +229,14 @@ module _ (pager : PagerState) (tables : List TableData) (ready : IsReady pager t
     nested_step new run statement (Err fault) is image same steps = nested_fault new statement fault steps
 
 -- either of both
-pub stepped : (pager : PagerState) (tables : List TableData) → IsReady pager tables → (query : QueryData) (given : List Row) → IsTyped (column_types tables) query
-    → (old : Stepping) → HasGivenBy (record { pager = pager; tables = tables }) query given old → (new : EngineState) (then : Stepping) (statement : Statement)
-    → statement.stepping ≡ then → (result : Result (Option Row) Fault) → SameImage pager new.pager → new.tables ≡ tables
-    → TakesStep pager (all_tables tables) old then result → HasSteppedStatement (record { pager = pager; tables = tables }) new query given statement result
-stepped pager tables ready query given typed (Planned old) gave new (Planned running) statement is result image same step =
-    planned_step pager tables ready query given typed old gave new running statement result is image same step
-stepped pager tables ready query given typed (Nested old) gave new (Nested run) statement is result image same step =
-    nested_step pager tables ready query given typed old gave new run statement result is image same step
-stepped pager tables ready query given typed (Planned old) gave new (Nested run) statement is result image same step = absurd step
-stepped pager tables ready query given typed (Nested old) gave new (Planned running) statement is result image same step = absurd step
+pub stepped : (pager : PagerState) (tables : List TableData) (counts : FoundData) → IsReady pager tables → (query : QueryData) (given : List Row)
+    → IsTyped (column_types tables) query → (old : Stepping) → HasGivenBy (record { pager = pager; tables = tables; found = counts }) query given old
+    → (new : EngineState) (then : Stepping) (statement : Statement) → statement.stepping ≡ then → (result : Result (Option Row) Fault)
+    → SameImage pager new.pager → new.tables ≡ tables → TakesStep pager (all_tables tables) old then result
+    → HasSteppedStatement (record { pager = pager; tables = tables; found = counts }) new query given statement result
+stepped pager tables counts ready query given typed (Planned old) gave new (Planned running) statement is result image same step =
+    planned_step pager tables counts ready query given typed old gave new running statement result is image same step
+stepped pager tables counts ready query given typed (Nested old) gave new (Nested run) statement is result image same step =
+    nested_step pager tables counts ready query given typed old gave new run statement result is image same step
+stepped pager tables counts ready query given typed (Planned old) gave new (Nested run) statement is result image same step = absurd step
+stepped pager tables counts ready query given typed (Nested old) gave new (Planned running) statement is result image same step = absurd step

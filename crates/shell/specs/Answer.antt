@@ -5,16 +5,16 @@ use Rattle.values.specs.Sink.{SinkFacts}
 use Rattle.values.specs.declared.value.Ty.{Ty}
 use Rattle.values.specs.declared.fault.Fault.{Fault}
 use Rattle.values.specs.declared.fault.Fault.TheVariants.{Changed, Overflow}
-use Rattle.meaning.specs.Query.{QueryData}
+use Rattle.semantics.specs.Query.{QueryData}
 use Rattle.values.specs.Row.{Row}
 use Rattle.values.specs.Database.{Database}
-use Rattle.meaning.specs.Answer.{Begins, IsStandIn, Permits}
-use Rattle.meaning.specs.Hits.{Hits}
-use Rattle.meaning.specs.Typed.{FitTypes, HasTypes}
-use Rattle.tables.specs.ColumnTypes.{column_types}
-use Rattle.tables.specs.TableData.{TableData}
+use Rattle.semantics.specs.Answer.{Begins, IsStandIn, Permits}
+use Rattle.semantics.specs.Hits.{Hits}
+use Rattle.semantics.specs.Typed.{FitTypes, HasTypes}
+use Rattle.schema_tables.specs.ColumnTypes.{column_types}
+use Rattle.schema_tables.specs.TableData.{TableData}
 use Rattle.integrity.specs.Denotes.{Denotes}
-use Rattle.runs.specs.Printed.{Prints, PrintsUntil}
+use Rattle.operators_runs.specs.Printed.{Prints, PrintsUntil}
 
 -- over the tables that the image denotes, this holds of their rows
 pub record OverTables (image : List ℕ) (tables : List TableData) (Says : Database → Type 0) : Type 0 where

@@ -2,27 +2,27 @@
 use Rattle.std.specs.Prelude.{◌≡◌, ◌⊎◌, ⊤, true, false, ℕ, List, length, Option, Some, None}
 use Rattle.values.specs.declared.fault.Fault.{Fault}
 use Rattle.values.specs.declared.fault.Fault.TheVariants.{NotYet}
-use Rattle.meaning.specs.Query.{QueryData}
-use Rattle.meaning.specs.Typed.{IsTyped}
-use Rattle.naming.specs.Statement.{Named}
-use Rattle.query_plans.specs.Answers.{IsPlanFor, IsPlannedAsTyped, IsPlannedOver, PlannedData}
+use Rattle.semantics.specs.Query.{QueryData}
+use Rattle.semantics.specs.Typed.{IsTyped}
+use Rattle.semantics_names.specs.Statement.{Named}
+use Rattle.logical_plan_queries.specs.Answers.{IsPlanFor, IsPlannedAsTyped, IsPlannedOver, PlannedData}
 use Rattle.resolver.specs.Resolved.{IsNoQueryOver, Resolves}
-use Rattle.settled_sources.specs.Settled.{settled}
-use Rattle.tables.specs.ColumnTypes.{column_types}
-use Rattle.tables.specs.TableData.{TableData}
-use Rattle.statement_texts.specs.StatementTexts.{IsAllowed, IsRefusedStatement, SpellsStatement}
-use Rattle.syntax.specs.StatementTree.{StatementTree}
+use Rattle.semantics_rewrites.specs.schema_sources.Settled.{settled}
+use Rattle.schema_tables.specs.ColumnTypes.{column_types}
+use Rattle.schema_tables.specs.TableData.{TableData}
+use Rattle.sql_reader.specs.StatementTexts.{IsAllowed, IsRefusedStatement, SpellsStatement}
+use Rattle.sql_reader_syntax.specs.StatementTree.{StatementTree}
 use Rattle.shell.specs.PreparedView.{PreparedData}
 use Rattle.shell.specs.State.{sources_over}
 
 -- the query with the schema's table as one more table, behind these
-abbrev pub settled_over : List TableData → QueryData → QueryData
-settled_over tables query = settled (length tables) query
+abbrev pub with_schema_over : List TableData → QueryData → QueryData
+with_schema_over tables query = settled (length tables) query
 
 -- Each answer of this plan is one that the query permits, with the schema's table as one more table, and what the plan reaches the query
 -- can reach; and it reads some of these tables.
 pub record IsPlannedFor (tables : List TableData) (query : QueryData) (planned : PlannedData) : Type 0 where
-  pub plan : IsPlanFor (settled_over tables query) planned
+  pub plan : IsPlanFor (with_schema_over tables query) planned
   pub over : IsPlannedOver (sources_over tables) planned
 
 -- so is its plan, where it has one; a query without is run once the queries in it are computed
@@ -33,7 +33,7 @@ RunsFor tables query None = ⊤
 -- The query is typed over the columns of these tables, and what is run is for it.
 pub record IsPreparedFor (tables : List TableData) (prepared : PreparedData) : Type 0 where
   pub typed : IsTyped (column_types tables) prepared.query
-  pub settled : prepared.settled ≡ settled_over tables prepared.query
+  pub settled : prepared.settled ≡ with_schema_over tables prepared.query
   pub runs : RunsFor tables prepared.query prepared.planned
 
 -- the text spells a statement within the limits, which is this over these tables

@@ -1,9 +1,9 @@
 -- Queries that were prepared, as plain data.
 use Rattle.std.specs.Prelude.{List, Option, option_map}
-use Rattle.meaning.specs.Query.{QueryData}
-use Rattle.query_plans.specs.Answers.{PlannedData, planned_data}
-use Rattle.statement_names.specs.NamedView.{query_data}
-use Rattle.syntax.specs.Tree.{Name}
+use Rattle.semantics.specs.Query.{QueryData}
+use Rattle.logical_plan_queries.specs.Answers.{PlannedData, planned_data}
+use Rattle.resolver.specs.statement_names.NamedView.{query_data}
+use Rattle.sql_reader_syntax.specs.Tree.{Name}
 use Rattle.shell.specs.declared.prepared.Prepared.{Prepared}
 
 -- A query whose names are resolved, the names of its result columns, the query as it is run, and the plan that is run for it. A query

@@ -2,19 +2,19 @@
 use Rattle.std.specs.Prelude.{◌≡◌, ◌-◌, ◌≤◌, IsTrue, Some}
 use Rattle.values.specs.Sink.{SinkFacts}
 use Rattle.values.specs.declared.fault.Fault.{Fault}
-use Rattle.image.specs.Pages.{pages_of}
-use Rattle.inner_rows.specs.Over.{AreSaid}
-use Rattle.inner_rows.specs.Work.{body_work}
-use Rattle.meaning.specs.Query.{QueryData}
-use Rattle.nested_loops.specs.Basis.{AreStored, Basis}
-use Rattle.query_plans.specs.Answers.{PlannedData, work_of}
-use Rattle.runs.specs.Faults.{IsRunFault}
+use Rattle.btree.specs.image.Pages.{pages_of}
+use Rattle.operators_runs.specs.inner_rows.Over.{AreSaid}
+use Rattle.operators_runs.specs.inner_rows.Work.{body_work}
+use Rattle.semantics.specs.Query.{QueryData}
+use Rattle.operators_loops.specs.Basis.{AreStored, Basis}
+use Rattle.logical_plan_queries.specs.Answers.{PlannedData, work_of}
+use Rattle.operators_runs.specs.Faults.{IsRunFault}
 use Rattle.shell.specs.declared.engine.Report.{Report}
 use Rattle.shell.specs.Answer.{PrintsAnswer, PrintsBeginning}
-use Rattle.shell.specs.Prepared.{settled_over}
+use Rattle.shell.specs.Prepared.{with_schema_over}
 use Rattle.shell.specs.PreparedView.{PreparedData}
 use Rattle.shell.specs.State.{EngineState, sources_over}
-use Rattle.table_copies.specs.Whole.{all_tables}
+use Rattle.schema_tables.specs.table_copies.Whole.{all_tables}
 
 -- of tables of which this is said, a run took no more pages than the work of what is run, and none of overflow chains where
 -- no cell has one
@@ -36,7 +36,7 @@ pub record HasRun (old new : EngineState) (prepared : PreparedData) (before afte
   pub few : IsTrue old.pager.source.steady → (planned : PlannedData) → prepared.planned ≡ Some planned → (on : Basis)
       → AreStored (pages_of old.pager.source.bytes) (sources_over old.tables) on → TookFew on planned report
   pub each_once : IsTrue old.pager.source.steady → (on : Basis) → AreSaid (pages_of old.pager.source.bytes) (all_tables old.tables) on
-      → TookOnce on (settled_over old.tables prepared.query) report
+      → TookOnce on (with_schema_over old.tables prepared.query) report
   pub asked : report.asked ≡ new.pager.asked - old.pager.asked
   pub chained : report.chained ≡ new.pager.chained - old.pager.chained
 

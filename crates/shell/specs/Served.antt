@@ -3,10 +3,10 @@ use Rattle.std.specs.Prelude.{Bool, List, [], ◌++◌, ℕ, if◌then◌else◌
 use Rattle.std.specs.Io.KnownBytes.{Appends}
 use Rattle.values.specs.Datum.{text}
 use Rattle.values.specs.Sink.{SinkFacts}
-use Rattle.image.specs.Pages.{pages_of}
+use Rattle.btree.specs.image.Pages.{pages_of}
 use Rattle.values.specs.Row.{Row}
 use Rattle.explain.specs.Text.{row_text, rows_text}
-use Rattle.tables.specs.TableData.{TableData}
+use Rattle.schema_tables.specs.TableData.{TableData}
 use Rattle.integrity.specs.Denotes.{HasTables}
 use Rattle.shell.specs.Answer.{IsAnswerOver}
 use Rattle.shell.specs.Prepared.{Means}

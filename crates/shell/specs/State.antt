@@ -5,16 +5,20 @@ use Rattle.pager.specs.Calls.{IsReadFault, ReadsPages}
 use Rattle.pager.specs.Header.{IsHeaderFault, IsLeastBroken, KeepsAll, header_of}
 use Rattle.pager.specs.PagerState.{IsPageNumber, PagerState}
 use Rattle.pager.specs.Source.{SourceFacts}
-use Rattle.image.specs.Pages.{pages_of}
-use Rattle.tables.specs.TableData.{TableData}
-use Rattle.table_copies.specs.Whole.{all_tables}
-use Rattle.sources.specs.SourceData.{SourceData, sources_of}
-use Rattle.integrity.specs.Checked.{IsBrokenImage, IsExamined, IsCheckFault}
-use Rattle.integrity.specs.Denotes.{HasTables}
+use Rattle.btree.specs.image.Pages.{Pages, pages_of}
+use Rattle.schema_tables.specs.TableData.{TableData}
+use Rattle.schema_tables.specs.table_copies.Whole.{all_tables}
+use Rattle.logical_plan.specs.answers.Sources.{SourceData, sources_of}
+use Rattle.integrity.specs.Checked.{AreFound, CheckedData, FoundData, IsBrokenImage, IsExamined, IsCheckFault, found_data}
+use Rattle.integrity.specs.Denotes.{HasCatalog, HasTables}
+use Rattle.schema.specs.indexes.IndexData.{IndexData}
+use Rattle.values.specs.Row.{Row}
 
+-- the pages that are read, the tables, and what the check counted of them and of the image's indexes
 pub record EngineState : Type 0 where
   pub pager : PagerState
   pub tables : List TableData
+  pub found : FoundData
 
 -- what queries are run over: the tables, the schema's own behind them, and no kept rows
 abbrev pub sources_over : List TableData → List SourceData
@@ -27,18 +31,28 @@ pub record IsReady (pager : PagerState) (tables : List TableData) : Type 0 where
   pub header : IsTrue pager.source.steady → pager.header ≡ header_of pager.source.bytes
   pub stored : IsTrue pager.source.steady → HasTables (pages_of pager.source.bytes) tables
 
--- so are they, and queries are run over these and the schema's own behind them
-pub record IsReadyWith (pager : PagerState) (tables all : List TableData) : Type 0 where
-  pub ready : IsReady pager tables
-  pub all_are : all ≡ all_tables tables
+-- What was counted is that of these tables of an image and of all indexes that its schema says, each of which lists rows of its table.
+pub record HasFound (pages : Pages) (tables : List TableData) (found : FoundData) : Type 0 where
+  pub schema : List Row
+  pub indexes : List IndexData
+  pub catalog : HasCatalog pages schema (record { tables = tables; indexes = indexes })
+  pub are : AreFound pages tables indexes found
+
+-- so are those that the check found, and queries are run over these and the schema's own behind them; over a steady source the counts
+-- are those of the image, and each index lists rows of its table in the order of its entries
+pub record IsReadyWith (pager : PagerState) (checked : CheckedData) (all : List TableData) : Type 0 where
+  pub ready : IsReady pager checked.tables
+  pub found : IsTrue pager.source.steady → AreFound (pages_of pager.source.bytes) checked.tables checked.indexes (found_data checked)
+  pub all_are : all ≡ all_tables checked.tables
 
 -- An engine was opened over a source, with so many pages in its cache. A steady source breaks no condition of the header,
--- it has these tables, and none of the conditions that are examined is broken.
+-- it has these tables and indexes with these counts, and none of the conditions that are examined is broken.
 pub record IsOpenedOver (source : SourceFacts) (capacity : ℕ) (engine : EngineState) : Type 0 where
   pub source_is : engine.pager.source ≡ source
   pub capacity_is : engine.pager.capacity ≡ capacity
   pub header : IsTrue source.steady → KeepsAll source.bytes
   pub tables : IsTrue source.steady → HasTables (pages_of source.bytes) engine.tables
+  pub found : IsTrue source.steady → HasFound (pages_of source.bytes) engine.tables engine.found
   pub unbroken : IsTrue source.steady → (fault : Fault) → IsExamined fault → ¬ IsBrokenImage (pages_of source.bytes) fault
 
 -- The condition of an image that a fault says is broken: the least of the header's, or, of an image that keeps all of
@@ -52,7 +66,8 @@ pub record IsEngineFault (source : SourceFacts) (fault : Fault) : Type 0 where
   pub only : IsHeaderFault fault ⊎ IsCheckFault fault
   pub cause : IsTrue source.steady → IsReadFault fault ⊎ IsImageFault source.bytes fault
 
--- a call that reads pages of the image, and has the same tables
+-- a call that reads pages of the image, and leaves the tables and what was found of them
 pub record ReadsTables {T : Type 0} (result : Result T Fault) (old new : EngineState) : Type 0 where
   pub pages : ReadsPages result old.pager new.pager
   pub tables : new.tables ≡ old.tables
+  pub found : new.found ≡ old.found

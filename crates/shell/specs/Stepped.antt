@@ -5,30 +5,30 @@ use Rattle.values.specs.Row.{Row}
 use Rattle.values.specs.declared.fault.Fault.{Fault}
 use Rattle.values.specs.declared.fault.Fault.TheVariants.{Overflow, WrongPlace}
 use Rattle.pager.specs.Calls.{IsReadFault}
-use Rattle.image.specs.Pages.{Pages, pages_of, pages_seen}
-use Rattle.inner_rows.specs.Over.{AreSaid}
-use Rattle.inner_rows.specs.Work.{body_work}
-use Rattle.meaning.specs.Answer.{Begins, IsStandIn}
-use Rattle.meaning.specs.Hits.{Hits}
-use Rattle.meaning.specs.Query.{QueryData}
-use Rattle.meaning.specs.Typed.{IsTyped}
-use Rattle.naming.specs.Statement.{Named}
-use Rattle.nested_runs.specs.Steps.{HasGivenOf}
-use Rattle.nested_runs.specs.Steps as nested
-use Rattle.nested_runs.specs.declared.steps.NestedRun.{NestedRun}
-use Rattle.nested_loops.specs.Basis.{Basis}
-use Rattle.query_plans.specs.Answers.{PlannedData}
-use Rattle.running.specs.Given.{HasAhead, HasGiven, IsOpenedRun, IsRunOver, steps_left}
-use Rattle.running.specs.declared.rows.Running.{Running}
-use Rattle.scan.specs.Coming.{Asks}
-use Rattle.sources.specs.SourceData.{SourceData, sources_of}
-use Rattle.statement_texts.specs.StatementTexts.{IsRefusedStatement}
-use Rattle.syntax.specs.Tree.{Name}
-use Rattle.table_copies.specs.Whole.{all_tables}
-use Rattle.tables.specs.ColumnTypes.{column_types}
-use Rattle.tables.specs.TableData.{TableData}
+use Rattle.btree.specs.image.Pages.{Pages, pages_of, pages_seen}
+use Rattle.operators_runs.specs.inner_rows.Over.{AreSaid}
+use Rattle.operators_runs.specs.inner_rows.Work.{body_work}
+use Rattle.semantics.specs.Answer.{Begins, IsStandIn}
+use Rattle.semantics.specs.Hits.{Hits}
+use Rattle.semantics.specs.Query.{QueryData}
+use Rattle.semantics.specs.Typed.{IsTyped}
+use Rattle.semantics_names.specs.Statement.{Named}
+use Rattle.operators_runs.specs.nested_runs.Steps.{HasGivenOf}
+use Rattle.operators_runs.specs.nested_runs.Steps as nested
+use Rattle.operators_runs.specs.declared.nested_runs.steps.NestedRun.{NestedRun}
+use Rattle.operators_loops.specs.Basis.{Basis}
+use Rattle.logical_plan_queries.specs.Answers.{PlannedData}
+use Rattle.operators_runs.specs.execution.Given.{HasAhead, HasGiven, IsOpenedRun, IsRunOver, steps_left}
+use Rattle.operators_runs.specs.declared.execution.rows.Execution.{Execution}
+use Rattle.operators_scan.specs.scan.Coming.{Asks}
+use Rattle.logical_plan.specs.answers.Sources.{SourceData, sources_of}
+use Rattle.sql_reader.specs.StatementTexts.{IsRefusedStatement}
+use Rattle.sql_reader_syntax.specs.Tree.{Name}
+use Rattle.schema_tables.specs.table_copies.Whole.{all_tables}
+use Rattle.schema_tables.specs.ColumnTypes.{column_types}
+use Rattle.schema_tables.specs.TableData.{TableData}
 use Rattle.shell.specs.Answer.{IsAnswerOver, OverTables}
-use Rattle.shell.specs.Prepared.{IsPlannedFor, IsUnresolved, SpellsQuery, settled_over}
+use Rattle.shell.specs.Prepared.{IsPlannedFor, IsUnresolved, SpellsQuery, with_schema_over}
 use Rattle.shell.specs.PreparedView.{PreparedData}
 use Rattle.shell.specs.State.{EngineState, sources_over}
 use Rattle.shell.specs.declared.stepped.Started.{Started}
@@ -86,7 +86,7 @@ abbrev pub rows_ahead : List TableData → Statement → ℕ
 rows_ahead tables statement = steps_ahead (sources_over tables) statement.stepping
 
 -- the plan of a query has given these rows over a steady source
-pub record HasPlanGiven (engine : EngineState) (query : QueryData) (running : Running) (given : List Row) : Type 0 where
+pub record HasPlanGiven (engine : EngineState) (query : QueryData) (running : Execution) (given : List Row) : Type 0 where
   pub planned : PlannedData
   pub is : IsPlannedFor engine.tables query planned
   pub gave : IsTrue engine.pager.source.steady → HasGiven (pages_seen engine.pager) (sources_over engine.tables) planned running given
@@ -94,7 +94,7 @@ pub record HasPlanGiven (engine : EngineState) (query : QueryData) (running : Ru
 -- a query with queries in it has
 abbrev pub HasQueryGiven : EngineState → QueryData → NestedRun → List Row → Type 0
 HasQueryGiven engine query run given =
-    IsTrue engine.pager.source.steady → HasGivenOf (pages_seen engine.pager) (all_tables engine.tables) (settled_over engine.tables query) run given
+    IsTrue engine.pager.source.steady → HasGivenOf (pages_seen engine.pager) (all_tables engine.tables) (with_schema_over engine.tables query) run given
 
 abbrev pub HasGivenBy : EngineState → QueryData → List Row → Stepping → Type 0
 HasGivenBy engine query given (Planned running) = HasPlanGiven engine query running given
@@ -113,7 +113,7 @@ IsAhead pages tables on query (Nested run) ahead = ahead ≡ nested.work_ahead o
 -- of tables of which this is said, a statement of a query may still ask for no more pages than these, whatever else asks for pages in between
 pub record MayAsk (image : List ℕ) (tables : List TableData) (on : Basis) (query : QueryData) (statement : Statement) (most : ℕ) : Type 0 where
   pub ahead : ℕ
-  pub is_ahead : IsAhead (pages_of image) (all_tables tables) on (settled_over tables query) statement.stepping ahead
+  pub is_ahead : IsAhead (pages_of image) (all_tables tables) on (with_schema_over tables query) statement.stepping ahead
   pub within : ahead ≤ most
 
 -- Of the pages that a statement may still ask for, a step asks for some, and the others are left for the steps behind it, whatever is said
@@ -125,7 +125,7 @@ StaysWithin old new query was statement result = IsTrue old.pager.source.steady 
     × OnSome found (MayAsk new.pager.source.bytes new.tables on query statement left))
 
 -- the plan of a query that was prepared was opened
-pub record IsPlanOpened (planned : Option PlannedData) (running : Running) : Type 0 where
+pub record IsPlanOpened (planned : Option PlannedData) (running : Execution) : Type 0 where
   pub plan : PlannedData
   pub plan_is : planned ≡ Some plan
   pub opened : IsOpenedRun plan running
@@ -152,7 +152,7 @@ pub record HasStarted (engine : EngineState) (text : List ℕ) (started : Starte
   pub stands : HasGivenSoFar engine query started.statement []
   pub over : IsSteppedOver engine.tables started.statement
   pub pages : (on : Basis) → AreSaid (pages_of engine.pager.source.bytes) (all_tables engine.tables) on
-      → MayAsk engine.pager.source.bytes engine.tables on query started.statement (body_work on.w on.db on.sizes (settled_over engine.tables query).body)
+      → MayAsk engine.pager.source.bytes engine.tables on query started.statement (body_work on.w on.db on.sizes (with_schema_over engine.tables query).body)
 
 -- one row more was given, and an answer may begin with all that were
 pub record HasGivenRow (old new : EngineState) (query : QueryData) (given : List Row) (statement : Statement) (row : Row) : Type 0 where

@@ -3,25 +3,25 @@ use Rattle.std.specs.Prelude.{⊤, true, false, ℕ, List, [], ◌∷◌, ◌++�
 use Rattle.values.specs.Row.{Row}
 use Rattle.values.specs.declared.fault.Fault.{Fault}
 use Rattle.pager.specs.PagerState.{PagerState}
-use Rattle.image.specs.Pages.{Pages, WhereSteady}
-use Rattle.inner_rows.specs.Over.{AreSaid, IsQueryCause}
-use Rattle.inner_rows.specs.Runnable.{IsRunnableBody}
-use Rattle.meaning.specs.Query.{QueryData}
-use Rattle.meaning.specs.Typed.{IsTyped}
-use Rattle.nested_runs.specs.Steps.{HasGivenOf, HasSteppedRows, work_ahead}
-use Rattle.nested_loops.specs.Basis.{AreStored, Basis}
-use Rattle.query_plans.specs.Answers.{IsAnswerOf, PlannedData}
-use Rattle.running.specs.Given.{HasAhead, HasAsked, HasGiven, IsRowCause}
-use Rattle.running.specs.declared.rows.Running.{Running}
-use Rattle.scan.specs.Coming.{Asks}
-use Rattle.sources.specs.SourceData.{SourceData, sources_of}
-use Rattle.tables.specs.ColumnTypes.{column_types}
-use Rattle.tables.specs.TableData.{TableData}
+use Rattle.btree.specs.image.Pages.{Pages, WhereSteady}
+use Rattle.operators_runs.specs.inner_rows.Over.{AreSaid, IsQueryCause}
+use Rattle.operators_runs.specs.inner_rows.Runnable.{IsRunnableBody}
+use Rattle.semantics.specs.Query.{QueryData}
+use Rattle.semantics.specs.Typed.{IsTyped}
+use Rattle.operators_runs.specs.nested_runs.Steps.{HasGivenOf, HasSteppedRows, work_ahead}
+use Rattle.operators_loops.specs.Basis.{AreStored, Basis}
+use Rattle.logical_plan_queries.specs.Answers.{IsAnswerOf, PlannedData}
+use Rattle.operators_runs.specs.execution.Given.{HasAhead, HasAsked, HasGiven, IsRowCause}
+use Rattle.operators_runs.specs.declared.execution.rows.Execution.{Execution}
+use Rattle.operators_scan.specs.scan.Coming.{Asks}
+use Rattle.logical_plan.specs.answers.Sources.{SourceData, sources_of}
+use Rattle.schema_tables.specs.ColumnTypes.{column_types}
+use Rattle.schema_tables.specs.TableData.{TableData}
 use Rattle.shell.specs.declared.stepped.Stepping.{Stepping}
 use Rattle.shell.specs.declared.stepped.Stepping.TheVariants.{Planned, Nested}
 
 -- of a plan that has given these rows a row more is given, or those are an answer, or there is a cause that none comes
-abbrev pub PlanSteps : Pages → List SourceData → PlannedData → List Row → Running → Result (Option Row) Fault → Type 0
+abbrev pub PlanSteps : Pages → List SourceData → PlannedData → List Row → Execution → Result (Option Row) Fault → Type 0
 PlanSteps pages sources planned given running (Ok (Some row)) = HasGiven pages sources planned running (given ++ row ∷ [])
 PlanSteps pages sources planned given running (Ok None) = (on : Basis) → AreStored pages sources on → IsAnswerOf on.w on.db planned given
 PlanSteps pages sources planned given running (Err fault) = (on : Basis) → AreStored pages sources on → IsRowCause on planned fault
@@ -39,7 +39,7 @@ TakesStep pager tables (Planned old) (Nested new) result = ⊥
 TakesStep pager tables (Nested old) (Planned new) result = ⊥
 
 -- of the pages that were ahead of a plan some were asked for, and the others are
-abbrev pub PlanAsks : Pages → List SourceData → Basis → PagerState → ℕ → PagerState → Running → Result (Option Row) Fault → Type 0
+abbrev pub PlanAsks : Pages → List SourceData → Basis → PagerState → ℕ → PagerState → Execution → Result (Option Row) Fault → Type 0
 PlanAsks pages sources on old ahead new running (Ok (Some row)) = HasAsked pages sources on old ahead new running true
 PlanAsks pages sources on old ahead new running (Ok None) = HasAsked pages sources on old ahead new running false
 PlanAsks pages sources on old ahead new running (Err fault) = ⊤

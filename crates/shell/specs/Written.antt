@@ -2,17 +2,17 @@
 use Rattle.std.specs.Prelude.{⊤, ℕ, List, [], Option, Some, None}
 use Rattle.values.specs.Sink.{SinkFacts}
 use Rattle.values.specs.declared.fault.Fault.{Fault}
-use Rattle.image.specs.Pages.{Pages}
-use Rattle.inner_rows.specs.Runnable.{IsRunnableBody}
-use Rattle.meaning.specs.Query.{QueryData}
-use Rattle.meaning.specs.Typed.{IsTyped}
-use Rattle.nested_runs.specs.Writes.{WritesPermitted}
-use Rattle.nested_runs.specs.Writes as nested
-use Rattle.query_plans.specs.Answers.{IsPlannedOver, PlannedData}
-use Rattle.runs.specs.Runs.{WritesAnswer, WritesBeginning}
-use Rattle.sources.specs.SourceData.{SourceData, sources_of}
-use Rattle.tables.specs.ColumnTypes.{column_types}
-use Rattle.tables.specs.TableData.{TableData}
+use Rattle.btree.specs.image.Pages.{Pages}
+use Rattle.operators_runs.specs.inner_rows.Runnable.{IsRunnableBody}
+use Rattle.semantics.specs.Query.{QueryData}
+use Rattle.semantics.specs.Typed.{IsTyped}
+use Rattle.operators_runs.specs.nested_runs.Writes.{WritesPermitted}
+use Rattle.operators_runs.specs.nested_runs.Writes as nested
+use Rattle.logical_plan_queries.specs.Answers.{IsPlannedOver, PlannedData}
+use Rattle.operators_runs.specs.Runs.{WritesAnswer, WritesBeginning}
+use Rattle.logical_plan.specs.answers.Sources.{SourceData, sources_of}
+use Rattle.schema_tables.specs.ColumnTypes.{column_types}
+use Rattle.schema_tables.specs.TableData.{TableData}
 
 -- the plan of a query that has one reads some of these
 abbrev pub IsRunOverSome : List SourceData → Option PlannedData → Type 0

@@ -4,8 +4,8 @@ ghost use Rattle.std.specs.NonZero.{non_zero_usize_get};
 ghost use Rattle.pager.specs.Calls.{HandsBack};
 ghost use Rattle.values.specs.Fault.{Counts};
 ghost use Rattle.values.specs.Row.{Row as RowData};
-ghost use Rattle.meaning.specs.Query.{QueryData};
-ghost use Rattle.nested_loops.specs.Basis.{IsOperatorFault};
+ghost use Rattle.semantics.specs.Query.{QueryData};
+ghost use Rattle.operators_loops.specs.Basis.{IsOperatorFault};
 ghost use Rattle.shell.specs.Prepared.{IsPreparedFor, Means, RefusesText};
 ghost use Rattle.shell.specs.PreparedView.{prepared_data};
 ghost use Rattle.shell.specs.Run.{HasRun, HasStopped};
@@ -16,12 +16,11 @@ use crate::{Prepared, Started, Statement};
 use integrity::{Checked, check};
 use pager::{Pager, Source};
 use resolver::resolve;
-use statement_texts::read_select;
+use schema_tables::{Table, with_schema_table};
+use sql_reader::read_select;
 use std::alloc::Global;
 use std::marker::Model;
 use std::num::NonZeroUsize;
-use table_copies::with_schema_table;
-use tables::Table;
 use values::{Fault, Row, Sink};
 
 /// An image that was checked whole, and its tables: queries are run over these and, behind them, the table of the schema's rows.
@@ -34,14 +33,15 @@ pub struct Engine<S: Source> {
 }
 
 impl<S: Source> Model for Engine<S> {
+    ghost use Rattle.integrity.specs.Checked.{found_data};
     ghost use Rattle.integrity.specs.CheckedView.{checked_data};
     ghost use Rattle.shell.specs.State.{EngineState, IsReadyWith};
 
     ghost Value = { EngineState };
 
-    ghost view = { λ e. record { pager = e.pager.state; tables = (checked_data e.checked).tables } };
+    ghost view = { λ e. record { pager = e.pager.state; tables = (checked_data e.checked).tables; found = found_data (checked_data e.checked) } };
 
-    ghost invariant = { λ e. IsReadyWith e.pager.state (checked_data e.checked).tables e.tables.items };
+    ghost invariant = { λ e. IsReadyWith e.pager.state (checked_data e.checked) e.tables.items };
 }
 
 /// What a run took: the rows that it wrote, and the pages that it asked for, those of overflow chains apart. Each count

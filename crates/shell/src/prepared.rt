@@ -4,21 +4,21 @@ ghost use Rattle.values.specs.Datum.{text};
 ghost use Rattle.values.specs.Fault.{Counts};
 ghost use Rattle.values.specs.Sink.{Writes};
 ghost use Rattle.pager.specs.Calls.{ReadsPages};
-ghost use Rattle.image.specs.Pages.{WhereSteady};
+ghost use Rattle.btree.specs.image.Pages.{WhereSteady};
 ghost use Rattle.explain.specs.Text.{row_text};
-ghost use Rattle.statement_names.specs.NamedView.{named_data, query_data};
-ghost use Rattle.scan.specs.Coming.{Asks};
-ghost use Rattle.sources.specs.Coming.{IsRooted, IsStoredSource};
-ghost use Rattle.sources.specs.SourceData.{sources_of};
-ghost use Rattle.inner_rows.specs.Over.{AreSaid};
-ghost use Rattle.inner_rows.specs.Runnable.{IsRunnableBody};
-ghost use Rattle.inner_rows.specs.Work.{body_work};
-ghost use Rattle.meaning.specs.Typed.{IsTyped};
-ghost use Rattle.nested_loops.specs.Basis.{AreStored, Basis};
-ghost use Rattle.query_plans.specs.Answers.{PlannedData, planned_data, work_of};
-ghost use Rattle.runs.specs.Faults.{IsRunFault};
-ghost use Rattle.settled_sources.specs.Settled.{settled};
-ghost use Rattle.tables.specs.ColumnTypes.{column_types};
+ghost use Rattle.resolver.specs.statement_names.NamedView.{named_data, query_data};
+ghost use Rattle.operators_scan.specs.scan.Coming.{Asks};
+ghost use Rattle.operators_scan.specs.Coming.{IsRooted, IsStoredSource};
+ghost use Rattle.logical_plan.specs.answers.Sources.{sources_of};
+ghost use Rattle.operators_runs.specs.inner_rows.Over.{AreSaid};
+ghost use Rattle.operators_runs.specs.inner_rows.Runnable.{IsRunnableBody};
+ghost use Rattle.operators_runs.specs.inner_rows.Work.{body_work};
+ghost use Rattle.semantics.specs.Typed.{IsTyped};
+ghost use Rattle.operators_loops.specs.Basis.{AreStored, Basis};
+ghost use Rattle.logical_plan_queries.specs.Answers.{PlannedData, planned_data, work_of};
+ghost use Rattle.operators_runs.specs.Faults.{IsRunFault};
+ghost use Rattle.semantics_rewrites.specs.schema_sources.Settled.{settled};
+ghost use Rattle.schema_tables.specs.ColumnTypes.{column_types};
 ghost use Rattle.shell.specs.Prepared.{IsPlannedAs};
 ghost use Rattle.shell.specs.PreparedView.{prepared_data};
 ghost use Rattle.shell.specs.Stepped.{IsStartedFor, IsSteppingOf};
@@ -27,18 +27,15 @@ ghost use Rattle.shell.specs.Written.{HasBegun, HasWritten, IsRunOverSome};
 use crate::stepped::Stepping;
 use crate::{Started, Statement};
 use explain::rows_text;
-use nested_runs::{NestedRun, write_nested};
+use logical_plan_queries::{Planned, plan};
+use operators_runs::{Execution, NestedRun, write_answer, write_nested};
+use operators_scan::Sources;
 use pager::{Pager, Source};
-use query_plans::{Planned, plan};
-use running::Running;
-use runs::write_answer;
-use settled_queries::settled_query;
-use sources::Sources;
-use statement_names::{NamedStatement, Query};
+use resolver::{NamedStatement, Query, with_schema_query};
+use schema_tables::Table;
 use std::alloc::{AllocError, Global};
 use std::marker::Model;
 use std::slice;
-use tables::Table;
 use values::{Fault, Row, Sink, Value};
 
 /// The names of result columns, with the row that they are written as.
@@ -50,7 +47,7 @@ struct Header {
 
 impl Model for Header {
     ghost use Rattle.std.specs.Prelude.{◌≡◌, List, map, string_bytes};
-    ghost use Rattle.syntax.specs.Tree.{Name};
+    ghost use Rattle.sql_reader_syntax.specs.Tree.{Name};
     ghost use Rattle.values.specs.Datum.{text};
 
     ghost Value = { List Name };
@@ -102,7 +99,7 @@ fn stepping_of(
 {
     match planned {
         Some(planned) => {
-            let running = Running::open(alloc, planned)?;
+            let running = Execution::open(alloc, planned)?;
             Ok(Stepping::Planned(running))
         }
         None => Ok(Stepping::Nested(NestedRun::Waiting(settled))),
@@ -135,7 +132,7 @@ impl Prepared {
         ensures only { IfErr result (λ e. e ≡ Fault.NoMemory) }
     {
         let NamedStatement { query, names, .. } = statement;
-        let settled = settled_query(alloc, place, &query)?;
+        let settled = with_schema_query(alloc, place, &query)?;
         let planned = plan(alloc, &settled)?;
         let header = Header::new(alloc, names)?;
         Ok(Prepared {

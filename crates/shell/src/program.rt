@@ -1,8 +1,8 @@
-//! What the program does once its source is there.
+//! What the program does once its source is open.
 ghost use Rattle.std.specs.Prelude.{◌≡◌, ◌⊎◌, IfErr, IfOk, IsTrue, OnOk};
 ghost use Rattle.std.specs.NonZero.{non_zero_usize_get};
 ghost use Rattle.values.specs.Sink.{Writes};
-ghost use Rattle.image.specs.Pages.{pages_of};
+ghost use Rattle.btree.specs.image.Pages.{pages_of};
 ghost use Rattle.integrity.specs.Denotes.{HasTables};
 ghost use Rattle.shell.specs.Served.{HasLines, IsServedWhole, header_text};
 ghost use Rattle.shell.specs.Prepared.{IsPreparedFor};
@@ -10,10 +10,9 @@ ghost use Rattle.shell.specs.PreparedView.{prepared_data};
 
 use crate::{Args, Engine, Prepared};
 use pager::Source;
-use sinks::Gathered;
 use std::alloc::Global;
 use std::num::NonZeroUsize;
-use values::{Fault, Sink};
+use values::{Fault, Gathered, Sink};
 
 /// Writes a fault's line, and answers the status 1. It takes no memory; a failure to write changes nothing.
 pub fn fail<E: Sink>(fault: &Fault, err: &mut E) -> u8

@@ -1,28 +1,27 @@
 //! Statements that are stepped, a row at a time.
 ghost use Rattle.std.specs.Prelude.{◌<◌, ℕ, [], All, IfOk, List, OnSome};
 ghost use Rattle.values.specs.Row.{Row as RowData};
-ghost use Rattle.image.specs.Pages.{WhereSteady};
-ghost use Rattle.nested_loops.specs.Basis.{AreStored, Basis, ReadsRows};
-ghost use Rattle.query_plans.specs.Answers.{PlannedData};
-ghost use Rattle.running.specs.Given.{HasAhead, HasGiven, IsRunOver, steps_left};
-ghost use Rattle.sources.specs.Coming.{IsRooted};
-ghost use Rattle.sources.specs.SourceData.{sources_of};
+ghost use Rattle.btree.specs.image.Pages.{WhereSteady};
+ghost use Rattle.operators_loops.specs.Basis.{AreStored, Basis, ReadsRows};
+ghost use Rattle.logical_plan_queries.specs.Answers.{PlannedData};
+ghost use Rattle.operators_runs.specs.execution.Given.{HasAhead, HasGiven, IsRunOver, steps_left};
+ghost use Rattle.operators_scan.specs.Coming.{IsRooted};
+ghost use Rattle.logical_plan.specs.answers.Sources.{sources_of};
 ghost use Rattle.shell.specs.Stepped.{IsSteppingOver, steps_ahead};
 ghost use Rattle.shell.specs.Steps.{AsksStep, PlanAsks, PlanSteps, TakesStep};
 
-use nested_runs::NestedRun;
+use operators_runs::{Execution, NestedRun};
+use operators_scan::Sources;
 use pager::{Pager, Source};
-use running::Running;
-use sources::Sources;
+use schema_tables::Table;
 use std::alloc::Global;
-use tables::Table;
 use values::{Fault, Row};
 
 /// What is run for a statement.
 #[derive(Drop)]
 pub(crate) enum Stepping {
     /// A plan over the tables.
-    Planned(Running),
+    Planned(Execution),
     /// A query with queries in it, whose rows are gathered before the first is given.
     Nested(NestedRun),
 }
@@ -47,7 +46,7 @@ fn next_planned<S: Source>(
     alloc: Global,
     pager: &mut Pager<S>,
     tables: &[Table],
-    running: &mut Running,
+    running: &mut Execution,
 ) -> Result<Option<Row>, Fault>
     requires roots { All (IsRooted pager.old.state.header) (sources_of tables.now []) }
     requires planned { IsRunOver (sources_of tables.now []) running.old }

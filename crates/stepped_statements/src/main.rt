@@ -1,7 +1,8 @@
-//! Makes steps of a session over an image, `stepped_statements IMAGE [READ [replay]]`, and writes what each replies. A line of
-//! standard input is a step, its words with tabs between them: `open 3 SELECT ..` opens this text in slot 3, `next 3` asks for a
-//! row, `close 3` closes, and `complete 3` gives all rows that are left. The engine keeps one page. The read with the number READ
-//! fails, those of opening counted from 1; none does where READ is 0 or isn't said. With `replay` all steps are made by one call.
+//! Makes steps of a session over an image, `stepped_statements IMAGE [READ [replay]]`, and writes what each
+//! replies. A line of standard input is a step, its words with tabs between them: `open 3 SELECT ..` opens
+//! this text in slot 3, `next 3` asks for a row, `close 3` closes, and `complete 3` gives all rows that are
+//! left. The engine keeps one page. The read with the number READ fails, those of opening counted from 1;
+//! none does where READ is 0 or isn't given. With `replay` all steps are made by one call.
 //!
 //! The one module is `written` (steps and replies as lines).
 #![tactic(auto)]
@@ -11,14 +12,13 @@ mod written;
 use anyhow::{Context, Result, bail};
 use pager::Source;
 use scripted::{ReadScript, ScriptSource};
-use sessions::{Session, Step, replay};
 use shell::Engine;
-use sinks::{Gathered, WriteSink};
+use shell_sessions::{Session, Step, replay};
 use std::alloc::Global;
 use std::num::NonZeroUsize;
 use std::rt::{Env, Files};
 use std::{env, fs};
-use values::{Fault, Sink};
+use values::{Fault, Gathered, Sink, WriteSink};
 use written::{Asked, asked_of, write_reply, write_rows};
 
 /// Does what a line asks for, and writes the reply.

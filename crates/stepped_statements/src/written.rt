@@ -2,7 +2,7 @@
 
 use anyhow::{Context, Result, bail};
 use explain::rows_text;
-use sessions::{Reply, Step};
+use shell_sessions::{Reply, Step};
 use std::alloc::Global;
 use std::slice;
 use values::{Row, Sink, write_all};

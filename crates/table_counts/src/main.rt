@@ -1,7 +1,8 @@
-//! Prints what the check of an image finds of each table, `table_counts IMAGE`, so that it can be compared with what
-//! another program that reads SQLite's format says of the file: a line `name rows pages levels` for each table, in the
-//! order of the schema, and then one for each index, with its entries and, behind its levels, how many different values its
-//! first columns have, for each number of columns. The levels are those below the root.
+//! Prints what the check of an image finds of each table, `table_counts IMAGE`, so that it can be compared
+//! with what another program that reads SQLite's format says of the file: a line `name rows pages levels` for
+//! each table, in the order of the schema, and then one for each index, with its entries and, after its
+//! levels, how many different values its first columns have, for each number of columns. The levels are those
+//! below the root.
 #![tactic(auto)]
 
 use anyhow::{Context, Result};

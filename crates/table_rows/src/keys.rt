@@ -1,14 +1,22 @@
 //! Keys that are sought in an index, as they are written.
-use anyhow::{Context, Result};
+use anyhow::{Context, Result, anyhow};
 use std::alloc::Global;
 use values::Value;
 
-/// What is sought: which columns descend, the values of first columns, and whether the search goes behind the entries that have these.
+/// How a key is sought: by a search that stands at the entries that have its values or after them, or as one entry alone.
+#[derive(Clone, Copy, Debug)]
+pub enum Way {
+    At,
+    Behind,
+    Find,
+}
+
+/// What is sought: which columns descend, the values of first columns, and how.
 #[derive(Drop)]
 pub struct SearchKey {
     pub descends: Vec<bool>,
     pub values: Vec<Value>,
-    pub behind: bool,
+    pub way: Way,
 }
 
 /// A value by a letter and what stands behind it: `n` for NULL, `i` and a number, `t` and a text, `b` and the bytes of a blob.
@@ -34,11 +42,21 @@ fn directions(alloc: Global, signs: &str) -> Result<Vec<bool>> {
     Ok(descends)
 }
 
-/// What a line asks for: `at` or `behind`, and behind tabs the values; of an index with these signs.
+/// How a key is sought, by a word.
+fn way_of(word: &str) -> Result<Way> {
+    match word {
+        "at" => Ok(Way::At),
+        "behind" => Ok(Way::Behind),
+        "find" => Ok(Way::Find),
+        _ => Err(anyhow!("no way")),
+    }
+}
+
+/// What a line asks for: `at`, `behind` or `find`, and behind tabs the values; of an index with these signs.
 pub fn sought(alloc: Global, signs: &str, line: &str) -> Result<SearchKey> {
     let descends = directions(alloc, signs)?;
     let mut parts = line.split('\t');
-    let behind = parts.next().context("no word")? == "behind";
+    let way = way_of(parts.next().context("no word")?)?;
     let mut values = Vec::new(alloc);
     for part in parts {
         values.push(value_of(alloc, part)?)?;
@@ -46,6 +64,6 @@ pub fn sought(alloc: Global, signs: &str, line: &str) -> Result<SearchKey> {
     Ok(SearchKey {
         descends,
         values,
-        behind,
+        way,
     })
 }

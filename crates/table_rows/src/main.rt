@@ -1,15 +1,15 @@
-//! Prints what a tree of an image holds, and where searches of it stand, so that this can be compared with what another program
-//! that reads SQLite's format makes of the file.
+//! Prints what a tree of an image holds, and where searches of it end, so that this can be compared with what
+//! another program that reads SQLite's format makes of the file.
 //!
 //! - `table_rows IMAGE ROOT` prints a line for each row of a table: its number and the values of its record.
-//! - `table_rows IMAGE ROOT rowid [PAGES]` prints, for each line of standard input, the row at which a search for that number
-//!   stands, and how many pages it asked for.
-//! - `table_rows IMAGE ROOT SIGNS [PAGES]`, where a sign for each column, `+` or `-`, says which of them descend, prints the
-//!   entries of an index, and then the same of searches for the keys of standard input.
+//! - `table_rows IMAGE ROOT rowid [PAGES]` prints, for each line of standard input, the row at which a search
+//!   for that number ends, or the row that is found by it, and how many pages it asked for.
+//! - `table_rows IMAGE ROOT SIGNS [PAGES]`, where a sign for each column, `+` or `-`, says which of them
+//!   descend, prints the entries of an index, and then the same of searches for the keys of standard input.
 //!
-//! So many pages are kept, one if none are told.
+//! The cache keeps PAGES pages, one if the word is left out.
 //!
-//! The modules: `rows` (of a table), `keys` (what is sought) and `searches` (where a search stands).
+//! The modules: `rows` (of a table), `keys` (what is sought) and `searches` (where a search ends).
 #![tactic(auto)]
 
 mod keys;
@@ -21,10 +21,9 @@ use keys::sought;
 use pager::{FileSource, Pager, Source};
 use rows::write_rows;
 use searches::{write_entries, write_row_search, write_search};
-use sinks::{Gathered, WriteSink};
 use std::env;
 use std::num::NonZeroUsize;
-use values::{Sink, Value};
+use values::{Gathered, Sink, Value, WriteSink};
 
 /// Writes where the searches for rows stand that standard input asks for.
 fn search_rows<S: Source, O: Sink>(
@@ -40,7 +39,7 @@ fn search_rows<S: Source, O: Sink>(
         let Some(Value::Int(rowid)) = sought.values.first() else {
             return Err(anyhow!("no rowid"));
         };
-        write_row_search(alloc, pager, root, *rowid, sought.behind, out)?;
+        write_row_search(alloc, pager, root, *rowid, sought.way, out)?;
     }
     Ok(())
 }

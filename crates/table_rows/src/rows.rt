@@ -1,7 +1,6 @@
 //! The rows of a table, as lines.
-use btree::Cell;
-use cursor::Cursor;
-use image::TreeKind;
+use btree::{Cell, TreeKind};
+use btree_cursor::Cursor;
 use pager::{Pager, Source};
 use records::RecordView;
 use std::alloc::Global;

@@ -1,15 +1,14 @@
-//! The entries of an index, as lines, and where searches of an index or of a table stand.
-use crate::keys::SearchKey;
+//! The entries of an index, as lines, and where searches of an index or of a table end.
+use crate::keys::{SearchKey, Way};
 use crate::rows::write_row;
-use cursor::Cursor;
-use entry_rows::{all_entries, entry_row};
+use btree::Cell;
+use btree_cursor::{Cursor, End, Found, IndexKey, find_entry, find_row};
 use explain::rows_text;
-use index_entries::IndexKey;
-use key_ranges::End;
+use integrity_trees::{all_entries, entry_row};
 use pager::{Pager, Source};
 use std::alloc::Global;
 use std::slice;
-use values::{Fault, Row, Sink, Value, ValueRef, write_all};
+use values::{Fault, Row, Sink, Value, write_all};
 
 /// Writes the entries of the index with this root, a line each.
 pub fn write_entries<S: Source, O: Sink>(
@@ -35,8 +34,25 @@ fn values_at<S: Source>(
     entry_row(alloc, pager, &cell, page)
 }
 
-/// Writes a line for a search of the index with this root: the values of the entry that it stands at, and how many pages it asked
-/// for, those of chains apart.
+/// The values of the entry that is found by a key, and none where there is none.
+fn values_found<S: Source>(
+    alloc: Global,
+    pager: &mut Pager<S>,
+    found: Option<&Found>,
+) -> Result<Row, Fault> {
+    let Some(found) = found else {
+        return Ok(Row::new(alloc));
+    };
+    entry_row(alloc, pager, &found.cell(), found.page())
+}
+
+/// How many pages were asked for since the count was this one.
+fn asked_since<S: Source>(pager: &Pager<S>, before: u64) -> Value {
+    Value::Int(i64::try_from(pager.asked().saturating_sub(before)).unwrap_or(i64::MAX))
+}
+
+/// Writes a line for a search of the index with this root: the values of the entry that it stands at or that is found, and how many
+/// pages were asked for, those of chains apart.
 pub fn write_search<S: Source, O: Sink>(
     alloc: Global,
     pager: &mut Pager<S>,
@@ -44,38 +60,82 @@ pub fn write_search<S: Source, O: Sink>(
     sought: &SearchKey,
     out: &mut O,
 ) -> Result<(), Fault> {
+    let (descends, equal) = (sought.descends.as_slice(), sought.values.as_slice());
+    let behind = match sought.way {
+        Way::At => false,
+        Way::Behind => true,
+        Way::Find => return write_found(alloc, pager, root, descends, equal, out),
+    };
     let key = IndexKey {
-        descends: sought.descends.as_slice(),
-        equal: sought.values.as_slice(),
+        descends,
+        equal,
         end: End {
             value: None,
-            behind: sought.behind,
+            behind,
         },
     };
     let before = pager.asked();
     let cursor = Cursor::seek_entry(alloc, pager, root, &key)?;
-    let asked = pager.asked().saturating_sub(before);
+    let asked = asked_since(pager, before);
     let mut line = values_at(alloc, pager, &cursor)?;
-    line.push(Value::Int(i64::try_from(asked).unwrap_or(i64::MAX)))?;
+    line.push(asked)?;
     rows_text(slice::from_ref(&line), out)
 }
 
-/// Writes a line for a search of the table with this root: the row that it stands at, if any, and how many pages it asked for.
+/// Writes a line for the entry that is found by a key.
+fn write_found<S: Source, O: Sink>(
+    alloc: Global,
+    pager: &mut Pager<S>,
+    root: u32,
+    descends: &[bool],
+    key: &[Value],
+    out: &mut O,
+) -> Result<(), Fault> {
+    let before = pager.asked();
+    let found = find_entry(alloc, pager, root, descends, key)?;
+    let asked = asked_since(pager, before);
+    let mut line = values_found(alloc, pager, found.as_ref())?;
+    line.push(asked)?;
+    rows_text(slice::from_ref(&line), out)
+}
+
+/// Writes a row, if there is one, and how many pages were asked for.
+fn write_row_line<O: Sink>(
+    alloc: Global,
+    cell: Option<Cell<'_>>,
+    asked: &Value,
+    out: &mut O,
+) -> Result<(), Fault> {
+    if let Some(cell) = cell {
+        write_row(alloc, &cell, out)?;
+        write_all(out, b",")?;
+    }
+    asked.as_ref().write_literal(out)?;
+    write_all(out, b"\n")
+}
+
+/// Writes a line for a search of the table with this root: the row that it stands at or that is found, if any, and how many pages
+/// were asked for.
 pub fn write_row_search<S: Source, O: Sink>(
     alloc: Global,
     pager: &mut Pager<S>,
     root: u32,
     rowid: i64,
-    behind: bool,
+    way: Way,
     out: &mut O,
 ) -> Result<(), Fault> {
     let before = pager.asked();
+    let behind = match way {
+        Way::At => false,
+        Way::Behind => true,
+        Way::Find => {
+            let found = find_row(pager, root, rowid)?;
+            let asked = asked_since(pager, before);
+            let cell = found.as_ref().map(|found| found.cell());
+            return write_row_line(alloc, cell, &asked, out);
+        }
+    };
     let cursor = Cursor::seek_row(alloc, pager, root, rowid, behind)?;
-    let asked = pager.asked().saturating_sub(before);
-    if let Some(cell) = cursor.entry()? {
-        write_row(alloc, &cell, out)?;
-        write_all(out, b",")?;
-    }
-    ValueRef::Int(i64::try_from(asked).unwrap_or(i64::MAX)).write_literal(out)?;
-    write_all(out, b"\n")
+    let asked = asked_since(pager, before);
+    write_row_line(alloc, cursor.entry()?, &asked, out)
 }

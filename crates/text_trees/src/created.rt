@@ -1,6 +1,6 @@
 //! Trees of CREATE texts.
 use crate::pieces::{Piece, write_whole};
-use create_trees::{Column, ColumnType, CreateIndex, CreateTable};
+use sql_reader_grammar::{Column, ColumnType, CreateIndex, CreateTable};
 use std::alloc::{AllocError, Global};
 
 fn write_type(ty: &ColumnType, out: &mut String) -> Result<(), AllocError> {

@@ -1,9 +1,9 @@
 //! Trees of expressions, as an operator or a function before its operands, in parentheses; and of windows.
 use crate::pieces::Piece;
 use crate::queries::{add_inner, add_terms};
-use statement_trees::{Arm, Behind, Expr, Over, Window};
+use sql_reader_grammar::{Arm, CallSuffix, Expr, Over, Window};
+use sql_reader_syntax::Frame;
 use std::alloc::AllocError;
-use syntax::Frame;
 
 /// Writes the name of a column, behind that of its table where it is written.
 fn write_name(table: &Option<String>, name: &String, out: &mut String) -> Result<(), AllocError> {
@@ -130,7 +130,7 @@ fn add_arms<'a>(arms: &'a [Arm], then: &mut Vec<Piece<'a>>) -> Result<(), AllocE
 }
 
 /// Adds what stands behind a call.
-fn add_behind<'a>(behind: &'a Behind, then: &mut Vec<Piece<'a>>) -> Result<(), AllocError> {
+fn add_behind<'a>(behind: &'a CallSuffix, then: &mut Vec<Piece<'a>>) -> Result<(), AllocError> {
     add_part(" filter", &behind.filter, then)?;
     match &behind.over {
         Over::Absent => {}

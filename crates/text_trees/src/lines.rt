@@ -1,5 +1,5 @@
-//! Texts as lines write them: `\n`, `\r`, `\t` and `\f` stand for what doesn't fit a line, `{#65}` for the character of
-//! that number, and `{3*ab}` for `ababab`.
+//! Texts as lines write them: `\n`, `\r`, `\t` and `\f` mean what doesn't fit a line, `{#65}` the character
+//! of that number, and `{3*ab}` is `ababab`.
 use anyhow::{Context, Result};
 use std::alloc::{AllocError, Global};
 

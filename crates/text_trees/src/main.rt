@@ -1,11 +1,12 @@
-//! Writes what SQL texts say, so that worked texts can be compared with their tokens and trees: of each line of standard
-//! input the line itself, and behind it its answer. A line is a word and a text: `tokens` and `create-tokens` list the
-//! tokens by the reserved words of either grammar, `select`, `create` and `create-index` write the tree, and `names` the
-//! names of the result columns of a statement's first SELECT. A fault is answered by its line.
+//! Writes what SQL texts say, so that worked texts can be compared with their tokens and trees: of each line
+//! of standard input the line itself, and after it its answer. A line is a word and a text: `tokens` and
+//! `create-tokens` list the tokens by the reserved words of either grammar, `select`, `create` and
+//! `create-index` write the tree, and `names` the names of the result columns of a statement's first SELECT.
+//! A fault is answered by its line.
 //!
-//! The modules, in the order in which data passes them: `lines` (the texts), `token_lists`, `pieces` (what is still to be
-//! written of a tree), `expressions`, `queries` and `statements` (trees of statements) and `created` (trees of CREATE
-//! texts).
+//! The modules, in the order in which data passes them: `lines` (the texts), `token_lists`, `pieces` (what is
+//! still to be written of a tree), `expressions`, `queries` and `statements` (trees of statements) and
+//! `created` (trees of CREATE texts).
 #![tactic(auto)]
 
 mod created;
@@ -17,15 +18,14 @@ mod statements;
 mod token_lists;
 
 use anyhow::{Context, Result};
-use create_reader::{read_create, read_create_index};
 use created::{write_create, write_index};
-use keywords::Grammar;
 use lines::text_of;
-use statement_texts::read_select;
+use sql_reader::read_select;
+use sql_reader_creates::{read_create, read_create_index};
+use sql_reader_tokens::{Grammar, read_tokens};
 use statements::{write_headings, write_statement};
 use std::alloc::Global;
 use token_lists::write_tokens;
-use tokens::read_tokens;
 use values::Fault;
 
 /// Writes the answer for a text.

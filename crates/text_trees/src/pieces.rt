@@ -1,13 +1,13 @@
-//! What is still to be written of a tree. A piece that is taken up writes what stands at its front, and leaves the pieces
-//! inside it to be taken up next, so that nothing calls itself.
+//! What is still to be written of a tree. A piece that is taken up writes what is at its front, and leaves
+//! the pieces inside it to be taken up next, so that nothing calls itself.
 use crate::expressions::{write_expr, write_frame, write_window};
 use crate::queries::{
     add_query, write_alias, write_column, write_condition, write_core, write_direction,
     write_source,
 };
-use statement_trees::{Core, Expr, JoinCondition, Query, ResultColumn, Source, Window};
+use sql_reader_grammar::{Expr, JoinCondition, Query, ResultColumn, SelectCore, Source, Window};
+use sql_reader_syntax::{CompoundOperator, Direction, Frame, Join};
 use std::alloc::{AllocError, Global};
-use syntax::{CompoundOperator, Direction, Frame, Join};
 
 /// A part of a tree that is still to be written, or a word between two.
 #[derive(Clone, Copy)]
@@ -24,7 +24,7 @@ pub enum Piece<'a> {
     Join(Join),
     Source(&'a Source),
     Condition(&'a JoinCondition),
-    Core(&'a Core),
+    SelectCore(&'a SelectCore),
     Compound(CompoundOperator),
     Query(&'a Query),
 }
@@ -47,7 +47,7 @@ fn write_piece<'a>(
         Piece::Join(join) => write!(out, " {join:?}"),
         Piece::Source(source) => write_source(source, out, then),
         Piece::Condition(condition) => write_condition(condition, out, then),
-        Piece::Core(core) => write_core(core, out, then),
+        Piece::SelectCore(core) => write_core(core, out, then),
         Piece::Compound(operator) => write!(out, " | {operator:?} "),
         Piece::Query(query) => add_query(query, then),
     }

@@ -1,12 +1,12 @@
-//! Trees of queries, which stand in expressions and in sources.
+//! Trees of queries, which are in expressions and in sources.
 use crate::expressions::{add_list, add_operand};
 use crate::pieces::Piece;
-use statement_trees::{
-    Arranged, Core, Expr, JoinCondition, Joined, NamedWindow, Query, ResultColumn, Source, Sources,
-    Term,
+use sql_reader_grammar::{
+    CompoundArm, Expr, JoinCondition, Joined, NamedWindow, OrderingTerm, Query, ResultColumn,
+    SelectCore, Source, Sources,
 };
+use sql_reader_syntax::Direction;
 use std::alloc::AllocError;
-use syntax::Direction;
 
 /// Writes names, each in brackets.
 pub fn write_names(names: &[String], out: &mut String) -> Result<(), AllocError> {
@@ -35,7 +35,10 @@ pub fn write_direction(direction: Direction, out: &mut String) -> Result<(), All
 }
 
 /// Adds expressions of ORDER BY.
-pub fn add_terms<'a>(terms: &'a [Term], then: &mut Vec<Piece<'a>>) -> Result<(), AllocError> {
+pub fn add_terms<'a>(
+    terms: &'a [OrderingTerm],
+    then: &mut Vec<Piece<'a>>,
+) -> Result<(), AllocError> {
     for term in terms {
         add_operand(&term.value, then)?;
         then.push(Piece::Direction(term.direction))?;
@@ -165,7 +168,7 @@ fn add_windows<'a>(
 
 /// Writes the front of a SELECT: its result columns, and then its clauses in the order in which they are written.
 pub fn write_core<'a>(
-    core: &'a Core,
+    core: &'a SelectCore,
     out: &mut String,
     then: &mut Vec<Piece<'a>>,
 ) -> Result<(), AllocError> {
@@ -178,17 +181,20 @@ pub fn write_core<'a>(
     add_windows(core.windows.as_slice(), then)
 }
 
-fn add_arranged<'a>(others: &'a [Arranged], then: &mut Vec<Piece<'a>>) -> Result<(), AllocError> {
+fn add_arranged<'a>(
+    others: &'a [CompoundArm],
+    then: &mut Vec<Piece<'a>>,
+) -> Result<(), AllocError> {
     for arranged in others {
         then.push(Piece::Compound(arranged.operator))?;
-        then.push(Piece::Core(&arranged.core))?;
+        then.push(Piece::SelectCore(&arranged.core))?;
     }
     Ok(())
 }
 
 /// Adds the SELECTs of a query.
 pub fn add_query<'a>(query: &'a Query, then: &mut Vec<Piece<'a>>) -> Result<(), AllocError> {
-    then.push(Piece::Core(&query.first))?;
+    then.push(Piece::SelectCore(&query.first))?;
     add_arranged(query.others.as_slice(), then)
 }
 

@@ -1,11 +1,15 @@
 //! Trees of whole statements.
 use crate::pieces::{Piece, write_whole};
 use crate::queries::{write_direction, write_names};
-use statement_trees::{Item, ResultColumn, Statement, Term, Whole};
+use sql_reader_grammar::{CommonTableExpr, OrderingTerm, ResultColumn, SignedNumber, Statement};
+use sql_reader_syntax::ResultName;
 use std::alloc::{AllocError, Global};
-use syntax::ResultName;
 
-fn write_items(alloc: Global, items: &[Item], out: &mut String) -> Result<(), AllocError> {
+fn write_items(
+    alloc: Global,
+    items: &[CommonTableExpr],
+    out: &mut String,
+) -> Result<(), AllocError> {
     for item in items {
         write!(out, "with [{}]", item.name.as_str())?;
         write_names(item.columns.as_slice(), out)?;
@@ -16,7 +20,7 @@ fn write_items(alloc: Global, items: &[Item], out: &mut String) -> Result<(), Al
     Ok(())
 }
 
-fn write_order(alloc: Global, order: &[Term], out: &mut String) -> Result<(), AllocError> {
+fn write_order(alloc: Global, order: &[OrderingTerm], out: &mut String) -> Result<(), AllocError> {
     out.push_str(if order.is_empty() { "" } else { " order" })?;
     for term in order {
         out.push(' ')?;
@@ -26,10 +30,14 @@ fn write_order(alloc: Global, order: &[Term], out: &mut String) -> Result<(), Al
     Ok(())
 }
 
-fn write_number(word: &str, number: &Option<Whole>, out: &mut String) -> Result<(), AllocError> {
+fn write_number(
+    word: &str,
+    number: &Option<SignedNumber>,
+    out: &mut String,
+) -> Result<(), AllocError> {
     match number {
-        Some(Whole::Number(number)) => write!(out, "{word} {number}"),
-        Some(Whole::Negative(number)) => write!(out, "{word} -{number}"),
+        Some(SignedNumber::Number(number)) => write!(out, "{word} {number}"),
+        Some(SignedNumber::Negative(number)) => write!(out, "{word} -{number}"),
         None => Ok(()),
     }
 }

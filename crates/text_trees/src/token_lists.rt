@@ -1,6 +1,6 @@
 //! Tokens.
+use sql_reader_tokens::{Quoting, Token, TokenKind};
 use std::alloc::AllocError;
-use tokens::{Quoting, Token, TokenKind};
 
 /// Writes what a token says.
 fn write_kind(kind: TokenKind<'_>, out: &mut String) -> Result<(), AllocError> {

@@ -8,3 +8,4 @@ pub mod Hashed
 pub mod Fault
 pub mod Sink
 pub mod Literal
+pub mod sinks

@@ -5,17 +5,17 @@ use Rattle.std.proofs.lemmas.List.Elements.{All-contains, All-weaker}
 use Rattle.values.specs.Datum.{Datum, datum_of, null}
 use Rattle.values.specs.Row.{Row}
 use Rattle.expr.specs.Meaning.{eval}
-use Rattle.meaning.specs.Query.{Window, WindowCall}
-use Rattle.meaning.specs.Sequence.{value_at}
-use Rattle.meaning.specs.Valuation.{Valuation}
-use Rattle.meaning.specs.Windows.{call_value, numbered, row_at}
-use Rattle.window_order.specs.declared.sorting.Entry.{Entry}
-use Rattle.window_order.specs.Entries.{rows_of}
-use Rattle.window_entries.specs.Tags.{tags_of}
-use Rattle.window_partitions.specs.Partition.{ArePartitions, IsPartition, part_at}
-use Rattle.window_partitions.proofs.AlikeLemmas.{rows-of_tags}
-use Rattle.window_partitions.proofs.PartLemmas.{length-slice}
-use Rattle.window_results.specs.Put.{PutsEach}
+use Rattle.semantics.specs.Query.{Window, WindowCall}
+use Rattle.semantics.specs.Sequence.{value_at}
+use Rattle.semantics.specs.Valuation.{Valuation}
+use Rattle.semantics.specs.Windows.{call_value, numbered, row_at}
+use Rattle.windows_order.specs.declared.window_order.sorting.Entry.{Entry}
+use Rattle.windows_order.specs.window_order.Entries.{rows_of}
+use Rattle.windows.specs.window_entries.Tags.{tags_of}
+use Rattle.windows.specs.window_partitions.Partition.{ArePartitions, IsPartition, part_at}
+use Rattle.windows.proofs.lemmas.window_partitions.AlikeLemmas.{rows-of_tags}
+use Rattle.windows.proofs.lemmas.window_partitions.PartLemmas.{length-slice}
+use Rattle.windows.specs.window_results.Put.{PutsEach}
 use Rattle.windows.specs.Wanted.{column_of, wanted}
 use Rattle.windows.proofs.NumberedLemmas.{length-numbered_after}
 

@@ -4,9 +4,9 @@ use Rattle.std.proofs.lemmas.List.{ext_get_or, length-map}
 use Rattle.values.specs.Datum.{Datum}
 use Rattle.values.specs.Row.{Row}
 use Rattle.expr.specs.Meaning.{eval}
-use Rattle.meaning.specs.Query.{WindowCall}
-use Rattle.meaning.specs.Sequence.{value_at}
-use Rattle.meaning.specs.Windows.{call_value, numbered, row_at, windowed}
+use Rattle.semantics.specs.Query.{WindowCall}
+use Rattle.semantics.specs.Sequence.{value_at}
+use Rattle.semantics.specs.Windows.{call_value, numbered, row_at, windowed}
 use Rattle.windows.specs.Wanted.{column_of}
 use Rattle.windows.proofs.LawLemmas.{columns_are_windowed}
 use Rattle.windows.proofs.NumberedLemmas.{length-numbered_after}

@@ -4,9 +4,9 @@ use Rattle.std.proofs.lemmas.List.{get_or-map}
 use Rattle.values.specs.Datum.{Datum, null}
 use Rattle.values.specs.Row.{Row}
 use Rattle.expr.specs.Meaning.{eval}
-use Rattle.meaning.specs.Query.{WindowCall}
-use Rattle.meaning.specs.Sequence.{value_at}
-use Rattle.meaning.specs.Windows.{call_value, numbered}
+use Rattle.semantics.specs.Query.{WindowCall}
+use Rattle.semantics.specs.Sequence.{value_at}
+use Rattle.semantics.specs.Windows.{call_value, numbered}
 use Rattle.windows.specs.Wanted.{ColumnsAreWindowed, column_of}
 use Rattle.windows.proofs.NumberedLemmas.{length-numbered_after, numbered_at}
 

@@ -5,3 +5,4 @@ pub mod AllLemmas
 pub mod OrderedLemmas
 pub mod LawLemmas
 pub mod BehindLemmas
+pub mod lemmas

@@ -1,9 +1,9 @@
 -- Rows with how many equal ones stand before them.
 use Rattle.std.proofs.Common.{◌≡◌, ◌∙◌, ◌+◌, ◌<◌, ℕ, zero, suc, Any, true, false, cond, List, [], ◌∷◌, filter, get_or, length, take, refl, sym, ap, arith}
 use Rattle.values.specs.Row.{Row}
-use Rattle.meaning.specs.Times.{same_row, times}
-use Rattle.meaning.specs.Windows.{numbered, numbered_after, places, row_at}
-use Rattle.window_results.proofs.PutLemmas.{length-range, range_at}
+use Rattle.semantics.specs.Times.{same_row, times}
+use Rattle.semantics.specs.Windows.{numbered, numbered_after, places, row_at}
+use Rattle.windows.proofs.lemmas.window_results.PutLemmas.{length-range, range_at}
 
 pub times-as_copies : (row : Row) (rows : List Row) → times row rows ≡ length (filter (same_row row) rows)
 times-as_copies row [] = refl

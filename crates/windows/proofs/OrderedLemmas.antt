@@ -9,22 +9,22 @@ use Rattle.expr.specs.Meaning.{Overflows, eval}
 use Rattle.expr.specs.Term.{Term}
 use Rattle.expr.specs.View.{term}
 use Rattle.expr.specs.declared.tree.Expr.{Expr}
-use Rattle.syntax.specs.declared.query.Direction.{Direction as Way}
-use Rattle.meaning.specs.Hits.{call_terms, function_terms}
-use Rattle.meaning.specs.Query.{SortTerm}
-use Rattle.meaning.specs.Sequence.{value_at}
-use Rattle.meaning.specs.Valuation.{term_values}
-use Rattle.meaning.specs.Windows.{directions, sequence, sort_values}
-use Rattle.query_trees.specs.SelectView.{direction_of}
-use Rattle.window_order.specs.declared.sorting.Entry.{Entry}
-use Rattle.window_order.specs.Entries.{keys_of, rows_of}
-use Rattle.window_entries.specs.Tags.{tags_of}
-use Rattle.window_partitions.specs.Tagged.{AreAlike, terms_of}
-use Rattle.window_partitions.proofs.AlikeLemmas.{sort_values-as_terms}
-use Rattle.window_terms.specs.FunctionView.{function_data}
-use Rattle.window_results.specs.Put.{PutsEach}
-use Rattle.window_terms.specs.declared.calls.WindowCall.{WindowCall}
-use Rattle.window_terms.specs.CallView.{call_data, window_data}
+use Rattle.sql_reader_syntax.specs.declared.query.Direction.{Direction as Way}
+use Rattle.semantics.specs.Hits.{call_terms, function_terms}
+use Rattle.semantics.specs.Query.{SortTerm}
+use Rattle.semantics.specs.Sequence.{value_at}
+use Rattle.semantics.specs.Valuation.{term_values}
+use Rattle.semantics.specs.Windows.{directions, sequence, sort_values}
+use Rattle.resolver_terms.specs.SelectView.{direction_of}
+use Rattle.windows_order.specs.declared.window_order.sorting.Entry.{Entry}
+use Rattle.windows_order.specs.window_order.Entries.{keys_of, rows_of}
+use Rattle.windows.specs.window_entries.Tags.{tags_of}
+use Rattle.windows.specs.window_partitions.Tagged.{AreAlike, terms_of}
+use Rattle.windows.proofs.lemmas.window_partitions.AlikeLemmas.{sort_values-as_terms}
+use Rattle.windows_terms.specs.FunctionView.{function_data}
+use Rattle.windows.specs.window_results.Put.{PutsEach}
+use Rattle.windows_terms.specs.declared.calls.WindowCall.{WindowCall}
+use Rattle.windows_terms.specs.CallView.{call_data, window_data}
 use Rattle.windows.proofs.PartLemmas.{any_left, any_permutation, any_right, any_weaker, directions-sort_terms, same_numbers, same_rows, terms-sort_terms}
 
 -- what is known of rows that are put in order

@@ -7,17 +7,17 @@ use Rattle.values.specs.Datum.{Datum, datum_of}
 use Rattle.values.specs.Row.{Row}
 use Rattle.expr.specs.Meaning.{eval}
 use Rattle.expr.specs.Term.{Term}
-use Rattle.meaning.specs.Hits.{CallLeaves}
-use Rattle.meaning.specs.Query.{Direction, WindowCall}
-use Rattle.meaning.specs.Windows.{directions, numbered, places, sequence, window_result}
-use Rattle.window_order.specs.declared.sorting.Entry.{Entry}
-use Rattle.window_order.specs.Entries.{rows_of}
-use Rattle.window_entries.specs.Tags.{tags_of}
-use Rattle.window_partitions.specs.Partition.{IsPartition}
-use Rattle.window_partitions.specs.Tagged.{AreAlike, rows_of_tags, terms_of}
-use Rattle.window_partitions.proofs.AlikeLemmas.{rows-of_tags}
-use Rattle.window_results.specs.Put.{AreWanted}
-use Rattle.window_terms.specs.CallView.{sort_terms}
+use Rattle.semantics.specs.Hits.{CallLeaves}
+use Rattle.semantics.specs.Query.{Direction, WindowCall}
+use Rattle.semantics.specs.Windows.{directions, numbered, places, sequence, window_result}
+use Rattle.windows_order.specs.declared.window_order.sorting.Entry.{Entry}
+use Rattle.windows_order.specs.window_order.Entries.{rows_of}
+use Rattle.windows.specs.window_entries.Tags.{tags_of}
+use Rattle.windows.specs.window_partitions.Partition.{IsPartition}
+use Rattle.windows.specs.window_partitions.Tagged.{AreAlike, rows_of_tags, terms_of}
+use Rattle.windows.proofs.lemmas.window_partitions.AlikeLemmas.{rows-of_tags}
+use Rattle.windows.specs.window_results.Put.{AreWanted}
+use Rattle.windows_terms.specs.CallView.{sort_terms}
 use Rattle.windows.specs.Wanted.{wanted}
 use Rattle.windows.proofs.NumberedLemmas.{length-numbered_after, some_place}
 use Rattle.windows.proofs.WantedLemmas.{given_here, wanted_here}

@@ -9,17 +9,17 @@ use Rattle.values.specs.Datum.{Datum}
 use Rattle.values.specs.Order.{row_cmp}
 use Rattle.values.specs.Row.{Row}
 use Rattle.expr.proofs.BagLemmas.{IsPermutation-filter}
-use Rattle.meaning.specs.Query.{SortTerm, WindowCall}
-use Rattle.meaning.specs.Times.{same_row, times}
-use Rattle.meaning.specs.Valuation.{Valuation}
-use Rattle.meaning.specs.Windows.{call_result, numbered, partition_of, place_of, row_at, sequence, sequence_cmp, window_result}
-use Rattle.meaning.proofs.KeyLemmas.{sequence-one, sequence_total}
-use Rattle.meaning.proofs.OrderLemmas.{IsSortedBy-ascending}
-use Rattle.meaning.proofs.TimesLemmas.{same_row-itself, same_row-reads, same_row-turned}
-use Rattle.window_partitions.specs.Partition.{IsPartition}
-use Rattle.window_partitions.specs.Tagged.{AreAlike, copies, rows_of_tags, tagged}
-use Rattle.window_partitions.proofs.AlikeLemmas.{filter-map}
-use Rattle.window_partitions.proofs.PlaceLemmas.{place_in, same_before}
+use Rattle.semantics.specs.Query.{SortTerm, WindowCall}
+use Rattle.semantics.specs.Times.{same_row, times}
+use Rattle.semantics.specs.Valuation.{Valuation}
+use Rattle.semantics.specs.Windows.{call_result, numbered, partition_of, place_of, row_at, sequence, sequence_cmp, window_result}
+use Rattle.semantics.proofs.KeyLemmas.{sequence-one, sequence_total}
+use Rattle.semantics.proofs.OrderLemmas.{IsSortedBy-ascending}
+use Rattle.semantics.proofs.TimesLemmas.{same_row-itself, same_row-reads, same_row-turned}
+use Rattle.windows.specs.window_partitions.Partition.{IsPartition}
+use Rattle.windows.specs.window_partitions.Tagged.{AreAlike, copies, rows_of_tags, tagged}
+use Rattle.windows.proofs.lemmas.window_partitions.AlikeLemmas.{filter-map}
+use Rattle.windows.proofs.lemmas.window_partitions.PlaceLemmas.{place_in, same_before}
 use Rattle.windows.proofs.NumberedLemmas.{numbered_at, times-as_copies}
 
 -- ---- rows in the order of a sequence

@@ -3,10 +3,10 @@ use Rattle.std.specs.Prelude.{◌≡◌, ◌<◌, ◌++◌, length, ◌⊎◌, �
 use Rattle.values.specs.Datum.{Datum}
 use Rattle.values.specs.Row.{Row}
 use Rattle.expr.specs.Meaning.{Overflows, eval}
-use Rattle.meaning.specs.Hits.{CallLeaves, call_terms}
-use Rattle.meaning.specs.Query.{WindowCall}
-use Rattle.meaning.specs.Sequence.{value_at}
-use Rattle.meaning.specs.Windows.{call_result, call_value, numbered, row_at, windowed}
+use Rattle.semantics.specs.Hits.{CallLeaves, call_terms}
+use Rattle.semantics.specs.Query.{WindowCall}
+use Rattle.semantics.specs.Sequence.{value_at}
+use Rattle.semantics.specs.Windows.{call_result, call_value, numbered, row_at, windowed}
 
 -- on the row of a number; `w` stands for results out of range within expressions, and `o` for the number itself
 abbrev pub wanted : Datum → Option Datum → WindowCall → List Row → ℕ → Option Datum

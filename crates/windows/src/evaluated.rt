@@ -3,19 +3,19 @@ ghost use Rattle.std.specs.Prelude.{◌≡◌, ◌⊎◌, ◌<◌, ◌≤◌, �
 ghost use Rattle.values.specs.Datum.{Datum, datum_of};
 ghost use Rattle.values.specs.Row.{Row};
 ghost use Rattle.expr.specs.Meaning.{Overflows, eval};
-ghost use Rattle.meaning.specs.Hits.{CallLeaves, call_terms};
-ghost use Rattle.meaning.specs.Sequence.{value_at};
-ghost use Rattle.window_order.specs.Entries.{rows_of};
-ghost use Rattle.window_entries.specs.Tags.{tags_of};
-ghost use Rattle.window_partitions.specs.Partition.{ArePartitions, part_at};
-ghost use Rattle.window_terms.specs.CallView.{call_data, window_data};
+ghost use Rattle.semantics.specs.Hits.{CallLeaves, call_terms};
+ghost use Rattle.semantics.specs.Sequence.{value_at};
+ghost use Rattle.windows_order.specs.window_order.Entries.{rows_of};
+ghost use Rattle.windows.specs.window_entries.Tags.{tags_of};
+ghost use Rattle.windows.specs.window_partitions.Partition.{ArePartitions, part_at};
+ghost use Rattle.windows_terms.specs.CallView.{call_data, window_data};
 ghost use Rattle.windows.specs.Wanted.{IsReachedBy, column_of, wanted};
 
 use crate::parts::put_part;
+use crate::window_partitions::{Partitions, partitioned};
 use std::alloc::{AllocError, Global};
 use values::{Fault, Value};
-use window_partitions::{Partitions, partitioned};
-use window_terms::WindowCall;
+use windows_terms::WindowCall;
 
 /// So many NULLs.
 fn nulls(alloc: Global, count: usize) -> Result<Vec<Value>, AllocError>

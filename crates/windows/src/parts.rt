@@ -1,25 +1,25 @@
-//! One partition.
+//! The values of a call on one partition.
 ghost use Rattle.std.specs.Prelude.{◌≡◌, ◌⊎◌, ◌<◌, ◌≤◌, ℕ, All, Any, Err, IfErr, IfOk, List, None, OnOk, Option, length, map};
 ghost use Rattle.values.specs.Datum.{Datum, datum_of};
 ghost use Rattle.values.specs.Row.{Row};
 ghost use Rattle.expr.specs.Meaning.{Overflows, eval};
-ghost use Rattle.meaning.specs.Hits.{CallLeaves, call_terms, function_terms};
-ghost use Rattle.meaning.specs.Windows.{places, sort_values, window_result};
-ghost use Rattle.query_trees.specs.SelectView.{direction_of};
-ghost use Rattle.window_order.specs.Entries.{IsInWindowOrder, keys_of, rows_of};
-ghost use Rattle.window_entries.specs.Tags.{tags_of};
-ghost use Rattle.window_partitions.specs.Partition.{IsPartition};
-ghost use Rattle.window_terms.specs.FunctionView.{function_data};
-ghost use Rattle.window_results.specs.Put.{AreWanted, PutsEach};
-ghost use Rattle.window_terms.specs.CallView.{call_data, window_data};
+ghost use Rattle.semantics.specs.Hits.{CallLeaves, call_terms, function_terms};
+ghost use Rattle.semantics.specs.Windows.{places, sort_values, window_result};
+ghost use Rattle.resolver_terms.specs.SelectView.{direction_of};
+ghost use Rattle.windows_order.specs.window_order.Entries.{IsInWindowOrder, keys_of, rows_of};
+ghost use Rattle.windows.specs.window_entries.Tags.{tags_of};
+ghost use Rattle.windows.specs.window_partitions.Partition.{IsPartition};
+ghost use Rattle.windows_terms.specs.FunctionView.{function_data};
+ghost use Rattle.windows.specs.window_results.Put.{AreWanted, PutsEach};
+ghost use Rattle.windows_terms.specs.CallView.{call_data, window_data};
 ghost use Rattle.windows.specs.Wanted.{wanted};
 
+use crate::window_partitions::ordered;
+use crate::window_results::put_values;
 use std::alloc::Global;
 use values::{Fault, Value};
-use window_order::{Entry, Sequence, peer_groups};
-use window_partitions::ordered;
-use window_results::put_values;
-use window_terms::WindowCall;
+use windows_order::{Entry, Sequence, peer_groups};
+use windows_terms::WindowCall;
 
 /// Puts the value of a call at each place of the sequence of a partition where its row stands among those that are given, and
 /// answers how many values it added to totals. Its faults are `Overflow` and `NoMemory`.

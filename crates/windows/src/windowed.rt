@@ -1,16 +1,16 @@
-//! Rows with the values of calls behind them.
+//! Rows followed by the values of calls on them.
 ghost use Rattle.std.specs.Prelude.{◌≡◌, ◌⊎◌, ◌++◌, Any, Err, IfErr, IfOk, OnOk, length, map};
 ghost use Rattle.values.specs.Datum.{Datum, datum_of};
 ghost use Rattle.expr.specs.Meaning.{eval};
-ghost use Rattle.meaning.specs.Sequence.{value_at};
-ghost use Rattle.meaning.specs.Windows.{windowed};
-ghost use Rattle.window_terms.specs.CallView.{call_data};
+ghost use Rattle.semantics.specs.Sequence.{value_at};
+ghost use Rattle.semantics.specs.Windows.{windowed};
+ghost use Rattle.windows_terms.specs.CallView.{call_data};
 ghost use Rattle.windows.specs.Wanted.{IsReachedBy};
 
 use crate::evaluated::evaluate_all;
 use std::alloc::{AllocError, Global};
 use values::{Fault, Value};
-use window_terms::WindowCall;
+use windows_terms::WindowCall;
 
 /// A copy of the value at a place of a column, and NULL past its end.
 fn value_at_place(alloc: Global, column: &[Value], at: usize) -> Result<Value, AllocError>

@@ -1,18 +1,21 @@
-use Rattle.std.proofs.Common.{◌<◌, ◌∙◌, ap, sym, arith, Some, drop}
-use Rattle.image.specs.Cell.{most_local}
-use Rattle.pager.specs.Header.{field}
-use Rattle.byteorder.specs.Endian.{big_number}
-use Rattle.btree.proofs.CellLemmas.{overflow_size-long, overflow_of-long}
+use Rattle.std.proofs.Common.{◌≤◌, sym, arith}
+use Rattle.btree.specs.image.Cell.{most_local}
+use Rattle.btree.proofs.CellLemmas.{local_size-short, no_short, overflow_of-short, overflow_size-short}
 use Rattle.btree.proofs.cell.read_payload.Goals as goal
 
+pub read_chained-requires-clause-long : goal.read_chained-requires-clause-long
+read_chained-requires-clause-long c = omega (arith, c.most_local_of.ensures)
+
+pub returns-then-whole-bytes-clause-none : goal.returns-then-whole-bytes-clause-none
+returns-then-whole-bytes-clause-none c =
+    let short : c.args.size ≤ most_local c.args.kind c.args.usable = omega (arith, c.most_local_of.ensures) in
+    no_short _ _ _ _ short (omega arith)
+
 pub returns-clause-found : goal.returns-clause-found
-unfolding field
 returns-clause-found c =
-    let long : most_local c.args.kind c.args.usable < c.args.size = omega (arith, c.most_local_of.ensures) in
+    let short : c.args.size ≤ most_local c.args.kind c.args.usable = omega (arith, c.most_local_of.ensures) in
     record {
-      within = rw (overflow_size-long _ _ _ long, ← c.local_size_of-local_size.ensures) (omega (arith, c.split_at.ensures.back_len));
-      local_is = rw (← c.local_size_of-local_size.ensures) c.split_at.ensures.front;
-      overflow_is =
-          ap Some (c.read_u32.ensures ∙ ap (big_number 4) (c.split_at.ensures.back ∙ ap (λ n. drop n c.args.bytes.now) c.local_size_of-local_size.ensures))
-          ∙ sym (overflow_of-long _ _ _ _ long);
+      within = rw (overflow_size-short _ _ _ short, local_size-short _ _ _ short) (omega (arith, c.split_at.ensures.back_len));
+      local_is = rw (local_size-short _ _ _ short) c.split_at.ensures.front;
+      overflow_is = sym (overflow_of-short _ _ _ _ short);
     }

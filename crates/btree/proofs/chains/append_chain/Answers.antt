@@ -1,7 +1,7 @@
 use Rattle.std.proofs.Common.{rules, arith, ◌≡◌, ℕ, List, ◌-◌, ◌++◌, ◌≤◌, take, drop, length, min, Option, IfSome, sym, ap, ◌∙◌, subst, length-take-le}
 use Rattle.pager.specs.Header.{field}
 use Rattle.pager.specs.declared.header.Header.{Header}
-use Rattle.image.specs.Pages.{pages_seen, Pages, IsNumber}
+use Rattle.btree.specs.image.Pages.{pages_seen, Pages, IsNumber}
 use Rattle.btree.proofs.ChainLemmas.{first_field, goes_on, no_page, read_all, read_page}
 use Rattle.btree.proofs.SeenLemmas.{same_pages, still_steady}
 use Rattle.pager.proofs.CallLemmas.{AsksChainsOnly-trans}

@@ -1,6 +1,6 @@
 use Rattle.std.proofs.Common.{◌≡◌, IsTrue}
 use Rattle.pager.specs.Calls.{AsksChainsOnly}
-use Rattle.image.specs.Pages.{pages_seen}
+use Rattle.btree.specs.image.Pages.{pages_seen}
 use Rattle.btree.proofs.ChainLemmas.{IsRead}
 use Rattle.btree.proofs.chains.append_chain.Given as goal
 

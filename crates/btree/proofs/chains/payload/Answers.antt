@@ -1,6 +1,6 @@
 use Rattle.std.proofs.Common.{rules, ◌≡◌, ℕ, List, ◌-◌, ◌++◌, length, ap, ◌∙◌, subst}
-use Rattle.image.specs.Chain.{IsChain, joined}
-use Rattle.image.specs.Pages.{pages_seen}
+use Rattle.btree.specs.image.Chain.{IsChain, joined}
+use Rattle.btree.specs.image.Pages.{pages_seen}
 use Rattle.btree.proofs.chains.payload.Goals as goal
 
 pub returns-clause-outcome : goal.returns-clause-outcome

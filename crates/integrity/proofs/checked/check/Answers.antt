@@ -3,22 +3,22 @@ use Rattle.std.specs.List.{AllZip}
 use Rattle.std.proofs.lemmas.Result.{err_from_is_err_and}
 use Rattle.values.specs.declared.fault.Fault.{Fault}
 use Rattle.pager.specs.declared.header.Header.{Header}
-use Rattle.image.specs.Pages.{pages_seen, Pages}
+use Rattle.btree.specs.image.Pages.{pages_seen, Pages}
 use Rattle.pager.proofs.CallLemmas.{SameImage-trans}
 use Rattle.pager.specs.PagerState.{IsPageNumber, IsSoundHeader}
-use Rattle.image.specs.Freelist.{IsFreelist}
-use Rattle.page_use.specs.Free.{header_on}
-use Rattle.page_use.proofs.FrontLemmas.{front_is}
+use Rattle.btree.specs.image.Freelist.{IsFreelist}
+use Rattle.btree.specs.page_use.Free.{header_on}
+use Rattle.btree.proofs.lemmas.page_use.FrontLemmas.{front_is}
 use Rattle.btree.proofs.SeenLemmas.{still_steady, same_pages}
-use Rattle.catalog.specs.CatalogView.{catalog_data}
-use Rattle.indexes.specs.IndexData.{IndexData}
-use Rattle.indexes.specs.IndexView.{index_data}
-use Rattle.schema.specs.Names.{IsSameName}
-use Rattle.tables.specs.TableData.{TableData}
+use Rattle.schema.specs.CatalogView.{catalog_data}
+use Rattle.schema.specs.indexes.IndexData.{IndexData}
+use Rattle.schema.specs.indexes.IndexView.{index_data}
+use Rattle.schema_keys.specs.Names.{IsSameName}
+use Rattle.schema_tables.specs.TableData.{TableData}
 use Rattle.integrity.specs.declared.index_trees.IndexCounts.{IndexCounts}
 use Rattle.integrity.specs.Checked.{IsBrokenImage}
 use Rattle.integrity.specs.Denotes.{HasCatalog}
-use Rattle.integrity.specs.Indexes.{AreBrokenEntries, AreItsEntries, IsBrokenIndexTree, IsCheckedIndexOf, IsOwned}
+use Rattle.integrity.specs.Indexes.{AreBrokenEntries, AreItsEntries, IsBrokenIndexTree, IsCheckedIndexOf, IsOwned, IsTableIndex}
 use Rattle.integrity.specs.Keys.{HasKeyCounts}
 use Rattle.integrity.specs.Used.{AreTreesTwice, MarksTrees, index_tree_of}
 use Rattle.integrity.specs.Tables.{IsAnyBroken, IsAnyChecked, any_tree}
@@ -27,6 +27,7 @@ use Rattle.integrity.proofs.EntryLemmas.{tables_now}
 use Rattle.integrity.proofs.IndexLemmas.{broken_entries, broken_index_tree, index_only, index_roots, its_entries, unbroken_indexes}
 use Rattle.integrity.proofs.OwnerLemmas.{all_owned}
 use Rattle.integrity.proofs.OneLemmas.{sound_rows}
+use Rattle.integrity.proofs.RowIndexLemmas.{row_indexes}
 use Rattle.integrity.proofs.TreesLemmas.{IsRestFault, IsRestOnce, indexes_twice, no_misuse, rest_broken, rest_once, schema_twice, tables_twice}
 use Rattle.integrity.proofs.UnbrokenLemmas.{catalog_here, unbroken_image}
 use Rattle.integrity.proofs.checked.check.Goals as goal
@@ -247,28 +248,45 @@ returns-clause-outcome g c =
     let four = SameImage-trans _ _ _ three c.check_rest.ensures.reads.chains.image in
     let is = c.header-pages.ensures.is in
     let count : c.header-pages.result.pages ≡ pages.count = ap (λ (h : Header). h.pages) is in
+    let numbers : All (λ table. IsPageNumber c.args.pager.now.state table.root) found.tables = search rules in
     let has : IsTrue state.source.steady → HasCatalog pages rows found = λ steady.
     catalog_here pages _ rows _ c.in_ok-own.own.tree found (c.in_ok-own.ensures.checked steady)
     (c.in_ok-own.ensures.rows steady) count c.as_slice.ensures.value c.in_ok-catalog.ensures.said in
+    let trees : IsTrue state.source.steady → AllZip (IsAnyChecked pages) c.tables-tables.result.now c.in_ok-trees.trees.items = λ steady.
+    subst (λ (q : Pages). AllZip (IsAnyChecked q) c.tables-tables.result.now c.in_ok-trees.trees.items) (same_pages _ _ stays)
+    (c.in_ok-trees.ensures.checked (still_steady _ _ stays steady)) in
+    let its_trees : IsTrue state.source.steady → AllZip (IsAnyChecked pages) found.tables c.in_ok-trees.trees.items = λ steady.
+    subst (λ (ts : List TableData). AllZip (IsAnyChecked pages) ts c.in_ok-trees.trees.items) c.tables-tables.ensures (trees steady) in
+    let index_trees : IsTrue state.source.steady → AllZip (IsCheckedIndexOf pages c.tables-tables.result.now) (map index_data c.indexes-indexes.result.now)
+    c.in_ok-index_counts.index_counts.items = λ steady.
+    subst (λ (q : Pages). AllZip (IsCheckedIndexOf q c.tables-tables.result.now) (map index_data c.indexes-indexes.result.now) c.in_ok-index_counts.index_counts.items)
+    (same_pages _ _ both) (c.in_ok-index_counts.ensures.checked (still_steady _ _ both steady)) in
+    let its_index_trees : IsTrue state.source.steady → AllZip (IsCheckedIndexOf pages found.tables) found.indexes c.in_ok-index_counts.index_counts.items = λ steady.
+    subst (λ (ts : List TableData). AllZip (IsCheckedIndexOf pages ts) found.indexes c.in_ok-index_counts.index_counts.items) c.tables-tables.ensures
+    (subst (λ (all : List IndexData). AllZip (IsCheckedIndexOf pages c.tables-tables.result.now) all c.in_ok-index_counts.index_counts.items) c.indexes-indexes.ensures
+    (index_trees steady)) in
+    let entries : IsTrue state.source.steady → (table : TableData) (index : IndexData) → IsTableIndex pages table index → AreItsEntries pages table index = λ steady.
+    let four_trees = tables_now pages (pages_seen c.check_rest.new.pager.state) found.tables c.tables-tables.result.now c.in_ok-trees.trees.items (same_pages _ _ four) c.tables-tables.ensures numbers
+    (trees steady) in
+    let four_index_trees = subst (λ (l : List IndexCounts). AllZip (IsCheckedIndexOf (pages_seen c.check_rest.new.pager.state) c.tables-tables.result.now) (map index_data c.indexes-indexes.result.now) l) (sym c.as_slice-counted.ensures.value)
+    (subst (λ (q : Pages). AllZip (IsCheckedIndexOf q c.tables-tables.result.now) (map index_data c.indexes-indexes.result.now) c.in_ok-index_counts.index_counts.items) (sym (same_pages _ _ four))
+    (index_trees steady)) in
+    its_entries pages rows found (has steady)
+    (λ table index among_tables among owner.
+    subst (λ (q : Pages). AreItsEntries q table index) (same_pages _ _ four)
+    (c.in_ok-check_entries.ensures.entries (still_steady _ _ four steady) four_trees four_index_trees table index
+    (subst (λ (ts : List TableData). Contains ts table) (sym c.tables-tables.ensures) among_tables)
+    (subst (λ (all : List IndexData). Contains all index) (sym c.indexes-indexes.ensures) among) owner)) in
     let whole : IsTrue state.source.steady → (fault : Fault) → ¬ IsBrokenImage pages fault = λ steady fault.
-    let now = still_steady _ _ stays steady in
     let front = front_is state (subst (λ (h : Header). IsSoundHeader h) is c.header-pages.ensures.sound) (sym is ∙ c.header-pages.ensures.steady steady) in
     let header : c.check_indexes.new.pager.state.header ≡ header_on pages = three.header ∙ sym front in
-    let trees = subst (λ (q : Pages). AllZip (IsAnyChecked q) c.tables-tables.result.now c.in_ok-trees.trees.items) (same_pages _ _ stays) (c.in_ok-trees.ensures.checked now) in
-    let index_trees = subst (λ (q : Pages). AllZip (IsCheckedIndexOf q c.tables-tables.result.now) (map index_data c.indexes-indexes.result.now) c.in_ok-index_counts.index_counts.items) (same_pages _ _ both)
-    (c.in_ok-index_counts.ensures.checked (still_steady _ _ both steady)) in
     let tables = subst (λ (ts : List TableData). MarksTrees pages (map any_tree ts) c.read_schema.new.used c.check_tables.new.used) c.tables-tables.ensures
-    (subst (λ (q : Pages). MarksTrees q (map any_tree c.tables-tables.result.now) c.read_schema.new.used c.check_tables.new.used) (same_pages _ _ stays) (c.in_ok-trees.ensures.marks now)) in
+    (subst (λ (q : Pages). MarksTrees q (map any_tree c.tables-tables.result.now) c.read_schema.new.used c.check_tables.new.used) (same_pages _ _ stays)
+    (c.in_ok-trees.ensures.marks (still_steady _ _ stays steady))) in
     let indexes = subst (λ (all : List IndexData). MarksTrees pages (map index_tree_of all) c.check_tables.new.used c.check_indexes.new.used) c.indexes-indexes.ensures
     (subst (λ (q : Pages). MarksTrees q (map index_tree_of (map index_data c.indexes-indexes.result.now)) c.check_tables.new.used c.check_indexes.new.used) (same_pages _ _ both)
     (c.in_ok-index_counts.ensures.marks (still_steady _ _ both steady))) in
-    let numbers : All (λ table. IsPageNumber c.args.pager.now.state table.root) found.tables = search rules in
-    let four_trees = tables_now pages (pages_seen c.check_rest.new.pager.state) found.tables c.tables-tables.result.now c.in_ok-trees.trees.items (same_pages _ _ four) c.tables-tables.ensures numbers
-    trees in
-    let four_index_trees = subst (λ (l : List IndexCounts). AllZip (IsCheckedIndexOf (pages_seen c.check_rest.new.pager.state) c.tables-tables.result.now) (map index_data c.indexes-indexes.result.now) l) (sym c.as_slice-counted.ensures.value)
-    (subst (λ (q : Pages). AllZip (IsCheckedIndexOf q c.tables-tables.result.now) (map index_data c.indexes-indexes.result.now) c.in_ok-index_counts.index_counts.items) (sym (same_pages _ _ four)) index_trees) in
-    unbroken_image pages rows found c.in_ok-trees.trees.items c.in_ok-own.own.tree (c.in_ok-own.ensures.checked steady) (has steady)
-    (subst (λ (ts : List TableData). AllZip (IsAnyChecked pages) ts c.in_ok-trees.trees.items) c.tables-tables.ensures trees)
+    unbroken_image pages rows found c.in_ok-trees.trees.items c.in_ok-own.own.tree (c.in_ok-own.ensures.checked steady) (has steady) (its_trees steady)
     (no_misuse pages found rows (has steady)
     (subst (λ (h : Header). IsFreelist pages h.freelist h.free_pages) header
     (subst (λ (q : Pages). IsFreelist q c.check_indexes.new.pager.state.header.freelist c.check_indexes.new.pager.state.header.free_pages) (same_pages _ _ three)
@@ -279,15 +297,7 @@ returns-clause-outcome g c =
     (subst (λ (q : Pages). IsRestOnce q c.check_indexes.new.pager.state.header c.check_indexes.new.used) (same_pages _ _ three)
     (c.in_ok-check_rest.ensures.once (still_steady _ _ three steady))))))
     (sound_rows pages rows found (has steady))
-    (unbroken_indexes pages rows found (has steady) c.in_ok-index_counts.index_counts.items
-    (subst (λ (ts : List TableData). AllZip (IsCheckedIndexOf pages ts) found.indexes c.in_ok-index_counts.index_counts.items) c.tables-tables.ensures
-    (subst (λ (all : List IndexData). AllZip (IsCheckedIndexOf pages c.tables-tables.result.now) all c.in_ok-index_counts.index_counts.items) c.indexes-indexes.ensures index_trees))
-    (its_entries pages rows found (has steady)
-    (λ table index among_tables among owner.
-    subst (λ (q : Pages). AreItsEntries q table index) (same_pages _ _ four)
-    (c.in_ok-check_entries.ensures.entries (still_steady _ _ four steady) four_trees four_index_trees table index
-    (subst (λ (ts : List TableData). Contains ts table) (sym c.tables-tables.ensures) among_tables)
-    (subst (λ (all : List IndexData). Contains all index) (sym c.indexes-indexes.ensures) among) owner))))
+    (unbroken_indexes pages rows found (has steady) c.in_ok-index_counts.index_counts.items (its_index_trees steady) (entries steady))
     fault in
     record {
       own_root = search rules;
@@ -295,39 +305,21 @@ returns-clause-outcome g c =
       catalog = λ steady. (rows, has steady);
       schema_tree = c.in_ok-own.ensures.checked;
       tables = λ steady.
-          let now = still_steady _ _ stays steady in
-          let trees = subst (λ (q : Pages). AllZip (IsAnyChecked q) c.tables-tables.result.now c.in_ok-trees.trees.items) (same_pages _ _ stays) (c.in_ok-trees.ensures.checked now) in
-          has_tables pages rows found c.in_ok-own.own.tree c.in_ok-trees.trees.items (has steady) (c.in_ok-own.ensures.checked steady)
-          (subst (λ (ts : List TableData). AllZip (IsAnyChecked pages) ts c.in_ok-trees.trees.items) c.tables-tables.ensures trees);
-      trees = search rules;
-      key_counts = λ steady.
-          let five = SameImage-trans _ _ _ four c.check_entries.ensures.reads.image in
-          let numbers : All (λ table. IsPageNumber c.args.pager.now.state table.root) found.tables = search rules in
-          let trees = tables_now pages (pages_seen c.check_entries.new.pager.state) found.tables c.tables-tables.result.now c.in_ok-trees.trees.items (same_pages _ _ five) c.tables-tables.ensures numbers
-          (subst (λ (q : Pages). AllZip (IsAnyChecked q) c.tables-tables.result.now c.in_ok-trees.trees.items) (same_pages _ _ stays)
-          (c.in_ok-trees.ensures.checked (still_steady _ _ stays steady))) in
-          subst (λ (ts : List TableData). AllZip (HasKeyCounts pages) ts c.in_ok-key_counts.key_counts.items) c.tables-tables.ensures
-          (subst (λ (q : Pages). AllZip (HasKeyCounts q) c.tables-tables.result.now c.in_ok-key_counts.key_counts.items) (same_pages _ _ five)
-          (c.in_ok-key_counts.ensures.counts (still_steady _ _ five steady) trees));
-      index_counts = λ steady.
-          let trees = subst (λ (q : Pages). AllZip (IsCheckedIndexOf q c.tables-tables.result.now) (map index_data c.indexes-indexes.result.now) c.in_ok-index_counts.index_counts.items) (same_pages _ _ both)
-          (c.in_ok-index_counts.ensures.checked (still_steady _ _ both steady)) in
-          subst (λ (ts : List TableData). AllZip (IsCheckedIndexOf pages ts) found.indexes c.in_ok-index_counts.index_counts.items) c.tables-tables.ensures
-          (subst (λ (all : List IndexData). AllZip (IsCheckedIndexOf pages c.tables-tables.result.now) all c.in_ok-index_counts.index_counts.items) c.indexes-indexes.ensures trees);
-      entries = λ steady.
-          let now = still_steady _ _ stays steady in
-          let numbers : All (λ table. IsPageNumber c.args.pager.now.state table.root) found.tables = search rules in
-          let trees = tables_now pages (pages_seen c.check_rest.new.pager.state) found.tables c.tables-tables.result.now c.in_ok-trees.trees.items (same_pages _ _ four) c.tables-tables.ensures numbers
-          (subst (λ (q : Pages). AllZip (IsAnyChecked q) c.tables-tables.result.now c.in_ok-trees.trees.items) (same_pages _ _ stays) (c.in_ok-trees.ensures.checked now)) in
-          let index_trees = subst (λ (l : List IndexCounts). AllZip (IsCheckedIndexOf (pages_seen c.check_rest.new.pager.state) c.tables-tables.result.now) (map index_data c.indexes-indexes.result.now) l) (sym c.as_slice-counted.ensures.value)
-          (subst (λ (q : Pages). AllZip (IsCheckedIndexOf q c.tables-tables.result.now) (map index_data c.indexes-indexes.result.now) c.in_ok-index_counts.index_counts.items) (same_pages _ _ both ∙ sym (same_pages _ _ four))
-          (c.in_ok-index_counts.ensures.checked (still_steady _ _ both steady))) in
-          its_entries pages rows found (has steady)
-          (λ table index among_tables among owner.
-          subst (λ (q : Pages). AreItsEntries q table index) (same_pages _ _ four)
-          (c.in_ok-check_entries.ensures.entries (still_steady _ _ four steady) trees index_trees table index
-          (subst (λ (ts : List TableData). Contains ts table) (sym c.tables-tables.ensures) among_tables)
-          (subst (λ (all : List IndexData). Contains all index) (sym c.indexes-indexes.ensures) among) owner));
+          has_tables pages rows found c.in_ok-own.own.tree c.in_ok-trees.trees.items (has steady) (c.in_ok-own.ensures.checked steady) (its_trees steady);
+      found = λ steady. record {
+        trees = its_trees steady;
+        key_counts =
+            let five = SameImage-trans _ _ _ four c.check_entries.ensures.reads.image in
+            let five_trees = tables_now pages (pages_seen c.check_entries.new.pager.state) found.tables c.tables-tables.result.now c.in_ok-trees.trees.items (same_pages _ _ five) c.tables-tables.ensures numbers
+            (trees steady) in
+            subst (λ (ts : List TableData). AllZip (HasKeyCounts pages) ts c.in_ok-key_counts.key_counts.items) c.tables-tables.ensures
+            (subst (λ (q : Pages). AllZip (HasKeyCounts q) c.tables-tables.result.now c.in_ok-key_counts.key_counts.items) (same_pages _ _ five)
+            (c.in_ok-key_counts.ensures.counts (still_steady _ _ five steady) five_trees));
+        listed = row_indexes pages rows found (has steady) (entries steady) found.indexes c.in_ok-index_counts.index_counts.items (λ index h. h)
+            (index_roots state c.header-pages.result.pages _ found (ap (λ (h : Header). h.pages) is) c.in_ok-catalog.ensures.said)
+            (its_index_trees steady);
+      };
+      entries = entries;
       whole = whole;
       unbroken = λ steady fault examined. whole steady fault;
     }

@@ -2,13 +2,13 @@ use Rattle.std.proofs.Common.{rules, ◌∙◌, All, Contains, map, refl, sym, s
 use Rattle.std.proofs.lemmas.Result.{err_from_is_err_and}
 use Rattle.pager.proofs.CallLemmas.{SameImage-trans}
 use Rattle.pager.specs.PagerState.{IsPageNumber}
-use Rattle.image.specs.Pages.{pages_seen, Pages}
+use Rattle.btree.specs.image.Pages.{pages_seen, Pages}
 use Rattle.btree.proofs.SeenLemmas.{still_steady, same_pages}
-use Rattle.indexes.specs.IndexData.{IndexData}
-use Rattle.indexes.specs.IndexView.{index_data}
-use Rattle.schema.specs.Names.{IsSameName}
-use Rattle.tables.specs.TableData.{TableData}
-use Rattle.index_rows.specs.Checked.{IsCheckedTable}
+use Rattle.schema.specs.indexes.IndexData.{IndexData}
+use Rattle.schema.specs.indexes.IndexView.{index_data}
+use Rattle.schema_keys.specs.Names.{IsSameName}
+use Rattle.schema_tables.specs.TableData.{TableData}
+use Rattle.integrity_indexes.specs.index_rows.Checked.{IsCheckedTable}
 use Rattle.integrity.specs.Indexes.{AreBrokenEntries, AreItsEntries, IsCheckedIndexOf}
 use Rattle.integrity.proofs.EntryLemmas.{all_in, index_with}
 use Rattle.integrity.proofs.ZipLemmas.{all_viewed, beside_among, beside_end, beside_here, beside_next, beside_start, each_viewed, viewed}

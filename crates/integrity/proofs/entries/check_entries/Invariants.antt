@@ -1,11 +1,11 @@
 use Rattle.std.proofs.Common.{◌≡◌, All, IsTrue, Contains, map}
 use Rattle.std.specs.List.{AllZip}
 use Rattle.pager.specs.Calls.{SameImage}
-use Rattle.image.specs.Pages.{pages_seen}
-use Rattle.indexes.specs.IndexView.{index_data}
-use Rattle.schema.specs.Names.{IsSameName}
-use Rattle.tables.specs.TableData.{TableData}
-use Rattle.index_rows.specs.Checked.{IsCheckedTable}
+use Rattle.btree.specs.image.Pages.{pages_seen}
+use Rattle.schema.specs.indexes.IndexView.{index_data}
+use Rattle.schema_keys.specs.Names.{IsSameName}
+use Rattle.schema_tables.specs.TableData.{TableData}
+use Rattle.integrity_indexes.specs.index_rows.Checked.{IsCheckedTable}
 use Rattle.integrity.specs.Indexes.{AreItsEntries, IsCheckedIndexOf}
 use Rattle.integrity.proofs.ZipLemmas.{AreBeside}
 use Rattle.integrity.proofs.entries.check_entries.Given as goal

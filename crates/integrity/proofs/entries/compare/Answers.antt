@@ -1,7 +1,7 @@
 use Rattle.std.proofs.Common.{◌∙◌, inl, inr}
 use Rattle.std.proofs.lemmas.Result.{err_from_is_err_and}
-use Rattle.image.specs.Pages.{pages_seen}
-use Rattle.indexes.specs.IndexView.{index_data}
+use Rattle.btree.specs.image.Pages.{pages_seen}
+use Rattle.schema.specs.indexes.IndexView.{index_data}
 use Rattle.integrity.proofs.EntryLemmas.{different_index, its_columns, its_index}
 use Rattle.integrity.proofs.entries.compare.Goals as goal
 

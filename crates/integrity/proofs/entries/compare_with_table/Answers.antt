@@ -5,12 +5,12 @@ use Rattle.std.proofs.lemmas.Result.{err_from_is_err_and}
 use Rattle.pager.proofs.CallLemmas.{SameImage-trans}
 use Rattle.pager.specs.Calls.{SameImage}
 use Rattle.pager.specs.PagerState.{PagerState}
-use Rattle.image.specs.Pages.{pages_seen, Pages}
+use Rattle.btree.specs.image.Pages.{pages_seen, Pages}
 use Rattle.btree.proofs.SeenLemmas.{still_steady, same_pages}
-use Rattle.indexes.specs.IndexView.{index_data}
-use Rattle.tables.specs.TableData.{TableData}
-use Rattle.schema.specs.Names.{IsSameName}
-use Rattle.index_rows.specs.Checked.{IsCheckedTable}
+use Rattle.schema.specs.indexes.IndexView.{index_data}
+use Rattle.schema_tables.specs.TableData.{TableData}
+use Rattle.schema_keys.specs.Names.{IsSameName}
+use Rattle.integrity_indexes.specs.index_rows.Checked.{IsCheckedTable}
 use Rattle.integrity.specs.Indexes.{AreBrokenEntries, AreItsEntries}
 use Rattle.integrity.proofs.EntryLemmas.{all_in, checked_with}
 use Rattle.integrity.proofs.entries.compare_with_table.Goals.{else-is_same_name, then-is_same_name+in_ok-compare}

@@ -1,9 +1,9 @@
 use Rattle.std.proofs.Common.{◌≡◌, All, IsTrue, take}
 use Rattle.pager.specs.Calls.{SameImage}
-use Rattle.image.specs.Pages.{pages_seen}
-use Rattle.indexes.specs.IndexView.{index_data}
-use Rattle.schema.specs.Names.{IsSameName}
-use Rattle.index_rows.specs.Checked.{IsCheckedTable}
+use Rattle.btree.specs.image.Pages.{pages_seen}
+use Rattle.schema.specs.indexes.IndexView.{index_data}
+use Rattle.schema_keys.specs.Names.{IsSameName}
+use Rattle.integrity_indexes.specs.index_rows.Checked.{IsCheckedTable}
 use Rattle.integrity.specs.Indexes.{AreItsEntries, IsCheckedIndexWith}
 use Rattle.integrity.proofs.entries.compare_with_table.Given as goal
 

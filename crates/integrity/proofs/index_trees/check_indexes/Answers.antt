@@ -3,21 +3,21 @@ use Rattle.std.proofs.lemmas.List.{length-map}
 use Rattle.std.proofs.lemmas.Option.{slice_get-map}
 use Rattle.std.proofs.lemmas.Result.{err_from_is_err_and}
 use Rattle.pager.proofs.CallLemmas.{SameImage-trans}
-use Rattle.image.specs.Pages.{pages_seen, Pages}
+use Rattle.btree.specs.image.Pages.{pages_seen, Pages}
 use Rattle.btree.proofs.SeenLemmas.{still_steady, same_pages}
-use Rattle.indexes.specs.IndexData.{IndexData}
-use Rattle.indexes.specs.IndexView.{index_data}
-use Rattle.tree_walk.specs.Used.{IsTreeTwice, MarksTree}
-use Rattle.schema.specs.Names.{IsSameName}
-use Rattle.tables.specs.TableData.{TableData}
+use Rattle.schema.specs.indexes.IndexData.{IndexData}
+use Rattle.schema.specs.indexes.IndexView.{index_data}
+use Rattle.integrity_trees.specs.tree_walk.Used.{IsTreeTwice, MarksTree}
+use Rattle.schema_keys.specs.Names.{IsSameName}
+use Rattle.schema_tables.specs.TableData.{TableData}
 use Rattle.integrity.specs.Indexes.{IsBrokenIndexTree, IsCheckedAlone, IsCheckedIndexOf, IsOwned}
 use Rattle.integrity.specs.Used.{index_tree_of}
 use Rattle.pager.specs.declared.header.Header.{Header}
 use Rattle.pager.specs.PagerState.{IsPageNumber}
 use Rattle.integrity.proofs.EntryLemmas.{all_in}
 use Rattle.integrity.proofs.TreesLemmas.{next_twice, trees_all, trees_more, trees_none}
-use Rattle.stored_rows.proofs.FilledLemmas.{contains_at}
-use Rattle.stored_rows.proofs.RowLemmas.{all_next, get_at}
+use Rattle.records_tables.proofs.lemmas.stored_rows.FilledLemmas.{contains_at}
+use Rattle.records_tables.proofs.lemmas.stored_rows.RowLemmas.{all_next, get_at}
 use Rattle.integrity.proofs.index_trees.check_indexes.Goals as goal
 
 -- the tree of an index at a place is the tree at that place

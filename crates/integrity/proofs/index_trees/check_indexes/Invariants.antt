@@ -1,8 +1,8 @@
-use Rattle.image.specs.Pages.{pages_seen}
+use Rattle.btree.specs.image.Pages.{pages_seen}
 use Rattle.std.proofs.Common.{◌≡◌, IsTrue, map, take}
 use Rattle.std.specs.List.{AllZip}
 use Rattle.pager.specs.Calls.{SameImage}
-use Rattle.indexes.specs.IndexView.{index_data}
+use Rattle.schema.specs.indexes.IndexView.{index_data}
 use Rattle.integrity.specs.Indexes.{IsCheckedIndexOf}
 use Rattle.integrity.specs.Used.{index_tree_of}
 use Rattle.integrity.proofs.TreesLemmas.{MarksTreesBefore}

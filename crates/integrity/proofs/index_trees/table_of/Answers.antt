@@ -1,9 +1,9 @@
 use Rattle.std.proofs.Common.{rules, ◌≡◌, ◌<◌, true, ℕ, All, Contains, List, get_or, length, sym, subst, arith}
 use Rattle.std.proofs.lemmas.List.{take_all}
 use Rattle.std.proofs.lemmas.List.Elements.{All-more}
-use Rattle.indexes.specs.IndexView.{index_data}
-use Rattle.schema.specs.Names.{IsSameName}
-use Rattle.tables.specs.TableData.{TableData}
+use Rattle.schema.specs.indexes.IndexView.{index_data}
+use Rattle.schema_keys.specs.Names.{IsSameName}
+use Rattle.schema_tables.specs.TableData.{TableData}
 use Rattle.integrity.proofs.index_trees.table_of.Goals as goal
 
 pub returns-then-is_same_name-clause-found : goal.returns-then-is_same_name-clause-found

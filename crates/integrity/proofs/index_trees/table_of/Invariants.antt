@@ -1,6 +1,6 @@
 use Rattle.std.proofs.Common.{All, take}
-use Rattle.indexes.specs.IndexView.{index_data}
-use Rattle.schema.specs.Names.{IsSameName}
+use Rattle.schema.specs.indexes.IndexView.{index_data}
+use Rattle.schema_keys.specs.Names.{IsSameName}
 use Rattle.integrity.proofs.index_trees.table_of.Given as goal
 
 abbrev pub invariant-loop-table : goal.invariant-loop-table

@@ -1,8 +1,8 @@
 use Rattle.std.proofs.Common.{◌≡◌, ◌∙◌, ◌+◌, ℕ, List, ap, length, subst, sym}
 use Rattle.std.proofs.lemmas.List.{length-map}
-use Rattle.indexes.specs.IndexView.{index_data}
-use Rattle.tables.specs.TableData.{RowKeyData}
-use Rattle.index_rows.specs.Entries.{width_by}
+use Rattle.schema.specs.indexes.IndexView.{index_data}
+use Rattle.schema_tables.specs.TableData.{RowKeyData}
+use Rattle.integrity_indexes.specs.index_rows.Entries.{width_by}
 use Rattle.integrity.specs.Indexes.{columns_of, places_of}
 use Rattle.integrity.proofs.index_trees.width_of.Goals as goal
 

@@ -1,7 +1,7 @@
 use Rattle.std.proofs.Common.{Err, Ok, refl}
 use Rattle.std.proofs.lemmas.Result.{err_from_is_err_and}
-use Rattle.image.specs.Pages.{pages_seen}
-use Rattle.entry_prefixes.specs.Prefixes.{HasPrefixes}
+use Rattle.btree.specs.image.Pages.{pages_seen}
+use Rattle.integrity_trees.specs.entry_prefixes.Prefixes.{HasPrefixes}
 use Rattle.integrity.proofs.KeyLemmas.{key_counts, told_of_key, uncounted}
 use Rattle.integrity.proofs.keys.count_key.Goals as goal
 

@@ -1,10 +1,10 @@
 use Rattle.std.proofs.Common.{◌<◌, Contains, length, rules, ◌∙◌, subst, sym}
 use Rattle.std.proofs.lemmas.Result.{err_from_is_err_and}
 use Rattle.pager.proofs.CallLemmas.{SameImage-trans}
-use Rattle.image.specs.Pages.{pages_seen, Pages}
+use Rattle.btree.specs.image.Pages.{pages_seen, Pages}
 use Rattle.btree.proofs.SeenLemmas.{still_steady, same_pages}
-use Rattle.index_rows.specs.Checked.{IsCheckedTable}
-use Rattle.stored_rows.proofs.RowLemmas.{all_next, get_at}
+use Rattle.integrity_indexes.specs.index_rows.Checked.{IsCheckedTable}
+use Rattle.records_tables.proofs.lemmas.stored_rows.RowLemmas.{all_next, get_at}
 use Rattle.integrity.specs.Keys.{HasKeyCounts}
 use Rattle.integrity.proofs.EntryLemmas.{all_in}
 use Rattle.integrity.proofs.keys.count_keys.Goals as goal

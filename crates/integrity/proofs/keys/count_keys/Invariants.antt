@@ -1,8 +1,8 @@
 use Rattle.std.proofs.Common.{◌≡◌, All, IsTrue, take}
 use Rattle.std.specs.List.{AllZip}
 use Rattle.pager.specs.Calls.{SameImage}
-use Rattle.image.specs.Pages.{pages_seen}
-use Rattle.index_rows.specs.Checked.{IsCheckedTable}
+use Rattle.btree.specs.image.Pages.{pages_seen}
+use Rattle.integrity_indexes.specs.index_rows.Checked.{IsCheckedTable}
 use Rattle.integrity.specs.Keys.{HasKeyCounts}
 use Rattle.integrity.proofs.keys.count_keys.Given as goal
 

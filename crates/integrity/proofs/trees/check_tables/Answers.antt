@@ -3,13 +3,13 @@ use Rattle.std.proofs.lemmas.List.{length-map}
 use Rattle.std.proofs.lemmas.Option.{slice_get-map}
 use Rattle.std.proofs.lemmas.Result.{err_from_is_err_and}
 use Rattle.pager.proofs.CallLemmas.{SameImage-trans}
-use Rattle.image.specs.Pages.{pages_seen, Pages}
+use Rattle.btree.specs.image.Pages.{pages_seen, Pages}
 use Rattle.btree.proofs.SeenLemmas.{still_steady, same_pages}
 use Rattle.integrity.specs.Tables.{IsAnyBroken, IsAnyChecked, any_tree}
-use Rattle.tree_walk.specs.Used.{IsTreeTwice, MarksTree}
-use Rattle.tables.specs.TableData.{TableData}
+use Rattle.integrity_trees.specs.tree_walk.Used.{IsTreeTwice, MarksTree}
+use Rattle.schema_tables.specs.TableData.{TableData}
 use Rattle.integrity.proofs.TreesLemmas.{next_twice, trees_all, trees_more, trees_none}
-use Rattle.stored_rows.proofs.RowLemmas.{all_next, get_at}
+use Rattle.records_tables.proofs.lemmas.stored_rows.RowLemmas.{all_next, get_at}
 use Rattle.integrity.proofs.trees.check_tables.Goals as goal
 
 -- the tree of a table at a place is the tree at that place

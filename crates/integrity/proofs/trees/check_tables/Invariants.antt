@@ -1,4 +1,4 @@
-use Rattle.image.specs.Pages.{pages_seen}
+use Rattle.btree.specs.image.Pages.{pages_seen}
 use Rattle.std.proofs.Common.{◌≡◌, IsTrue, map, take}
 use Rattle.std.specs.List.{AllZip}
 use Rattle.pager.specs.Calls.{SameImage}

@@ -1,14 +1,14 @@
 use Rattle.std.proofs.Common.{subst, inl, inr, ⊎_elim}
 use Rattle.std.proofs.lemmas.Result.{err_from_is_err_and}
-use Rattle.image.specs.Pages.{pages_seen}
+use Rattle.btree.specs.image.Pages.{pages_seen}
 use Rattle.btree.proofs.SeenLemmas.{still_steady}
-use Rattle.tables.specs.TableData.{TableData, schema_table}
-use Rattle.table_walk.specs.Checked.{IsCheckedTree, tree_of}
+use Rattle.schema_tables.specs.TableData.{TableData, schema_table}
+use Rattle.integrity_trees.specs.table_walk.Checked.{IsCheckedTree, tree_of}
 use Rattle.integrity.specs.Checked.{schema}
-use Rattle.tree_walk.specs.Used.{IsTreeTwice, MarksTree}
-use Rattle.stored_rows.specs.RowFaults.{IsBrokenTable}
-use Rattle.stored_rows.specs.Stored.{HoldsRows}
-use Rattle.table_walk.proofs.GatherLemmas.{rows_held, still_stored}
+use Rattle.integrity_trees.specs.tree_walk.Used.{IsTreeTwice, MarksTree}
+use Rattle.records_tables.specs.stored_rows.RowFaults.{IsBrokenTable}
+use Rattle.records_tables.specs.stored_rows.Stored.{HoldsRows}
+use Rattle.integrity_trees.proofs.lemmas.table_walk.GatherLemmas.{rows_held, still_stored}
 use Rattle.integrity.proofs.trees.read_schema.Goals as goal
 
 pub returns-in_err-tree-clause-fault : goal.returns-in_err-tree-clause-fault

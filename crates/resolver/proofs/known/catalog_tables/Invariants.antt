@@ -1,6 +1,6 @@
 -- The tables before this one are known.
 use Rattle.std.proofs.Common.{map}
-use Rattle.source_names.specs.GivenView.{known_of}
+use Rattle.resolver_sources.specs.source_names.GivenView.{known_of}
 use Rattle.resolver.proofs.KnownLemmas.{IsBefore}
 use Rattle.resolver.proofs.known.catalog_tables.Given as goal
 

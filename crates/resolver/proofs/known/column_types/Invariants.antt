@@ -1,6 +1,6 @@
 -- The types so far are those of the tables before this one.
 use Rattle.std.proofs.Common.{◌≡◌, map, take}
-use Rattle.tables.specs.ColumnTypes.{types_of}
+use Rattle.schema_tables.specs.ColumnTypes.{types_of}
 use Rattle.resolver.proofs.known.column_types.Given as goal
 
 abbrev pub invariant-loop-table : goal.invariant-loop-table

@@ -1,5 +1,5 @@
 use Rattle.std.proofs.Common.{subst}
-use Rattle.meaning.specs.Typed.{IsTyped}
+use Rattle.semantics.specs.Typed.{IsTyped}
 use Rattle.resolver.specs.Resolved.{tables_of}
 use Rattle.resolver.proofs.KnownLemmas.{same_types}
 use Rattle.resolver.proofs.laws.resolved_is_typed.Goals as goal

@@ -1,4 +1,4 @@
-use Rattle.statement_trees.specs.StatementView.{statement_of}
+use Rattle.sql_reader_grammar.specs.statement_trees.StatementView.{statement_of}
 use Rattle.resolver.proofs.ResolvedLemmas.{resolved_types}
 use Rattle.resolver.proofs.resolved.resolve.Goals as goal
 

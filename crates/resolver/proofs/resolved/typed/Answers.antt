@@ -1,8 +1,8 @@
 use Rattle.std.proofs.Common.{map, refl, sym, ap}
 use Rattle.std.proofs.lemmas.Result.{err_from_is_err_and}
-use Rattle.body_trees.specs.BodyView.{body_of}
-use Rattle.order_keys.specs.KeyView.{key_of}
-use Rattle.statement_names.specs.NamedView.{named_data}
+use Rattle.resolver_bodies.specs.BodyView.{body_of}
+use Rattle.resolver_exprs.specs.order_keys.KeyView.{key_of}
+use Rattle.resolver.specs.statement_names.NamedView.{named_data}
 use Rattle.resolver.proofs.resolved.typed.Goals as goal
 
 pub returns-in_err-check_types : goal.returns-in_err-check_types

@@ -1,6 +1,6 @@
 use Rattle.std.proofs.Common.{◌≡◌, ◌<◌, length, map, string_bytes, rules, ap}
 use Rattle.values.specs.Datum.{text}
-use Rattle.stored_rows.proofs.RowLemmas.{get_at, taken_more}
+use Rattle.records_tables.proofs.lemmas.stored_rows.RowLemmas.{get_at, taken_more}
 use Rattle.shell.proofs.NameLemmas.{got_map}
 use Rattle.shell.proofs.prepared.header_row.Goals as goal
 

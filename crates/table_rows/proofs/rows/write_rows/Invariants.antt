@@ -1,4 +1,4 @@
-use Rattle.cursor.specs.Left.{steps_left}
+use Rattle.btree_cursor.specs.cursor.Left.{steps_left}
 use Rattle.table_rows.proofs.rows.write_rows.Given as goal
 
 abbrev pub invariant-loop-cursor : goal.invariant-loop-cursor

@@ -3,9 +3,9 @@ use Rattle.std.proofs.lemmas.List.{take_all}
 use Rattle.std.proofs.lemmas.Result.{err_from_is_err_and}
 use Rattle.values.specs.Datum.{datum_of}
 use Rattle.values.specs.declared.value.Value.{Value}
-use Rattle.window_entries.proofs.ValueLemmas.{any_made, made_more, map-map}
-use Rattle.window_terms.specs.declared.calls.WindowCall.{WindowCall}
-use Rattle.window_terms.specs.CallView.{call_data}
+use Rattle.windows.proofs.lemmas.window_entries.ValueLemmas.{any_made, made_more, map-map}
+use Rattle.windows_terms.specs.declared.calls.WindowCall.{WindowCall}
+use Rattle.windows_terms.specs.CallView.{call_data}
 use Rattle.windows.specs.Wanted.{IsReachedBy, column_of}
 use Rattle.windows.proofs.evaluated.evaluate_all.Goals as goal
 

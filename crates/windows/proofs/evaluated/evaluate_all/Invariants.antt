@@ -1,8 +1,8 @@
 use Rattle.std.proofs.Common.{◌≡◌, map, take, Vec, Global}
 use Rattle.values.specs.Datum.{Datum, datum_of}
 use Rattle.values.specs.declared.value.Value.{Value}
-use Rattle.window_terms.specs.declared.calls.WindowCall.{WindowCall}
-use Rattle.window_terms.specs.CallView.{call_data}
+use Rattle.windows_terms.specs.declared.calls.WindowCall.{WindowCall}
+use Rattle.windows_terms.specs.CallView.{call_data}
 use Rattle.windows.specs.Wanted.{column_of}
 use Rattle.windows.proofs.evaluated.evaluate_all.Given as goal
 

@@ -9,10 +9,10 @@ use Rattle.expr.specs.Meaning.{Overflows}
 use Rattle.expr.specs.View.{term}
 use Rattle.expr.specs.Term.{Term}
 use Rattle.std.specs.List.{Any}
-use Rattle.meaning.specs.Hits.{call_terms}
-use Rattle.meaning.specs.Windows.{row_at}
-use Rattle.window_entries.specs.Tags.{tags_of}
-use Rattle.window_terms.specs.CallView.{call_data, window_data}
+use Rattle.semantics.specs.Hits.{call_terms}
+use Rattle.semantics.specs.Windows.{row_at}
+use Rattle.windows.specs.window_entries.Tags.{tags_of}
+use Rattle.windows_terms.specs.CallView.{call_data, window_data}
 use Rattle.windows.proofs.AllLemmas.{all_values, rows_given}
 use Rattle.windows.proofs.OrderedLemmas.{reached_by_partition}
 use Rattle.windows.proofs.evaluated.evaluate_counted.Goals as goal

@@ -3,9 +3,9 @@ use Rattle.std.proofs.lemmas.Result.{err_from_is_err_and}
 use Rattle.values.specs.Datum.{datum_of}
 use Rattle.values.specs.Row.{Row}
 use Rattle.expr.specs.Meaning.{Overflows, eval}
-use Rattle.meaning.specs.Hits.{call_terms}
-use Rattle.window_entries.specs.Tags.{tags_of}
-use Rattle.window_terms.specs.CallView.{call_data, window_data}
+use Rattle.semantics.specs.Hits.{call_terms}
+use Rattle.windows.specs.window_entries.Tags.{tags_of}
+use Rattle.windows_terms.specs.CallView.{call_data, window_data}
 use Rattle.windows.specs.Wanted.{wanted}
 use Rattle.windows.proofs.AllLemmas.{All-slice, added_before, one_part_more, part_before, rows_before, tags_before}
 use Rattle.windows.proofs.evaluated.put_parts.Goals as goal

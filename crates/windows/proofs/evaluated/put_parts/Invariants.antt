@@ -2,10 +2,10 @@ use Rattle.std.proofs.Common.{◌≡◌, ◌+◌, ◌-◌, ◌<◌, ◌≤◌, �
 use Rattle.values.specs.Datum.{Datum, datum_of}
 use Rattle.values.specs.Row.{Row}
 use Rattle.expr.specs.Meaning.{eval}
-use Rattle.meaning.specs.Sequence.{value_at}
-use Rattle.window_entries.specs.Tags.{tags_of}
-use Rattle.window_partitions.specs.Partition.{ArePartitions, part_at}
-use Rattle.window_terms.specs.CallView.{call_data, window_data}
+use Rattle.semantics.specs.Sequence.{value_at}
+use Rattle.windows.specs.window_entries.Tags.{tags_of}
+use Rattle.windows.specs.window_partitions.Partition.{ArePartitions, part_at}
+use Rattle.windows_terms.specs.CallView.{call_data, window_data}
 use Rattle.windows.specs.Wanted.{wanted}
 use Rattle.windows.proofs.evaluated.put_parts.Given as goal
 

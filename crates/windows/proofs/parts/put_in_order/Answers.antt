@@ -1,7 +1,7 @@
 use Rattle.std.proofs.Common.{◌∙◌, inl, inr, map, refl, sym, ap}
 use Rattle.std.proofs.lemmas.Result.{on_ok_weaker}
-use Rattle.query_trees.specs.SelectView.{direction_of}
-use Rattle.window_terms.specs.CallView.{window_data}
+use Rattle.resolver_terms.specs.SelectView.{direction_of}
+use Rattle.windows_terms.specs.CallView.{window_data}
 use Rattle.windows.proofs.OrderedLemmas.{ways_of}
 use Rattle.windows.proofs.parts.put_in_order.Goals as goal
 

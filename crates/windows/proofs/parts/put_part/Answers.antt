@@ -1,9 +1,9 @@
 use Rattle.std.proofs.Common.{◌∙◌, ◌≤◌, inl, inr, length, map, sym, ap, arith}
 use Rattle.std.proofs.lemmas.Result.{IfOk-weaker, err_from_is_err_and, on_ok_weaker}
 use Rattle.values.specs.Datum.{datum_of}
-use Rattle.window_order.specs.Entries.{rows_of}
-use Rattle.window_partitions.proofs.AlikeLemmas.{as_many_entries}
-use Rattle.window_terms.specs.CallView.{call_data}
+use Rattle.windows_order.specs.window_order.Entries.{rows_of}
+use Rattle.windows.proofs.lemmas.window_partitions.AlikeLemmas.{as_many_entries}
+use Rattle.windows_terms.specs.CallView.{call_data}
 use Rattle.windows.specs.Wanted.{wanted}
 use Rattle.windows.proofs.PartLemmas.{all_wanted, leaves}
 use Rattle.windows.proofs.OrderedLemmas.{is_sequence, keys_agree, numbers_within, ordered_same, put_on_rows, reached_by_function, reached_by_order}

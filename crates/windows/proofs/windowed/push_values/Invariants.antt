@@ -1,7 +1,7 @@
 use Rattle.std.proofs.Common.{◌≡◌, ◌++◌, map, take, Vec, Global}
 use Rattle.values.specs.Datum.{datum_of}
 use Rattle.values.specs.declared.value.Value.{Value}
-use Rattle.meaning.specs.Sequence.{value_at}
+use Rattle.semantics.specs.Sequence.{value_at}
 use Rattle.windows.proofs.windowed.push_values.Given as goal
 
 abbrev pub invariant-loop-column : goal.invariant-loop-column

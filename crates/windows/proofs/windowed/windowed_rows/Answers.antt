@@ -5,8 +5,8 @@ use Rattle.std.proofs.lemmas.List.{length-map, map_push}
 use Rattle.std.proofs.lemmas.Result.{err_from_is_err_and}
 use Rattle.values.specs.Datum.{datum_of}
 use Rattle.values.specs.declared.value.Value.{Value}
-use Rattle.meaning.proofs.ScanLemmas.{map-identity}
-use Rattle.window_terms.specs.CallView.{call_data}
+use Rattle.semantics.proofs.ScanLemmas.{map-identity}
+use Rattle.windows_terms.specs.CallView.{call_data}
 use Rattle.windows.specs.Wanted.{column_of}
 use Rattle.windows.proofs.BehindLemmas.{as_many, behind, behind_more, behind_windowed, values_at}
 use Rattle.windows.proofs.windowed.windowed_rows.Goals as goal

@@ -1,7 +1,7 @@
 use Rattle.std.proofs.Common.{◌≡◌, ◌<◌, ◌∙◌, sym, ap, rules}
 use Rattle.pager.specs.Header.{field}
-use Rattle.image.specs.Layout.{cell_count, cell_place}
-use Rattle.image.specs.declared.kind.Level.TheVariants.{Interior}
+use Rattle.btree.specs.image.Layout.{cell_count, cell_place}
+use Rattle.btree.specs.declared.image.kind.Level.TheVariants.{Interior}
 use Rattle.btree.proofs.PageLemmas.{child-right, child-left}
 use Rattle.btree.proofs.page.PageView.child.Goals as goal
 

@@ -1,7 +1,7 @@
 use Rattle.std.proofs.Common.{◌≡◌, ◌≤◌, w64, SFits, rules}
 use Rattle.std.proofs.lemmas.Int.{to_z-of_z}
-use Rattle.image.specs.declared.kind.Level.TheVariants.{Interior}
-use Rattle.image.specs.Layout.{cell_place, places_end}
+use Rattle.btree.specs.declared.image.kind.Level.TheVariants.{Interior}
+use Rattle.btree.specs.image.Layout.{cell_place, places_end}
 use Rattle.btree.proofs.CellLemmas.{IfNone-always, no_divider_before, no_divider_inside, no_divider_key, divider_found}
 use Rattle.btree.proofs.page.PageView.divider.Goals as goal
 use Rattle.btree.proofs.page.PageView.divider.Goals.{then-place-places_end-via-then-place-places_end, then-place-places_end-via-else-place-places_end+then-place-self}

@@ -1,6 +1,6 @@
 use Rattle.std.proofs.Common.{◌≡◌, min, length, rules}
-use Rattle.image.specs.declared.kind.Level.TheVariants.{Leaf}
-use Rattle.image.specs.Layout.{cell_place}
+use Rattle.btree.specs.declared.image.kind.Level.TheVariants.{Leaf}
+use Rattle.btree.specs.image.Layout.{cell_place}
 use Rattle.btree.proofs.CellLemmas.{IfNone-weaker}
 use Rattle.btree.proofs.PageLemmas.{no_row}
 use Rattle.btree.proofs.page.PageView.row.Goals as goal

@@ -6,7 +6,7 @@ use Rattle.expr.proofs.tree.Arm.TheLaws as arm
 use Rattle.expr.proofs.tree.Expr.TheLaws.{the_size}
 use Rattle.std.specs.Option.{option_copied}
 use Rattle.values.specs.Datum.{datum_of}
-use Rattle.operations.specs.Operations.{any_equal, or3}
+use Rattle.expr.specs.operations.Operations.{any_equal, or3}
 use Rattle.expr.specs.Meaning.{run_all, run_first, run_arms}
 use Rattle.expr.specs.Contract.{trees, arm_trees}
 use Rattle.expr.proofs.evaluation.Evaluator.+eval.Given as goal

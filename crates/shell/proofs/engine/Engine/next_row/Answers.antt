@@ -1,13 +1,14 @@
 use Rattle.std.proofs.Common.{◌∙◌, All, List, [], ap, refl, subst, sym}
+use Rattle.integrity.specs.Checked.{found_data}
 use Rattle.integrity.specs.CheckedView.{checked_data}
-use Rattle.nested_loops.proofs.BasisLemmas.{tables_are_rooted}
+use Rattle.operators_loops.proofs.BasisLemmas.{tables_are_rooted}
 use Rattle.shell.proofs.AheadLemmas.{stays_within}
 use Rattle.shell.proofs.SteppedLemmas.{stepped}
 use Rattle.shell.specs.Stepped.{IsSteppingOver}
-use Rattle.sources.specs.Coming.{IsRooted}
-use Rattle.sources.specs.SourceData.{SourceData, sources_of}
-use Rattle.table_copies.specs.Whole.{all_tables}
-use Rattle.tables.specs.TableData.{TableData}
+use Rattle.operators_scan.specs.Coming.{IsRooted}
+use Rattle.logical_plan.specs.answers.Sources.{SourceData, sources_of}
+use Rattle.schema_tables.specs.table_copies.Whole.{all_tables}
+use Rattle.schema_tables.specs.TableData.{TableData}
 use Rattle.shell.proofs.engine.Engine.next_row.Goals as goal
 
 pub next-requires-clause-roots : goal.next-requires-clause-roots
@@ -26,8 +27,9 @@ returns-clause-step g c = λ query given stands.
     let all = c.as_slice.ensures.value ∙ c.self.invariant.all_are in
     let behind = rw (← c.self.view_is) at stands in
     rw (← c.self.view_is) (record {
-      rows = stepped c.self.inside.pager.state (checked_data c.self.inside.checked).tables c.self.invariant.ready query given behind.typed
+      rows = stepped c.self.inside.pager.state (checked_data c.self.inside.checked).tables (found_data (checked_data c.self.inside.checked)) c.self.invariant.ready query given behind.typed
           c.args.statement.now.stepping behind.gave _ c.next.new.self _ refl c.next.result c.next.ensures.reads.image refl (rw all at c.next.ensures.rows);
-      pages = stays_within c.self.inside.pager.state (checked_data c.self.inside.checked).tables c.self.invariant.ready query given behind.typed _
+      pages = stays_within c.self.inside.pager.state (checked_data c.self.inside.checked).tables (found_data (checked_data c.self.inside.checked)) c.self.invariant.ready query given behind.typed
+          (record { pager = c.next.new.pager.state; tables = (checked_data c.self.inside.checked).tables; found = found_data (checked_data c.self.inside.checked) })
           c.next.ensures.reads.image refl _ _ c.args.statement.now.stepping refl behind.gave c.next.new.self refl c.next.result (rw all at c.next.ensures.pages);
     })

@@ -4,11 +4,12 @@ use Rattle.std.proofs.lemmas.Result.{err_from_is_err_and}
 use Rattle.pager.specs.Header.{header_of}
 use Rattle.pager.specs.PagerState.{IsPageNumber}
 use Rattle.pager.specs.Source.{SourceFacts}
-use Rattle.image.specs.Pages.{Pages}
-use Rattle.integrity.specs.Checked.{IsBrokenImage}
+use Rattle.btree.specs.image.Pages.{Pages}
+use Rattle.integrity.specs.Checked.{IsBrokenImage, found_data}
 use Rattle.integrity.specs.CheckedView.{checked_data}
 use Rattle.shell.proofs.RunLemmas.{opening_fault, pages_opened}
-use Rattle.tables.specs.TableData.{TableData, schema_table}
+use Rattle.shell.specs.State.{HasFound}
+use Rattle.schema_tables.specs.TableData.{TableData, schema_table}
 use Rattle.shell.proofs.engine.Engine.open.Goals as goal
 
 pub returns-in_err-pager-clause-outcome : goal.returns-in_err-pager-clause-outcome
@@ -37,6 +38,17 @@ returns-in-Ok-with_schema_table-clause-outcome g c = record {
   capacity_is = search rules;
   header = search rules;
   tables = search rules;
+  found = λ steady.
+      let opened = c.in_ok-pager.ensures.outcome.is in
+      let now : IsTrue c.in_ok-pager.pager.state.source.steady = ap (λ s. s.source.steady) opened ∙ steady in
+      let header : c.in_ok-pager.pager.state.header ≡ header_of c.in_ok-pager.pager.state.source.bytes = search rules in
+      let checked = checked_data c.in-Ok.checked in
+      subst (λ (q : Pages). HasFound q checked.tables (found_data checked)) (pages_opened _ _ _ _ opened header) (record {
+        schema = (c.in-Ok.ensures.outcome.catalog now).0;
+        indexes = checked.indexes;
+        catalog = (c.in-Ok.ensures.outcome.catalog now).1;
+        are = c.in-Ok.ensures.outcome.found now;
+      });
   unbroken = λ steady fault examined broken.
       let opened = c.in_ok-pager.ensures.outcome.is in
       let now : IsTrue c.in_ok-pager.pager.state.source.steady = ap (λ s. s.source.steady) opened ∙ steady in
@@ -57,6 +69,7 @@ invariant_of-result g c =
         header = search rules;
         stored = search rules;
       };
+      found = search rules;
       all_are = first_of (search rules, cc);
     }
 

@@ -1,10 +1,10 @@
 use Rattle.std.proofs.Common.{◌≡◌, ◌∙◌, inl, inr, false, List, length, rules, ap, subst}
 use Rattle.std.proofs.lemmas.Result.{err_from_is_err_and}
-use Rattle.meaning.specs.Typed.{IsTyped}
-use Rattle.tables.specs.ColumnTypes.{column_types}
-use Rattle.tables.specs.TableData.{TableData}
-use Rattle.statement_names.specs.NamedView.{named_data}
-use Rattle.statement_trees.specs.StatementView.{statement_of}
+use Rattle.semantics.specs.Typed.{IsTyped}
+use Rattle.schema_tables.specs.ColumnTypes.{column_types}
+use Rattle.schema_tables.specs.TableData.{TableData}
+use Rattle.resolver.specs.statement_names.NamedView.{named_data}
+use Rattle.sql_reader_grammar.specs.statement_trees.StatementView.{statement_of}
 use Rattle.resolver.specs.Resolved.{IsNoQueryOver, Resolves}
 use Rattle.shell.specs.PreparedView.{prepared_data}
 use Rattle.shell.specs.State.{EngineState}

@@ -1,7 +1,7 @@
 use Rattle.std.proofs.Common.{◌≡◌, ◌∙◌, [], Option, Some, None, ap, option_map, subst, sym}
-use Rattle.query_plans.specs.Answers.{PlannedData, planned_data}
-use Rattle.sources.specs.SourceData.{sources_of}
-use Rattle.statement_names.specs.NamedView.{query_data}
+use Rattle.logical_plan_queries.specs.Answers.{PlannedData, planned_data}
+use Rattle.logical_plan.specs.answers.Sources.{sources_of}
+use Rattle.resolver.specs.statement_names.NamedView.{query_data}
 use Rattle.shell.specs.Written.{IsRunOverSome}
 use Rattle.shell.proofs.RunLemmas.{same_plan, written_planned, written_nested}
 use Rattle.shell.proofs.prepared.Prepared.write_rows.Goals as goal

@@ -2,7 +2,7 @@ use Rattle.std.proofs.Common.{[], subst, sym}
 use Rattle.shell.specs.Stepped.{IsSteppingOver}
 use Rattle.shell.specs.Steps.{AsksStep, TakesStep}
 use Rattle.shell.specs.declared.stepped.Stepping.{Stepping}
-use Rattle.sources.specs.SourceData.{sources_of}
+use Rattle.logical_plan.specs.answers.Sources.{sources_of}
 use Rattle.shell.proofs.stepped.Stepping.next.Goals as goal
 
 pub next_planned-requires-clause-planned : goal.next_planned-requires-clause-planned

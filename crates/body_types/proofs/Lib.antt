@@ -1,3 +1,0 @@
-mod ColumnLemmas
-mod FromLemmas
-pub mod BodyLemmas

@@ -1,0 +1,3 @@
+pub mod key_ranges
+pub mod index_entries
+pub mod cursor

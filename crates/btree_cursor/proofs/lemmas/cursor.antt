@@ -1,0 +1,16 @@
+pub mod FrameLemmas
+pub mod ListingLemmas
+pub mod RestLemmas
+pub mod SeenLemmas
+pub mod LeftLemmas
+pub mod HeldLemmas
+pub mod WayLemmas
+pub mod StandLemmas
+pub mod AdvanceLemmas
+pub mod StepsLemmas
+pub mod SeekLemmas
+pub mod DownLemmas
+pub mod RowSeekLemmas
+pub mod EntrySeekLemmas
+pub mod DepthLemmas
+pub mod FindLemmas

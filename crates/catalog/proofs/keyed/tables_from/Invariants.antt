@@ -1,7 +1,0 @@
-use Rattle.std.proofs.Common.{◌≡◌, map}
-use Rattle.catalog.specs.KeyedView.{keyed_data}
-use Rattle.catalog.specs.declared.keyed.KeyedTable.{KeyedTable}
-use Rattle.catalog.proofs.keyed.tables_from.Given as goal
-
-abbrev pub invariant-loop-keyed_table : goal.invariant-loop-keyed_table
-invariant-loop-keyed_table l = l.tables.items ≡ map (λ (k : KeyedTable). (keyed_data k).table) l.yielded

@@ -1,9 +1,0 @@
--- What is known of the objects of an image.
-use Rattle.std.specs.Prelude.{List}
-use Rattle.indexes.specs.IndexData.{IndexData}
-use Rattle.tables.specs.TableData.{TableData}
-
--- the tables and the indexes of an image, in the order of the schema's rows
-pub record CatalogData : Type 0 where
-  pub tables : List TableData
-  pub indexes : List IndexData

@@ -1,6 +1,0 @@
--- The examples, computed.
-use Rattle.std.proofs.Common.{refl}
-use Rattle.compound_results.specs.Examples.{JoinedExamples}
-
-pub joined_examples : JoinedExamples
-joined_examples = record { union = refl; union_all = refl; intersect = refl; except = refl }

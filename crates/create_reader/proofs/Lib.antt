@@ -1,8 +1,0 @@
-pub mod KeyLemmas
-pub mod TableLemmas
-pub mod OptionLemmas
-pub mod CreateLemmas
-pub mod CreateTexts
-pub mod ConditionLemmas
-pub mod IndexLemmas
-pub mod IndexTexts

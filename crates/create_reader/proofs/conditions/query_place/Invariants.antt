@@ -1,7 +1,0 @@
-use Rattle.std.proofs.Common.{◌≡◌, drop}
-use Rattle.phrases.specs.Texts.{lexemes_of}
-use Rattle.create_reader.specs.IndexGrammar.{has_query}
-use Rattle.create_reader.proofs.conditions.query_place.Given as goal
-
-abbrev pub invariant-loop-token : goal.invariant-loop-token
-invariant-loop-token l = has_query (lexemes_of l.tokens) ≡ has_query (lexemes_of (drop l.token-index l.tokens))

@@ -1,8 +1,0 @@
-use Rattle.cursor.proofs.StepsLemmas.{entries_behind}
-use Rattle.cursor.proofs.laws.search_and_entries_ask_for_few.Goals as goal
-
-pub returns : goal.returns
-returns c = record {
-  any = λ old new last root key cursor now m levels sought image on steady values index.
-      entries_behind old new image steady levels m last cursor now on root key values sought index;
-}

@@ -1,8 +1,0 @@
-pub mod Listing
-pub mod Rest
-pub mod Left
-pub mod Held
-pub mod Way
-pub mod Calls
-pub mod Search
-pub mod Steps

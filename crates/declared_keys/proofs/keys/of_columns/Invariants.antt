@@ -1,9 +1,0 @@
-use Rattle.std.proofs.Common.{◌≡◌, ◌++◌, drop, map, string_bytes}
-use Rattle.create_trees.specs.CreateView.{indexed_of}
-use Rattle.declared_keys.specs.Keys.{names_of}
-use Rattle.declared_keys.proofs.keys.of_columns.Given as goal
-
-abbrev pub invariant-loop-column : goal.invariant-loop-column
-invariant-loop-column l =
-    map (λ n. string_bytes n) l.names.items ++ names_of (map indexed_of (drop l.column-index l.columns))
-    ≡ names_of (map indexed_of l.columns)

@@ -1,7 +1,0 @@
-use Rattle.std.proofs.Common.{◌≡◌, false}
-use Rattle.std.specs.List.{AllWithin}
-use Rattle.declared_keys.proofs.keys.primary_key.Given as goal
-use Rattle.declared_keys.specs.declared.keys.Key.{Key}
-
-abbrev pub invariant-loop-key : goal.invariant-loop-key
-invariant-loop-key l = AllWithin (λ (key : Key). key.is_primary ≡ false) l.keys 0 l.key-index

@@ -1,3 +1,0 @@
-pub mod PermittedLemmas
-pub mod ComingLemmas
-pub mod AnswerLemmas

@@ -1,4 +1,0 @@
-pub mod Firsts
-pub mod Coming
-pub mod Sorted
-pub mod Permitted

@@ -1,6 +1,0 @@
-use Rattle.std.proofs.Common.{◌∙◌, ap, length, sym}
-use Rattle.entry_batches.proofs.CutLemmas.{long_coded}
-use Rattle.entry_batches.proofs.batch.Batch.count.Goals as goal
-
-pub returns : goal.returns
-returns c = c.len.ensures ∙ c.self.inside.slots.ok.0 ∙ sym (long_coded 0 c.self.inside.slots.items c.self.inside.codes.items) ∙ ap length c.self.view_is

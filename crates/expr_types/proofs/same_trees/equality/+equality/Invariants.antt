@@ -1,0 +1,12 @@
+-- The lists are one exactly where what is left of each is.
+use Rattle.std.proofs.Common.{◌≡◌, ◌↔◌, drop}
+use Rattle.expr.specs.Contract.{trees, arm_trees}
+use Rattle.expr_types.proofs.same_trees.equality.+equality.Given as goal
+
+abbrev pub invariant-same_trees-loop-x : goal.invariant-same_trees-loop-x
+invariant-same_trees-loop-x l =
+    (trees (drop l.x-index l.a) ≡ trees l.rest) ↔ (trees l.a ≡ trees l.b)
+
+abbrev pub invariant-same_arms-loop-x : goal.invariant-same_arms-loop-x
+invariant-same_arms-loop-x l =
+    (arm_trees (drop l.x-index l.a) ≡ arm_trees l.rest) ↔ (arm_trees l.a ≡ arm_trees l.b)

@@ -1,9 +1,0 @@
--- The values so far are those of the rows before this one.
-use Rattle.std.proofs.Common.{◌≡◌, map}
-use Rattle.values.specs.Datum.{datum_of}
-use Rattle.meaning.specs.Sequence.{value_at}
-use Rattle.flat_bodies.specs.FlatView.{lists_of}
-use Rattle.flat_bodies.proofs.answers.first_values.Given as goal
-
-abbrev pub invariant-loop-row : goal.invariant-loop-row
-invariant-loop-row l = map datum_of l.values.items ≡ map (λ row. value_at row 0) (lists_of l.yielded)

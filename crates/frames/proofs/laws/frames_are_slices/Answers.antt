@@ -1,5 +1,0 @@
-use Rattle.frames.proofs.SliceLemmas.{rows_are_slices, values_are_slices}
-use Rattle.frames.proofs.laws.frames_are_slices.Goals as goal
-
-pub returns : goal.returns
-returns c = record { rows = rows_are_slices; values = values_are_slices }

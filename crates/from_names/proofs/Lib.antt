@@ -1,2 +1,0 @@
-pub mod StepLemmas
-mod FromLemmas

@@ -1,8 +1,0 @@
-use Rattle.image.proofs.WorkedTable.{table_places, table_sound}
-use Rattle.image.proofs.laws.example_table.Goals as goal
-
-pub returns-clause-cells : goal.returns-clause-cells
-returns-clause-cells c = table_places
-
-pub returns-clause-sound : goal.returns-clause-sound
-returns-clause-sound c = table_sound

@@ -1,5 +1,0 @@
-use Rattle.image.proofs.TableLemmas.{rows_of}
-use Rattle.image.proofs.laws.places_of_table.Goals as goal
-
-pub returns : goal.returns
-returns c = record { rows = λ pages root levels shape order. rows_of pages root levels shape order }

@@ -1,5 +1,0 @@
-use Rattle.image.proofs.NamedLemmas.{named_places}
-use Rattle.image.proofs.laws.places_of_tree.Goals as goal
-
-pub returns : goal.returns
-returns c = record { places = λ pages kind root levels shape named. named_places pages kind root named levels shape }

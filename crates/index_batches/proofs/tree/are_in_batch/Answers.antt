@@ -1,6 +1,0 @@
-use Rattle.image.specs.Tree.{top}
-use Rattle.index_batches.proofs.tree.are_in_batch.Goals as goal
-
-pub returns-clause-placed : goal.returns-clause-placed
-returns-clause-placed g c = λ steady values levels tree entries.
-    c.is_placed_under.ensures.placed steady values c.args.root levels (record { depth = 1; stands = top; shape = tree.shape; entries = entries }) tree.few

@@ -1,7 +1,0 @@
-use Rattle.std.proofs.Common.{◌≡◌, ◌++◌, map, take}
-use Rattle.values.specs.Datum.{datum_of}
-use Rattle.wanted_entries.specs.Wanted.{values_at}
-use Rattle.index_rows.proofs.entries.push_copies.Given as goal
-
-abbrev pub invariant-loop-i : goal.invariant-loop-i
-invariant-loop-i l = l.entry ≡ l.fn.entry ++ values_at (map datum_of l.row) (take l.i l.places)

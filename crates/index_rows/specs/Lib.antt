@@ -1,5 +1,0 @@
-pub mod Entries
-pub mod Rows
-pub mod Kept
-pub mod Checked
-pub mod Compared

@@ -1,5 +1,0 @@
-use Rattle.indexes.proofs.KeyIndexLemmas.{KeyColumnsSoFar}
-use Rattle.indexes.proofs.key_indexes.key_columns.Given as goal
-
-abbrev pub invariant-loop-name : goal.invariant-loop-name
-invariant-loop-name l = KeyColumnsSoFar l.columns l.names l.name-index l.all.items

@@ -1,5 +1,0 @@
-use Rattle.indexes.proofs.IndexLemmas.{one_index}
-use Rattle.indexes.proofs.laws.one_index.Goals as goal
-
-pub returns : goal.returns
-returns c tree table first second distinct p q root = one_index tree table first second distinct p q root

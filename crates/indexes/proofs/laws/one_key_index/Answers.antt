@@ -1,5 +1,0 @@
-use Rattle.indexes.proofs.KeyIndexLemmas.{one_key_index}
-use Rattle.indexes.proofs.laws.one_key_index.Goals as goal
-
-pub returns : goal.returns
-returns c table automatic first second distinct x y = one_key_index table automatic first second distinct x y

@@ -1,9 +1,0 @@
-use Rattle.std.proofs.Common.{◌≡◌, ℕ, ◌<◌, drop, map}
-use Rattle.indexes.proofs.places.place_of.Given as goal
-use Rattle.indexes.specs.Condition.{place_from}
-use Rattle.schema.specs.Names.{IsNameAt}
-
-abbrev pub invariant-loop-place : goal.invariant-loop-place
-invariant-loop-place l =
-    ((k : ℕ) → k < l.place → ¬ IsNameAt (map (λ c. c.name) l.columns) l.name k)
-    × (place_from 0 l.columns l.name ≡ place_from l.place (drop l.place l.columns) l.name)

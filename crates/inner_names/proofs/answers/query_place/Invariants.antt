@@ -1,9 +1,0 @@
--- The first that is the same is none of those before this place.
-use Rattle.std.proofs.Common.{map, drop}
-use Rattle.body_trees.specs.BodyView.{inner_of}
-use Rattle.naming.specs.Same.{is_same_inner}
-use Rattle.places.proofs.ListedLemmas.{IsBehind}
-use Rattle.inner_names.proofs.answers.query_place.Given as goal
-
-abbrev pub invariant-loop-at : goal.invariant-loop-at
-invariant-loop-at l = IsBehind is_same_inner (inner_of l.query) (map inner_of l.queries) l.at (map inner_of (drop l.at l.queries))

@@ -1,0 +1,4 @@
+pub mod CountLemmas
+pub mod LinkLemmas
+pub mod UsedLemmas
+pub mod ShapeLemmas

@@ -1,0 +1,13 @@
+pub mod StandLemmas
+pub mod RowLemmas
+pub mod WhereLemmas
+pub mod HitLemmas
+pub mod ExampleLemmas
+pub mod TurnLemmas
+pub mod JoinLemmas
+pub mod JoinHitLemmas
+pub mod WrittenLemmas
+pub mod WrittenHitLemmas
+pub mod WholeLemmas
+pub mod WindowedLemmas
+pub mod lemmas

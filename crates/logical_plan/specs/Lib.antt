@@ -1,0 +1,7 @@
+pub mod Plan
+pub mod PlanView
+pub mod Stands
+pub mod Examples
+pub mod JoinPlan
+pub mod WindowedPlan
+pub mod answers

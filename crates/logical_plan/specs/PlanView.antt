@@ -1,0 +1,29 @@
+-- A plan, without the memory that it lies in.
+use Rattle.std.specs.Prelude.{map}
+use Rattle.expr.specs.View.{term}
+use Rattle.windows_terms.specs.row_groups.GroupView.{group_terms_data}
+use Rattle.windows_terms.specs.CallView.{call_data}
+use Rattle.logical_plan.specs.declared.plan.OuterTable.{OuterTable}
+use Rattle.logical_plan.specs.declared.plan.Nested.{Nested}
+use Rattle.logical_plan.specs.declared.plan.Plan.{Plan}
+use Rattle.logical_plan.specs.declared.plan.Plan.TheVariants.{SingleRow, Filter', NestedLoop', OuterJoin', Aggregate', Window'}
+use Rattle.logical_plan.specs.Plan.{FlaggedData, NestedData, PlanData, flagged, grouped, joined, kept, once, windowed}
+
+abbrev pub nested_data : Nested → NestedData
+nested_data nested = record {
+  table = nested.table;
+  columns = nested.columns.items;
+  tests = map term nested.tests.items;
+  padded = nested.padded;
+}
+
+abbrev pub flagged_data : OuterTable → FlaggedData
+flagged_data f = record { nest = nested_data f.nested; before = f.before }
+
+abbrev pub plan_data : Plan → PlanData
+plan_data SingleRow = once
+plan_data (Filter' p below tests) = kept (plan_data below) (map term tests.items)
+plan_data (NestedLoop' p left nested) = joined (plan_data left) (nested_data nested)
+plan_data (OuterJoin' p left f) = flagged (plan_data left) (flagged_data f)
+plan_data (Aggregate' p below terms) = grouped (plan_data below) (group_terms_data terms)
+plan_data (Window' p below calls) = windowed (plan_data below) (map call_data calls.items)

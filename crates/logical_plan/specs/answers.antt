@@ -1,0 +1,13 @@
+pub mod Sorted
+pub mod KeyView
+pub mod SortedDistinct
+pub mod Arms
+pub mod Joined
+pub mod PermittedPlain
+pub mod PermittedSorted
+pub mod PermittedDistinct
+pub mod PermittedCompound
+pub mod Sources
+pub mod Selection
+pub mod Distinct
+pub mod Compounds

@@ -1,0 +1,11 @@
+pub mod TypedLemmas
+pub mod WideLemmas
+pub mod MadeLemmas
+pub mod OverLemmas
+pub mod ServedLemmas
+pub mod KeyLemmas
+pub mod DistinctLemmas
+pub mod ScanLemmas
+pub mod JoinedLemmas
+pub mod QueryLemmas
+pub mod lemmas

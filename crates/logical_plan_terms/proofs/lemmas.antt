@@ -1,0 +1,3 @@
+pub mod group_plans
+pub mod window_plans
+pub mod table_plans

@@ -1,0 +1,6 @@
+pub mod Names
+pub mod Placed
+pub mod Over
+pub mod group_plans
+pub mod window_plans
+pub mod table_plans

@@ -1,0 +1,158 @@
+//! The tables that a SELECT reads, and how they are joined.
+ghost use Rattle.std.specs.Prelude.{◌≡◌, ◌≢◌, ◌<◌, All, IfOk, MatchBool, MatchOption, ℕ, map};
+ghost use Rattle.resolver_bodies.specs.BodyView.{inner_of, joined_all, joined_of, source_of, tables_of};
+ghost use Rattle.expr.specs.Columns.{columns_of};
+ghost use Rattle.semantics.specs.Joins.{pads_left, pads_right};
+ghost use Rattle.semantics.specs.Query.{always, from_width, nothing, table};
+ghost use Rattle.semantics_names.specs.Sources.{kind_of};
+ghost use Rattle.semantics_names.specs.Statement.{with_answers};
+ghost use Rattle.resolver_terms.specs.TermView.{term};
+ghost use Rattle.logical_plan_terms.specs.table_plans.TableJoins.{AreTableJoins, IsTableSource};
+ghost use Rattle.logical_plan_terms.specs.table_plans.Input.{from_of, input_from, joined_table};
+
+use crate::push_columns;
+use crate::table_plans::columns::place_behind;
+use resolver_bodies::{InnerQuery, Joined, Source, Tables};
+use resolver_terms::{Term, copy_term};
+use sql_reader_syntax::Join;
+use std::alloc::{AllocError, Global};
+use values::Value;
+
+/// A table that is joined to those before it. (SELECT, "Determination of input data")
+#[derive(Drop)]
+pub struct JoinedTable {
+    /// Its place in the catalog.
+    pub table: usize,
+    /// The number of its columns.
+    pub width: usize,
+    /// What stands behind ON, or what USING says, over the rows of the tables up to its own.
+    pub condition: Term,
+    /// How it is joined.
+    pub join: Join,
+}
+
+impl JoinedTable {
+    /// Whether a row before the table that meets none of its rows stands beside NULLs: so it is where a LEFT or FULL JOIN joins it.
+    pub(crate) fn is_padded(&self) -> bool
+        ensures { result ≡ pads_right (kind_of self.now.join) }
+    {
+        matches!(self.join, Join::Left | Join::Full)
+    }
+
+    /// Whether a row of the table that no row before it meets stands behind NULLs: so it is where a RIGHT or FULL JOIN joins it.
+    pub(crate) fn is_flagged(&self) -> bool
+        ensures { result ≡ pads_left (kind_of self.now.join) }
+    {
+        matches!(self.join, Join::Right | Join::Full)
+    }
+}
+
+/// The tables of a FROM, joined from the left; none without FROM. (SELECT, "Determination of input data")
+#[derive(Drop)]
+pub struct Input {
+    pub tables: Vec<JoinedTable>,
+}
+
+/// Whether a condition is that which every row keeps, as it stands where none is written.
+pub fn is_always(t: &Term) -> bool
+    ensures { MatchBool result (term t.now ≡ always) (term t.now ≢ always) }
+{
+    matches!(t, Term::Literal(Value::Int(1)))
+}
+
+/// The table that a source is, by its place and the number of its columns.
+fn table_of(source: &Source) -> Option<(usize, usize)>
+    ensures { MatchOption result ((at width : ℕ) → source_of source.now ≢ table at width) (λ t. source_of source.now ≡ table t.0 t.1) }
+{
+    match source {
+        Source::Table(at, width) => Some((*at, *width)),
+        Source::Schema | Source::Derived(_) => None,
+    }
+}
+
+/// The table that a source is, as it is joined.
+fn table_joined(alloc: Global, joined: &Joined) -> Result<Option<JoinedTable>, AllocError>
+    ensures { IfOk result (λ t. MatchOption t (¬ IsTableSource (joined_of joined.now).source) (λ t. joined_of joined.now ≡ joined_table t)) }
+{
+    let Some((table, width)) = table_of(&joined.source) else {
+        return Ok(None);
+    };
+    let condition = copy_term(alloc, &joined.condition)?;
+    Ok(Some(JoinedTable {
+        table,
+        width,
+        condition,
+        join: joined.join,
+    }))
+}
+
+/// Whether each of these columns is one of these tables.
+fn are_within(tables: &[JoinedTable], columns: &[usize]) -> bool
+    ensures { MatchBool result (All (λ c. c < from_width (from_of tables.now)) columns.now)
+        (¬ All (λ c. c < from_width (from_of tables.now)) columns.now) }
+{
+    for c in columns {
+        if place_behind(tables, *c).is_some() {
+            return false;
+        }
+    }
+    true
+}
+
+/// Whether each column that a term names is one of these tables.
+fn is_within(alloc: Global, tables: &[JoinedTable], t: &Term) -> Result<bool, AllocError>
+    ensures { IfOk result (λ b. MatchBool b (All (λ c. c < from_width (from_of tables.now)) (columns_of (term t.now)))
+        (¬ All (λ c. c < from_width (from_of tables.now)) (columns_of (term t.now)))) }
+{
+    let mut named = Vec::new(alloc);
+    push_columns(t, &mut named)?;
+    Ok(are_within(tables, named.as_slice()))
+}
+
+/// The tables that these sources are.
+fn tables_among(alloc: Global, sources: &[Joined]) -> Result<Option<Vec<JoinedTable>>, AllocError>
+    ensures { IfOk result (λ tables. MatchOption tables (¬ AreTableJoins (joined_all nothing (map joined_of sources.now)))
+        (λ tables. (joined_all nothing (map joined_of sources.now) ≡ from_of tables.items) × AreTableJoins (from_of tables.items))) }
+{
+    let mut tables = Vec::new(alloc);
+    for joined in sources {
+        let table = match table_joined(alloc, joined)? {
+            None => return Ok(None),
+            Some(table) => table,
+        };
+        tables.push(table)?;
+        if !is_within(alloc, tables.as_slice(), &joined.condition)? {
+            return Ok(None);
+        }
+    }
+    Ok(Some(tables))
+}
+
+/// What these sources are, beside these inner queries.
+fn input_among(
+    alloc: Global,
+    sources: &[Joined],
+    inner: &[InnerQuery],
+) -> Result<Option<Input>, AllocError>
+    ensures { IfOk result (λ input. MatchOption input
+        (¬ AreTableJoins (with_answers (joined_all nothing (map joined_of sources.now)) (map inner_of inner.now)))
+        (λ input. (with_answers (joined_all nothing (map joined_of sources.now)) (map inner_of inner.now) ≡ input_from input)
+        × AreTableJoins (input_from input))) }
+{
+    if !inner.is_empty() {
+        return Ok(None);
+    }
+    match tables_among(alloc, sources)? {
+        None => Ok(None),
+        Some(tables) => Ok(Some(Input { tables })),
+    }
+}
+
+/// What a SELECT stands on, where that is tables that are joined, or nothing, and no inner query stands beside them. (SELECT,
+/// "Determination of input data")
+pub fn input_of(alloc: Global, tables: &Tables) -> Result<Option<Input>, AllocError>
+    ensures { IfOk result (λ input. MatchOption input (¬ AreTableJoins (tables_of tables.now))
+        (λ input. (tables_of tables.now ≡ input_from input) × AreTableJoins (input_from input))) }
+{
+    input_among(alloc, tables.sources.as_slice(), tables.inner.as_slice())
+}

@@ -1,5 +1,0 @@
-use Rattle.meaning.proofs.ScanLemmas.{unordered_permitted}
-use Rattle.meaning.proofs.laws.order_is_free.Goals as goal
-
-pub returns : goal.returns
-returns c = unordered_permitted

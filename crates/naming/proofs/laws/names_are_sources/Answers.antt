@@ -1,8 +1,0 @@
-use Rattle.naming.proofs.SourceLemmas.{name_is_source, unknown_source_is_none}
-use Rattle.naming.proofs.laws.names_are_sources.Goals as goal
-
-pub returns-clause-first : goal.returns-clause-first
-returns-clause-first c = name_is_source
-
-pub returns-clause-none : goal.returns-clause-none
-returns-clause-none c = unknown_source_is_none

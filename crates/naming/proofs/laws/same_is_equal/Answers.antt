@@ -1,5 +1,0 @@
-use Rattle.naming.proofs.SameLemmas as same
-use Rattle.naming.proofs.laws.same_is_equal.Goals as goal
-
-pub returns : goal.returns
-returns c = same.same_is_equal

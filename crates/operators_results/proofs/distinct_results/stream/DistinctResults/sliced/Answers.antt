@@ -1,0 +1,12 @@
+use Rattle.std.proofs.Common.{map, sym}
+use Rattle.expr.specs.View.{term}
+use Rattle.logical_plan.specs.Plan.{rows_of}
+use Rattle.logical_plan.specs.answers.Selection.{result_rows}
+use Rattle.operators_results.proofs.distinct_results.stream.DistinctResults.sliced.Goals as goal
+
+pub returns-clause-rows : goal.returns-clause-rows
+returns-clause-rows c = λ pages sources on same. record {
+  rows = result_rows on.w (map term c.args.columns.now) (rows_of on.w on.db on.plan);
+  coming = c.in_ok-results.ensures.rows pages sources on same;
+  rest_is = sym (c.new-first.ensures (result_rows on.w (map term c.args.columns.now) (rows_of on.w on.db on.plan)));
+}

@@ -1,0 +1,3 @@
+pub mod sorted_results
+pub mod distinct_results
+pub mod compound_results

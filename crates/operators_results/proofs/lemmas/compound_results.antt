@@ -1,0 +1,6 @@
+pub mod ExampleLemmas
+pub mod SetLemmas
+pub mod ArmLemmas
+pub mod ChainLemmas
+pub mod SlicedLemmas
+pub mod ChainAnswerLemmas

@@ -1,0 +1,4 @@
+pub mod PlaceLemmas
+pub mod GatherLemmas
+pub mod AnswerLemmas
+pub mod ShownLemmas

@@ -1,0 +1,4 @@
+pub mod Examples
+pub mod Compounds
+pub mod Chains
+pub mod InTurn

@@ -1,0 +1,117 @@
+-- The rows that a plan which is run has given, and what is still to come. (SELECT)
+use Rattle.std.specs.Prelude.{◌≡◌, ◌⊎◌, ◌^◌, ⊤, Bool, true, false, ℕ, List, [], ◌∷◌, ◌++◌, map}
+use Rattle.std.specs.Global.{Global, Vec}
+use Rattle.std.specs.Vec.Iter.{into_iter_items, into_iter_len}
+use Rattle.std.specs.declared.vec.IntoIter.{IntoIter}
+use Rattle.values.specs.Database.{Database}
+use Rattle.values.specs.Datum.{Datum}
+use Rattle.values.specs.Row.{Row, rows_data}
+use Rattle.values.specs.declared.value.Value.{Value}
+use Rattle.values.specs.declared.fault.Fault.{Fault}
+use Rattle.values.specs.declared.fault.Fault.TheVariants.{Overflow}
+use Rattle.pager.specs.Calls.{IsReadFault}
+use Rattle.pager.specs.PagerState.{PagerState}
+use Rattle.btree.specs.image.Pages.{Pages}
+use Rattle.logical_plan.specs.answers.Sources.{IsPlanOf, SourceData}
+use Rattle.expr.specs.Term.{Term}
+use Rattle.expr.specs.View.{term}
+use Rattle.logical_plan.specs.Plan.{PlanData}
+use Rattle.operators_scan.specs.scan.Coming.{Asks}
+use Rattle.operators_loops.specs.Basis.{AreStored, Basis}
+use Rattle.operators.specs.Left.{plan_of, steps}
+use Rattle.operators_results.specs.Coming.{IsComing}
+use Rattle.operators_results.specs.distinct_results.Coming.{IsDistinctComing}
+use Rattle.logical_plan.specs.answers.Arms.{ArePlannedOver, ArmsHit}
+use Rattle.operators_results.specs.compound_results.InTurn.{IsChainComing, arms_of, over_plan, turn_steps}
+use Rattle.operators_results.specs.declared.compound_results.chained.ChainedResults.{ChainedResults}
+use Rattle.logical_plan_queries.specs.Answers.{HitsOf, IsAnswerOf, IsPlannedOver, PlannedData, planned_data, work_of}
+use Rattle.logical_plan_queries.specs.select_plans.Laws.{PlanReaches}
+use Rattle.operators_runs.specs.execution.Gathered.{IsGathered}
+use Rattle.operators_runs.specs.declared.execution.rows.Execution.{Execution}
+use Rattle.operators_runs.specs.declared.execution.rows.Execution.TheVariants.{Rows, Distinct, Chained, Waiting, Giving}
+
+-- why a plan stops over a steady source: reading failed, or it reaches an operation out of range
+abbrev pub IsRowCause : Basis → PlannedData → Fault → Type 0
+IsRowCause on planned fault = IsReadFault fault ⊎ ((fault ≡ Overflow) × HitsOf on.w on.db planned)
+
+-- the next row is the first of these, or there is none
+abbrev pub GivesFirst : Bool → List Row → List Row → Row → Type 0
+GivesFirst true old new row = old ≡ row ∷ new
+GivesFirst false old new row = old ≡ []
+
+-- the rows that were gathered and weren't given yet
+abbrev pub rows_left : IntoIter (Vec Value) Global → List Row
+rows_left rows = rows_data (into_iter_items rows)
+
+-- what is to come makes an answer of the rows that were given
+pub record Completes (on : Basis) (planned : PlannedData) (IsToCome : List Row → ℕ → Type 0) (given : List Row) : Type 0 where
+  pub rest : List Row
+  pub ahead : ℕ
+  pub answer : IsAnswerOf on.w on.db planned (given ++ rest)
+  pub to_come : IsToCome rest ahead
+
+-- Rows that come one by one over this plan, with these result columns, do so whatever is said of the sources that have rows; and
+-- what the plan or a result column reaches is reached by what is run.
+pub record Comes (pages : Pages) (sources : List SourceData) (planned : PlannedData) (plan : PlanData) (columns : List Term)
+    (IsToCome : Basis → List Row → ℕ → Type 0) (given : List Row) : Type 0 where
+  pub rows : (on : Basis) → AreStored pages sources on → on.plan ≡ plan → Completes on planned (IsToCome on) given
+  pub hits : (w : Datum) (db : Database) → PlanReaches w db plan columns → HitsOf w db planned
+
+-- The same of rows that come one by one over the plans of SELECTs that are run one after the other.
+pub record ChainComes (pages : Pages) (sources : List SourceData) (planned : PlannedData) (chained : ChainedResults) (given : List Row) : Type 0 where
+  pub rows : (on : Basis) → AreStored pages sources on → Completes on planned (IsChainComing pages sources on chained) given
+  pub hits : (w : Datum) (db : Database) → ArmsHit w db (arms_of chained.arms) → HitsOf w db planned
+
+-- These rows were given, and what is to come makes an answer of them: as they come one by one, all of them where they are yet
+-- to be gathered, and else those that were gathered.
+abbrev pub HasGiven : Pages → List SourceData → PlannedData → Execution → List Row → Type 0
+HasGiven pages sources planned (Rows results) given =
+    Comes pages sources planned (plan_of results.op) (map term results.columns.items) (λ on. IsComing pages sources on results) given
+HasGiven pages sources planned (Distinct distinct) given =
+    Comes pages sources planned (plan_of distinct.results.op) (map term distinct.results.columns.items) (λ on. IsDistinctComing pages sources on distinct) given
+HasGiven pages sources planned (Chained chained) given = ChainComes pages sources planned chained given
+HasGiven pages sources planned (Waiting plan) given = (given ≡ []) × (planned ≡ planned_data plan)
+HasGiven pages sources planned (Giving rows) given =
+    (on : Basis) → AreStored pages sources on → IsAnswerOf on.w on.db planned (given ++ rows_left rows)
+
+-- a row more was given, or those that were are an answer
+abbrev pub HasAnswered : Bool → Pages → List SourceData → PlannedData → Execution → List Row → Row → Type 0
+HasAnswered true pages sources planned running given row = HasGiven pages sources planned running (given ++ row ∷ [])
+HasAnswered false pages sources planned running given row = (on : Basis) → AreStored pages sources on → IsAnswerOf on.w on.db planned given
+
+-- its sources and their columns are some of these
+abbrev pub IsRunOver : List SourceData → Execution → Type 0
+IsRunOver sources (Rows results) = IsPlanOf sources (plan_of results.op)
+IsRunOver sources (Distinct distinct) = IsPlanOf sources (plan_of distinct.results.op)
+IsRunOver sources (Chained chained) = ArePlannedOver sources (arms_of chained.arms)
+IsRunOver sources (Waiting plan) = IsPlannedOver sources (planned_data plan) × IsGathered (planned_data plan)
+IsRunOver sources (Giving rows) = ⊤
+
+-- so many pages may still be asked for: of what is yet to be gathered those that its plan may ask for, and of rows that were gathered
+-- none
+abbrev pub HasAhead : Pages → List SourceData → Basis → Execution → ℕ → Type 0
+HasAhead pages sources on (Rows results) ahead = (rest : List Row) × IsComing pages sources (over_plan on (plan_of results.op)) results rest ahead
+HasAhead pages sources on (Distinct distinct) ahead =
+    (rest : List Row) × IsDistinctComing pages sources (over_plan on (plan_of distinct.results.op)) distinct rest ahead
+HasAhead pages sources on (Chained chained) ahead = (rest : List Row) × IsChainComing pages sources on chained rest ahead
+HasAhead pages sources on (Waiting plan) ahead = ahead ≡ work_of on.w on.db on.sizes (planned_data plan)
+HasAhead pages sources on (Giving rows) ahead = ahead ≡ 0
+
+-- of the pages that were ahead some were asked for, and the others are, or none is behind the last row
+abbrev pub HasAsked : Pages → List SourceData → Basis → PagerState → ℕ → PagerState → Execution → Bool → Type 0
+HasAsked pages sources on old ahead new running true = (left : ℕ) × HasAhead pages sources on running left × Asks on.local old ahead new left
+HasAsked pages sources on old ahead new running false = Asks on.local old ahead new 0
+
+-- a plan was opened: no row was given, and the pages that it may ask for are ahead
+pub record IsOpenedRun (planned : PlannedData) (running : Execution) : Type 0 where
+  pub given : (pages : Pages) (sources : List SourceData) → HasGiven pages sources planned running []
+  pub over : (sources : List SourceData) → IsPlannedOver sources planned → IsRunOver sources running
+  pub ahead : (pages : Pages) (sources : List SourceData) (on : Basis) → HasAhead pages sources on running (work_of on.w on.db on.sizes planned)
+
+-- a measure that falls with each row, over any source of bytes; no more rows are gathered than there are addresses
+abbrev pub steps_left : List SourceData → Execution → ℕ
+steps_left sources (Rows results) = steps sources results.op
+steps_left sources (Distinct distinct) = steps sources distinct.results.op
+steps_left sources (Chained chained) = turn_steps sources chained.arms
+steps_left sources (Waiting plan) = 2 ^ 64
+steps_left sources (Giving rows) = into_iter_len rows

@@ -1,0 +1,62 @@
+//! Columns of each row of a table, as rows of a SELECT.
+ghost use Rattle.std.specs.Prelude.{◌≡◌, IfOk, map};
+ghost use Rattle.std.specs.List.{range_with_len};
+ghost use Rattle.expr.specs.Term.{column};
+ghost use Rattle.expr.specs.View.{term};
+ghost use Rattle.logical_plan.specs.PlanView.{plan_data};
+ghost use Rattle.logical_plan.specs.answers.Selection.{selection_data};
+ghost use Rattle.operators_runs.specs.execution.Columns.{columns_plan, columns_selection};
+
+use expr::Expr;
+use logical_plan::{Nested, Plan, Selection};
+use std::alloc::{AllocError, Global};
+
+/// A column by its place.
+fn column_at(at: usize) -> Expr
+    ensures { term result ≡ column at }
+{
+    Expr::Column(at)
+}
+
+/// The columns of rows that have so many.
+fn whole_row(alloc: Global, width: usize) -> Result<Vec<Expr>, AllocError>
+    ensures { IfOk result (λ columns. map term columns.items ≡ map column (range_with_len 0 width)) }
+{
+    let mut columns = Vec::with_capacity(alloc, width)?;
+    for at in 0..width {
+        columns.push(column_at(at))?;
+    }
+    Ok(columns)
+}
+
+/// The plan of these columns of the table at a place of the catalog.
+fn plan_of(alloc: Global, table: usize, places: &[usize]) -> Result<Plan, AllocError>
+    ensures { IfOk result (λ plan. plan_data plan ≡ columns_plan table places.now) }
+{
+    let nested = Nested {
+        table,
+        columns: Vec::from_slice(alloc, places)?,
+        tests: Vec::new(alloc),
+        padded: false,
+    };
+    let once = Box::new(alloc, Plan::SingleRow)?;
+    Ok(Plan::NestedLoop(once, nested))
+}
+
+/// What gives these columns of each row of the table at a place of the catalog, in the table's order.
+pub(crate) fn selection_of(
+    alloc: Global,
+    table: usize,
+    places: &[usize],
+) -> Result<Selection, AllocError>
+    ensures { IfOk result (λ selection. selection_data selection ≡ columns_selection table places.now) }
+{
+    let plan = plan_of(alloc, table, places)?;
+    let columns = whole_row(alloc, places.len())?;
+    Ok(Selection {
+        plan,
+        columns,
+        limit: None,
+        offset: 0,
+    })
+}

@@ -1,0 +1,53 @@
+//! What a query with subqueries answers, written as lines.
+ghost use Rattle.std.specs.Prelude.{[], All, IfErr, MatchResult, OnOk};
+ghost use Rattle.btree.specs.image.Pages.{WhereSteady};
+ghost use Rattle.operators_runs.specs.inner_rows.Over.{AreSaid};
+ghost use Rattle.operators_runs.specs.inner_rows.Runnable.{IsRunnableBody};
+ghost use Rattle.operators_runs.specs.inner_rows.Work.{body_work};
+ghost use Rattle.semantics.specs.Typed.{IsTyped};
+ghost use Rattle.operators_runs.specs.nested_runs.Writes.{WritesBeginning, WritesPermitted};
+ghost use Rattle.operators_loops.specs.Basis.{Basis};
+ghost use Rattle.pager.specs.Calls.{ReadsPages};
+ghost use Rattle.operators_runs.specs.Faults.{IsRunFault};
+ghost use Rattle.operators_scan.specs.scan.Coming.{Asks};
+ghost use Rattle.operators_scan.specs.Coming.{IsRooted, IsStoredSource};
+ghost use Rattle.logical_plan.specs.answers.Sources.{sources_of};
+ghost use Rattle.resolver.specs.statement_names.NamedView.{query_data};
+ghost use Rattle.schema_tables.specs.ColumnTypes.{column_types};
+ghost use Rattle.values.specs.Fault.{Counts};
+
+use crate::inner_rows::kept_plan;
+use crate::write_answer;
+use operators_scan::Sources;
+use pager::{Pager, Source};
+use resolver::Query;
+use schema_tables::Table;
+use std::alloc::Global;
+use values::{Fault, Sink};
+
+/// Writes the rows of a query as lines, once the queries in it are computed, each of them once, and counts the rows. Its faults are
+/// those of a run. (SELECT)
+pub fn write_nested<S: Source, W: Sink>(
+    alloc: Global,
+    pager: &mut Pager<S>,
+    tables: &[Table],
+    query: &Query,
+    out: &mut W,
+) -> Result<u64, Fault>
+    requires { All (IsRooted pager.old.state.header) (sources_of tables.now []) }
+    ensures rows { WhereSteady pager.old.state (λ pages. IsTyped (column_types tables.now) (query_data query.now)
+        → IsRunnableBody (query_data query.now).body → All (IsStoredSource pages) (sources_of tables.now [])
+        → MatchResult result
+        (WritesPermitted pages tables.now (query_data query.now) (W.facts out.old) (W.facts out.new))
+        (WritesBeginning pages tables.now (query_data query.now) (W.facts out.old) (W.facts out.new))) }
+    ensures pages { WhereSteady pager.old.state (λ pages. (on : Basis) → AreSaid pages tables.now on
+        → IsTyped (column_types tables.now) (query_data query.now) → IsRunnableBody (query_data query.now).body
+        → OnOk result (Asks on.local pager.old.state (body_work on.w on.db on.sizes (query_data query.now).body) pager.new.state 0)) }
+    ensures only { IfErr result IsRunFault }
+    ensures reads { ReadsPages result pager.old.state pager.new.state }
+    ensures writes { Counts Fault.WriteFailed result (W.facts out.old).failures (W.facts out.new).failures }
+{
+    let run = kept_plan(alloc, pager, tables, query)?;
+    let sources = Sources::new(tables, run.kept.as_slice());
+    write_answer(alloc, pager, &sources, &run.planned, out)
+}

@@ -1,0 +1,4 @@
+pub mod StepLemmas
+pub mod KeptLemmas
+pub mod RowLemmas
+pub mod lemmas

@@ -1,0 +1,3 @@
+pub mod SourceData
+pub mod Coming
+pub mod scan

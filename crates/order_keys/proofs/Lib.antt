@@ -1,2 +1,0 @@
-mod KeyLemmas
-mod NamedLemmas

@@ -1,4 +1,0 @@
-pub mod OrderLemmas
-pub mod RankLemmas
-pub mod LimitLemmas
-pub mod FirstLemmas

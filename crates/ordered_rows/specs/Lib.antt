@@ -1,4 +1,0 @@
-pub mod Keys
-pub mod Ranked
-pub mod Firsts
-pub mod FirstView

@@ -1,4 +1,0 @@
-pub mod PlacedLemmas
-pub mod ItselfLemmas
-pub mod OverLemmas
-pub mod ConjunctLemmas

@@ -1,5 +1,0 @@
-use Rattle.plans.proofs.TurnLemmas.{inner_in_turn}
-use Rattle.plans.proofs.laws.inner_joins_are_in_turn.Goals as goal
-
-pub returns : goal.returns
-returns c = inner_in_turn

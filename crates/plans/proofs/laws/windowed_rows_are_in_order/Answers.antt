@@ -1,5 +1,0 @@
-use Rattle.plans.proofs.WindowedLemmas.{windowed_in_order}
-use Rattle.plans.proofs.laws.windowed_rows_are_in_order.Goals as goal
-
-pub returns : goal.returns
-returns c = windowed_in_order

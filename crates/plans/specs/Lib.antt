@@ -1,6 +1,0 @@
-pub mod Plan
-pub mod PlanView
-pub mod Stands
-pub mod Examples
-pub mod JoinPlan
-pub mod WindowedPlan

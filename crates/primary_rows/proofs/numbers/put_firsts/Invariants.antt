@@ -1,6 +1,0 @@
-use Rattle.std.proofs.Common.{◌≡◌, ◌++◌, drop}
-use Rattle.primary_rows.specs.Firsts.{firsts}
-use Rattle.primary_rows.proofs.numbers.put_firsts.Given as goal
-
-abbrev pub invariant-loop-number : goal.invariant-loop-number
-invariant-loop-number l = l.met.items ++ firsts l.met.items (drop l.number-index l.numbers) ≡ l.fn.met.items ++ firsts l.fn.met.items l.numbers

@@ -1,2 +1,0 @@
-mod CompoundLemmas
-pub mod DepthLemmas

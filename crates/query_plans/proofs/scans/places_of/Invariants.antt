@@ -1,7 +1,0 @@
-use Rattle.std.proofs.Common.{◌≡◌, map, take}
-use Rattle.expr.specs.Term.{column}
-use Rattle.query_trees.specs.TermView.{term}
-use Rattle.query_plans.proofs.scans.places_of.Given as goal
-
-abbrev pub invariant-loop-t : goal.invariant-loop-t
-invariant-loop-t l = map term (take l.t-index l.terms) ≡ map column l.places.items

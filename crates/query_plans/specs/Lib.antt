@@ -1,4 +1,0 @@
-pub mod Answers
-pub mod Served
-pub mod Made
-pub mod Laws

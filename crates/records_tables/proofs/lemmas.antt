@@ -1,0 +1,2 @@
+pub mod stored_rows
+pub mod primary_rows

@@ -1,0 +1,5 @@
+pub mod Tables
+pub mod Keyed
+pub mod Reading
+pub mod stored_rows
+pub mod primary_rows

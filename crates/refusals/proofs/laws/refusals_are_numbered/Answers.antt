@@ -1,5 +1,0 @@
-use Rattle.refusals.proofs.RefusalLemmas as refusals
-use Rattle.refusals.proofs.laws.refusals_are_numbered.Goals as goal
-
-pub returns : goal.returns
-returns c = refusals.refusals_are_numbered

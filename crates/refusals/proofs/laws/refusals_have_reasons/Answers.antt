@@ -1,5 +1,0 @@
-use Rattle.refusals.proofs.RefusalLemmas as refusals
-use Rattle.refusals.proofs.laws.refusals_have_reasons.Goals as goal
-
-pub returns : goal.returns
-returns c = refusals.refusals_have_reasons (c.names_are_columns.ensures.none, c.names_are_columns.ensures.two, c.names_are_distinct.ensures.names)

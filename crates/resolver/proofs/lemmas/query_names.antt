@@ -1,0 +1,2 @@
+pub mod CompoundLemmas
+pub mod DepthLemmas

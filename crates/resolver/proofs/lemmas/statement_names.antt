@@ -1,0 +1,5 @@
+pub mod CountLemmas
+pub mod NameLemmas
+pub mod ItemLemmas
+pub mod StatementLemmas
+pub mod LevelLemmas

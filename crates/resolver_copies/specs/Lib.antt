@@ -1,0 +1,2 @@
+pub mod schema_bodies
+pub mod materialized_bodies

@@ -1,0 +1,3 @@
+pub mod ListedLemmas
+pub mod FirstLemmas
+pub mod AggregateLemmas

@@ -1,0 +1,4 @@
+mod StepLemmas
+mod GroupLemmas
+mod KeyLemmas
+pub mod lemmas

@@ -1,0 +1,2 @@
+pub mod term_copies
+pub mod same_terms

@@ -1,0 +1,12 @@
+use Rattle.std.proofs.Common.{rules}
+use Rattle.resolver_terms.specs.SelectView.{sort_of}
+use Rattle.resolver_terms.proofs.lemmas.same_terms.SameLemmas.{list_end, list_step}
+use Rattle.resolver_terms.proofs.same_terms.calls.same_order.Goals as goal
+
+pub returns : goal.returns
+returns c = list_end sort_of c.args.a.now c.args.b.now c.loop-x.rest.now c.loop-x.x-index _ (search rules) c.is_empty.ensures c.loop-x.invariant
+
+pub loop-x-preserved : goal.loop-x-preserved
+loop-x-preserved c =
+    list_step sort_of c.args.a.now c.args.b.now c.loop-x.rest.now c.in-Some.later.now c.loop-x.x-index c.x-item.result c.in-Some.y.now
+    c.loop-x-test.true c.x-item.is (search rules) (c.same_sort.ensures.0 c.if-same_sort.true) c.loop-x.invariant

@@ -1,0 +1,4 @@
+pub mod Outcome
+pub mod TermView
+pub mod SelectView
+pub mod same_terms

@@ -1,0 +1,13 @@
+//! Whether two aggregates are the same.
+ghost use Rattle.std.specs.Prelude.{◌≡◌, ◌↔◌, IsTrue};
+ghost use Rattle.resolver_terms.specs.SelectView.{aggregate_of};
+
+use crate::Aggregate;
+use crate::same_terms::equality::same_term;
+
+/// Whether two aggregates are the same function of the same term.
+pub fn same_aggregate(a: &Aggregate, b: &Aggregate) -> bool
+    ensures { IsTrue result ↔ aggregate_of a.now ≡ aggregate_of b.now }
+{
+    a.function == b.function && same_term(&a.argument, &b.argument)
+}

@@ -1,0 +1,3 @@
+pub mod ColumnLemmas
+pub mod FromLemmas
+pub mod BodyLemmas

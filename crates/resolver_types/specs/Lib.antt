@@ -1,0 +1,2 @@
+pub mod term_types
+pub mod body_types

@@ -1,2 +1,0 @@
-mod AppendLemmas
-mod InputLemmas

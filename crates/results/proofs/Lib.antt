@@ -1,3 +1,0 @@
-pub mod SliceLemmas
-pub mod StreamLemmas
-pub mod PermittedLemmas

@@ -1,5 +1,0 @@
-use Rattle.results.proofs.PermittedLemmas.{plain_is_permitted}
-use Rattle.results.proofs.laws.plain_is_permitted.Goals as goal
-
-pub returns : goal.returns
-returns c = plain_is_permitted

@@ -1,6 +1,0 @@
-use Rattle.pager.proofs.CallLemmas.{IfErr-weaker}
-use Rattle.row_batches.proofs.CodeLemmas.{walk_fault}
-use Rattle.row_batches.proofs.runs.are_placed.Goals as goal
-
-pub returns-clause-only : goal.returns-clause-only
-returns-clause-only g c = IfErr-weaker c.are_in_batch.result walk_fault c.are_in_batch.ensures.only

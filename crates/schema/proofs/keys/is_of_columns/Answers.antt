@@ -1,9 +1,0 @@
-use Rattle.std.proofs.Common.{IsTrue, ◌↔◌, map, string_bytes, subst}
-use Rattle.create_trees.specs.CreateView.{column_of}
-use Rattle.schema.specs.Created.{AreColumns}
-use Rattle.schema.proofs.keys.is_of_columns.Goals as goal
-
-pub returns : goal.returns
-returns c =
-    subst (λ ns. IsTrue c.are_columns.result ↔ AreColumns (map column_of c.args.columns.now) (map (λ n. string_bytes n) ns))
-    c.as_slice.ensures.value c.are_columns.ensures

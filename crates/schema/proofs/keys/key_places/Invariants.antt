@@ -1,7 +1,0 @@
-use Rattle.std.proofs.Common.{map}
-use Rattle.create_trees.specs.CreateView.{column_of}
-use Rattle.schema.proofs.KeyLemmas.{PlacesSoFar}
-use Rattle.schema.proofs.keys.key_places.Given as goal
-
-abbrev pub invariant-loop-name : goal.invariant-loop-name
-invariant-loop-name l = PlacesSoFar (map column_of l.columns) l.names l.name-index l.places.items

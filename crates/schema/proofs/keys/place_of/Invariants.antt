@@ -1,8 +1,0 @@
-use Rattle.std.proofs.Common.{string_bytes}
-use Rattle.std.specs.List.{AllWithin}
-use Rattle.create_trees.specs.declared.create.Column.{Column}
-use Rattle.schema.specs.Names.{IsSameName}
-use Rattle.schema.proofs.keys.place_of.Given as goal
-
-abbrev pub invariant-loop-place : goal.invariant-loop-place
-invariant-loop-place l = AllWithin (λ (c : Column). ¬ IsSameName (string_bytes c.name) l.name) l.columns 0 l.place

@@ -1,6 +1,0 @@
-use Rattle.std.proofs.Common.{map, string_bytes, take}
-use Rattle.schema.specs.Names.{AreDistinct}
-use Rattle.schema.proofs.served.are_different.Given as goal
-
-abbrev pub invariant-loop-place : goal.invariant-loop-place
-invariant-loop-place l = AreDistinct (map (λ n. string_bytes n) (take l.place l.names))

@@ -1,0 +1,11 @@
+pub mod ListLemmas
+pub mod ApartLemmas
+pub mod NameLemmas
+pub mod TypeLemmas
+pub mod ColumnLemmas
+pub mod ServedLemmas
+pub mod KeyLemmas
+pub mod CreatedLemmas
+pub mod MissingLemmas
+pub mod OneLemmas
+pub mod lemmas

@@ -1,9 +1,0 @@
--- No column before this one is called so.
-use Rattle.std.proofs.Common.{◌≡◌, drop, option_map}
-use Rattle.naming.specs.Statement.{declared_name}
-use Rattle.scopes.proofs.lookup.declared_name.Given as goal
-
-abbrev pub invariant-loop-shown : goal.invariant-loop-shown
-invariant-loop-shown l =
-    let table = option_map (λ t. t.now) l.table in
-    declared_name l.scope table l.name ≡ declared_name (drop l.shown-index l.scope) table l.name

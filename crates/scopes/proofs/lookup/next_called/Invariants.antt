@@ -1,9 +1,0 @@
--- No column before this one is called so.
-use Rattle.std.proofs.Common.{◌≡◌, drop, option_map}
-use Rattle.naming.specs.Scope.{called}
-use Rattle.scopes.proofs.lookup.next_called.Given as goal
-
-abbrev pub invariant-loop-at : goal.invariant-loop-at
-invariant-loop-at l =
-    let table = option_map (λ t. t.now) l.table in
-    called table l.name l.from (drop l.from l.scope) ≡ called table l.name l.at (drop l.at l.scope)

@@ -1,8 +1,0 @@
--- The columns before this one are changed, and the others are not.
-use Rattle.std.proofs.Common.{◌≡◌, ◌++◌, drop, map, take}
-use Rattle.scopes.specs.Using.{merged_column}
-use Rattle.scopes.proofs.using.merge.Given as goal
-
-abbrev pub invariant-loop-shown : goal.invariant-loop-shown
-invariant-loop-shown l =
-    l.columns ≡ map (merged_column l.name l.places) (take l.shown-index l.initial.columns) ++ drop l.shown-index l.initial.columns

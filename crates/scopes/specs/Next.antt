@@ -1,9 +1,0 @@
--- The columns that are called so, the first of them by its place.
-use Rattle.std.specs.Prelude.{◌≡◌, ◌<◌, ℕ, suc, List, ◌∷◌, drop, length, Option, slice_index_or}
-use Rattle.syntax.specs.Tree.{Name}
-use Rattle.naming.specs.Scope.{Scope, Shown, called, shown_places}
-
--- these are the columns that are called so: the one at this place, and those behind it
-pub record IsNext (table : Option Name) (name : Name) (scope : Scope) (at : ℕ) (all : List (List ℕ)) : Type 0 where
-  pub within : at < length scope
-  pub first : (d : Shown) → all ≡ shown_places table at (slice_index_or scope at d) ∷ called table name (suc at) (drop (suc at) scope)

@@ -1,3 +1,0 @@
-mod StepLemmas
-mod GroupLemmas
-mod KeyLemmas

@@ -1,3 +1,0 @@
-pub mod BehindView
-pub mod Groups
-pub mod NamedView

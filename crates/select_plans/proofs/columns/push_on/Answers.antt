@@ -1,7 +1,0 @@
-use Rattle.select_plans.proofs.ReadLemmas.{on_more}
-use Rattle.select_plans.proofs.columns.push_on.Goals as goal
-
-pub loop-table-preserved : goal.loop-table-preserved
-loop-table-preserved c =
-    on_more c.args.tables.now c.loop-table.table-index c.table-item.result c.loop-table-test.true c.table-item.is c.args.out.now.items c.loop-table.out.items
-    c.push_columns.new.out.items c.loop-table.invariant c.in_ok-push_columns.ensures

@@ -1,8 +1,0 @@
-use Rattle.select_plans.proofs.MadeLemmas as lemma
-use Rattle.select_plans.proofs.laws.made_has_rows.Goals as goal
-
-pub returns-clause-rows : goal.returns-clause-rows
-returns-clause-rows c = lemma.made_has_rows
-
-pub returns-clause-hits : goal.returns-clause-hits
-returns-clause-hits c = lemma.made_is_hit

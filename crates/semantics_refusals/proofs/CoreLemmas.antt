@@ -1,0 +1,315 @@
+-- One SELECT behind its FROM, or why it is none.
+use Rattle.std.proofs.Common.{◌≡◌, ◌⊎◌, inl, inr, Bool, false, ℕ, suc, pos, List, [], ◌∷◌, ◌++◌, length, Option, Some, None, Result, Ok, Err, Contains, nat_le, nat_lt, refl, subst, sym}
+use Rattle.std.specs.List.{filter_map}
+use Rattle.std.proofs.lemmas.List.Elements.{Contains-append_left, Contains-append_right, Contains-push}
+use Rattle.values.specs.declared.fault.Fault.{Fault}
+use Rattle.values.specs.declared.fault.Fault.TheVariants.{Ambiguous, BareColumn, DuplicateName, Limit, UnknownColumn, WrongPlace}
+use Rattle.expr.specs.Term.{Term}
+use Rattle.sql_reader_syntax.specs.ExprTree.{CoreTree, DefinitionTrees, ExprTree, ExprTrees, MaybeExpr, ResultTree, ResultTrees, TermTrees}
+use Rattle.sql_reader_syntax.specs.Tree.{Name}
+use Rattle.semantics.specs.Query.{Aggregate, KeyTerm, WindowCall}
+use Rattle.semantics_names.specs.Expression.{Answers, Says, term_of}
+use Rattle.semantics_names.specs.Parts.{all_parts, definitions_parts, maybe_parts, parts, parts_behind_groups, results_parts, terms_parts, window_parts}
+use Rattle.semantics_names.specs.Places.{Defined, aggregate_of, call_of, columns_say, groups_say, key_column, window_of, windows_say}
+use Rattle.semantics_names.specs.Same.{is_same_aggregate, is_same_call}
+use Rattle.semantics_names.specs.Scope.{Scope}
+use Rattle.semantics_names.specs.Statement.{Input, ResultColumn, all_results, are_distinct, as_input, behind_groups, by_of, condition_of, core_of, defined_of, finished, firsts, grouped, input_of, key_term, keys_of, max_columns, named_at, no_row, on_row, one_or, or_bare, result, results_of, select_of, shown, some_of, starred, starred_of, ungrouped, window_names}
+use Rattle.semantics_refusals.specs.Columns.{names_of_results, results_in}
+use Rattle.semantics_refusals.specs.UnknownColumns.{IsNamedAt}
+use Rattle.semantics_refusals.specs.Written.{spoken_in, stars_in, terms_in, windows_in}
+use Rattle.semantics_refusals.proofs.NameLemmas.{all_names, names_in}
+use Rattle.semantics_refusals.proofs.OutcomeLemmas.{Gives, Only, OnlySome, Takes, all_only, also_gives, also_only, both_only, checked_only, firsts_only, followed_gives, followed_only, if_only, known_only, nothing, ok, refused}
+use Rattle.semantics_refusals.proofs.PartLemmas.{Deep, Each, back, deep, deep_spoken, first, front, itself, join, none, one, rest, weaker}
+use Rattle.semantics_refusals.proofs.PlaceLemmas.{aggregate_only, call_only, groups_only, said_of, window_only, windows_only}
+use Rattle.semantics_refusals.proofs.ScopeLemmas.{named_none}
+use Rattle.semantics_refusals.proofs.TermLemmas.{Sound, term_only}
+
+-- a name alone in ORDER BY isn't that of two result columns
+pub record IsFineOrder (F : Fault → Type 0) (order : TermTrees) (names : List Name) : Type 0 where
+  pub two : (name : Name) → Contains (terms_in order) (ExprTree.Column None name) → (at other : ℕ) (more : List ℕ)
+      → named_at name 0 names ≡ at ∷ other ∷ more → F Ambiguous
+
+-- an expression of ORDER BY is the name of a result column alone, or this holds of its parts
+pub record IsFineTerm (P : ExprTree → Type 0) (names : List Name) (e : ExprTree) : Type 0 where
+  pub is : ((alone : Name) × (at : ℕ) × (e ≡ ExprTree.Column None alone) × IsNamedAt names alone at) ⊎ Each P (parts e)
+
+-- a part is a name alone, or it holds of its parts
+record IsLoose (P : ExprTree → Type 0) (part : ExprTree) : Type 0 where
+  is : ((table : Option Name) × (name : Name) × (part ≡ ExprTree.Column table name)) ⊎ Each P (parts part)
+
+loose : {P : ExprTree → Type 0} {xs : List ExprTree} → Each (Deep P) xs → Each (IsLoose P) xs
+loose all = weaker (λ part of. record { is = inr of.is }) all
+
+loose_terms : {P : ExprTree → Type 0} {names : List Name} (order : TermTrees) → Each (IsFineTerm P names) (terms_in order)
+    → Each (IsLoose P) (terms_parts order)
+loose_terms TermTrees.No_term all = none
+loose_terms {P = P} {names = names} (TermTrees.Term e direction others) all =
+    join (parts e) (terms_parts others) (by e (first all).is) (loose_terms others (rest all))
+  where
+    by : (e : ExprTree) → ((alone : Name) × (at : ℕ) × (e ≡ ExprTree.Column None alone) × IsNamedAt names alone at) ⊎ Each P (parts e)
+        → Each (IsLoose P) (parts e)
+    by e (inl (alone, at, same, is)) = subst (λ e. Each (IsLoose P) (parts e)) (sym same) (one (record { is = inl (None, alone, refl) }))
+    by e (inr of) = loose (deep e of)
+
+-- `t.*` stands for some column
+pub record IsFineStar (F : Fault → Type 0) (scope : Scope) (table : Name) : Type 0 where
+  pub is : starred_of table 0 scope ≡ [] → F UnknownColumn
+
+module _ (F : Fault → Type 0) (takes : Takes F) where
+  some_only : (fault : Fault) (columns : List ResultColumn) → (columns ≡ [] → F fault) → Only F (some_of fault columns)
+  some_only fault [] is = record { is = is refl }
+  some_only fault (c ∷ cs) is = ok _
+
+  -- ---- ORDER BY
+
+  one_only : (places : List ℕ) (otherwise : Result KeyTerm Fault) → ((at other : ℕ) (more : List ℕ) → places ≡ at ∷ other ∷ more → F Ambiguous)
+      → (places ≡ [] → Only F otherwise) → Only F (one_or places otherwise)
+  one_only [] otherwise two o = o refl
+  one_only (at ∷ []) otherwise two o = ok _
+  one_only (at ∷ other ∷ more) otherwise two o = record { is = two at other more refl }
+
+  module _ (names : List Name) (otherwise : ExprTree → Result KeyTerm Fault) (Q : ExprTree → Type 0)
+      (others : (e : ExprTree) → Each Q (parts e) → Only F (otherwise e)) where
+    no_name_only : (e : ExprTree) → ((alone : Name) → ¬ (e ≡ ExprTree.Column None alone)) → IsFineTerm Q names e → Only F (otherwise e)
+    no_name_only e apart fine = by fine.is
+      where
+        by : ((alone : Name) × (at : ℕ) × (e ≡ ExprTree.Column None alone) × IsNamedAt names alone at) ⊎ Each Q (parts e) → Only F (otherwise e)
+        by (inl (alone, at, same, is)) = absurd (apart alone same)
+        by (inr all) = others e all
+
+    name_only : (name : Name) → named_at name 0 names ≡ [] → IsFineTerm Q names (ExprTree.Column None name) → Only F (otherwise (ExprTree.Column None name))
+    name_only name e fine = by fine.is
+      where
+        by : ((alone : Name) × (at : ℕ) × (ExprTree.Column None name ≡ ExprTree.Column None alone) × IsNamedAt names alone at)
+            ⊎ Each Q (parts (ExprTree.Column None name)) → Only F (otherwise (ExprTree.Column None name))
+        by (inl (alone, at, same, is)) =
+            let called : alone ≡ name = cc in absurd (named_none name 0 names e at (subst (λ n. IsNamedAt names n at) called is))
+        by (inr all) = others (ExprTree.Column None name) all
+
+    key_term_only : (e : ExprTree) → ((name : Name) → e ≡ ExprTree.Column None name → (at other : ℕ) (more : List ℕ)
+        → named_at name 0 names ≡ at ∷ other ∷ more → F Ambiguous) → IsFineTerm Q names e → Only F (key_term names otherwise e)
+    key_term_only (ExprTree.Number (pos (suc at))) two fine =
+        checked_only (nat_lt at (length names)) WrongPlace _ (λ _. takes.wrong_place) (ok _)
+    key_term_only (ExprTree.Number z) two fine = refused WrongPlace takes.wrong_place
+    key_term_only (ExprTree.Column None name) two fine =
+        one_only (named_at name 0 names) _ (two name refl) (λ e. name_only name e fine)
+    key_term_only e two fine = no_name_only e (λ alone same. absurd cc) fine
+
+    pub keys_only : (order : TermTrees) → IsFineOrder F order names → Each (IsFineTerm Q names) (terms_in order) → Only F (keys_of names otherwise order)
+    keys_only TermTrees.No_term fine all = ok _
+    keys_only (TermTrees.Term e direction others) fine all =
+        both_only _ (key_term names otherwise e) (keys_of names otherwise others)
+        (key_term_only e (λ name same. fine.two name (subst (Contains (e ∷ terms_in others)) same (here e (terms_in others)))) (first all))
+        (keys_only others (record { two = λ name there. fine.two name (Contains-append_right (e ∷ []) (terms_in others) (ExprTree.Column None name) there) })
+        (rest all))
+      where
+        here : (e : ExprTree) (es : List ExprTree) → Contains (e ∷ es) e
+        here e es = Contains-append_left (e ∷ []) es e (Contains-push [] e)
+
+  pub no_row_only : (e : ExprTree) → Each (λ _. Unit {0}) (parts e) → Only F (no_row e)
+  no_row_only e all = refused WrongPlace takes.wrong_place
+
+  -- ---- one SELECT
+
+  or_bare_only : (t : Option Term) → Only F (or_bare t)
+  or_bare_only (Some t) = ok t
+  or_bare_only None = refused BareColumn takes.bare_column
+
+  module _ (answers : Answers) (scope : Scope) where
+    abbrev Base : ExprTree → Type 0
+    Base = Sound F answers (columns_say scope)
+
+    -- what is said of a part
+    record Speaks (says : Says) : Type 0 where
+      so : (part : ExprTree) → Each (Sound F answers (columns_say scope)) (parts part) → Sound F answers says part
+
+    columns_speak : Speaks (columns_say scope)
+    columns_speak = record { so = λ part all. itself part all }
+
+    groups_speak : (by : List Term) (aggregates : List Aggregate) → Speaks (groups_say answers scope by aggregates)
+    groups_speak by aggregates = record {
+      so = λ part all. record {
+        said = groups_only F takes answers scope by aggregates part all;
+        answered = (itself part all).answered;
+      };
+    }
+
+    -- and of a column of FROM
+    record IsInput (input : Input) : Type 0 where
+      speaks : Speaks input.says
+      over : (t : Term) → Only F (input.over_input t)
+
+    windows_speak : (input : Input) → Speaks input.says → (defined : List Defined) (calls : List WindowCall)
+        → Speaks (windows_say answers input.says defined input.width calls)
+    windows_speak input speaks defined calls = record {
+      so = λ part all. record {
+        said = windows_only F takes answers input.says defined input.width calls part (said_of F takes answers input.says speaks.so (deep part all));
+        answered = (itself part all).answered;
+      };
+    }
+
+    ungrouped_is : IsInput (ungrouped scope)
+    ungrouped_is = record { speaks = columns_speak; over = λ t. ok t }
+
+    term_so : (says : Says) → Speaks says → (e : ExprTree) → Each (Deep (Sound F answers (columns_say scope))) (parts e) → Only F (term_of answers says e)
+    term_so says speaks e all = term_only F takes.wrong_place answers says e (said_of F takes answers says speaks.so all)
+
+    condition_only : (says : Says) → Speaks says → (condition : MaybeExpr) → Each (Deep (Sound F answers (columns_say scope))) (maybe_parts condition)
+        → Only F (condition_of answers says condition)
+    condition_only says speaks MaybeExpr.Absent all = ok _
+    condition_only says speaks (MaybeExpr.Present e) all = term_so says speaks e all
+
+    as_input_only : (input : Input) (r : ResultColumn) → IsInput input → Only F (as_input answers input r)
+    as_input_only input r is = also_only (result r.name) (input.over_input r.term) (is.over r.term)
+
+    module _ (input : Input) (is : IsInput input) (says : Says) (speaks : Speaks says) where
+      all_only_of : (results : ResultTrees) → Each (IsFineStar F scope) (stars_in results)
+          → Each (Deep (Sound F answers (columns_say scope))) (results_parts results)
+          → Only F (all_results answers scope input says results)
+      all_only_of ResultTrees.No_result stars all = ok _
+      all_only_of (ResultTrees.Result ResultTree.All rs) stars all =
+          both_only ◌++◌ (results_of answers scope input says ResultTree.All) (all_results answers scope input says rs)
+          (followed_only (some_of WrongPlace (starred scope)) _ (some_only WrongPlace (starred scope) (λ _. takes.wrong_place))
+          (λ columns. all_only (as_input answers input) columns (λ r. as_input_only input r is)))
+          (all_only_of rs stars (back [] (results_parts rs) all))
+      all_only_of (ResultTrees.Result (ResultTree.AllOf table) rs) stars all =
+          both_only ◌++◌ (results_of answers scope input says (ResultTree.AllOf table)) (all_results answers scope input says rs)
+          (followed_only (some_of UnknownColumn (starred_of table 0 scope)) _ (some_only UnknownColumn (starred_of table 0 scope) (first stars).is)
+          (λ columns. all_only (as_input answers input) columns (λ r. as_input_only input r is)))
+          (all_only_of rs (rest stars) (back [] (results_parts rs) all))
+      all_only_of (ResultTrees.Result (ResultTree.Value e name) rs) stars all =
+          both_only ◌++◌ (results_of answers scope input says (ResultTree.Value e name)) (all_results answers scope input says rs)
+          (also_only _ (term_of answers says e) (term_so says speaks e (front (parts e) (results_parts rs) all)))
+          (all_only_of rs stars (back (parts e) (results_parts rs) all))
+
+    row_only : (distinct : Bool) (says : Says) → Speaks says → (e : ExprTree) → Each (Deep (Sound F answers (columns_say scope))) (parts e)
+        → Only F (on_row answers distinct says e)
+    row_only distinct says speaks e all =
+        if_only distinct (Err WrongPlace) _ (λ _. refused WrongPlace takes.wrong_place)
+        (also_only KeyTerm.term (term_of answers says e) (term_so says speaks e all))
+
+    grouped_gives : (by : List Term) (aggregates : List Aggregate) (having : MaybeExpr) → Each (Deep (Sound F answers (columns_say scope))) (maybe_parts having)
+        → Gives F IsInput (grouped answers scope by aggregates having)
+    grouped_gives by aggregates having all =
+        also_gives IsInput _ (condition_of answers (groups_say answers scope by aggregates) having)
+        (condition_only (groups_say answers scope by aggregates) (groups_speak by aggregates) having all)
+        (λ h. record { speaks = groups_speak by aggregates; over = λ t. or_bare_only (key_column by (Ok t)) })
+
+    input_gives : (by : List Term) (aggregates : List Aggregate) (having : MaybeExpr) → Each (Deep (Sound F answers (columns_say scope))) (maybe_parts having)
+        → Gives F IsInput (input_of answers scope by aggregates having)
+    input_gives [] [] having all = record { is = ungrouped_is }
+    input_gives [] (a ∷ aggregates) having all = grouped_gives [] (a ∷ aggregates) having all
+    input_gives (t ∷ by) aggregates having all = grouped_gives (t ∷ by) aggregates having all
+
+    by_only : (by : ExprTrees) → Each (Deep (Sound F answers (columns_say scope))) (all_parts by) → Only F (by_of answers scope by)
+    by_only ExprTrees.No_more all = ok _
+    by_only (ExprTrees.More (ExprTree.Number z) others) all = refused WrongPlace takes.wrong_place
+    by_only (ExprTrees.More e others) all =
+        both_only ◌∷◌ (term_of answers (columns_say scope) e) (by_of answers scope others)
+        (term_so (columns_say scope) columns_speak e (front (parts e) (all_parts others) all)) (by_only others (back (parts e) (all_parts others) all))
+
+    defined_only : (says : Says) → Speaks says → (windows : DefinitionTrees) → Each (Deep (Sound F answers (columns_say scope))) (definitions_parts windows)
+        → Only F (defined_of answers says windows)
+    defined_only says speaks DefinitionTrees.No_definition all = ok _
+    defined_only says speaks (DefinitionTrees.Definition name v others) all =
+        both_only _ (window_of answers says v) (defined_of answers says others)
+        (window_only F takes answers says v (said_of F takes answers says speaks.so (front (window_parts v) (definitions_parts others) all)))
+        (defined_only says speaks others (back (window_parts v) (definitions_parts others) all))
+
+    -- a name alone is neither an aggregate nor a windowed function
+    loose_aggregate : (part : ExprTree) → IsLoose (Sound F answers (columns_say scope)) part → OnlySome F (aggregate_of answers (columns_say scope) part)
+    loose_aggregate part is = by is.is
+      where
+        by : ((table : Option Name) × (name : Name) × (part ≡ ExprTree.Column table name)) ⊎ Each (Sound F answers (columns_say scope)) (parts part)
+            → OnlySome F (aggregate_of answers (columns_say scope) part)
+        by (inl (table, name, same)) = subst (λ part. OnlySome F (aggregate_of answers (columns_say scope) part)) (sym same) nothing
+        by (inr all) = aggregate_only F takes answers (columns_say scope) part all
+
+    loose_call : (says : Says) → Speaks says → (defined : List Defined) (part : ExprTree) → IsLoose (Sound F answers (columns_say scope)) part
+        → OnlySome F (call_of answers says defined part)
+    loose_call says speaks defined part is = by is.is
+      where
+        by : ((table : Option Name) × (name : Name) × (part ≡ ExprTree.Column table name)) ⊎ Each (Sound F answers (columns_say scope)) (parts part)
+            → OnlySome F (call_of answers says defined part)
+        by (inl (table, name, same)) = subst (λ part. OnlySome F (call_of answers says defined part)) (sym same) nothing
+        by (inr all) = call_only F takes answers says defined part (said_of F takes answers says speaks.so (deep part all))
+
+    module _ (distinct : Bool) (results : ResultTrees) (order : TermTrees) (behind : List ExprTree) where
+      -- what has to hold of its parts
+      record IsFine : Type 0 where
+        stars : Each (IsFineStar F scope) (stars_in results)
+        in_order : IsFineOrder F order (names_of_results scope results)
+        in_results : Each (Deep (Sound F answers (columns_say scope))) (results_parts results)
+        in_terms : Each (IsFineTerm (Sound F answers (columns_say scope)) (names_of_results scope results)) (terms_in order)
+        in_behind : Each (IsLoose (Sound F answers (columns_say scope))) behind
+
+      shown_only : (condition : Term) (input : Input) (defined : List Defined) (calls : List WindowCall) (says : Says) → IsInput input → Speaks says → IsFine
+          → Only F (shown answers scope distinct results order behind condition input defined calls says)
+      shown_only condition input defined calls says is speaks fine =
+          known_only (all_results answers scope input says results) _ (all_only_of input is says speaks results fine.stars fine.in_results) (λ columns given.
+          checked_only (nat_le (length columns) max_columns) Limit _ (λ _. takes.limit)
+          (also_only (finished distinct condition input.grouping defined calls columns) _
+          (keys_only (names_in columns) (on_row answers distinct says) (Sound F answers (columns_say scope))
+          (λ e all. row_only distinct says speaks e (deep e all)) order
+          (subst (IsFineOrder F order) (sym (all_names answers input scope says results columns given)) fine.in_order)
+          (subst (λ names. Each (IsFineTerm (Sound F answers (columns_say scope)) names) (terms_in order))
+          (sym (all_names answers input scope says results columns given)) fine.in_terms))))
+
+      behind_only : (windows : DefinitionTrees) (condition : Term) (input : Input) → IsInput input → IsFine
+          → (are_distinct (window_names windows) ≡ false → F DuplicateName) → Each (Deep (Sound F answers (columns_say scope))) (definitions_parts windows)
+          → Only F (behind_groups answers scope distinct results order behind windows condition input)
+      behind_only windows condition input is fine apart all =
+          checked_only (are_distinct (window_names windows)) DuplicateName _ apart
+          (followed_only (defined_of answers input.says windows) _ (defined_only input.says is.speaks windows all) (λ defined.
+          followed_only (firsts is_same_call [] (filter_map (call_of answers input.says defined) behind)) _
+          (firsts_only is_same_call [] (call_of answers input.says defined) behind
+          (weaker (λ part of. loose_call input.says is.speaks defined part of) fine.in_behind))
+          (λ calls. shown_only condition input defined calls (windows_say answers input.says defined input.width calls) is
+          (windows_speak input is.speaks defined calls) fine)))
+
+      select_only : (condition : MaybeExpr) (by : ExprTrees) (having : MaybeExpr) (windows : DefinitionTrees) → IsFine
+          → (are_distinct (window_names windows) ≡ false → F DuplicateName) → Each (Deep (Sound F answers (columns_say scope))) (maybe_parts condition)
+          → Each (Deep (Sound F answers (columns_say scope))) (all_parts by) → Each (Deep (Sound F answers (columns_say scope))) (maybe_parts having)
+          → Each (Deep (Sound F answers (columns_say scope))) (definitions_parts windows)
+          → Only F (select_of answers scope distinct results order behind condition by having windows)
+      select_only condition by having windows fine apart in_condition in_by in_having in_windows =
+          followed_only (condition_of answers (columns_say scope) condition) _ (condition_only (columns_say scope) columns_speak condition in_condition)
+          (λ test.
+          followed_only (by_of answers scope by) _ (by_only by in_by) (λ keys.
+          followed_only (firsts is_same_aggregate [] (filter_map (aggregate_of answers (columns_say scope)) behind)) _
+          (firsts_only is_same_aggregate [] (aggregate_of answers (columns_say scope)) behind
+          (weaker (λ part of. loose_aggregate part of) fine.in_behind))
+          (λ aggregates.
+          followed_gives IsInput (λ _. Unit {0}) (input_of answers scope keys aggregates having)
+          (behind_groups answers scope distinct results order behind windows test) (input_gives keys aggregates having in_having)
+          (λ input is. behind_only windows test input is fine apart in_windows))))
+
+    pub core_only : (core : CoreTree) (order : TermTrees) → Each (Sound F answers (columns_say scope)) (spoken_in core)
+        → Each (IsFineTerm (Sound F answers (columns_say scope)) (names_of_results scope (results_in core))) (terms_in order)
+        → Each (IsFineStar F scope) (stars_in (results_in core)) → (are_distinct (window_names (windows_in core)) ≡ false → F DuplicateName)
+        → IsFineOrder F order (names_of_results scope (results_in core)) → Only F (core_of answers scope core order)
+    core_only (CoreTree.Select distinct results from condition by having windows) order all in_terms stars apart in_order =
+        let r = results_parts results in
+        let c = maybe_parts condition in
+        let b = all_parts by in
+        let h = maybe_parts having in
+        let d = definitions_parts windows in
+        let deeply = deep_spoken (CoreTree.Select distinct results from condition by having windows) all in
+        let in_windows = back (r ++ c ++ b ++ h) d deeply in
+        let to_having = front (r ++ c ++ b ++ h) d deeply in
+        let in_having = back (r ++ c ++ b) h to_having in
+        let to_by = front (r ++ c ++ b) h to_having in
+        let in_by = back (r ++ c) b to_by in
+        let to_condition = front (r ++ c) b to_by in
+        let in_condition = back r c to_condition in
+        let in_results = front r c to_condition in
+        select_only distinct results order
+        (parts_behind_groups (CoreTree.Select distinct results from condition by having windows) order) condition by having windows
+        (record {
+          stars = stars;
+          in_order = in_order;
+          in_results = in_results;
+          in_terms = in_terms;
+          in_behind =
+              join (r ++ h ++ d) (terms_parts order) (loose (join (r ++ h) d (join r h in_results in_having) in_windows)) (loose_terms order in_terms);
+        }) apart in_condition in_by in_having in_windows

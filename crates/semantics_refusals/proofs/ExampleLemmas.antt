@@ -1,0 +1,133 @@
+-- Worked statements, and what is written in them.
+use Rattle.std.proofs.Common.{◌≡◌, inr, true, false, List, [], ◌∷◌, ◌++◌, codes, Option, None, Result, Ok, Err, All, Contains, is_ok, refl}
+use Rattle.std.proofs.lemmas.List.Elements.{All-cons, All-contains, All-nil}
+use Rattle.values.specs.declared.fault.Fault.{Fault}
+use Rattle.values.specs.declared.fault.Fault.TheVariants as f
+use Rattle.sql_reader_syntax.specs.ExprTree.{CoreTree, DefinitionTrees, ExprTree, ExprTrees, MaybeExpr, QueryTree, SourceTree, TermTrees}
+use Rattle.sql_reader_syntax.specs.StatementTree.{ItemTree, StatementTree}
+use Rattle.sql_reader_syntax.specs.Tree.{Name}
+use Rattle.semantics_names.specs.Laws.{AmbiguousIsTwo, DistinctIsSaid, TypedIsTaken, UnknownIsNone}
+use Rattle.semantics_names.specs.Parts.{core_parts, terms_parts}
+use Rattle.semantics_names.specs.RefusedExamples.{RefusedNames, RefusedTypes, alias_in_where, arms_of_two_types, in_two_sources, item_in_itself, mismatch, other_type, outer_column, star_of_none, twice, two_columns, two_named, two_of_one_name, uneven, uneven_item, unknown_column, unknown_table, untyped_item, unused_window, windows_of_one_name}
+use Rattle.semantics_names.specs.Statement.{Named, from_tree}
+use Rattle.semantics_names.specs.Typed.{typed_query}
+use Rattle.semantics_names.specs.Worked.{by_term, called, id, item as item_alone, name_alone, results_of, tables}
+use Rattle.semantics_refusals.specs.Examples.{NothingIsWritten, ReasonsAreWritten, item_before_its_own, items_of_items, of_null_alone, sorted_by_alias}
+use Rattle.semantics_refusals.specs.Reasons.{IsReason}
+use Rattle.semantics_refusals.specs.UnknownColumns.{HasLooseHaving}
+use Rattle.semantics_refusals.specs.Written.{HasQuery, HasSelect, IsDerived, IsLooseHaving, IsOperand, IsQueryOf, IsSelect, StandsIn, sources_in}
+use Rattle.semantics_refusals.proofs.MistypedQueryLemmas.{mistyped_is_refused}
+use Rattle.semantics_refusals.proofs.RefusalLemmas.{NameLaws, refusals_have_reasons}
+use Rattle.semantics_refusals.proofs.RepeatedLemmas.{repeated_is_refused}
+use Rattle.semantics_refusals.proofs.UnevenLemmas.{uneven_is_refused}
+use Rattle.semantics_refusals.proofs.UnknownColumnLemmas.{ambiguous_column_is_refused, unknown_column_is_refused}
+use Rattle.semantics_refusals.proofs.UnknownSourceLemmas.{unknown_source_is_refused}
+
+reason : NameLaws → (tree : StatementTree) (fault : Fault) → typed_query tables tree ≡ Err fault → IsReason tables tree fault
+reason laws tree fault e = refusals_have_reasons laws tables tree fault (inr e)
+
+pub reasons_are_written : NameLaws → RefusedNames → RefusedTypes → ReasonsAreWritten
+reasons_are_written laws names types = (
+  reason laws unknown_table f.UnknownTable names.0,
+  reason laws item_in_itself f.UnknownTable names.1,
+  reason laws item_before_its_own f.UnknownTable refl,
+  reason laws unknown_column f.UnknownColumn names.2,
+  reason laws alias_in_where f.UnknownColumn names.3,
+  reason laws outer_column f.UnknownColumn names.4,
+  reason laws star_of_none f.UnknownColumn names.5,
+  reason laws two_named f.Ambiguous names.6,
+  reason laws in_two_sources f.Ambiguous names.7,
+  reason laws uneven f.ColumnCount names.8,
+  reason laws two_columns f.ColumnCount names.9,
+  reason laws uneven_item f.ColumnCount names.10,
+  reason laws twice f.DuplicateName names.11,
+  reason laws two_of_one_name f.DuplicateName names.12,
+  reason laws windows_of_one_name f.DuplicateName names.13,
+  reason laws mismatch f.TypeMismatch types.0,
+  reason laws other_type f.TypeMismatch types.1,
+  reason laws unused_window f.TypeMismatch types.2,
+  reason laws arms_of_two_types f.TypeMismatch types.3,
+  reason laws untyped_item f.TypeMismatch types.4,
+)
+
+taken : (r : Result Named Fault) → is_ok r ≡ true → (n : Named) × (r ≡ Ok n)
+taken (Ok n) e = (n, refl)
+taken (Err fault) e = absurd cc
+
+-- ---- a statement of one SELECT in which no query stands
+
+abbrev NoQuery : ExprTree → Type 0
+NoQuery part = (query : QueryTree) → IsOperand part query → ⊥
+
+abbrev NoDerived : SourceTree → Type 0
+NoDerived source = (query : QueryTree) → IsDerived source query → ⊥
+
+named_none : (name : Name) (alias : Option Name) → NoDerived (SourceTree.Named name alias)
+named_none name alias query is = elim is [ ]
+
+column_none : (table : Option Name) (name : Name) → NoQuery (ExprTree.Column table name)
+column_none table name query is = elim is [ ]
+
+module _ (core : CoreTree) (order : TermTrees) (sources : All NoDerived (sources_in (from_tree core))) (spoken : All NoQuery (core_parts core order))
+    (terms : All NoQuery (terms_parts order)) where
+  none_stands : {inner : QueryTree} → StandsIn (QueryTree.Core core) order inner → ⊥
+  none_stands (StandsIn.derived other by inner source select there is) = in_from select there
+    where
+      in_from : {other : CoreTree} {by : TermTrees} → IsSelect (QueryTree.Core core) order other by → Contains (sources_in (from_tree other)) source → ⊥
+      in_from IsSelect.alone there = All-contains NoDerived (sources_in (from_tree core)) source sources there inner is
+  none_stands (StandsIn.operand other by inner part select there is) = in_parts select there
+    where
+      in_parts : {other : CoreTree} {by : TermTrees} → IsSelect (QueryTree.Core core) order other by → Contains (core_parts other by) part → ⊥
+      in_parts IsSelect.alone there = All-contains NoQuery (core_parts core order) part spoken there inner is
+  none_stands (StandsIn.sorted inner part there is) = All-contains NoQuery (terms_parts order) part terms there inner is
+
+  tight_alone : ¬ IsLooseHaving core → {query : QueryTree} {by : TermTrees} → HasQuery (QueryTree.Core core) order query by → (items : List ItemTree)
+      → HasSelect (λ items core by. IsLooseHaving core) items query by → ⊥
+  tight_alone tight HasQuery.own items has = only has.select has.is
+    where
+      only : {other : CoreTree} {by : TermTrees} → IsSelect (QueryTree.Core core) order other by → IsLooseHaving other → ⊥
+      only IsSelect.alone loose = tight loose
+  tight_alone tight (HasQuery.inside inner stands more) items has = none_stands stands
+
+no_item : (before : List ItemTree) (i : ItemTree) (after : List ItemTree) → [] ≡ before ++ i ∷ after → ⊥
+no_item [] i after e = absurd cc
+no_item (b ∷ before) i after e = absurd cc
+
+abbrev sorted_core : CoreTree
+sorted_core =
+    CoreTree.Select false (results_of (called id (codes "k") ∷ [])) item_alone MaybeExpr.Absent ExprTrees.No_more MaybeExpr.Absent DefinitionTrees.No_definition
+
+abbrev by_k : TermTrees
+by_k = by_term (name_alone (codes "k"))
+
+sorted_sources : All NoDerived (sources_in (from_tree sorted_core))
+sorted_sources = All-cons NoDerived (SourceTree.Named (codes "item") None) [] (named_none (codes "item") None) (All-nil NoDerived)
+
+sorted_terms : All NoQuery (terms_parts by_k)
+sorted_terms = All-cons NoQuery (name_alone (codes "k")) [] (column_none None (codes "k")) (All-nil NoQuery)
+
+sorted_parts : All NoQuery (core_parts sorted_core by_k)
+sorted_parts = All-cons NoQuery id (name_alone (codes "k") ∷ []) (column_none None (codes "id")) sorted_terms
+
+sorted_tight : ¬ HasLooseHaving sorted_by_alias
+sorted_tight has = by has.of has.has
+  where
+    by : {items : List ItemTree} {outer : QueryTree} {order : TermTrees} → IsQueryOf sorted_by_alias items outer order
+        → HasQuery outer order has.query has.order → ⊥
+    by (IsQueryOf.item before i after e) deeper = no_item before i after e
+    by IsQueryOf.whole deeper =
+        tight_alone sorted_core by_k sorted_sources sorted_parts sorted_terms (λ loose. loose) deeper has.items has.is
+
+pub nothing_is_written : UnknownIsNone → AmbiguousIsTwo → DistinctIsSaid → TypedIsTaken → NothingIsWritten
+nothing_is_written none two said typed =
+    let (n, items) = taken (typed_query tables items_of_items) refl in
+    let (m, alias) = taken (typed_query tables sorted_by_alias) refl in
+    let (k, nulls) = taken (typed_query tables of_null_alone) refl in (
+      λ has. unknown_source_is_refused tables items_of_items n has items,
+      λ has. uneven_is_refused tables items_of_items n has items,
+      λ has. repeated_is_refused said tables items_of_items n has items,
+      λ has. unknown_column_is_refused none tables sorted_by_alias m has sorted_tight alias,
+      λ has. ambiguous_column_is_refused two tables sorted_by_alias m has sorted_tight alias,
+      λ has. mistyped_is_refused typed tables items_of_items n has items,
+      λ has. mistyped_is_refused typed tables of_null_alone k has nulls,
+    )

@@ -1,0 +1,272 @@
+-- A statement that is refused by its names has what the fault says.
+use Rattle.std.proofs.Common.{◌≡◌, ◌∷◌, ◌++◌, Bool, true, false, inl, inr, ℕ, List, [], length, map, Option, Some, None, Ok, All, Contains, nat_eq, ap, refl, sym, subst, ◌∙◌, arith}
+use Rattle.std.specs.List.{list_any}
+use Rattle.std.proofs.lemmas.Bool.{eqb-false}
+use Rattle.values.specs.declared.fault.Fault.{Fault}
+use Rattle.values.specs.declared.fault.Fault.TheVariants.{Ambiguous, ColumnCount, DuplicateName, UnknownColumn, UnknownTable}
+use Rattle.sql_reader_syntax.specs.ExprTree.{CoreTree, ExprTree, FromTree, OnTree, QueryTree, SourceTree, TermTrees}
+use Rattle.sql_reader_syntax.specs.StatementTree.{ItemTree, StatementTree}
+use Rattle.sql_reader_syntax.specs.Tree.{Name}
+use Rattle.sql_reader_syntax.specs.declared.query.Join.{Join}
+use Rattle.semantics_names.specs.Expression.{InnerTree}
+use Rattle.semantics_names.specs.Laws.{AreDistinctInAnyCase, AreSameSources, IsSameInAnyCase}
+use Rattle.semantics_names.specs.Parts.{core_parts, inner_tree, on_parts, parts}
+use Rattle.semantics_names.specs.Scope.{Scope, column_of}
+use Rattle.semantics_names.specs.Sources.{is_same_source, shown_from, used}
+use Rattle.semantics_names.specs.Statement.{With, are_distinct, from_tree, item_columns, named, named_at, window_names, with_items}
+use Rattle.semantics_names.specs.Typed.{Table, known_tables, typed_query}
+use Rattle.semantics_refusals.specs.Columns.{AreListed, HasNames, JoinsScopes, ListedTable, Offers, Shows, names_of_results, results_in}
+use Rattle.semantics_refusals.specs.RepeatedNames.{HasRepeatedName, Repeats}
+use Rattle.semantics_refusals.specs.UnevenColumns.{HasUnevenColumns, HasWideMembers, IsUneven}
+use Rattle.semantics_refusals.specs.UnknownColumns.{HasAmbiguousColumn, HasUnknownColumn, InSelect, IsAmbiguous, IsNamedAt, IsNoResult, IsTwofold, IsUnknown, NamesColumn, NamesUnknownColumn}
+use Rattle.semantics_refusals.specs.UnknownSources.{HasUnknownSource, IsNoSource, NamesNoSource}
+use Rattle.semantics_refusals.specs.Written.{BeginsFrom, HasQuery, HasQueryWith, HasSelect, IsQueryOf, IsSelect, called_so, names_of_sources, sources_in, spoken_in, stars_in, terms_in, windows_in}
+use Rattle.semantics_refusals.proofs.CoreLemmas.{IsFineOrder, IsFineStar, IsFineTerm}
+use Rattle.semantics_refusals.proofs.NameLemmas.{listed_of}
+use Rattle.semantics_refusals.proofs.OutcomeLemmas.{Only, Takes, checked_only, ok}
+use Rattle.semantics_refusals.proofs.PartLemmas.{Each, each_itself, weaker}
+use Rattle.semantics_refusals.proofs.QueryLemmas.{IsFineQuery, IsFineSelect}
+use Rattle.semantics_refusals.proofs.ScopeLemmas.{Says, column_only, named_none, named_some, named_two, same_there, star_of_none, used_only}
+use Rattle.semantics_refusals.proofs.SourceLemmas.{IsFineColumn, IsFineJoin, IsFineSource}
+use Rattle.semantics_refusals.proofs.StatementLemmas.{IsFineStatement, all_known, items_known, known_gives, known_listed, named_only, typed_only}
+use Rattle.semantics_refusals.proofs.TypeLemmas.{TakesTypes}
+use Rattle.semantics_refusals.proofs.WithLemmas.{IsOther, items_back, no_items, tables_back}
+
+-- what has to be written, so that of the fault this holds
+pub record HasReasons (F : Fault → Type 0) (tables : List Table) (tree : StatementTree) : Type 0 where
+  pub takes : Takes F
+  pub unknown_table : HasUnknownSource tables tree → F UnknownTable
+  pub unknown_column : HasUnknownColumn tables tree → F UnknownColumn
+  pub ambiguous : HasAmbiguousColumn tables tree → F Ambiguous
+  pub duplicate : HasRepeatedName tree → F DuplicateName
+  pub column_count : HasUnevenColumns tables tree → F ColumnCount
+
+offers_called : {listed : List ListedTable} {source : SourceTree} {called : Option Name} {columns : List Name} → Offers listed source called columns
+    → called ≡ called_so source
+offers_called (Offers.named is) = refl
+offers_called (Offers.derived is) = refl
+
+-- the columns that ON sees are those that the join shows
+on_parts_of : (on : OnTree) (e : ExprTree) (table : Option Name) (name : Name) → Contains (on_parts on) (ExprTree.Column table name)
+    → (e : ExprTree) × (on ≡ OnTree.On e) × Contains (parts e) (ExprTree.Column table name)
+on_parts_of (OnTree.On e) _ table name there = (e, refl, there)
+on_parts_of OnTree.Always _ table name (at, short, is) = absurd (omega arith)
+on_parts_of (OnTree.Using names) _ table name (at, short, is) = absurd (omega arith)
+
+-- the query of an IN
+members_of : (part : ExprTree) (query : QueryTree) → inner_tree part ≡ Some (InnerTree.values_in query)
+    → (not : Bool) × (x : ExprTree) × (part ≡ ExprTree.InQuery not x query)
+members_of (ExprTree.InQuery not x inner) query e = let same : inner ≡ query = cc in (not, x, ap (ExprTree.InQuery not x) same)
+members_of _ query e = absurd cc
+
+module _ (F : Fault → Type 0) (tables : List Table) (tree : StatementTree) (says : Says F) (reasons : HasReasons F tables tree) where
+  module _ (items : List ItemTree) (outer : QueryTree) (outer_order : TermTrees) (of : IsQueryOf tree items outer outer_order) (w : With)
+      (begun : with_items (no_items (known_tables tables)) items ≡ Ok w) (query : QueryTree) (order : TermTrees)
+      (has : HasQuery outer outer_order query order) where
+    here : (Is : List ItemTree → QueryTree → TermTrees → Type 0) → Is items query order → HasQueryWith tree Is
+    here Is is = record { items = items; outer = outer; outer_order = outer_order; of = of; query = query; order = order; has = has; is = is }
+
+    are : AreListed tables items (listed_of w.known)
+    are = known_listed tables items w begun
+
+    no_source : (name : Name) → All (IsOther name) w.known → IsNoSource tables items name
+    no_source name none =
+        let (apart, others) = items_back (λ other. ¬ IsSameInAnyCase other name) items (no_items (known_tables tables)) w begun none in
+        record { no_item = apart; no_table = tables_back (λ other. ¬ IsSameInAnyCase other name) tables others }
+
+    module _ (core : CoreTree) (by : TermTrees) (select : IsSelect query order core by) where
+      abbrev at_select : (Is : List ItemTree → CoreTree → TermTrees → Type 0) → Is items core by → HasQueryWith tree (HasSelect Is)
+      at_select Is is = here (HasSelect Is) (record { core = core; by = by; select = select; is = is })
+
+      abbrev in_select : (Is : List ListedTable → CoreTree → TermTrees → Type 0) → Is (listed_of w.known) core by → InSelect tables Is items query order
+      in_select Is is = record { listed = listed_of w.known; are = are; core = core; by = by; select = select; is = is }
+
+      unknown : NamesUnknownColumn (listed_of w.known) core by → F UnknownColumn
+      unknown is = reasons.unknown_column (here (InSelect tables NamesUnknownColumn) (in_select NamesUnknownColumn is))
+
+      twofold : NamesColumn IsAmbiguous (listed_of w.known) core by → F Ambiguous
+      twofold is = reasons.ambiguous (here (IsTwofold tables) (IsTwofold.column (in_select (NamesColumn IsAmbiguous) is)))
+
+      named_here : (scope : Scope) (table : Option Name) (name : Name)
+          → ((Is : Scope → Option Name → Name → Type 0) → Is scope table name → NamesColumn Is (listed_of w.known) core by)
+          → Only F (column_of scope table name)
+      named_here scope table name so =
+          column_only F says scope table name (λ u. unknown (NamesUnknownColumn.mention (so IsUnknown u))) (λ t. twofold (so IsAmbiguous t))
+
+      fine_columns : (scope : Scope) → Shows (listed_of w.known) (from_tree core) scope → Each (IsFineColumn F scope) (spoken_in core)
+      fine_columns scope shows =
+          weaker (λ part there. record {
+            is = λ table name e.
+                named_here scope table name (λ Is is. NamesColumn.in_expression scope table name shows (subst (Contains (spoken_in core)) e there) is);
+          })
+          (each_itself (spoken_in core))
+
+      module _ (scope : Scope) (shows : Shows (listed_of w.known) (from_tree core) scope) where
+        fine_parts : (e : ExprTree) → Contains (terms_in by) e → IsNoResult (names_of_results scope (results_in core)) e
+            → IsFineTerm (IsFineColumn F scope) (names_of_results scope (results_in core)) e
+        fine_parts e there apart = record {
+          is = inr (weaker (λ part stands. record {
+            is = λ table name same.
+                named_here scope table name (λ Is is.
+                NamesColumn.in_order scope e table name shows there apart (subst (Contains (parts e)) same stands) is);
+          }) (each_itself (parts e)));
+        }
+
+        fine_term : (e : ExprTree) → Contains (terms_in by) e → IsFineTerm (IsFineColumn F scope) (names_of_results scope (results_in core)) e
+        fine_term (ExprTree.Column None name) there = at_places (named_at name 0 (names_of_results scope (results_in core))) refl
+          where
+            at_places : (places : List ℕ) → named_at name 0 (names_of_results scope (results_in core)) ≡ places
+                → IsFineTerm (IsFineColumn F scope) (names_of_results scope (results_in core)) (ExprTree.Column None name)
+            at_places [] e =
+                fine_parts (ExprTree.Column None name) there (λ alone at same is.
+                let called : alone ≡ name = cc in
+                named_none name 0 (names_of_results scope (results_in core)) e at
+                (subst (λ n. IsNamedAt (names_of_results scope (results_in core)) n at) called is))
+            at_places (at ∷ more) e =
+                let (k, is) = named_some name 0 (names_of_results scope (results_in core)) at more e in record { is = inl (name, k, refl, is) }
+        fine_term e there = fine_parts e there (λ alone at same is. absurd cc)
+
+        fine_terms : Each (IsFineTerm (IsFineColumn F scope) (names_of_results scope (results_in core))) (terms_in by)
+        fine_terms = weaker (λ e there. fine_term e there) (each_itself (terms_in by))
+
+      fine_stars : (scope : Scope) → Shows (listed_of w.known) (from_tree core) scope → Each (IsFineStar F scope) (stars_in (results_in core))
+      fine_stars scope shows =
+          weaker (λ table there. record { is = λ e. unknown (NamesUnknownColumn.star scope table shows there (star_of_none table 0 scope e)) })
+          (each_itself (stars_in (results_in core)))
+
+      fine_sources : Each (IsFineSource F w.known) (sources_in (from_tree core))
+      fine_sources =
+          weaker (λ source there. record {
+            named = λ name alias e.
+                known_gives F reasons.takes w.known name
+                (items_known F reasons.takes items (no_items (known_tables tables)) w begun (all_known F reasons.takes tables))
+                (λ none. reasons.unknown_table (at_select (NamesNoSource tables) (record {
+                  name = name;
+                  alias = alias;
+                  written = subst (Contains (sources_in (from_tree core))) e there;
+                  unknown = no_source name none;
+                })));
+          }) (each_itself (sources_in (from_tree core)))
+
+      fine_windows : are_distinct (window_names (windows_in core)) ≡ false → F DuplicateName
+      fine_windows e =
+          says.repeated (window_names (windows_in core)) e (λ apart. reasons.duplicate (HasRepeatedName.select (at_select Repeats (Repeats.window apart))))
+
+      module _ (left : FromTree) (join : Join) (source : SourceTree) (on : OnTree) (begins : BeginsFrom (FromTree.Joined left join source on) (from_tree core))
+          (scope : Scope) (called : Option Name) (columns : List Name) (shows : Shows (listed_of w.known) left scope)
+          (offers : Offers (listed_of w.known) source called columns) where
+        fine_twice : list_any (is_same_source called) (names_of_sources left) ≡ true → F DuplicateName
+        fine_twice e =
+            let (other, there, same) = same_there called (names_of_sources left) e in
+            reasons.duplicate (HasRepeatedName.select (at_select Repeats
+            (Repeats.source left join source on other begins there (subst (AreSameSources other) (offers_called offers) same))))
+
+        fine_on : Each (IsFineColumn F (scope ++ shown_from called (length scope) columns)) (on_parts on)
+        fine_on =
+            weaker (λ part there. record {
+              is = λ table name same.
+                  let (e, is, stands) = on_parts_of on part table name (subst (Contains (on_parts on)) same there) in
+                  named_here (scope ++ shown_from called (length scope) columns) table name (λ Is so.
+                  NamesColumn.in_on left join source e (scope ++ shown_from called (length scope) columns) table name
+                  (subst (λ on. BeginsFrom (FromTree.Joined left join source on) (from_tree core)) is begins) (Shows.joined shows offers JoinsScopes.on) stands so);
+            })
+            (each_itself (on_parts on))
+
+        fine_using : (using : List Name) → on ≡ OnTree.Using using
+            → Only F (used (shown_from called (length scope) columns) scope (shown_from called (length scope) columns) using)
+        fine_using using is =
+            let begun = subst (λ on. BeginsFrom (FromTree.Joined left join source on) (from_tree core)) is begins in
+            let theirs = shown_from called (length scope) columns in
+            used_only F says theirs scope theirs using
+            (λ name there. record {
+              unknown = λ u. unknown
+                  (NamesUnknownColumn.mention (NamesColumn.in_using left join source using scope called columns name begun shows offers there (inl u)));
+              twice = λ t. twofold (NamesColumn.in_using left join source using scope called columns name begun shows offers there (inl t));
+            })
+            (λ name there. record {
+              unknown = λ u. unknown
+                  (NamesUnknownColumn.mention (NamesColumn.in_using left join source using scope called columns name begun shows offers there (inr u)));
+              twice = λ t. twofold (NamesColumn.in_using left join source using scope called columns name begun shows offers there (inr t));
+            })
+
+        fine_join : IsFineJoin F scope (names_of_sources left) on called columns
+        fine_join = record { twice = fine_twice; parts = fine_on; merged = fine_using }
+
+      fine_members : (query : QueryTree) (part : ExprTree) (names : List Name) → Contains (core_parts core by) part
+          → inner_tree part ≡ Some (InnerTree.values_in query) → HasNames (listed_of w.known) query names → nat_eq (length names) 1 ≡ false → F ColumnCount
+      fine_members query part names there is called e =
+          let (not, x, same) = members_of part query is in
+          reasons.column_count (HasUnevenColumns.query (here (IsUneven tables) (IsUneven.members (in_select HasWideMembers (record {
+            not = not;
+            x = x;
+            query = query;
+            written = subst (Contains (core_parts core by)) same there;
+            names = names;
+            are = called;
+            wide = eqb-false (length names) 1 e;
+          })))))
+
+      fine_select : IsFineSelect F w.known core by
+      fine_select = record {
+        sources = fine_sources;
+        joins = fine_join;
+        columns = fine_columns;
+        terms = fine_terms;
+        stars = fine_stars;
+        windows = fine_windows;
+        members = fine_members;
+      }
+
+    fine_order : (names : List Name) → HasNames (listed_of w.known) query names → IsFineOrder F order names
+    fine_order names called = record {
+      two = λ name there at other more e.
+          let (first, second, apart, one, another) = named_two name 0 names at other more e in
+          reasons.ambiguous (here (IsTwofold tables) (IsTwofold.result (listed_of w.known) are (record {
+            names = names;
+            are = called;
+            name = name;
+            written = there;
+            first = first;
+            second = second;
+            apart = apart;
+            one = one;
+            other = another;
+          })));
+    }
+
+    fine_query : IsFineQuery F w.known query order
+    fine_query = record {
+      selects = fine_select;
+      in_order = fine_order;
+      even = λ left operator core begins names others called more e.
+          reasons.column_count (HasUnevenColumns.query (here (IsUneven tables)
+          (IsUneven.compound (listed_of w.known) left operator core names others are begins called more (eqb-false (length names) (length others) e))));
+    }
+
+  fine_item : (i : ItemTree) (before after : List ItemTree) → tree.items ≡ before ++ i ∷ after → (w : With)
+      → with_items (no_items (known_tables tables)) before ≡ Ok w → (written names : List Name) → HasNames (listed_of w.known) i.query names
+      → i.columns ≡ written → Only F (item_columns written names)
+  fine_item i before after stand w begun [] names called same = ok names
+  fine_item i before after stand w begun (n ∷ ns) names called same =
+      checked_only (nat_eq (length (n ∷ ns)) (length names)) ColumnCount _
+      (λ e. reasons.column_count (HasUnevenColumns.item before i after (listed_of w.known) names stand (known_listed tables before w begun) called
+      (λ none. some n ns (sym same ∙ none)) (λ alike. eqb-false (length (n ∷ ns)) (length names) e (ap length (sym same) ∙ alike))))
+      (checked_only (are_distinct (n ∷ ns)) DuplicateName _
+      (λ e. says.repeated (n ∷ ns) e (λ apart.
+      reasons.duplicate (HasRepeatedName.columns before i after stand (subst (λ names. ¬ AreDistinctInAnyCase names) (sym same) apart)))) (ok (n ∷ ns)))
+    where
+      some : (n : Name) (ns : List Name) → n ∷ ns ≡ [] → ⊥
+      some n ns e = absurd cc
+
+  fine_statement : IsFineStatement F reasons.takes tables tree
+  fine_statement = record {
+    items = λ e. says.repeated (map (λ (i : ItemTree). i.name) tree.items) e (λ apart. reasons.duplicate (HasRepeatedName.items apart));
+    queries = λ {items} {query} {order} of w begun inner by has. fine_query items query order of w begun inner by has;
+    columns = λ i before after stand w begun names called. fine_item i before after stand w begun i.columns names called refl;
+  }
+
+  pub names_for_reasons : Only F (named (known_tables tables) tree)
+  names_for_reasons = named_only F reasons.takes tables tree fine_statement
+
+  pub only_for_reasons : TakesTypes F → Only F (typed_query tables tree)
+  only_for_reasons types = typed_only F reasons.takes tables tree fine_statement types

@@ -1,0 +1,121 @@
+-- The term that an expression is, or why it is none.
+use Rattle.std.proofs.Common.{◌≡◌, List, [], ◌∷◌, ◌++◌, Option, Some, None, refl}
+use Rattle.values.specs.declared.fault.Fault.{Fault}
+use Rattle.values.specs.declared.fault.Fault.TheVariants.{WrongPlace}
+use Rattle.expr.specs.Term.{Term}
+use Rattle.expr.specs.declared.operations.kinds.Function.{Function}
+use Rattle.sql_reader_syntax.specs.ExprTree.{ArmTrees, BehindTree, ExprTree, ExprTrees, MaybeExpr, OverTree}
+use Rattle.sql_reader_syntax.specs.declared.expr.Function as written
+use Rattle.sql_reader_syntax.specs.declared.expr.Function.TheVariants as w
+use Rattle.semantics_names.specs.Expression.{Answers, InnerTree, Says, among_answer, among_items, arms_of, between_bounds, binary, called, case, exists, operand_of, otherwise_of, postfix, prefix, scalar, several, term_of, terms_of, unary, unary_of}
+use Rattle.semantics_names.specs.Outcome.{both}
+use Rattle.semantics_names.specs.Parts.{all_parts, arms_parts, behind_parts, inner_tree, maybe_parts, parts}
+use Rattle.semantics_refusals.proofs.OutcomeLemmas.{Only, also_only, both_only, chosen_only, followed_only, ok, refused}
+use Rattle.semantics_refusals.proofs.PartLemmas.{Each, back, first, front, own}
+
+-- what a place says of a part, and the answer of a query that stands there
+pub record Sound (F : Fault → Type 0) (answers : Answers) (says : Says) (part : ExprTree) : Type 0 where
+  pub said : Only F (says part)
+  pub answered : (tree : InnerTree) → inner_tree part ≡ Some tree → Only F (answers tree)
+
+module _ (F : Fault → Type 0) (wrong_place : F WrongPlace) where
+  unary_only : (function : Function) (items : List Term) → Only F (unary function items)
+  unary_only function [] = refused WrongPlace wrong_place
+  unary_only function (x ∷ []) = ok _
+  unary_only function (x ∷ y ∷ items) = refused WrongPlace wrong_place
+
+  several_only : (name : written.Function) (items : List Term) → Only F (several name items)
+  several_only w.Coalesce items = ok _
+  several_only w.IfNull (x ∷ y ∷ []) = ok _
+  several_only w.NullIf (x ∷ y ∷ []) = ok _
+  several_only w.Iif (x ∷ y ∷ z ∷ []) = ok _
+  several_only _ items = refused WrongPlace wrong_place
+
+  scalar_only : (function : Option Function) (name : written.Function) (items : List Term) → Only F (scalar function name items)
+  scalar_only (Some function) name items = unary_only function items
+  scalar_only None name items = several_only name items
+
+  called_only : (after : BehindTree) (name : written.Function) (items : List Term) → Only F (called after name items)
+  called_only (BehindTree.Behind MaybeExpr.Absent OverTree.No_over) name items = scalar_only (unary_of name) name items
+  called_only _ name items = refused WrongPlace wrong_place
+
+  module _ (answers : Answers) (says : Says) where
+    mutual
+      pub term_only : (e : ExprTree) → Each (Sound F answers says) (parts e) → Only F (term_of answers says e)
+      term_only ExprTree.Null all = chosen_only (says ExprTree.Null) _ (first all).said (ok _)
+      term_only (ExprTree.Number z) all = chosen_only (says (ExprTree.Number z)) _ (first all).said (ok _)
+      term_only (ExprTree.Text content) all = chosen_only (says (ExprTree.Text content)) _ (first all).said (ok _)
+      term_only (ExprTree.Blob bytes) all = chosen_only (says (ExprTree.Blob bytes)) _ (first all).said (ok _)
+      term_only (ExprTree.Column table name) all = chosen_only (says (ExprTree.Column table name)) _ (first all).said (refused WrongPlace wrong_place)
+      term_only (ExprTree.Prefix op x) all =
+          chosen_only (says (ExprTree.Prefix op x)) _ (own (parts x) all).said
+          (also_only (prefix op) (term_of answers says x) (term_only x (front (parts x) _ all)))
+      term_only (ExprTree.Binary op x y) all =
+          chosen_only (says (ExprTree.Binary op x y)) _ (own (parts x ++ parts y) all).said
+          (both_only (binary op) (term_of answers says x) (term_of answers says y)
+          (term_only x (front (parts x) (parts y) (front (parts x ++ parts y) _ all)))
+          (term_only y (back (parts x) (parts y) (front (parts x ++ parts y) _ all))))
+      term_only (ExprTree.Postfix op x) all =
+          chosen_only (says (ExprTree.Postfix op x)) _ (own (parts x) all).said
+          (also_only (postfix op) (term_of answers says x) (term_only x (front (parts x) _ all)))
+      term_only (ExprTree.Between not x low high) all =
+          chosen_only (says (ExprTree.Between not x low high)) _ (own (parts x ++ parts low ++ parts high) all).said
+          (followed_only (term_of answers says x) _
+          (term_only x (front (parts x) (parts low) (front (parts x ++ parts low) (parts high) (front (parts x ++ parts low ++ parts high) _ all))))
+          (λ t. both_only (between_bounds not t) (term_of answers says low) (term_of answers says high)
+          (term_only low (back (parts x) (parts low) (front (parts x ++ parts low) (parts high) (front (parts x ++ parts low ++ parts high) _ all))))
+          (term_only high (back (parts x ++ parts low) (parts high) (front (parts x ++ parts low ++ parts high) _ all)))))
+      term_only (ExprTree.In not x items) all =
+          chosen_only (says (ExprTree.In not x items)) _ (own (parts x ++ all_parts items) all).said
+          (both_only (among_items not) (term_of answers says x) (terms_of answers says items)
+          (term_only x (front (parts x) (all_parts items) (front (parts x ++ all_parts items) _ all)))
+          (terms_only items (back (parts x) (all_parts items) (front (parts x ++ all_parts items) _ all))))
+      term_only (ExprTree.InQuery not x query) all =
+          chosen_only (says (ExprTree.InQuery not x query)) _ (own (parts x) all).said
+          (both_only (among_answer not) (term_of answers says x) (answers (InnerTree.values_in query)) (term_only x (front (parts x) _ all))
+          ((own (parts x) all).answered (InnerTree.values_in query) refl))
+      term_only (ExprTree.Exists query) all =
+          chosen_only (says (ExprTree.Exists query)) _ (first all).said
+          (also_only exists (answers (InnerTree.exists_in query)) ((first all).answered (InnerTree.exists_in query) refl))
+      term_only (ExprTree.CountRows after) all =
+          chosen_only (says (ExprTree.CountRows after)) _ (own (behind_parts after) all).said (refused WrongPlace wrong_place)
+      term_only (ExprTree.Call function items after) all =
+          chosen_only (says (ExprTree.Call function items after)) _ (own (all_parts items ++ behind_parts after) all).said
+          (followed_only (terms_of answers says items) (called after function)
+          (terms_only items (front (all_parts items) (behind_parts after) (front (all_parts items ++ behind_parts after) _ all))) (called_only after function))
+      term_only (ExprTree.Case operand arms otherwise) all =
+          chosen_only (says (ExprTree.Case operand arms otherwise)) _ (own (maybe_parts operand ++ arms_parts arms ++ maybe_parts otherwise) all).said
+          (followed_only (operand_of answers says operand) _
+          (operand_only operand (front (maybe_parts operand) (arms_parts arms)
+          (front (maybe_parts operand ++ arms_parts arms) (maybe_parts otherwise)
+          (front (maybe_parts operand ++ arms_parts arms ++ maybe_parts otherwise) _ all))))
+          (λ x. both_only (case x) (arms_of answers says arms) (otherwise_of answers says otherwise)
+          (arms_only arms (back (maybe_parts operand) (arms_parts arms)
+          (front (maybe_parts operand ++ arms_parts arms) (maybe_parts otherwise)
+          (front (maybe_parts operand ++ arms_parts arms ++ maybe_parts otherwise) _ all))))
+          (otherwise_only otherwise
+          (back (maybe_parts operand ++ arms_parts arms) (maybe_parts otherwise)
+          (front (maybe_parts operand ++ arms_parts arms ++ maybe_parts otherwise) _ all)))))
+
+      pub terms_only : (es : ExprTrees) → Each (Sound F answers says) (all_parts es) → Only F (terms_of answers says es)
+      terms_only ExprTrees.No_more all = ok _
+      terms_only (ExprTrees.More e es) all =
+          both_only ◌∷◌ (term_of answers says e) (terms_of answers says es) (term_only e (front (parts e) (all_parts es) all))
+          (terms_only es (back (parts e) (all_parts es) all))
+
+      operand_only : (operand : MaybeExpr) → Each (Sound F answers says) (maybe_parts operand) → Only F (operand_of answers says operand)
+      operand_only MaybeExpr.Absent all = ok _
+      operand_only (MaybeExpr.Present e) all = also_only Some (term_of answers says e) (term_only e all)
+
+      otherwise_only : (otherwise : MaybeExpr) → Each (Sound F answers says) (maybe_parts otherwise) → Only F (otherwise_of answers says otherwise)
+      otherwise_only MaybeExpr.Absent all = ok _
+      otherwise_only (MaybeExpr.Present e) all = term_only e all
+
+      arms_only : (arms : ArmTrees) → Each (Sound F answers says) (arms_parts arms) → Only F (arms_of answers says arms)
+      arms_only ArmTrees.No_arm all = ok _
+      arms_only (ArmTrees.Arm when then more) all =
+          both_only ◌∷◌ (both (λ c e. (c, e)) (term_of answers says when) (term_of answers says then)) (arms_of answers says more)
+          (both_only (λ c e. (c, e)) (term_of answers says when) (term_of answers says then)
+          (term_only when (front (parts when) (parts then) (front (parts when ++ parts then) (arms_parts more) all)))
+          (term_only then (back (parts when) (parts then) (front (parts when ++ parts then) (arms_parts more) all))))
+          (arms_only more (back (parts when ++ parts then) (arms_parts more) all))

@@ -1,0 +1,28 @@
+use Rattle.semantics_refusals.proofs.MistypedFaultLemmas as faults
+use Rattle.semantics_refusals.proofs.MistypedQueryLemmas as types
+use Rattle.semantics_refusals.proofs.RepeatedLemmas as names
+use Rattle.semantics_refusals.proofs.UnevenLemmas as numbers
+use Rattle.semantics_refusals.proofs.UnknownColumnLemmas as columns
+use Rattle.semantics_refusals.proofs.UnknownSourceLemmas as sources
+use Rattle.semantics_refusals.proofs.laws.reasons_refuse.Goals as goal
+
+pub returns-clause-sources : goal.returns-clause-sources
+returns-clause-sources c = sources.unknown_source_is_refused
+
+pub returns-clause-columns : goal.returns-clause-columns
+returns-clause-columns c = columns.unknown_column_is_refused c.names_are_columns.ensures.none
+
+pub returns-clause-ambiguous : goal.returns-clause-ambiguous
+returns-clause-ambiguous c = columns.ambiguous_column_is_refused c.names_are_columns.ensures.two
+
+pub returns-clause-uneven : goal.returns-clause-uneven
+returns-clause-uneven c = numbers.uneven_is_refused
+
+pub returns-clause-repeated : goal.returns-clause-repeated
+returns-clause-repeated c = names.repeated_is_refused c.names_are_distinct.ensures.names
+
+pub returns-clause-mistyped : goal.returns-clause-mistyped
+returns-clause-mistyped c = types.mistyped_is_refused c.typed_is_taken.ensures
+
+pub returns-clause-mismatch : goal.returns-clause-mismatch
+returns-clause-mismatch c = faults.mistyped_is_mismatch c.typed_is_taken.ensures

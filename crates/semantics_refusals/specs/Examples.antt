@@ -1,0 +1,54 @@
+-- Worked statements, and what is written in them.
+use Rattle.std.specs.Prelude.{false, [], ◌∷◌, codes, None}
+use Rattle.sql_reader_syntax.specs.ExprTree.{ExprTree, FromTree, ResultTree, SourceTree}
+use Rattle.sql_reader_syntax.specs.StatementTree.{StatementTree}
+use Rattle.sql_reader_syntax.specs.declared.expr.BinaryOperator.TheVariants.{Add, Concatenate}
+use Rattle.semantics_names.specs.RefusedExamples.{alias_in_where, arms_of_two_types, in_two_sources, item_in_itself, mismatch, other_type, outer_column, star_of_none, twice, two_columns, two_named, two_of_one_name, uneven, uneven_item, unknown_column, unknown_table, untyped_item, unused_window, windows_of_one_name}
+use Rattle.semantics_names.specs.Worked.{by_term, called, id, item, name_alone, number, one, ordered, select, shown, statement, table, tables, with, with_item, without_from}
+use Rattle.semantics_refusals.specs.Mismatches.{IsMistyped}
+use Rattle.semantics_refusals.specs.RepeatedNames.{HasRepeatedName}
+use Rattle.semantics_refusals.specs.UnevenColumns.{HasUnevenColumns}
+use Rattle.semantics_refusals.specs.UnknownColumns.{HasAmbiguousColumn, HasUnknownColumn}
+use Rattle.semantics_refusals.specs.UnknownSources.{HasUnknownSource}
+
+-- WITH a AS (SELECT 1), b AS (SELECT * FROM a) SELECT 1 IN (SELECT * FROM b)
+abbrev pub items_of_items : StatementTree
+items_of_items =
+    with (with_item (codes "a") [] one ∷ with_item (codes "b") [] (select (ResultTree.All ∷ []) (FromTree.First (table (codes "a")))) ∷ [])
+    (without_from (shown (ExprTree.InQuery false (number 1) (select (ResultTree.All ∷ []) (FromTree.First (table (codes "b"))))) ∷ []))
+
+-- WITH b AS (SELECT * FROM a), a AS (SELECT 1) SELECT 1
+abbrev pub item_before_its_own : StatementTree
+item_before_its_own =
+    with (with_item (codes "b") [] (select (ResultTree.All ∷ []) (FromTree.First (table (codes "a")))) ∷ with_item (codes "a") [] one ∷ []) one
+
+-- SELECT id AS k FROM item ORDER BY k
+abbrev pub sorted_by_alias : StatementTree
+sorted_by_alias = ordered (select (called id (codes "k") ∷ []) item) (by_term (name_alone (codes "k")))
+
+-- SELECT x + 1, x || 'a' FROM (SELECT NULL AS x)
+abbrev pub of_null_alone : StatementTree
+of_null_alone =
+    statement (select
+    (shown (ExprTree.Binary Add (name_alone (codes "x")) (number 1)) ∷ shown (ExprTree.Binary Concatenate (name_alone (codes "x")) (ExprTree.Text (codes "a")))
+    ∷ [])
+    (FromTree.First (SourceTree.Derived (without_from (called ExprTree.Null (codes "x") ∷ [])) None)))
+
+-- what is written in each that is refused so
+abbrev pub ReasonsAreWritten : Type 0
+ReasonsAreWritten =
+    HasUnknownSource tables unknown_table × HasUnknownSource tables item_in_itself × HasUnknownSource tables item_before_its_own
+    × HasUnknownColumn tables unknown_column × HasUnknownColumn tables alias_in_where × HasUnknownColumn tables outer_column
+    × HasUnknownColumn tables star_of_none
+    × HasAmbiguousColumn tables two_named × HasAmbiguousColumn tables in_two_sources
+    × HasUnevenColumns tables uneven × HasUnevenColumns tables two_columns × HasUnevenColumns tables uneven_item
+    × HasRepeatedName twice × HasRepeatedName two_of_one_name × HasRepeatedName windows_of_one_name
+    × IsMistyped tables mismatch × IsMistyped tables other_type × IsMistyped tables unused_window × IsMistyped tables arms_of_two_types
+    × IsMistyped tables untyped_item
+
+-- and that nothing of it is in others
+abbrev pub NothingIsWritten : Type 0
+NothingIsWritten =
+    (¬ HasUnknownSource tables items_of_items) × (¬ HasUnevenColumns tables items_of_items) × (¬ HasRepeatedName items_of_items)
+    × (¬ HasUnknownColumn tables sorted_by_alias) × (¬ HasAmbiguousColumn tables sorted_by_alias)
+    × (¬ IsMistyped tables items_of_items) × (¬ IsMistyped tables of_null_alone)

@@ -1,0 +1,74 @@
+//! What holds of the definitions alone.
+ghost use Rattle.semantics_refusals.specs.Examples.{NothingIsWritten, ReasonsAreWritten};
+ghost use Rattle.semantics_refusals.specs.Mismatches.{MistypedIsMismatch, MistypedIsRefused};
+ghost use Rattle.semantics_refusals.specs.Reasons.{RefusalsHaveReasons};
+ghost use Rattle.semantics_refusals.specs.Refusals.{RefusalsAreNumbered};
+ghost use Rattle.semantics_refusals.specs.RepeatedNames.{RepeatedIsRefused};
+ghost use Rattle.semantics_refusals.specs.Spelt.{SpeltAmbiguousColumnIsRefused, SpeltHavingHasGroups, SpeltUnknownColumnIsRefused};
+ghost use Rattle.semantics_refusals.specs.TypeExamples.{ClashesAreFound, OwnTypesAreLeast, PlacesMisfit};
+ghost use Rattle.semantics_refusals.specs.UnevenColumns.{UnevenIsRefused};
+ghost use Rattle.semantics_refusals.specs.UnknownColumns.{AmbiguousColumnIsRefused, UnknownColumnIsRefused};
+ghost use Rattle.semantics_refusals.specs.UnknownSources.{UnknownSourceIsRefused};
+
+use semantics_names::laws::{
+    names_are_columns, names_are_distinct, refused_statements, typed_is_taken,
+};
+
+/// A statement that is no query is refused by a fault of names and types, or for want of memory.
+pub fn refusals_are_numbered()
+    ensures { RefusalsAreNumbered }
+{}
+
+/// Where a statement is refused as one with an unknown source, an unknown or an ambiguous column, numbers of columns that differ, or
+/// a name that stands twice, this is written somewhere in it; and where it is refused because types don't agree, some operator in it
+/// has no type over operands that each have one, an expression is of another type than its place wants, or columns that a compound
+/// joins are of different types.
+pub fn refusals_have_reasons()
+    ensures { RefusalsHaveReasons }
+{
+    names_are_columns();
+    names_are_distinct();
+}
+
+/// A statement of which one of these holds is no query; where types don't agree, it is refused so, unless a window's frame is none.
+pub fn reasons_refuse()
+    ensures sources { UnknownSourceIsRefused }
+    ensures columns { UnknownColumnIsRefused }
+    ensures ambiguous { AmbiguousColumnIsRefused }
+    ensures uneven { UnevenIsRefused }
+    ensures repeated { RepeatedIsRefused }
+    ensures mistyped { MistypedIsRefused }
+    ensures mismatch { MistypedIsMismatch }
+{
+    names_are_columns();
+    names_are_distinct();
+    typed_is_taken();
+}
+
+/// In a statement that tokens spell HAVING stands behind GROUP BY alone, however deep, so that one with an unknown column or an
+/// ambiguous name is no query.
+pub fn spelt_statements_are_refused()
+    ensures having { SpeltHavingHasGroups }
+    ensures columns { SpeltUnknownColumnIsRefused }
+    ensures ambiguous { SpeltAmbiguousColumnIsRefused }
+{
+    names_are_columns();
+}
+
+/// Statements over two tables in which it is written, and such in which nothing of it is.
+pub fn reasons_are_written()
+    ensures reasons { ReasonsAreWritten }
+    ensures nothing { NothingIsWritten }
+{
+    names_are_columns();
+    names_are_distinct();
+    refused_statements();
+    typed_is_taken();
+}
+
+/// Terms that clash, places where they misfit, and types that a query has of its own; and such that don't.
+pub fn types_are_worked()
+    ensures clashes { ClashesAreFound }
+    ensures places { PlacesMisfit }
+    ensures own { OwnTypesAreLeast }
+{}

@@ -1,0 +1,2 @@
+pub mod schema_sources
+pub mod materialized_queries

@@ -1,8 +1,0 @@
-use Rattle.std.proofs.Common.{◌≡◌, ◌++◌, List, map, take}
-use Rattle.values.specs.Row.{Row, rows_data}
-use Rattle.results.specs.Slices.{sliced}
-use Rattle.sorted_results.proofs.gathered.shown_rows.Given as goal
-
-abbrev pub invariant-loop-row : goal.invariant-loop-row
-invariant-loop-row l =
-    (rest : List Row) → sliced l.fn.slice (map (take l.width) (rows_data l.yielded) ++ rest) ≡ rows_data l.shown.items ++ sliced l.slice rest

@@ -1,4 +1,0 @@
-pub mod KeyView
-pub mod Places
-pub mod Sorted
-pub mod Permitted

@@ -1,3 +1,0 @@
-mod KnownLemmas
-mod UsingLemmas
-mod JoinLemmas

@@ -1,6 +1,0 @@
--- The copies so far are those before this one.
-use Rattle.std.proofs.Common.{◌≡◌, map, string_bytes, take}
-use Rattle.source_names.proofs.names.copy_names.Given as goal
-
-abbrev pub invariant-loop-name : goal.invariant-loop-name
-invariant-loop-name l = map (λ n. string_bytes n) l.copies.items ≡ map (λ n. string_bytes n) (take l.name-index l.names)

@@ -1,3 +1,0 @@
-pub mod StepLemmas
-pub mod KeptLemmas
-pub mod RowLemmas

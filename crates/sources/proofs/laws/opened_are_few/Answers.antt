@@ -1,5 +1,0 @@
-use Rattle.sources.proofs.StepLemmas.{opened_are_few}
-use Rattle.sources.proofs.laws.opened_are_few.Goals as goal
-
-pub returns : goal.returns
-returns c = opened_are_few

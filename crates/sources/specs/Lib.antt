@@ -1,2 +1,0 @@
-pub mod SourceData
-pub mod Coming

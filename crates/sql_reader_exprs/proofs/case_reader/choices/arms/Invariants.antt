@@ -1,0 +1,20 @@
+use Rattle.std.proofs.Common.{◌≤◌, length}
+use Rattle.sql_reader_grammar.proofs.lemmas.phrases.TurnLemmas.{GoesOn}
+use Rattle.sql_reader_grammar.specs.phrases.Texts.{lexemes_of}
+use Rattle.sql_reader_exprs.specs.window_reader.Setting.{at}
+use Rattle.sql_reader_grammar.specs.Reading.{arm, arms}
+use Rattle.sql_reader_grammar.specs.phrases.Steps.{after_keyword}
+use Rattle.sql_reader_grammar.specs.statement_trees.TreeView.{arm_of}
+use Rattle.sql_reader_tokens.specs.declared.keywords.keyword.Keyword.TheVariants as k
+use Rattle.sql_reader_exprs.proofs.case_reader.choices.arms.Given as goal
+
+-- what was read so far, before what is still to come, is all
+abbrev pub invariant-loop-start : goal.invariant-loop-start
+invariant-loop-start g l = record {
+  all : GoesOn arm_of (λ place. at arm (g.I.Inner.setting l.inner)) (after_keyword k.When) (at arms
+      (g.I.Inner.setting l.inner) (lexemes_of l.tokens)) l.trees.items l.levels (lexemes_of l.rest);
+  within : l.levels ≤ (g.I.Inner.setting l.inner).depth;
+}
+
+abbrev pub decreases-loop-start : goal.decreases-loop-start
+decreases-loop-start g l = length (lexemes_of l.rest)

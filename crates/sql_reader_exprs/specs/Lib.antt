@@ -1,0 +1,3 @@
+pub mod lookahead
+pub mod clause_reader
+pub mod window_reader

@@ -1,0 +1,11 @@
+pub mod Operators
+pub mod Clauses
+pub mod Queries
+pub mod Statements
+pub mod Fronts
+pub mod Reading
+pub mod Examples
+pub mod Read
+pub mod phrases
+pub mod statement_trees
+pub mod create_trees

@@ -1,0 +1,11 @@
+pub mod FormLemmas
+pub mod SignLemmas
+pub mod LexemeLemmas
+pub mod BlankLemmas
+pub mod ReadLemmas
+pub mod CommentLemmas
+pub mod NumberLemmas
+pub mod LeavesLemmas
+pub mod PushLemmas
+pub mod ContentLemmas
+pub mod lemmas

@@ -1,0 +1,2 @@
+pub mod byte_runs
+pub mod source_texts

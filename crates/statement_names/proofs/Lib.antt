@@ -1,5 +1,0 @@
-mod CountLemmas
-mod NameLemmas
-mod ItemLemmas
-mod StatementLemmas
-mod LevelLemmas

@@ -1,2 +1,0 @@
-pub mod StatementTexts
-pub mod Told

@@ -1,4 +1,0 @@
-pub mod PlaceLemmas
-pub mod FieldLemmas
-pub mod KeyLemmas
-pub mod TableLemmas

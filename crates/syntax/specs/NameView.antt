@@ -1,9 +1,0 @@
--- What the program's names of result columns are.
-use Rattle.std.specs.Prelude.{string_bytes}
-use Rattle.syntax.specs.ExprTree.{NameTree}
-use Rattle.syntax.specs.declared.query.ResultName.{ResultName}
-use Rattle.syntax.specs.declared.query.ResultName.TheVariants as n
-
-abbrev pub name_of : ResultName → NameTree
-name_of (n.Alias name) = NameTree.Alias (string_bytes name)
-name_of (n.SourceText text) = NameTree.SourceText (string_bytes text)

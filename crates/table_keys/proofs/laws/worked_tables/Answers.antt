@@ -1,8 +1,0 @@
-use Rattle.table_keys.proofs.WorkedLemmas.{key_takes_one, rowid_takes_none}
-use Rattle.table_keys.proofs.laws.worked_tables.Goals as goal
-
-pub returns-clause-rowids : goal.returns-clause-rowids
-returns-clause-rowids c = rowid_takes_none
-
-pub returns-clause-rowless : goal.returns-clause-rowless
-returns-clause-rowless c = key_takes_one

@@ -1,6 +1,0 @@
-use Rattle.table_walk.proofs.BoundLemmas.{divider_is}
-use Rattle.table_walk.proofs.walk.high_bound.Goals as goal
-
-pub returns-then-i-from-clause-inner : goal.returns-then-i-from-clause-inner
-returns-then-i-from-clause-inner c = λ most cells within.
-    divider_is _ most _ cells c.args.i c.divider.result within c.divider.ensures.found c.divider.ensures.none

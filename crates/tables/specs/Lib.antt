@@ -1,4 +1,0 @@
-pub mod TableData
-pub mod MissingView
-pub mod RowKeyView
-pub mod ColumnTypes

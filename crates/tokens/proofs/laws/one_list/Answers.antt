@@ -1,5 +1,0 @@
-use Rattle.tokens.proofs.ReadLemmas as read
-use Rattle.tokens.proofs.laws.one_list.Goals as goal
-
-pub returns : goal.returns
-returns c grammar text first second x y = read.one_list x y

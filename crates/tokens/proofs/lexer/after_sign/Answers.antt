@@ -1,5 +1,0 @@
-use Rattle.tokens.proofs.SignLemmas.{first_byte}
-use Rattle.tokens.proofs.lexer.after_sign.Goals as goal
-
-pub after_first-after-requires-clause-ascii : goal.after_first-after-requires-clause-ascii
-after_first-after-requires-clause-ascii c = (first_byte c.args.sign c.args.text.now c.requires).1

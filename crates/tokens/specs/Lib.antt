@@ -1,5 +1,0 @@
-pub mod Sign
-pub mod Lexeme
-pub mod Tokens
-pub mod Content
-pub mod Reading

@@ -1,5 +1,0 @@
-pub mod KindLemmas
-pub mod CountLemmas
-pub mod LinkLemmas
-pub mod UsedLemmas
-pub mod ShapeLemmas

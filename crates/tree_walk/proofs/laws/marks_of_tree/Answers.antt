@@ -1,8 +1,0 @@
-use Rattle.tree_walk.proofs.UsedLemmas.{tree_gone, tree_twice}
-use Rattle.tree_walk.proofs.laws.marks_of_tree.Goals as goal
-
-pub returns-clause-marks : goal.returns-clause-marks
-returns-clause-marks c = λ pages tree old new levels number. tree_gone pages tree old number levels new
-
-pub returns-clause-twice : goal.returns-clause-twice
-returns-clause-twice c = λ pages tree old fault number. tree_twice pages tree old number fault

@@ -1,9 +1,0 @@
--- The numbers so far.
-use Rattle.std.proofs.Common.{◌≡◌, map, take}
-use Rattle.std.specs.List.{filter_map}
-use Rattle.values.specs.Datum.{datum_of}
-use Rattle.value_sets.specs.Numbers.{number_in}
-use Rattle.value_sets.proofs.numbers.given_numbers.Given as goal
-
-abbrev pub invariant-loop-value : goal.invariant-loop-value
-invariant-loop-value l = l.numbers.items ≡ filter_map number_in (map datum_of (take l.value-index l.values))

@@ -1,6 +1,0 @@
--- The places so far.
-use Rattle.std.proofs.Common.{◌<◌, Contains, ℕ}
-use Rattle.value_sets.proofs.order.places.Given as goal
-
-abbrev pub invariant-loop-at : goal.invariant-loop-at
-invariant-loop-at l = (at : ℕ) → at < l.at → Contains l.places.items at

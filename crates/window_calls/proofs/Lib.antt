@@ -1,2 +1,0 @@
-mod RankingLemmas
-mod CallLemmas

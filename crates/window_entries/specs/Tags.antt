@@ -1,8 +1,0 @@
--- Rows with their places among those that are given.
-use Rattle.std.specs.Prelude.{ℕ, List, map}
-use Rattle.values.specs.Datum.{datum_of}
-use Rattle.values.specs.Row.{Row}
-use Rattle.window_order.specs.declared.sorting.Entry.{Entry}
-
-abbrev pub tags_of : List Entry → List (Row × ℕ)
-tags_of entries = map (λ (entry : Entry). (map datum_of entry.row.now, entry.index)) entries

@@ -1,7 +1,0 @@
-use Rattle.std.proofs.Common.{◌+◌, map}
-use Rattle.values.specs.Datum.{datum_of}
-use Rattle.window_extremes.proofs.StretchLemmas.{IsFilled}
-use Rattle.window_extremes.proofs.levels.doubled.Given as goal
-
-abbrev pub invariant-loop-at : goal.invariant-loop-at
-invariant-loop-at l = IsFilled l.side (map datum_of l.values) (l.width + l.width) l.at l.wider.items

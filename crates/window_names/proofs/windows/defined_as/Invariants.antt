@@ -1,9 +1,0 @@
--- No window before this one is named so.
-use Rattle.std.proofs.Common.{◌≡◌, drop, map}
-use Rattle.naming.specs.Places as spec
-use Rattle.window_names.specs.DefinedView.{defined_of}
-use Rattle.window_names.proofs.windows.defined_as.Given as goal
-
-abbrev pub invariant-loop-window : goal.invariant-loop-window
-invariant-loop-window l =
-    spec.defined_as (map defined_of l.defined) l.name ≡ spec.defined_as (map defined_of (drop l.window-index l.defined)) l.name

@@ -1,3 +1,0 @@
-pub mod FunctionView
-pub mod CallView
-pub mod Reached

@@ -1,0 +1,5 @@
+pub mod OrderLemmas
+pub mod RankLemmas
+pub mod LimitLemmas
+pub mod FirstLemmas
+pub mod lemmas

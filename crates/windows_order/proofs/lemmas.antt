@@ -1,0 +1,2 @@
+pub mod window_order
+pub mod distinct_rows

@@ -1,0 +1,2 @@
+pub mod aggregates
+pub mod row_groups

@@ -1,0 +1,5 @@
+pub mod FunctionView
+pub mod CallView
+pub mod Reached
+pub mod aggregates
+pub mod row_groups
