@@ -30,6 +30,7 @@ import threading
 import time
 from concurrent.futures import ThreadPoolExecutor
 from dataclasses import dataclass
+from itertools import takewhile
 from pathlib import Path
 
 from kit import rt
@@ -134,15 +135,20 @@ def own_refusal(edit: Edit, room: Room, lines: list[str]) -> str | None:
     names = [found[1] for line in lines if (found := blamed.match(line))]
     if len(names) != 1:
         return None
-    in_proof = re.compile(rf"\./proofs/{re.escape(names[0].replace('::', '/'))}/\S+: error: `returns[^`]*`: (?P<why>.*)")
+    in_proof = re.compile(rf"\./proofs/{re.escape(names[0].replace('::', '/'))}/\S+: error: `returns[^`]*`: ")
     in_source = re.compile(r"note: (?P<file>src/\S+?):(?P<line>\d+):\d+: it is not proved that what the function ensures holds")
-    for line in lines:
+    for at, line in enumerate(lines):
         proof, source = in_proof.match(line), in_source.match(line)
-        if proof and not NAMES.search(proof["why"]):
+        if proof and not NAMES.search(whole_message(lines, at)):
             return line
         if source and function_at(room, source["file"], int(source["line"])) == edit.function:
             return line
     return None
+
+
+def whole_message(lines: list[str], at: int) -> str:
+    """The message that begins at a line, with the indented lines after it, on which its end may stand."""
+    return " ".join([lines[at], *(it.strip() for it in takewhile(lambda it: it.startswith(" "), lines[at + 1 :]))])
 
 
 def function_at(room: Room, file: str, line: int) -> tuple[str, ...] | None:
