@@ -1,4 +1,5 @@
 pub mod LineLemmas
 pub mod LiteralLemmas
+pub mod PlanLemmas
 pub mod RowLemmas
 pub mod ExampleLemmas

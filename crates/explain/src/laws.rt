@@ -2,6 +2,7 @@
 ghost use Rattle.std.specs.Prelude.{◌≡◌, ℕ, All, List, [], ◌∷◌, ◌++◌, codes, negsuc, pos};
 ghost use Rattle.values.specs.Datum.{null, int, text, blob};
 ghost use Rattle.values.specs.Row.{Row};
+ghost use Rattle.explain.specs.PlanText.{plan_text};
 ghost use Rattle.explain.specs.Text.{IsInRange, row_text, rows_text};
 
 /// No row's text begins another's: where one does, the texts are one. The rows are one too, where their whole numbers
@@ -26,4 +27,11 @@ pub fn examples()
     ensures texts { row_text (text (codes "it's") ∷ text (codes "a,b") ∷ []) ≡ codes "'it''s','a,b'" ++ 10 ∷ [] }
     ensures bytes { row_text (blob (10 ∷ 255 ∷ []) ∷ []) ≡ codes "X'0AFF'" ++ 10 ∷ [] }
     ensures empty { row_text [] ≡ 10 ∷ [] }
+{}
+
+/// The text of a plan of three steps, of which one is a part of the first. (EXPLAIN QUERY PLAN)
+pub fn example_of_plan()
+    ensures { plan_text (record { depth = 0; text = codes "MATERIALIZE x" } ∷ record { depth = 1; text = codes "SCAN big" }
+        ∷ record { depth = 0; text = codes "SCAN x" } ∷ [])
+        ≡ (codes "MATERIALIZE x" ++ 10 ∷ []) ++ (codes "  SCAN big" ++ 10 ∷ []) ++ (codes "SCAN x" ++ 10 ∷ []) }
 {}
