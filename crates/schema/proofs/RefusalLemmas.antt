@@ -16,7 +16,6 @@ use Rattle.schema.specs.indexes.KeyIndexes.{KeyIndexData, automatic_name, rooted
 use Rattle.schema.specs.indexes.Refused.{IsUnmadeObject}
 use Rattle.schema_keys.specs.Created.{IsTable}
 use Rattle.schema_keys.specs.Names.{IsSameName}
-use Rattle.schema_keys.specs.Refused.{IsUnmade}
 use Rattle.schema_keys.specs.Rows.{SaysTable}
 use Rattle.schema_tables.specs.TableData.{TableData}
 use Rattle.schema_keys.specs.table_keys.Automatic.{AutomaticData}
@@ -54,11 +53,6 @@ some_told None true e t = absurd cc
 some_told (Some x) found e t = λ none. cc
 
 -- a fault that isn't want of memory says that nothing was made
-pub no_table : (tree : TableTree) (fault : Fault) → IsUnmade (IsTable tree) fault → (fault ≡ f.NoMemory → ⊥)
-    → (table : TableData) → ¬ IsTable tree table
-no_table tree fault (inl memory) other table = absurd (other memory)
-no_table tree fault (inr (not_yet, none)) other table = none table
-
 pub no_index : (tree : IndexTree) (table : TableData) (name : List ℕ) (fault : Fault) → IsUnmadeObject (IsIndex tree table) name fault
     → (fault ≡ f.NoMemory → ⊥) → (index : IndexData) → ¬ IsIndex tree table index
 no_index tree table name f.NoMemory h other index = absurd (other refl)

@@ -46,16 +46,11 @@ fn made_by(alloc: Global, name: &str, created: CreateTable, root: u32) -> Result
 {
     let keys = keys_of(alloc, &created)?;
     let automatic = automatic_indexes(alloc, &created, keys.as_slice())?;
-    match table_from(alloc, created, root) {
-        Ok(table) => {
-            let wanted = key_indexes(alloc, &table, automatic.as_slice())?;
-            Ok(KeyedTable { table, wanted })
-        }
-        Err(fault) => match fault {
-            Fault::NoMemory => Err(Fault::NoMemory),
-            _ => Err(Fault::UnsupportedObject(String::from_str(alloc, name)?)),
-        },
-    }
+    let Some(table) = table_from(alloc, created, root)? else {
+        return Err(Fault::UnsupportedObject(String::from_str(alloc, name)?));
+    };
+    let wanted = key_indexes(alloc, &table, automatic.as_slice())?;
+    Ok(KeyedTable { table, wanted })
 }
 
 /// The table of an object that is one, with the indexes that its keys want. The fault is `SchemaRow` where its root or its names

@@ -1,10 +1,9 @@
 -- The table that a CREATE TABLE makes.
-use Rattle.std.proofs.Common.{◌≡◌, ℕ, ◌<◌, ◌≤◌, Bool, true, false, IsTrue, ◌↔◌, All, inl, inr, List, [], ◌∷◌, length, map, string_bytes, None, Some, refl, sym, ap, subst, arith}
+use Rattle.std.proofs.Common.{◌≡◌, ℕ, ◌<◌, ◌≤◌, Bool, true, false, IsTrue, ◌↔◌, All, List, [], ◌∷◌, length, map, string_bytes, None, Some, refl, sym, ap, subst, arith}
 use Rattle.std.proofs.lemmas.Option.{slice_get_within}
 use Rattle.std.proofs.lemmas.List.{length-map}
 use Rattle.std.proofs.lemmas.List.Elements.{All-cons, All-map, All-nil}
 use Rattle.std.specs.List.{AllZip}
-use Rattle.values.specs.declared.fault.Fault.{Fault}
 use Rattle.sql_reader_grammar.specs.create_trees.CreateTrees.{ColumnTree}
 use Rattle.sql_reader_syntax.specs.Tree.{Name}
 use Rattle.sql_reader_grammar.specs.create_trees.CreateView.{column_of, constraint_of, table_of}
@@ -15,15 +14,7 @@ use Rattle.schema_keys.proofs.ListLemmas.{all_from_map}
 use Rattle.schema_keys.specs.declared_keys.Keys.{KeyData, keys_of}
 use Rattle.schema_keys.specs.Created.{AreKeys, AreServedConstraints, IsColumn, IsRowKey, IsServedConstraint, IsTable, column_names}
 use Rattle.schema_keys.specs.Names.{AreDistinct, IsNameAt, IsReservedName}
-use Rattle.schema_keys.specs.Refused.{IsUnmade}
 use Rattle.schema_tables.specs.TableData.{ColumnData, IsKeyWithin, RowKeyData, TableData}
-
--- what is refused, as what it is a part of
-pub refused_part : {A B : Type 0} (IsPart : A → Type 0) (IsWhole : B → Type 0) (fault : Fault) → IsUnmade IsPart fault
-    → ((whole : B) → IsWhole whole → (part : A) × IsPart part) → IsUnmade IsWhole fault
-refused_part IsPart IsWhole fault (inl memory) part_of = inl memory
-refused_part IsPart IsWhole fault (inr (not_yet, none)) part_of =
-    inr (not_yet, (λ whole is. let part = part_of whole is in none part.0 part.1))
 
 pub names_of : (columns : List Column) → map (λ c. c.name) (map column_of columns) ≡ map (λ (c : Column). string_bytes c.name) columns
 names_of [] = refl
@@ -132,10 +123,6 @@ module _ (created : CreateTable) where
             → AllZip (IsColumn (table_of created).options (keys_of (table_of created))) (table_of created).columns made
         columns_are made all = told (λ os ks cs made. AllZip (IsColumn os ks) cs made) made all
 
-        pub columns_refused : (fault : Fault)
-            → IsUnmade (λ (cs : List ColumnData). AllZip (IsColumn options keys) (map column_of columns) cs) fault
-            → IsUnmade (IsTable (table_of created)) fault
-        columns_refused fault refused =
-            refused_part (λ (cs : List ColumnData). AllZip (IsColumn options keys) (map column_of columns) cs) (IsTable (table_of created))
-            fault refused
-            (λ table is. (table.columns, read (λ os ks cs made. AllZip (IsColumn os ks) cs made) table.columns is.columns_are))
+        pub columnless_refused : ((made : List ColumnData) → ¬ AllZip (IsColumn options keys) (map column_of columns) made)
+            → (table : TableData) → ¬ IsTable (table_of created) table
+        columnless_refused none table is = none table.columns (read (λ os ks cs made. AllZip (IsColumn os ks) cs made) table.columns is.columns_are)

@@ -3,6 +3,5 @@ pub mod Names
 pub mod Types
 pub mod Created
 pub mod Rows
-pub mod Refused
 pub mod declared_keys
 pub mod table_keys

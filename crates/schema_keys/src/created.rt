@@ -1,5 +1,5 @@
 //! The table that a CREATE TABLE makes.
-ghost use Rattle.std.specs.Prelude.{◌≡◌, ◌↔◌, All, Contains, IfErr, IfNone, IfOk, IfSome, IsTrue, List, map};
+ghost use Rattle.std.specs.Prelude.{◌≡◌, ◌↔◌, All, Contains, IfNone, IfOk, IfSome, IsTrue, List, map};
 ghost use Rattle.std.specs.List.{AllZip, Any};
 ghost use Rattle.sql_reader_grammar.specs.create_trees.CreateTrees.{ConstraintTree};
 ghost use Rattle.sql_reader_grammar.specs.create_trees.CreateView.{column_of, constraint_of, table_of};
@@ -7,8 +7,7 @@ ghost use Rattle.schema_keys.specs.declared_keys.KeyView.{key_data};
 ghost use Rattle.schema_keys.specs.Created as spec;
 ghost use Rattle.schema_keys.specs.Created.{IsColumn, IsNotNull, IsServedConstraint, IsTable};
 ghost use Rattle.schema_keys.specs.Names.{AreDistinct, IsReservedName, IsSameName};
-ghost use Rattle.schema_keys.specs.Refused.{IsUnmade};
-ghost use Rattle.schema_tables.specs.TableData.{ColumnData};
+ghost use Rattle.schema_tables.specs.TableData.{ColumnData, TableData};
 
 use crate::declared_keys::{Key, keys_of};
 use crate::keys::{are_keys, is_in_primary, is_rowid, row_key};
@@ -19,8 +18,7 @@ use schema_tables::{Column, Table};
 use sql_reader_grammar::{
     Column as ColumnDefinition, ColumnConstraint, CreateTable, KeyOrder, TableOption,
 };
-use std::alloc::Global;
-use values::Fault;
+use std::alloc::{AllocError, Global};
 
 /// What the name of an object begins with that only SQLite makes.
 const RESERVED: &[u8] = b"sqlite_";
@@ -143,36 +141,40 @@ fn column_from(
     Some(Column::new(name, ty, not_null, missing))
 }
 
-/// The columns that the definitions declare, in a table of these options and keys. The fault is `NotYet` where a type isn't
-/// served, or `NoMemory`.
+/// The columns that the definitions declare, in a table of these options and keys; `None` where a type isn't served. (STRICT
+/// Tables)
 fn columns_from(
     alloc: Global,
     options: &[TableOption],
     keys: &[Key],
     definitions: Vec<ColumnDefinition>,
-) -> Result<Vec<Column>, Fault>
-    ensures made { IfOk result (λ columns. AllZip (IsColumn options.now (map key_data keys.now)) (map column_of definitions.items)
-        columns.items) }
-    ensures refused { IfErr result (IsUnmade (λ (columns : List ColumnData). AllZip (IsColumn options.now (map key_data keys.now))
-        (map column_of definitions.items) columns)) }
+) -> Result<Option<Vec<Column>>, AllocError>
+    ensures made { IfOk result (λ made. IfSome made (λ columns. AllZip (IsColumn options.now (map key_data keys.now))
+        (map column_of definitions.items) columns.items)) }
+    ensures none { IfOk result (λ made. IfNone made ((columns : List ColumnData)
+        → ¬ AllZip (IsColumn options.now (map key_data keys.now)) (map column_of definitions.items) columns)) }
 {
     let mut columns = Vec::with_capacity(alloc, definitions.len())?;
     for definition in definitions {
         let Some(column) = column_from(options, keys, definition) else {
-            return Err(Fault::NotYet);
+            return Ok(None);
         };
         columns.push(column)?;
     }
-    Ok(columns)
+    Ok(Some(columns))
 }
 
-/// The table that a CREATE TABLE makes, whose tree has this root. (CREATE TABLE) The fault is `NotYet` where it makes
-/// none: its name is reserved, two columns have one name, a type, a constraint or an option isn't served, its keys aren't of its
-/// columns, or are two where there may be one, or it has no rowids, and PRIMARY KEY isn't its only key; or `NoMemory`.
-pub fn table_from(alloc: Global, created: CreateTable, root: u32) -> Result<Table, Fault>
-    ensures made { IfOk result (λ table. IsTable (table_of created) table) }
-    ensures root { IfOk result (λ table. table.root ≡ root) }
-    ensures refused { IfErr result (IsUnmade (IsTable (table_of created))) }
+/// The table that a CREATE TABLE makes, whose tree has this root; `None` where it makes none: its name is reserved, two columns have
+/// one name, a type, a constraint or an option isn't served, its keys aren't of its columns, or are two where there may be one, or it
+/// has no rowids, and PRIMARY KEY isn't its only key. (CREATE TABLE)
+pub fn table_from(
+    alloc: Global,
+    created: CreateTable,
+    root: u32,
+) -> Result<Option<Table>, AllocError>
+    ensures made { IfOk result (λ made. IfSome made (IsTable (table_of created))) }
+    ensures root { IfOk result (λ made. IfSome made (λ table. table.root ≡ root)) }
+    ensures none { IfOk result (λ made. IfNone made ((table : TableData) → ¬ IsTable (table_of created) table)) }
 {
     let keys = keys_of(alloc, &created)?;
     let CreateTable {
@@ -182,20 +184,22 @@ pub fn table_from(alloc: Global, created: CreateTable, root: u32) -> Result<Tabl
         options,
     } = created;
     if is_reserved(name.as_str()) || !are_distinct(columns.as_slice()) {
-        return Err(Fault::NotYet);
+        return Ok(None);
     }
     if !columns_are_served(columns.as_slice()) || !are_keys(columns.as_slice(), keys.as_slice()) {
-        return Err(Fault::NotYet);
+        return Ok(None);
     }
     if !are_options(options.as_slice())
         || !constraints_are_served(columns.as_slice(), constraints.as_slice())
     {
-        return Err(Fault::NotYet);
+        return Ok(None);
     }
     let (options, keys) = (options.as_slice(), keys.as_slice());
     let Some(key) = row_key(alloc, options, keys, columns.as_slice())? else {
-        return Err(Fault::NotYet);
+        return Ok(None);
     };
-    let columns = columns_from(alloc, options, keys, columns)?;
-    Ok(Table::new(name, root, columns, key))
+    let Some(columns) = columns_from(alloc, options, keys, columns)? else {
+        return Ok(None);
+    };
+    Ok(Some(Table::new(name, root, columns, key)))
 }
