@@ -66,5 +66,5 @@ def lookup_lines(path: Path, folder: Path, pages: int, runs: int) -> list[str]:
 def build_table_rows() -> None:
     """Proves and builds the program, and runs it once."""
     crate = TABLE_ROWS.parent.parent
-    words = ["rt", "run", "--", "data/item.db", "2"]
+    words = ["rt", "run", "--", "data/index.db", "2"]
     subprocess.run(words, cwd=crate, stdin=subprocess.DEVNULL, stdout=subprocess.DEVNULL, check=True)

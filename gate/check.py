@@ -40,7 +40,7 @@ PROGRAMS = {
     "seleq": ["data/shop.db", "SELECT name FROM item"],
     "stepped_statements": ["data/shop.db"],
     "table_counts": ["data/shop.db"],
-    "table_rows": ["data/item.db", "2"],
+    "table_rows": ["data/index.db", "5", "+"],
     "text_trees": [],
 }
 # The scripts of compare/ that ask the built program.
