@@ -3,7 +3,7 @@
 # with those that sqlite3 gives. Run from the top of the repository. The last line is 'N passed, M failed'.
 . "$(dirname "$0")/common.sh"
 
-build table_rows data/item.db 2
+build table_rows data/index.db 2
 
 for size in $(sizes 512 1024 4096 65536); do
     file="$folder/$size.db"

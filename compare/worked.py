@@ -16,6 +16,7 @@ from pathlib import Path
 from random import Random
 
 from indexes import try_indexes
+from kept import kept
 from oracle import Reader
 from pages import INTERIOR, cell_places, number_at
 from program import TOP, Run, Tally, build, fault_line, refusal_problem, run
@@ -665,13 +666,12 @@ def sized(size: int, reserved: int) -> tuple[Writer, str]:
 
 
 def try_kept(trial: Trial) -> None:
-    """The images that the program `further_runs` reads are those that are written here."""
+    """The images beside the programs for tests are those that are written here, for `further_runs`, and in `kept.py`."""
     folder = TOP / "crates" / "further_runs" / "data"
     rows, _ = numbers(1, 60, leaf=4, fan=3)
     chains, _, _ = long_values("BLOB", [2000, 477, 985])
-    for name, writer in (("rows", rows), ("chains", chains)):
-        is_same = (folder / f"{name}.db").read_bytes() == writer.image()
-        trial.tally.add(f"data/{name}.db", "" if is_same else "it isn't the image that is written here")
+    for file, whole in {folder / "rows.db": rows.image(), folder / "chains.db": chains.image(), **kept()}.items():
+        trial.tally.add(str(file.relative_to(TOP)), "" if file.read_bytes() == whole else "it isn't what is written by these scripts")
 
 
 def try_layouts(trial: Trial) -> None:

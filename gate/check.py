@@ -35,12 +35,14 @@ TOP = Path(__file__).resolve().parent.parent
 MADE = ("out", ".git", "__pycache__")
 # The programs that are run here and by the scripts of compare/, with the words of a run.
 PROGRAMS = {
+    "agreement_runs": ["data/tables.sql", "data/deep.db", "data/flat.db"],
+    "agreement_steps": ["data/tables.sql", "data/deep.db", "data/flat.db"],
     "catalog_lines": [],
     "further_runs": ["data/rows.db", "data/chains.db"],
     "seleq": ["data/shop.db", "SELECT name FROM item"],
     "stepped_statements": ["data/shop.db"],
     "table_counts": ["data/shop.db"],
-    "table_rows": ["data/item.db", "2"],
+    "table_rows": ["data/index.db", "5", "+"],
     "text_trees": [],
 }
 # The scripts of compare/ that ask the built program.
