@@ -2,7 +2,7 @@
 """The images that lie beside the programs for tests, written byte by byte: a shop with indexes, a table without rowids, and rows that
 are older than columns; an index of three pages.
 
-    kept.py     writes them anew
+    kept.py     writes them again
 """
 
 from __future__ import annotations
@@ -38,7 +38,7 @@ def entries_of(connection: sqlite3.Connection, table: str, index: str) -> list[b
 
 
 def rows_of(connection: sqlite3.Connection, table: str) -> list[tuple[int, bytes]]:
-    """The rows of a table with rowids. In the place of an INTEGER PRIMARY KEY stands NULL."""
+    """The rows of a table with rowids. An INTEGER PRIMARY KEY is NULL in its record."""
     select = "SELECT type = 'INTEGER' AND pk = 1 FROM pragma_table_info(?) ORDER BY cid"
     aliases = [is_alias for (is_alias,) in connection.execute(select, (table,))]
     rows = connection.execute(f"SELECT rowid, * FROM {table} ORDER BY rowid")
@@ -87,7 +87,7 @@ def three_pages() -> bytes:
 
 
 def kept() -> dict[Path, bytes]:
-    """The files that are written here, each with what has to stand in it."""
+    """The files that are written here, each with its bytes."""
     return {
         CRATES / "stepped_statements" / "data" / "shop.db": stepped(),
         CRATES / "table_rows" / "data" / "index.db": three_pages(),

@@ -147,7 +147,7 @@ def own_refusal(edit: Edit, room: Room, lines: list[str]) -> str | None:
 
 
 def whole_message(lines: list[str], at: int) -> str:
-    """The message that begins at a line, with the indented lines after it, on which its end may stand."""
+    """The message that begins at a line, with the indented lines after it, on which its end may be."""
     return " ".join([lines[at], *(it.strip() for it in takewhile(lambda it: it.startswith(" "), lines[at + 1 :]))])
 
 

@@ -1,4 +1,4 @@
--- A plan as text: a line for each of its steps, which two spaces for each step that it is a part of stand before. (EXPLAIN QUERY PLAN)
+-- A plan as text: a line for each of its steps, after two spaces for each step that it is a part of. (EXPLAIN QUERY PLAN)
 use Rattle.std.specs.Prelude.{ℕ, suc, zero, List, [], ◌∷◌, ◌++◌, string_bytes}
 use Rattle.std.specs.List.{flat_map}
 use Rattle.explain.specs.declared.plans.PlanLine.{PlanLine}

@@ -69,7 +69,7 @@ module _ (seen : List Name) (inside : QueryTree → spec.QueryLabels) where
       ∙ append_assoc (spec.query_labels seen inside query TermTrees.No_term) (spec.core_labels seen inside c.1 TermTrees.No_term ∷ [])
       (map (λ c. spec.core_labels seen inside c.1 TermTrees.No_term) cs)
 
-  -- what stands in ORDER BY makes no difference to SELECTs that are joined
+  -- what is in ORDER BY makes no difference to SELECTs that are joined
   any_order : (query : QueryTree) (c : CompoundOperator × CoreTree) (cs : List (CompoundOperator × CoreTree)) (order : TermTrees)
       → spec.query_labels seen inside (compounds_of query (c ∷ cs)) order ≡ spec.query_labels seen inside (compounds_of query (c ∷ cs)) TermTrees.No_term
   any_order query c [] order = refl

@@ -90,7 +90,7 @@ module _ (seen : List Name) (inside : QueryTree → QueryLabels) where
   query_labels (QueryTree.Core core) order = core_labels core order ∷ []
   query_labels (QueryTree.Compound left operator core) order = query_labels left TermTrees.No_term ++ core_labels core TermTrees.No_term ∷ []
 
--- those of a query with the queries in it, at most so many deep
+-- those of a query with the queries in it, at most this deep
 abbrev pub labelled : ℕ → List Name → QueryTree → TermTrees → QueryLabels
 labelled zero seen tree order = no_select
 labelled (suc depth) seen tree order = selects_of (query_labels seen (λ inside. labelled depth seen inside TermTrees.No_term) tree order)

@@ -162,8 +162,8 @@ fn add_arms(
     Ok(())
 }
 
-/// The labels of a query with its ORDER BY, and of the queries in it, of which so many may be in one another: none where more are, as
-/// in no statement.
+/// The labels of a query with its ORDER BY, and of the queries in it, which may be in one another to the depth that is seen: none
+/// where they are deeper, as in no statement.
 #[cycle(labels)]
 pub(crate) fn query_labels(
     alloc: Global,
