@@ -1,5 +1,5 @@
 -- Expressions whose inner queries have been answered.
-use Rattle.std.proofs.Common.{◌≡◌, ℕ, zero, suc, Bool, true, false, List, [], ◌∷◌, slice_get, slice_index_or, Option, Some, None, refl, sym, ap, subst, ◌∙◌, arith, IsPermutation}
+use Rattle.std.proofs.Common.{◌≡◌, ℕ, zero, suc, Bool, true, false, List, [], ◌∷◌, slice_get, slice_index_or, map, Option, Some, None, refl, sym, ap, subst, ◌∙◌, arith, IsPermutation}
 use Rattle.std.specs.List.{All, AllZip}
 use Rattle.std.specs.Option.{option_and_then}
 use Rattle.std.proofs.lemmas.List.{map-append}
@@ -13,29 +13,37 @@ use Rattle.expr.specs.operations.Operations.{any_equal, comparison, condition, o
 use Rattle.expr.specs.Meaning.{both, or_otherwise, run, run_all, run_arms, run_first}
 use Rattle.expr.specs.Term.{Term, Terms, Arms, literal, column, call, arithmetic, concat, compare, is, and, or, between, among, coalesce, choice, choice_of, null_if, like, none, more, answer, no_arms, arm}
 use Rattle.expr.specs.Types.{ArmsHaveTypes, FitsType, HasType, HaveType, IsOfType}
-use Rattle.expr.specs.Filled.{filled, filled_all, filled_arms, filled_firsts, literals, AnswersAreBags, FilledHasType, FillsConjuncts}
+use Rattle.expr.specs.Leaves.{leaves_of_all, leaves_of_arms, leaves_of_firsts, place_in, with_leaves}
+use Rattle.expr.specs.Names.{answers_of, answers_of_all, answers_of_arms}
+use Rattle.expr.specs.declared.names.Named.TheVariants.{Answers}
+use Rattle.expr.specs.Filled.{answered, filled, filled_all, filled_arms, filled_firsts, literals, unanswered, AnswersAreBags, FilledHasType, FilledIsAnswered, FillsConjuncts, PlacedIsAnswered}
 use Rattle.expr.proofs.TypeLemmas.{fits_type}
 use Rattle.expr.proofs.BagLemmas.{along_permutation}
-use Rattle.expr.proofs.MemberLemmas.{run_literals}
+use Rattle.expr.proofs.MemberLemmas.{no_names, run_literals}
+
+-- a copy with other leaves has the copies of the conjuncts
+module _ (of_column : ℕ → ℕ) (of_answer of_first : ℕ → Terms) where
+  pub leaves_conjuncts : (t : Term) → conjuncts (with_leaves of_column of_answer of_first t) ≡ map (with_leaves of_column of_answer of_first) (conjuncts t)
+  leaves_conjuncts (and a b) =
+      rw (leaves_conjuncts a, leaves_conjuncts b) (sym (map-append (with_leaves of_column of_answer of_first) (conjuncts a) (conjuncts b)))
+  leaves_conjuncts (between x a b) = refl
+  leaves_conjuncts (literal v) = refl
+  leaves_conjuncts (column i) = refl
+  leaves_conjuncts (call f a) = refl
+  leaves_conjuncts (arithmetic op a b) = refl
+  leaves_conjuncts (concat a b) = refl
+  leaves_conjuncts (compare op a b) = refl
+  leaves_conjuncts (is a b) = refl
+  leaves_conjuncts (or a b) = refl
+  leaves_conjuncts (among x items) = refl
+  leaves_conjuncts (coalesce items) = refl
+  leaves_conjuncts (choice rest e) = refl
+  leaves_conjuncts (choice_of x rest e) = refl
+  leaves_conjuncts (null_if a b) = refl
+  leaves_conjuncts (like a b) = refl
 
 pub fills_conjuncts : FillsConjuncts
-fills_conjuncts answers (and a b) =
-    rw (fills_conjuncts answers a, fills_conjuncts answers b) (sym (map-append (filled answers) (conjuncts a) (conjuncts b)))
-fills_conjuncts answers (between x a b) = refl
-fills_conjuncts answers (literal v) = refl
-fills_conjuncts answers (column i) = refl
-fills_conjuncts answers (call f a) = refl
-fills_conjuncts answers (arithmetic op a b) = refl
-fills_conjuncts answers (concat a b) = refl
-fills_conjuncts answers (compare op a b) = refl
-fills_conjuncts answers (is a b) = refl
-fills_conjuncts answers (or a b) = refl
-fills_conjuncts answers (among x items) = refl
-fills_conjuncts answers (coalesce items) = refl
-fills_conjuncts answers (choice rest e) = refl
-fills_conjuncts answers (choice_of x rest e) = refl
-fills_conjuncts answers (null_if a b) = refl
-fills_conjuncts answers (like a b) = refl
+fills_conjuncts answers = leaves_conjuncts (λ i. i) (answered answers) unanswered
 
 or3_turned : (a b c : Option Bool) → or3 a (or3 b c) ≡ or3 b (or3 a c)
 or3_turned (Some true) (Some true) c = refl
@@ -178,3 +186,48 @@ module _ (columns types none_left : List Ty) (answers : List (List Datum)) (all 
 
 pub filled_has_type : FilledHasType
 filled_has_type columns types none_left answers t ty all h = still columns types none_left answers all t ty h
+
+-- ---- names
+
+-- where no leaf names an answer, nothing does
+module _ (of_column : ℕ → ℕ) (of_answer of_first : ℕ → Terms) (gone : (k : ℕ) → answers_of_all (of_answer k) ≡ [])
+    (none_first : (k : ℕ) → answers_of_all (of_first k) ≡ []) where
+  mutual
+    pub leaves_answered : (t : Term) → answers_of (with_leaves of_column of_answer of_first t) ≡ []
+    leaves_answered (literal v) = refl
+    leaves_answered (column i) = refl
+    leaves_answered (call f a) = leaves_answered a
+    leaves_answered (arithmetic op a b) = rw (leaves_answered a, leaves_answered b) refl
+    leaves_answered (concat a b) = rw (leaves_answered a, leaves_answered b) refl
+    leaves_answered (compare op a b) = rw (leaves_answered a, leaves_answered b) refl
+    leaves_answered (is a b) = rw (leaves_answered a, leaves_answered b) refl
+    leaves_answered (and a b) = rw (leaves_answered a, leaves_answered b) refl
+    leaves_answered (or a b) = rw (leaves_answered a, leaves_answered b) refl
+    leaves_answered (between x a b) = rw (leaves_answered x, leaves_answered a, leaves_answered b) refl
+    leaves_answered (among x items) = rw (leaves_answered x, all_answered items) refl
+    leaves_answered (coalesce items) = firsts_answered items
+    leaves_answered (choice rest e) = rw (arms_answered rest, leaves_answered e) refl
+    leaves_answered (choice_of x rest e) = rw (leaves_answered x, arms_answered rest, leaves_answered e) refl
+    leaves_answered (null_if a b) = rw (leaves_answered a, leaves_answered b) refl
+    leaves_answered (like a b) = rw (leaves_answered a, leaves_answered b) refl
+
+    all_answered : (ts : Terms) → answers_of_all (leaves_of_all of_column of_answer of_first ts) ≡ []
+    all_answered none = refl
+    all_answered (more t ts) = rw (leaves_answered t, all_answered ts) refl
+    all_answered (answer k) = gone k
+
+    firsts_answered : (ts : Terms) → answers_of_all (leaves_of_firsts of_column of_answer of_first ts) ≡ []
+    firsts_answered none = refl
+    firsts_answered (more t ts) = rw (leaves_answered t, firsts_answered ts) refl
+    firsts_answered (answer k) = none_first k
+
+    arms_answered : (rest : Arms) → answers_of_arms (leaves_of_arms of_column of_answer of_first rest) ≡ []
+    arms_answered no_arms = refl
+    arms_answered (arm c e rest) = rw (leaves_answered c, leaves_answered e, arms_answered rest) refl
+
+pub filled_is_answered : FilledIsAnswered
+filled_is_answered answers t =
+    leaves_answered (λ i. i) (answered answers) unanswered (λ k. no_names Answers (slice_index_or answers k [])) (λ k. refl) t
+
+pub placed_is_answered : PlacedIsAnswered
+placed_is_answered read t = leaves_answered (place_in read) unanswered unanswered (λ k. refl) (λ k. refl) t

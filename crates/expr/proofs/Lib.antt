@@ -4,6 +4,7 @@ pub mod AnswerLemmas
 pub mod ReachLemmas
 pub mod ColumnLemmas
 pub mod MemberLemmas
+pub mod CopyLemmas
 pub mod TypeLemmas
 pub mod TermTypeLemmas
 pub mod BagLemmas

@@ -1,53 +1,58 @@
 -- Expressions whose inner queries have been answered. `x IN (query)` is the IN list of the values of its rows, and
 -- EXISTS is `1 IN` a list that has a 1 where there is a row. (SQL Language Expressions, "The EXISTS Operator")
-use Rattle.std.specs.Prelude.{◌≡◌, List, [], ◌∷◌, map, slice_index_or, Option, IsPermutation}
+use Rattle.std.specs.Prelude.{◌≡◌, ℕ, List, [], ◌∷◌, map, slice_index_or, Option, IsPermutation}
 use Rattle.std.specs.List.{All, AllZip}
 use Rattle.values.specs.declared.value.Ty.{Ty}
-use Rattle.values.specs.Datum.{Datum}
+use Rattle.values.specs.Datum.{Datum, null}
 use Rattle.expr.specs.Conjuncts.{conjuncts}
 use Rattle.expr.specs.Types.{HasType, IsOfType}
 use Rattle.expr.specs.Meaning.{run}
-use Rattle.expr.specs.Term.{Term, Terms, Arms, literal, column, call, arithmetic, concat, compare, is, and, or, between, among, coalesce, choice, choice_of, null_if, like, none, more, answer, no_arms, arm}
+use Rattle.expr.specs.Names.{IsAnswered}
+use Rattle.expr.specs.Leaves.{leaves_of_all, leaves_of_arms, leaves_of_firsts, place_in, with_leaves}
+use Rattle.expr.specs.Term.{Term, Terms, Arms, literal, none, more}
 
 abbrev pub literals : List Datum → Terms
 literals [] = none
 literals (v ∷ vs) = more (literal v) (literals vs)
 
-module _ (answers : List (List Datum)) where
-  abbrev mutual
-    -- the expression with the values of each inner query in its place
-    pub filled : Term → Term
-    filled (literal v) = literal v
-    filled (column i) = column i
-    filled (call f a) = call f (filled a)
-    filled (arithmetic op a b) = arithmetic op (filled a) (filled b)
-    filled (concat a b) = concat (filled a) (filled b)
-    filled (compare op a b) = compare op (filled a) (filled b)
-    filled (is a b) = is (filled a) (filled b)
-    filled (and a b) = and (filled a) (filled b)
-    filled (or a b) = or (filled a) (filled b)
-    filled (between x a b) = between (filled x) (filled a) (filled b)
-    filled (among x items) = among (filled x) (filled_all items)
-    filled (coalesce items) = coalesce (filled_firsts items)
-    filled (choice rest e) = choice (filled_arms rest) (filled e)
-    filled (choice_of x rest e) = choice_of (filled x) (filled_arms rest) (filled e)
-    filled (null_if a b) = null_if (filled a) (filled b)
-    filled (like a b) = like (filled a) (filled b)
+-- the value of a literal, and NULL of another expression
+abbrev pub literal_value : Term → Datum
+literal_value (literal v) = v
+literal_value t = null
 
-    pub filled_all : Terms → Terms
-    filled_all none = none
-    filled_all (more t ts) = more (filled t) (filled_all ts)
-    filled_all (answer k) = literals (slice_index_or answers k [])
+-- the values of the inner query at a place
+abbrev pub answered : List (List Datum) → ℕ → Terms
+answered answers k = literals (slice_index_or answers k [])
 
-    -- no inner query stands among the arguments of coalesce
-    pub filled_firsts : Terms → Terms
-    filled_firsts none = none
-    filled_firsts (more t ts) = more (filled t) (filled_firsts ts)
-    filled_firsts (answer k) = none
+abbrev pub unanswered : ℕ → Terms
+unanswered k = none
 
-    pub filled_arms : Arms → Arms
-    filled_arms no_arms = no_arms
-    filled_arms (arm c e rest) = arm (filled c) (filled e) (filled_arms rest)
+-- the expression with the values of each inner query in its place
+abbrev pub filled : List (List Datum) → Term → Term
+filled answers = with_leaves (λ i. i) (answered answers) unanswered
+
+abbrev pub filled_all : List (List Datum) → Terms → Terms
+filled_all answers = leaves_of_all (λ i. i) (answered answers) unanswered
+
+-- no inner query stands among the arguments of coalesce
+abbrev pub filled_firsts : List (List Datum) → Terms → Terms
+filled_firsts answers = leaves_of_firsts (λ i. i) (answered answers) unanswered
+
+abbrev pub filled_arms : List (List Datum) → Arms → Arms
+filled_arms answers = leaves_of_arms (λ i. i) (answered answers) unanswered
+
+-- an expression over the columns that are read: each column is its place among them, and an inner query has no values
+abbrev pub placed : List ℕ → Term → Term
+placed read = with_leaves (place_in read) unanswered unanswered
+
+abbrev pub placed_all : List ℕ → Terms → Terms
+placed_all read = leaves_of_all (place_in read) unanswered unanswered
+
+abbrev pub placed_firsts : List ℕ → Terms → Terms
+placed_firsts read = leaves_of_firsts (place_in read) unanswered unanswered
+
+abbrev pub placed_arms : List ℕ → Arms → Arms
+placed_arms read = leaves_of_arms (place_in read) unanswered unanswered
 
 -- filling goes conjunct by conjunct
 abbrev pub FillsConjuncts : Type 0
@@ -62,3 +67,11 @@ AnswersAreBags = (o : Option Datum) (row : List Datum) (t : Term) (answers other
 abbrev pub FilledHasType : Type 0
 FilledHasType = (columns types none_left : List Ty) (answers : List (List Datum)) (t : Term) (ty : Ty) → AllZip (λ of values. All (IsOfType of) values) types answers
     → HasType columns types t ty → HasType columns none_left (filled answers t) ty
+
+-- an expression in which the values of inner queries stand names no answer
+abbrev pub FilledIsAnswered : Type 0
+FilledIsAnswered = (answers : List (List Datum)) (t : Term) → IsAnswered (filled answers t)
+
+-- nor does one over the columns that are read
+abbrev pub PlacedIsAnswered : Type 0
+PlacedIsAnswered = (read : List ℕ) (t : Term) → IsAnswered (placed read t)

@@ -5,9 +5,13 @@ pub mod Contract
 pub mod Conjuncts
 pub mod Laws
 pub mod Reaches
+pub mod Names
+pub mod NameView
 pub mod Columns
 pub mod Types
 pub mod TermType
+pub mod Leaves
 pub mod Filled
+pub mod CopyView
 pub mod operations
 pub mod value_sets

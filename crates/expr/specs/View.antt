@@ -7,7 +7,7 @@ use Rattle.expr.specs.declared.tree.Expr.TheFolds.{fold-Expr, fold-Arm}
 use Rattle.expr.specs.declared.tree.Arm.{Arm}
 use Rattle.values.specs.Datum.{datum_of}
 use Rattle.expr.specs.Filled.{literals}
-use Rattle.expr.specs.Term.{Term, Terms, Arms, literal, column, call, arithmetic, concat, compare, is, and, or, between, among, coalesce, choice, choice_of, null_if, like, none, more, no_arms, arm}
+use Rattle.expr.specs.Term.{Term, Terms, Arms, literal, column, call, arithmetic, concat, compare, is, and, or, between, among, coalesce, choice, choice_of, null_if, like, none, more, answer, no_arms, arm}
 
 abbrev pub terms : List Term → Terms
 terms [] = none
@@ -34,7 +34,8 @@ node (Expr-F.And a b) = and a.value b.value
 node (Expr-F.Or a b) = or a.value b.value
 node (Expr-F.Between x a b) = between x.value a.value b.value
 node (Expr-F.In x items) = among x.value (terms items.items)
-node (Expr-F.Member x set) = among x.value (literals set)
+node (Expr-F.Member x set) = among x.value (literals set.value)
+node (Expr-F.InAnswer x at) = among x.value (answer at)
 node (Expr-F.Coalesce items) = coalesce (terms items.items)
 node (Expr-F.Case x rest e) = case_term x (arms rest.items) e.value
 node (Expr-F.NullIf a b) = null_if a.value b.value

@@ -1,5 +1,5 @@
 //! The value of an expression on a row.
-ghost use Rattle.std.specs.Prelude.{◌≡◌, ◌⊎◌, Some, None, Err, map, option_map, slice_index_or, IfOk, IfErr, IfSome};
+ghost use Rattle.std.specs.Prelude.{◌≡◌, ◌⊎◌, [], Some, None, Err, map, option_map, slice_index_or, IfOk, IfErr, IfSome};
 ghost use Rattle.std.specs.Option.{option_and_then, option_copied};
 ghost use Rattle.std.specs.Cow.{cow_value};
 ghost use Rattle.values.specs.Datum.{Datum, datum_of, null};
@@ -67,6 +67,7 @@ impl<'a> Evaluator<'a> {
             Expr::Between(x, a, b) => self.between(x, a, b),
             Expr::In(x, items) => self.among(x, items),
             Expr::Member(x, set) => self.member(x, set),
+            Expr::InAnswer(x, _) => self.unanswered(x),
             Expr::Coalesce(items) => self.first_value(items),
             Expr::Case(None, arms, otherwise) => self.choice(arms, otherwise),
             Expr::Case(Some(x), arms, otherwise) => self.choice_of(x, arms, otherwise),
@@ -198,6 +199,15 @@ impl<'a> Evaluator<'a> {
         ensures { Computes result (exact (among (term x.now) (literals set.now)) (map datum_of self.now.row.now)) }
     {
         Ok(from_condition(set.any_equal(&*self.operand(x)?)))
+    }
+
+    // IN the values of an inner query, which are none until they stand in its place.
+    #[cycle(eval)]
+    fn unanswered(&self, x: &'a Expr) -> Result<Value, Stop>
+        ensures { Computes result (both (λ v vs. Some (condition (any_equal v vs))) (value_on self.now.row.now x.now) (Some [])) }
+    {
+        let _value = self.operand(x)?;
+        Ok(from_condition(Some(false)))
     }
 
     // A CASE without an operand.

@@ -1,7 +1,7 @@
 //! What holds of every expression and row.
 ghost use Rattle.expr.specs.Columns.{DependsOnColumns};
 ghost use Rattle.expr.specs.Laws.{ConjunctsAreLeaves, StandsForAll, IsTotal, KeepsConjuncts, AddsNoOverflow};
-ghost use Rattle.expr.specs.Filled.{AnswersAreBags, FilledHasType, FillsConjuncts};
+ghost use Rattle.expr.specs.Filled.{AnswersAreBags, FilledHasType, FilledIsAnswered, FillsConjuncts, PlacedIsAnswered};
 ghost use Rattle.expr.specs.Reaches.{ReachedIsNone};
 ghost use Rattle.expr.specs.TermType.{TypesAreFound};
 ghost use Rattle.expr.specs.Types.{ConjunctsAreTyped, EvalHasType, TypesOfExamples, ValuesHaveTypes};
@@ -70,4 +70,10 @@ pub fn answers_are_filled_in()
     ensures conjuncts { FillsConjuncts }
     ensures bags { AnswersAreBags }
     ensures types { FilledHasType }
+    ensures none { FilledIsAnswered }
+{}
+
+/// An expression over the columns that are read names the answer of no inner query.
+pub fn placed_is_answered()
+    ensures { PlacedIsAnswered }
 {}

@@ -6,11 +6,13 @@
 //!
 //! The modules, in the order in which data passes them: `operations` (the operations on values that
 //! expressions are made of), `value_sets` (lists of values that are asked whether a value equals one of
-//! them), `tree` (expressions), `numbers` (expressions of numbers alone), `evaluation` (the value on a row),
-//! `conditions` (a condition split at AND), `names` (the columns that are named), and `laws`.
+//! them), `tree` (expressions), `copies` (copies, with others for columns and answers), `numbers` (expressions
+//! of numbers alone), `evaluation` (the value on a row), `conditions` (a condition split at AND), `names` (the
+//! columns and answers that are named), and `laws`.
 #![tactic(auto)]
 
 mod conditions;
+mod copies;
 mod evaluation;
 pub mod laws;
 mod names;
@@ -19,9 +21,10 @@ pub mod operations;
 mod tree;
 mod value_sets;
 
-pub use conditions::{conjuncts, copy, is_true};
+pub use conditions::{conjuncts, is_true};
+pub use copies::{Leaves, copy, copy_all};
 pub use evaluation::eval;
-pub use names::columns;
+pub use names::{answers, columns};
 pub use operations::{Arithmetic, Comparison, Function};
 pub use tree::{Arm, Expr};
 pub use value_sets::ValueSet;

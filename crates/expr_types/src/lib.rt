@@ -1,5 +1,5 @@
 //! The types of expressions, and whether two expressions are one tree. It promises that `type_of` answers the
-//! type that an expression's values have over columns of given types, exactly where there is one; an
+//! type that an expression's values have over columns and answers of given types, exactly where there is one; an
 //! expression that can only be NULL has the type `Null`. The types of other trees are joined by the same
 //! rules. Two expressions are reported to differ exactly where their trees do, where a list of literals and a
 //! set of these values in the same order are one.
@@ -13,5 +13,5 @@ mod same_trees;
 mod typing;
 
 pub use joining::{behind, giving, one_of, one_type, type_of_call, wanted};
-pub use same_trees::same_tree;
-pub use typing::type_of;
+pub use same_trees::{same_tree, same_tree_lists};
+pub use typing::{RowTypes, type_of};

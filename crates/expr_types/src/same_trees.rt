@@ -6,4 +6,4 @@
 mod equality;
 mod members;
 
-pub use equality::same_tree;
+pub use equality::{same_tree, same_tree_lists};

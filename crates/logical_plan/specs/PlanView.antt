@@ -2,12 +2,12 @@
 use Rattle.std.specs.Prelude.{map}
 use Rattle.expr.specs.View.{term}
 use Rattle.windows_terms.specs.row_groups.GroupView.{group_terms_data}
-use Rattle.windows_terms.specs.CallView.{call_data}
 use Rattle.logical_plan.specs.declared.plan.OuterTable.{OuterTable}
 use Rattle.logical_plan.specs.declared.plan.Nested.{Nested}
 use Rattle.logical_plan.specs.declared.plan.Plan.{Plan}
 use Rattle.logical_plan.specs.declared.plan.Plan.TheVariants.{SingleRow, Filter', NestedLoop', OuterJoin', Aggregate', Window'}
 use Rattle.logical_plan.specs.Plan.{FlaggedData, NestedData, PlanData, flagged, grouped, joined, kept, once, windowed}
+use Rattle.resolver_terms.specs.SelectView.{call_of}
 
 abbrev pub nested_data : Nested → NestedData
 nested_data nested = record {
@@ -26,4 +26,4 @@ plan_data (Filter' p below tests) = kept (plan_data below) (map term tests.items
 plan_data (NestedLoop' p left nested) = joined (plan_data left) (nested_data nested)
 plan_data (OuterJoin' p left f) = flagged (plan_data left) (flagged_data f)
 plan_data (Aggregate' p below terms) = grouped (plan_data below) (group_terms_data terms)
-plan_data (Window' p below calls) = windowed (plan_data below) (map call_data calls.items)
+plan_data (Window' p below calls) = windowed (plan_data below) (map call_of calls.items)

@@ -1,13 +1,5 @@
-pub mod Sorted
-pub mod KeyView
-pub mod SortedDistinct
-pub mod Arms
-pub mod Joined
-pub mod PermittedPlain
-pub mod PermittedSorted
-pub mod PermittedDistinct
-pub mod PermittedCompound
 pub mod Sources
-pub mod Selection
-pub mod Distinct
-pub mod Compounds
+pub mod Joined
+pub mod Arms
+pub mod Answers
+pub mod Permitted

@@ -1,4 +1,4 @@
-//! Plans of FROM, WHERE, groups and windows, and what a SELECT answers over the rows of a plan: which rows a
+//! Plans of FROM, WHERE, groups and windows, and what a query answers over the rows of plans: which rows a
 //! plan has, in which order, how many pages it may ask for, and which overflows it can reach. It promises
 //! that the plan of one table has just the rows that a SELECT's FROM and WHERE have, and asks for no more
 //! pages than the table's tree has, and for none where a condition that names no column isn't true; that the
@@ -7,13 +7,13 @@
 //! query permits.
 //!
 //! The modules, in the order in which data passes them: `plan` (the trees of plans), `laws`, and `answers`
-//! (what a SELECT answers: result columns over the rows of a plan, with DISTINCT, ORDER BY, compound
-//! operators, LIMIT and OFFSET).
+//! (what a query answers: result columns over the rows of plans, with DISTINCT, compound operators, ORDER BY,
+//! LIMIT and OFFSET).
 #![tactic(auto)]
 
 mod answers;
 pub mod laws;
 mod plan;
 
-pub use answers::{Arm, Arms, Compound, Key, KeyTerm, Selection, SortedDistinct, SortedSelection};
+pub use answers::{Answer, Arm, Arms, Order};
 pub use plan::{Nested, OuterTable, Plan};

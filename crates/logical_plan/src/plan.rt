@@ -1,7 +1,8 @@
 //! Plans.
 
 use expr::Expr;
-use windows_terms::{GroupTerms, WindowCall};
+use resolver_terms::WindowCall;
+use windows_terms::GroupTerms;
 
 /// A table that is read behind the rows before it. (SELECT, "Determination of input data")
 #[derive(Drop)]

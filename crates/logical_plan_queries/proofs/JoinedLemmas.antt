@@ -1,18 +1,22 @@
--- The plan of SELECTs that operators join.
-use Rattle.std.proofs.Common.{◌≤◌, ℕ, List, arith}
+-- The plan of SELECTs that operators join, or of one, in no order or in that of result columns.
+use Rattle.std.proofs.Common.{◌≤◌, inl, ℕ, List, IfOk, MatchOption, Option, Some, None, Result, Ok, Err, arith}
 use Rattle.values.specs.Database.{Database}
 use Rattle.values.specs.Datum.{Datum}
 use Rattle.values.specs.declared.value.Ty.{Ty}
-use Rattle.logical_plan_queries.specs.compound_plans.Arms.{IsArmFor}
+use Rattle.logical_plan_queries.specs.Served.{IsServed}
+use Rattle.logical_plan_queries.specs.compound_plans.Arms.{AreServed, IsArmFor}
 use Rattle.logical_plan_queries.specs.compound_plans.Work.{selects_work}
 use Rattle.logical_plan.specs.answers.Arms.{ArePlannedOver, ArmData, ArmsData, joined, one, work_of_arms}
-use Rattle.logical_plan.specs.answers.Compounds.{CompoundData}
-use Rattle.logical_plan.specs.answers.PermittedCompound.{AreArmsOf, HitsWithin, IsArmOf}
-use Rattle.logical_plan.proofs.lemmas.answers.CompoundLemmas.{compound_hits_are_hits, compound_is_permitted}
+use Rattle.logical_plan.specs.answers.Answers.{AnswerData, answer_data}
+use Rattle.logical_plan.specs.declared.answers.Answer.{Answer}
+use Rattle.logical_plan.specs.answers.Permitted.{AreArmsOf, AreResults, HitsWithin, IsArmOf}
+use Rattle.logical_plan.proofs.lemmas.answers.ArmLemmas.{arms_hits_are_hits}
+use Rattle.logical_plan.proofs.lemmas.answers.PermittedLemmas.{answer_is_permitted}
 use Rattle.semantics.specs.Query.{Body, From, QueryData, Select, compound, select}
 use Rattle.semantics.specs.Typed.{BodyHasTypes}
 use Rattle.logical_plan_queries.specs.Answers.{AreWideFor, IsPlanFor, IsPlannedAsTyped, PlannedData}
 use Rattle.logical_plan_queries.specs.Made.{IsJoined}
+use Rattle.logical_plan_queries.proofs.ServedLemmas.{not_each}
 use Rattle.logical_plan_queries.specs.select_plans.Columns.{HaveColumns}
 use Rattle.logical_plan_queries.specs.select_plans.Read.{IsWideOf}
 use Rattle.logical_plan.specs.answers.Sources.{SourceData}
@@ -45,23 +49,33 @@ each_few w db sizes (compound body operator from s) (joined left other arm) wide
     let last = of.2.few w db sizes wide.1 in
     omega (arith, before, last)
 
-module _ (query : QueryData) (whole : CompoundData) (made : IsJoined query whole) where
-  pub joined_is_plan : IsPlanFor query (PlannedData.compound whole)
+module _ (query : QueryData) (whole : AnswerData) (made : IsJoined query whole) where
+  pub joined_is_plan : IsPlanFor query (PlannedData.answer whole)
   joined_is_plan = record {
-    permits = λ w db answer wide is.
-        compound_is_permitted w db query whole answer made.results
-        (record {
+    permits = λ w db rows wide is.
+        answer_is_permitted w db query whole rows
+        (inl (record {
           arms = each_told db (IsArmOf w db) (λ from s arm wide of. of.is_arm w db wide) query.body whole.arms wide made.arms;
-          order = made.order_is;
+          results = made.results;
+          order = made.order;
           limit = made.limit_is;
           offset = made.offset_is;
-        })
+        }))
         is;
     hits = λ w db wide hits.
-        compound_hits_are_hits w db query whole.arms made.results
+        arms_hits_are_hits w db query whole.arms made.results
         (each_told db (HitsWithin w db) (λ from s arm wide of. of.hits w db wide) query.body whole.arms wide made.arms) hits;
     few = λ w db sizes wide. each_few w db sizes query.body whole.arms wide made.arms;
   }
 
-  pub joined_over : IsPlannedAsTyped query (PlannedData.compound whole)
+  pub joined_over : IsPlannedAsTyped query (PlannedData.answer whole)
   joined_over catalog sources have typed = each_over catalog sources have query.body typed.0 whole.arms typed.1.body made.arms
+
+-- there is none where one of the SELECTs isn't served
+pub joined_told : {E : Type 0} (query : QueryData) → AreResults query.order → (found : Result (Option Answer) E)
+    → IfOk found (λ answer. MatchOption answer (¬ AreServed query.body) (λ a. IsJoined query (answer_data a)))
+    → IfOk found (λ answer. MatchOption answer (¬ IsServed query)
+    (λ a. IsPlanFor query (PlannedData.answer (answer_data a)) × IsPlannedAsTyped query (PlannedData.answer (answer_data a))))
+joined_told query results (Ok None) told = not_each query results told
+joined_told query results (Ok (Some a)) told = (joined_is_plan query (answer_data a) told, joined_over query (answer_data a) told)
+joined_told query results (Err e) told = tt

@@ -1,11 +1,10 @@
 pub mod TypedLemmas
 pub mod WideLemmas
-pub mod MadeLemmas
-pub mod OverLemmas
 pub mod ServedLemmas
+pub mod ResultLemmas
+pub mod PlaceLemmas
 pub mod KeyLemmas
-pub mod DistinctLemmas
-pub mod ScanLemmas
+pub mod OrderedLemmas
 pub mod JoinedLemmas
-pub mod QueryLemmas
+pub mod ScanLemmas
 pub mod lemmas

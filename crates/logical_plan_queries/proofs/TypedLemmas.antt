@@ -3,7 +3,7 @@ use Rattle.std.proofs.Common.{◌≡◌, ◌∙◌, All, pos, true, List, [], No
 use Rattle.std.proofs.lemmas.List.Elements.{All-nil, All-weaker}
 use Rattle.values.specs.declared.value.Ty.{Ty}
 use Rattle.logical_plan_queries.specs.compound_plans.Arms.{AreServed, IsServedArm}
-use Rattle.logical_plan.specs.answers.PermittedDistinct.{IsResultColumn}
+use Rattle.logical_plan.specs.answers.Permitted.{IsResultColumn}
 use Rattle.semantics.specs.Query.{Body, From, Key, KeyTerm, Operator, Select, compound, select}
 use Rattle.semantics.specs.Typed.{BodyHasTypes, IsKeyTerm}
 use Rattle.logical_plan_queries.specs.Laws.{TypedIsServed}

@@ -1,6 +1,7 @@
 pub mod Answers
 pub mod Served
 pub mod Made
+pub mod Places
 pub mod Laws
 pub mod select_plans
 pub mod compound_plans

@@ -1,20 +1,29 @@
--- How a plan is made of a query: of a SELECT that stands on tables that are joined or on none, or of several
--- that operators join.
-use Rattle.std.specs.Prelude.{◌≡◌, ℕ, ℤ, pos, false, true, List, [], map, Option, None}
+-- How a plan is made of a query: of a SELECT of columns of one table alone, of SELECTs that operators join, in
+-- no order or in that of result columns, or of one SELECT in the order of any terms.
+use Rattle.std.specs.Prelude.{◌≡◌, ◌⊎◌, ◌++◌, ◌≤◌, ℕ, ℤ, pos, false, List, [], length, map, Option, Some, None}
 use Rattle.std.specs.List.{AllZip}
-use Rattle.expr.specs.Term.{column}
-use Rattle.logical_plan_queries.specs.compound_plans.Arms.{IsArmFor}
-use Rattle.logical_plan.specs.answers.Compounds.{CompoundData}
-use Rattle.logical_plan.specs.answers.PermittedCompound.{AreArmsOf}
-use Rattle.logical_plan.specs.answers.PermittedDistinct.{AreResults}
-use Rattle.semantics.specs.Query.{Key, KeyTerm, QueryData, Select, always, only, table}
+use Rattle.values.specs.Database.{Database}
+use Rattle.values.specs.Datum.{Datum}
+use Rattle.values.specs.declared.value.Ty.{Ty}
+use Rattle.expr.specs.Term.{Term, column}
+use Rattle.semantics.specs.Body.{answers_in, values_over}
+use Rattle.semantics.specs.Hits.{FromHits, SelectHits, order_terms}
+use Rattle.semantics.specs.Query.{From, Key, KeyTerm, QueryData, Select, always, only, select, table}
+use Rattle.semantics.specs.Typed.{IsTyped}
 use Rattle.logical_plan_terms.specs.Over.{StandsOver}
-use Rattle.logical_plan_queries.specs.Answers.{PlannedData, columns, compound, distinct, rows, sorted, sorted_distinct}
-use Rattle.logical_plan.specs.answers.Selection.{SelectionData}
-use Rattle.logical_plan_queries.specs.select_plans.Made.{IsMadeOver}
-use Rattle.logical_plan.specs.answers.Sorted.{SortedData}
-use Rattle.logical_plan_terms.specs.declared.table_plans.inputs.Input.{Input}
-use Rattle.logical_plan_terms.specs.table_plans.Input.{input_from}
+use Rattle.logical_plan.specs.Plan.{work}
+use Rattle.logical_plan.specs.answers.Answers.{AnswerData, OrderData}
+use Rattle.logical_plan.specs.answers.Arms.{ArmData, ArmHits, one}
+use Rattle.logical_plan.specs.answers.Permitted.{AreArmsOf, ArePlacesOf, AreResults, IsOrderOf, IsOrderedArmOf}
+use Rattle.logical_plan.specs.answers.Sources.{IsPlanOf, SourceData}
+use Rattle.logical_plan_queries.specs.Answers.{PlannedData, answer, columns}
+use Rattle.logical_plan_queries.specs.compound_plans.Arms.{IsArmFor}
+use Rattle.logical_plan_queries.specs.compound_plans.Work.{from_work}
+use Rattle.logical_plan_queries.specs.select_plans.Columns.{HaveColumns}
+use Rattle.logical_plan_queries.specs.select_plans.Laws.{of_select}
+use Rattle.logical_plan_queries.specs.select_plans.Read.{IsWideOf}
+
+-- ---- columns of one table alone
 
 -- a SELECT that keeps each row, in no order, without groups, windows, DISTINCT, LIMIT and OFFSET
 pub record IsBare (s : Select) (order : List Key) (limit : Option ℤ) (offset : ℤ) : Type 0 where
@@ -25,6 +34,29 @@ pub record IsBare (s : Select) (order : List Key) (limit : Option ℤ) (offset :
   pub unordered : order ≡ []
   pub unlimited : limit ≡ None
   pub first : offset ≡ pos 0
+
+-- these columns of each row of the table
+pub record IsScanned (from : From) (s : Select) (order : List Key) (limit : Option ℤ) (offset : ℤ) (at : ℕ) (places : List ℕ) : Type 0 where
+  pub width : ℕ
+  pub from_is : from ≡ only (table at width)
+  pub bare : IsBare s order limit offset
+  pub columns_are : s.columns ≡ map column places
+
+abbrev pub IsScan : From → Select → List Key → Option ℤ → ℤ → PlannedData → Type 0
+IsScan from s order limit offset (columns at places) = IsScanned from s order limit offset at places
+IsScan from s order limit offset (answer a) = ⊥
+
+-- ---- in no order, or in that of result columns
+
+-- an arm in the place of each SELECT
+pub record IsJoined (query : QueryData) (a : AnswerData) : Type 0 where
+  pub arms : AreArmsOf IsArmFor query.body a.arms
+  pub results : AreResults query.order
+  pub order : IsOrderOf query.order a.order
+  pub limit_is : a.limit ≡ query.limit
+  pub offset_is : a.offset ≡ query.offset
+
+-- ---- in any order
 
 abbrev pub KeyTermStandsOver : List ℕ → KeyTerm → KeyTerm → Type 0
 KeyTermStandsOver read (KeyTerm.result at) (KeyTerm.result n) = at ≡ n
@@ -37,58 +69,35 @@ pub record KeyStandsOver (read : List ℕ) (key whole : Key) : Type 0 where
   pub by : KeyTermStandsOver read key.by whole.by
   pub direction : key.direction ≡ whole.direction
 
--- these columns of each row of the table
-pub record IsScanned (input : Input) (s : Select) (order : List Key) (limit : Option ℤ) (offset : ℤ) (at : ℕ) (places : List ℕ) : Type 0 where
-  pub width : ℕ
-  pub from_is : input_from input ≡ only (table at width)
-  pub bare : IsBare s order limit offset
-  pub columns_are : s.columns ≡ map column places
+-- terms of ORDER BY over these columns; those that are no result columns are after these, and rows have the values of all at the
+-- places
+pub record IsOrderOver (read : List ℕ) (order : List Key) (shown wide : List Term) (o : OrderData) : Type 0 where
+  pub keys : List Key
+  pub stand : AllZip (KeyStandsOver read) keys order
+  pub wide_is : wide ≡ shown ++ order_terms keys
+  pub places : ArePlacesOf shown keys o.keys
+  pub hidden : o.hidden ≡ length (order_terms keys)
 
--- rows in no order
-pub record IsSelected (input : Input) (s : Select) (order : List Key) (limit : Option ℤ) (offset : ℤ) (selection : SelectionData) : Type 0 where
-  pub all : s.distinct ≡ false
-  pub made : IsMadeOver input s order selection.plan selection.columns
-  pub unordered : order ≡ []
-  pub limit_is : selection.limit ≡ limit
-  pub offset_is : selection.offset ≡ offset
+-- Where the tables hold what FROM says of them, the arm has the rows on which the SELECT computes its result columns, in some order,
+-- and after these the terms of ORDER BY. It reaches nothing that the SELECT can't reach, and asks for no more pages than its FROM may.
+-- Its sources and columns are some of those that have the columns of a catalog over which the SELECT is typed.
+pub record IsOrderedArmFor (order : List Key) (from : From) (s : Select) (arm : ArmData) (o : OrderData) : Type 0 where
+  pub is_arm : (w : Datum) (db : Database) → IsWideOf db from s → IsOrderedArmOf w db order from s arm o
+  pub hits : (w : Datum) (db : Database) → IsWideOf db from s → ArmHits w db arm
+      → FromHits w db (answers_in w db from) from false ⊎ SelectHits w db from s (order_terms order)
+  pub few : (w : Datum) (db : Database) (sizes : List ℕ) → IsWideOf db from s → work w db sizes arm.plan ≤ from_work w db sizes (values_over w db from) from
+  pub over : (catalog : List (List Ty)) (sources : List SourceData) → HaveColumns catalog sources → (limit : Option ℤ) (offset : ℤ)
+      → IsTyped catalog (of_select from s order limit offset) → IsPlanOf sources arm.plan
 
--- rows in order
-pub record IsPutInOrder (input : Input) (s : Select) (order : List Key) (limit : Option ℤ) (offset : ℤ) (selection : SortedData) : Type 0 where
-  pub all : s.distinct ≡ false
-  pub made : IsMadeOver input s order selection.plan selection.columns
-  pub order_is : AllZip (KeyStandsOver made.columns) selection.order order
-  pub limit_is : selection.limit ≡ limit
-  pub offset_is : selection.offset ≡ offset
-
--- rows in no order, each once
-pub record IsSelectedOnce (input : Input) (s : Select) (order : List Key) (limit : Option ℤ) (offset : ℤ) (selection : SelectionData) : Type 0 where
-  pub once_each : s.distinct ≡ true
-  pub made : IsMadeOver input s order selection.plan selection.columns
-  pub unordered : order ≡ []
-  pub limit_is : selection.limit ≡ limit
-  pub offset_is : selection.offset ≡ offset
-
--- rows in the order of result columns, each once
-pub record IsPutInOrderOnce (input : Input) (s : Select) (order : List Key) (limit : Option ℤ) (offset : ℤ) (selection : SortedData) : Type 0 where
-  pub once_each : s.distinct ≡ true
-  pub made : IsMadeOver input s order selection.plan selection.columns
-  pub results : AreResults order
-  pub order_is : selection.order ≡ order
-  pub limit_is : selection.limit ≡ limit
-  pub offset_is : selection.offset ≡ offset
-
-abbrev pub IsMade : Input → Select → List Key → Option ℤ → ℤ → PlannedData → Type 0
-IsMade input s order limit offset (columns at places) = IsScanned input s order limit offset at places
-IsMade input s order limit offset (rows selection) = IsSelected input s order limit offset selection
-IsMade input s order limit offset (sorted selection) = IsPutInOrder input s order limit offset selection
-IsMade input s order limit offset (distinct selection) = IsSelectedOnce input s order limit offset selection
-IsMade input s order limit offset (sorted_distinct selection) = IsPutInOrderOnce input s order limit offset selection
-IsMade input s order limit offset (compound joined) = ⊥
-
--- rows of SELECTs that are joined, a plan in the place of each
-pub record IsJoined (query : QueryData) (joined : CompoundData) : Type 0 where
-  pub arms : AreArmsOf IsArmFor query.body joined.arms
-  pub results : AreResults query.order
-  pub order_is : joined.order ≡ query.order
-  pub limit_is : joined.limit ≡ query.limit
-  pub offset_is : joined.offset ≡ query.offset
+-- such an arm of the one SELECT
+pub record IsPutInOrder (query : QueryData) (a : AnswerData) : Type 0 where
+  pub from : From
+  pub s : Select
+  pub arm : ArmData
+  pub order : OrderData
+  pub body : query.body ≡ select from s
+  pub arms : a.arms ≡ one arm
+  pub order_is : a.order ≡ Some order
+  pub arm_is : IsOrderedArmFor query.order from s arm order
+  pub limit_is : a.limit ≡ query.limit
+  pub offset_is : a.offset ≡ query.offset

@@ -1,7 +1,7 @@
 -- Which queries are served. (SELECT)
 use Rattle.std.specs.Prelude.{◌≡◌, true, List}
 use Rattle.logical_plan_queries.specs.compound_plans.Arms.{AreServed}
-use Rattle.logical_plan.specs.answers.PermittedDistinct.{AreResults}
+use Rattle.logical_plan.specs.answers.Permitted.{AreResults}
 use Rattle.semantics.specs.Hits.{order_terms}
 use Rattle.semantics.specs.Query.{Body, From, Key, QueryData, Select, compound, select}
 use Rattle.logical_plan_queries.specs.select_plans.Served.{IsServedFrom, IsServedSelect}

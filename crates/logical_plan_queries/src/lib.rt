@@ -5,16 +5,15 @@
 //! the catalog.
 //!
 //! The modules, in the order in which data passes them: `select_plans` (what a SELECT computes),
-//! `compound_plans` (the plans of the SELECTs of a compound), `planned` (plans), `keys` (ORDER BY over what
-//! is read), `scans` (columns alone), `distinct` (SELECT DISTINCT), `compounds` (compound SELECTs), `queries`
+//! `compound_plans` (the plans of SELECTs that operators combine), `planned` (plans), `orders` (ORDER BY as
+//! places in rows), `answers` (SELECTs with ORDER BY, LIMIT and OFFSET), `scans` (columns alone), `queries`
 //! (the plan of a query), `laws`, and `plan_sources` (whether a plan reads sources that exist).
 #![tactic(auto)]
 
+mod answers;
 mod compound_plans;
-mod compounds;
-mod distinct;
-mod keys;
 pub mod laws;
+mod orders;
 mod plan_sources;
 mod planned;
 mod queries;

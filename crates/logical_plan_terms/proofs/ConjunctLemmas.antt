@@ -1,43 +1,29 @@
 -- A condition over the columns that are read, split at AND.
-use Rattle.std.proofs.Common.{◌≡◌, ◌∙◌, All, Contains, ℕ, List, [], ◌∷◌, ◌++◌, ◌≤◌, length, map, refl, sym, subst}
-use Rattle.std.proofs.lemmas.List.{map-append}
-use Rattle.std.proofs.lemmas.List.Elements.{All-append, All-cons, All-head, All-nil, All-tail}
+use Rattle.std.proofs.Common.{◌≡◌, ◌∙◌, All, Contains, ℕ, List, [], ◌∷◌, ◌++◌, ◌≤◌, get_or, length, map, sym, subst}
+use Rattle.std.proofs.lemmas.List.Elements.{All-append, All-cons, All-head, All-map, All-nil, All-tail}
 use Rattle.values.specs.Datum.{Datum}
 use Rattle.expr.specs.Columns.{columns_of}
 use Rattle.expr.specs.Conjuncts.{conjuncts}
 use Rattle.expr.specs.declared.operations.kinds.Comparison.TheVariants.{Ge, Le}
-use Rattle.expr.specs.Filled.{filled}
+use Rattle.expr.specs.Filled.{filled, placed, unanswered}
+use Rattle.expr.specs.Leaves.{place_in}
 use Rattle.expr.specs.Term.{Term, literal, column, call, arithmetic, concat, compare, is, and, or, between, among, coalesce, choice, choice_of, null_if, like}
-use Rattle.expr.proofs.FilledLemmas.{fills_conjuncts}
+use Rattle.expr.proofs.FilledLemmas.{fills_conjuncts, leaves_conjuncts, placed_is_answered}
 use Rattle.logical_plan.specs.Stands.{AreTestsOf, StandsFor}
-use Rattle.logical_plan_terms.specs.Names.{answers_of}
+use Rattle.expr.specs.Names.{IsAnswered, answers_of}
 use Rattle.logical_plan_terms.specs.Over.{AreTestsOver, IsOver}
-use Rattle.logical_plan_terms.specs.Placed.{placed}
 use Rattle.logical_plan_terms.proofs.PlacedLemmas.{AreOver, Over, first, later, placed_stands}
-
-both : {A B : Type 0} (f : A → B) (xs ys : List A) (us vs : List B) → us ≡ map f xs → vs ≡ map f ys → us ++ vs ≡ map f (xs ++ ys)
-both f xs ys us vs left right = (λ i. left i ++ right i) ∙ sym (map-append f xs ys)
 
 -- ---- conjuncts
 
-module _ (read : List ℕ) where
-  conjuncts-placed : (t : Term) → conjuncts (placed read t) ≡ map (placed read) (conjuncts t)
-  conjuncts-placed (and a b) = both (placed read) (conjuncts a) (conjuncts b) (conjuncts (placed read a)) (conjuncts (placed read b)) (conjuncts-placed a) (conjuncts-placed b)
-  conjuncts-placed (between x a b) = refl
-  conjuncts-placed (literal v) = refl
-  conjuncts-placed (column i) = refl
-  conjuncts-placed (call f a) = refl
-  conjuncts-placed (arithmetic op a b) = refl
-  conjuncts-placed (concat a b) = refl
-  conjuncts-placed (compare op a b) = refl
-  conjuncts-placed (is a b) = refl
-  conjuncts-placed (or a b) = refl
-  conjuncts-placed (among x items) = refl
-  conjuncts-placed (coalesce items) = refl
-  conjuncts-placed (choice rest e) = refl
-  conjuncts-placed (choice_of x rest e) = refl
-  conjuncts-placed (null_if a b) = refl
-  conjuncts-placed (like a b) = refl
+conjuncts-placed : (read : List ℕ) (t : Term) → conjuncts (placed read t) ≡ map (placed read) (conjuncts t)
+conjuncts-placed read = leaves_conjuncts (place_in read) unanswered unanswered
+
+-- none names an answer
+pub conjuncts_answered : (read : List ℕ) (t : Term) → All IsAnswered (conjuncts (placed read t))
+conjuncts_answered read t =
+    subst (All IsAnswered) (sym (conjuncts-placed read t))
+    (All-map IsAnswered (placed read) (conjuncts t) (λ i d within. placed_is_answered read (get_or (conjuncts t) i d)))
 
 module _ (read : List ℕ) (inner : ℕ) where
   abbrev OverTerm : Term → Type 0

@@ -6,11 +6,11 @@ use Rattle.std.proofs.lemmas.List.Elements.{All-head}
 use Rattle.std.proofs.lemmas.List.FromFn.{get_or-range_with_len, length-range_with_len}
 use Rattle.values.specs.Datum.{Datum}
 use Rattle.expr.specs.Columns.{columns_of, columns_of_all, columns_of_arms}
-use Rattle.expr.specs.Filled.{filled, filled_all, filled_arms, filled_firsts, literals}
+use Rattle.expr.specs.Filled.{filled, filled_all, filled_arms, filled_firsts, literals, placed, placed_all, placed_arms, placed_firsts}
 use Rattle.expr.specs.Term.{Term, Terms, Arms, literal, column, call, arithmetic, concat, compare, is, and, or, between, among, coalesce, choice, choice_of, null_if, like, none, answer, more, no_arms, arm}
-use Rattle.logical_plan_terms.specs.Names.{answers_of, answers_of_all, answers_of_arms}
+use Rattle.expr.specs.Names.{answers_of, answers_of_all, answers_of_arms}
 use Rattle.logical_plan_terms.specs.Over.{AreWhole, IsItself, IsOver}
-use Rattle.logical_plan_terms.specs.Placed.{place_in, placed, placed_all, placed_arms}
+use Rattle.expr.specs.Leaves.{place_in}
 use Rattle.logical_plan_terms.proofs.PlacedLemmas.{AreOver, Over, OverAll, OverArms, first, later, no_answer, place_in-first}
 
 -- ---- a column at its place
@@ -103,7 +103,7 @@ module _ (read : List ℕ) (inner : ℕ) (answers : List (List Datum)) (few : le
           itself_all ts (later read inner (columns_of t) (columns_of_all ts) (answers_of t) (answers_of_all ts) h),
         ) refl
 
-    itself_firsts : (ts : Terms) → OverAll read inner ts → placed_all read ts ≡ filled_firsts answers ts
+    itself_firsts : (ts : Terms) → OverAll read inner ts → placed_firsts read ts ≡ filled_firsts answers ts
     itself_firsts none h = refl
     itself_firsts (answer k) h = refl
     itself_firsts (more t ts) h =

@@ -7,11 +7,9 @@ use Rattle.std.proofs.lemmas.List.Elements.{All-cons, All-get_or, All-head, All-
 use Rattle.std.proofs.lemmas.List.Folds.{Any-from_list_any, list_any-from_Any}
 use Rattle.expr.specs.Columns.{columns_of}
 use Rattle.expr.specs.Term.{Term}
-use Rattle.expr.specs.View as expressions
 use Rattle.expr.specs.declared.tree.Expr.{Expr}
-use Rattle.resolver_terms.specs.TermView.{term}
-use Rattle.resolver_terms.specs.declared.terms.Term as tree
-use Rattle.logical_plan_terms.specs.Names.{answers_of}
+use Rattle.expr.specs.View.{term}
+use Rattle.expr.specs.Names.{answers_of}
 use Rattle.logical_plan_terms.specs.Over.{IsOver}
 
 -- tests of each element, joined, decide whether all hold
@@ -89,7 +87,7 @@ module _ (read : List ℕ) (inner : ℕ) (t : Term) where
 
 -- ---- terms
 
-module _ (read : List ℕ) (inner : ℕ) (terms : List tree.Term) (i : ℕ) (t : tree.Term)
+module _ (read : List ℕ) (inner : ℕ) (terms : List Expr) (i : ℕ) (t : Expr)
     (within : i < length terms) (at : t ≡ get_or terms i t) where
   taken : map term (take (i + 1) terms) ≡ map term (take i terms) ++ term t ∷ []
   taken =
@@ -99,12 +97,12 @@ module _ (read : List ℕ) (inner : ℕ) (terms : List tree.Term) (i : ℕ) (t :
   pub over_more : All (IsOver read inner) (map term (take i terms)) → IsOver read inner (term t) → All (IsOver read inner) (map term (take (i + 1) terms))
   over_more all over = subst (All (IsOver read inner)) (sym taken) (All-push (IsOver read inner) (map term (take i terms)) (term t) all over)
 
-  pub zip_more : (R : Term → Term → Type 0) (es : List Expr) (e : Expr) → AllZip R (map expressions.term es) (map term (take i terms)) → R (expressions.term e) (term t)
-      → AllZip R (map expressions.term (es ++ e ∷ [])) (map term (take (i + 1) terms))
+  pub zip_more : (R : Term → Term → Type 0) (es : List Expr) (e : Expr) → AllZip R (map term es) (map term (take i terms)) → R (term e) (term t)
+      → AllZip R (map term (es ++ e ∷ [])) (map term (take (i + 1) terms))
   zip_more R es e all stands =
-      subst (λ ts. AllZip R (map expressions.term (es ++ e ∷ [])) ts) (sym taken)
-      (subst (λ es. AllZip R es (map term (take i terms) ++ term t ∷ [])) (sym (map-append expressions.term es (e ∷ [])))
-      (AllZip-push R (map expressions.term es) (map term (take i terms)) (expressions.term e) (term t) all stands))
+      subst (λ ts. AllZip R (map term (es ++ e ∷ [])) ts) (sym taken)
+      (subst (λ es. AllZip R es (map term (take i terms) ++ term t ∷ [])) (sym (map-append term es (e ∷ [])))
+      (AllZip-push R (map term es) (map term (take i terms)) (term e) (term t) all stands))
 
   pub not_all : ¬ IsOver read inner (term t) → ¬ All (IsOver read inner) (map term terms)
   not_all refused all =

@@ -1,26 +1,21 @@
 -- An expression over the columns that are read is the same on each row as its term.
-use Rattle.std.proofs.Common.{◌≡◌, ◌∙◌, ◌==◌, ◌+◌, ◌≤◌, All, Bool, true, false, cond, not, Contains, ℕ, zero, suc, List, [], ◌∷◌, ◌++◌, length, ltb, map, slice_index_or, unwrap_or, Option, Some, None, refl, sym, ap, arith}
+use Rattle.std.proofs.Common.{◌≡◌, ◌∙◌, ◌==◌, ◌+◌, ◌≤◌, All, Bool, true, false, cond, not, Contains, ℕ, zero, suc, List, [], ◌∷◌, ◌++◌, length, ltb, slice_index_or, unwrap_or, Option, Some, None, refl, sym, ap, arith}
 use Rattle.std.specs.List.{position_or_len, prefix_len}
 use Rattle.std.specs.Option.{option_and_then}
 use Rattle.std.proofs.lemmas.Bool.{eq-eqb, eqb-true, false≢true, ltb-false}
 use Rattle.std.proofs.lemmas.List.Elements.{All-cons, All-head, All-nil, All-tail}
-use Rattle.values.specs.Datum.{Datum, datum_of}
-use Rattle.values.specs.declared.value.Value.{Value}
+use Rattle.values.specs.Datum.{Datum}
 use Rattle.values.specs.Row.{Row}
 use Rattle.expr.specs.Columns.{columns_of, columns_of_all, columns_of_arms}
-use Rattle.expr.specs.Filled.{filled, filled_all, filled_arms, filled_firsts, literals}
+use Rattle.expr.specs.Filled.{filled, filled_all, filled_arms, filled_firsts, literals, placed, placed_all, placed_arms, placed_firsts}
 use Rattle.expr.specs.operations.Functions.{call_of}
 use Rattle.expr.specs.Meaning.{or_otherwise, run, run_all, run_arms, run_first}
 use Rattle.expr.specs.Term.{Term, Terms, Arms, literal, column, call, arithmetic, concat, compare, is, and, or, between, among, coalesce, choice, choice_of, null_if, like, none, answer, more, no_arms, arm}
 use Rattle.semantics.specs.OneTable.{shown}
 use Rattle.semantics.specs.Sequence.{value_at}
-use Rattle.expr.specs.View.{arms, terms}
-use Rattle.resolver_terms.specs.TermView.{arm_terms, term}
-use Rattle.resolver_terms.specs.declared.terms.Arm as tree_arm
-use Rattle.resolver_terms.specs.declared.terms.Term as tree
-use Rattle.logical_plan_terms.specs.Names.{answers_of, answers_of_all, answers_of_arms, arm_trees, trees}
+use Rattle.expr.specs.Names.{answers_of, answers_of_all, answers_of_arms}
 use Rattle.logical_plan_terms.specs.Over.{IsOver, StandsOver}
-use Rattle.logical_plan_terms.specs.Placed.{place_in, placed, placed_all, placed_arms}
+use Rattle.expr.specs.Leaves.{place_in}
 
 -- what holds of each element of two lists holds of those of each
 pub All-front : {X : Type 0} (P : X → Type 0) (xs ys : List X) → All P (xs ++ ys) → All P xs
@@ -175,7 +170,7 @@ module _ (read : List ℕ) (inner : ℕ) (answers : List (List Datum)) (few : le
           stands_all ts (later read inner (columns_of t) (columns_of_all ts) (answers_of t) (answers_of_all ts) h),
         ) refl
 
-    stands_first : (ts : Terms) → OverAll read inner ts → run_first o seen (placed_all read ts) ≡ run_first o row (filled_firsts answers ts)
+    stands_first : (ts : Terms) → OverAll read inner ts → run_first o seen (placed_firsts read ts) ≡ run_first o row (filled_firsts answers ts)
     stands_first none h = refl
     stands_first (answer k) h = refl
     stands_first (more t ts) h =
@@ -200,28 +195,3 @@ module _ (read : List ℕ) (inner : ℕ) (answers : List (List Datum)) (few : le
 pub placed_stands : (read : List ℕ) (inner : ℕ) (t : Term) → IsOver read inner t → StandsOver read inner (placed read t) t
 placed_stands read inner t over answers few o row =
     stands read inner answers few o row t (record { columns_are = over.columns; answers_are = over.answers })
-
--- ---- lists of terms
-
-pub placed_all-trees : (read : List ℕ) (items : List tree.Term) → terms (map (λ t. placed read (term t)) items) ≡ placed_all read (trees items)
-placed_all-trees read [] = refl
-placed_all-trees read (t ∷ items) = ap (more (placed read (term t))) (placed_all-trees read items)
-
--- ---- literals alone
-
-pub literal_terms : (values : List Value) → terms (map (λ v. literal (datum_of v)) values) ≡ literals (map datum_of values)
-literal_terms [] = refl
-literal_terms (v ∷ values) = ap (more (literal (datum_of v))) (literal_terms values)
-
--- no column is in them
-pub placed_literals : (read : List ℕ) (vs : List Datum) → placed_all read (literals vs) ≡ literals vs
-placed_literals read [] = refl
-placed_literals read (v ∷ vs) = ap (more (literal v)) (placed_literals read vs)
-
--- WHEN and THEN over the columns that are read
-abbrev pub placed_arm : List ℕ → tree_arm.Arm → Term × Term
-placed_arm read a = (placed read (arm_terms a).0, placed read (arm_terms a).1)
-
-pub placed_arms-trees : (read : List ℕ) (rest : List tree_arm.Arm) → arms (map (placed_arm read) rest) ≡ placed_arms read (arm_trees rest)
-placed_arms-trees read [] = refl
-placed_arms-trees read (a ∷ rest) = ap (arm (placed read (arm_terms a).0) (placed read (arm_terms a).1)) (placed_arms-trees read rest)

@@ -1,5 +1,3 @@
-pub mod Names
-pub mod Placed
 pub mod Over
 pub mod group_plans
 pub mod window_plans

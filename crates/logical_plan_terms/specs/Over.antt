@@ -7,7 +7,7 @@ use Rattle.expr.specs.Conjuncts.{conjuncts}
 use Rattle.expr.specs.Filled.{filled}
 use Rattle.expr.specs.Term.{Term}
 use Rattle.logical_plan.specs.Stands.{AreTestsOf, StandsFor}
-use Rattle.logical_plan_terms.specs.Names.{answers_of}
+use Rattle.expr.specs.Names.{answers_of}
 
 -- each column that a term names is read, and it names the answer of none of so many inner queries
 pub record IsOver (read : List ℕ) (inner : ℕ) (t : Term) : Type 0 where

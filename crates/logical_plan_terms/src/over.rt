@@ -1,14 +1,11 @@
 //! Expressions over the columns that are read.
 ghost use Rattle.std.specs.Prelude.{◌≡◌, ◌==◌, All, IfOk, MatchBool, MatchOption, map, nat_le, ⊤};
 ghost use Rattle.std.specs.List.{AllZip, list_all, list_any};
-ghost use Rattle.expr.specs.View as expressions;
+ghost use Rattle.expr.specs.Names.{IsAnswered};
 ghost use Rattle.logical_plan_terms.specs.Over.{AreWhole, IsItself, IsOver, StandsOver};
-ghost use Rattle.resolver_terms.specs.TermView.{term};
+ghost use Rattle.expr.specs.View.{term};
 
-use crate::names::{push_answers, push_columns};
-use crate::placed::place;
-use expr::Expr;
-use resolver_terms::Term;
+use expr::{Expr, Leaves, answers, columns};
 use std::alloc::{AllocError, Global};
 
 /// Whether each of these columns is read.
@@ -30,35 +27,36 @@ pub(crate) fn is_over(
     alloc: Global,
     read: &[usize],
     inner: usize,
-    t: &Term,
+    t: &Expr,
 ) -> Result<bool, AllocError>
     ensures { IfOk result (λ b. MatchBool b (IsOver read.now inner (term t.now)) (¬ IsOver read.now inner (term t.now))) }
 {
-    let mut columns = Vec::new(alloc);
-    push_columns(t, &mut columns)?;
-    if !are_read(read, columns.as_slice()) {
+    let mut named = Vec::new(alloc);
+    columns(t, &mut named)?;
+    if !are_read(read, named.as_slice()) {
         return Ok(false);
     }
-    let mut answers = Vec::new(alloc);
-    push_answers(t, &mut answers)?;
-    Ok(are_behind(inner, answers.as_slice()))
+    let mut asked = Vec::new(alloc);
+    answers(t, &mut asked)?;
+    Ok(are_behind(inner, asked.as_slice()))
 }
 
 /// The expression of a term over the columns that are read, beside so many inner queries. There is none exactly where the term
 /// names a column that isn't read, or the answer of one of these queries. Where each column stands in its place, it is the term
-/// itself. (SQL Language Expressions)
+/// itself. It names no answer. (SQL Language Expressions)
 pub fn expr_over(
     alloc: Global,
     read: &[usize],
     inner: usize,
-    t: &Term,
+    t: &Expr,
 ) -> Result<Option<Expr>, AllocError>
     ensures over { IfOk result (λ e. MatchOption e (¬ IsOver read.now inner (term t.now)) (λ _. IsOver read.now inner (term t.now))) }
-    ensures stands { IfOk result (λ e. MatchOption e ⊤ (λ e. StandsOver read.now inner (expressions.term e) (term t.now))) }
-    ensures itself { IfOk result (λ e. MatchOption e ⊤ (λ e. AreWhole read.now → IsItself inner (expressions.term e) (term t.now))) }
+    ensures stands { IfOk result (λ e. MatchOption e ⊤ (λ e. StandsOver read.now inner (term e) (term t.now))) }
+    ensures itself { IfOk result (λ e. MatchOption e ⊤ (λ e. AreWhole read.now → IsItself inner (term e) (term t.now))) }
+    ensures answered { IfOk result (λ e. MatchOption e ⊤ (λ e. IsAnswered (term e))) }
 {
     if is_over(alloc, read, inner, t)? {
-        Ok(Some(place(alloc, read, t)?))
+        Ok(Some(Leaves::Placed(read).copy(alloc, t)?))
     } else {
         Ok(None)
     }
@@ -69,14 +67,15 @@ pub fn exprs_over(
     alloc: Global,
     read: &[usize],
     inner: usize,
-    terms: &[Term],
+    terms: &[Expr],
 ) -> Result<Option<Vec<Expr>>, AllocError>
     ensures over { IfOk result (λ es. MatchOption es (¬ All (IsOver read.now inner) (map term terms.now))
         (λ _. All (IsOver read.now inner) (map term terms.now))) }
     ensures stand { IfOk result (λ es. MatchOption es ⊤
-        (λ es. AllZip (StandsOver read.now inner) (map expressions.term es.items) (map term terms.now))) }
+        (λ es. AllZip (StandsOver read.now inner) (map term es.items) (map term terms.now))) }
     ensures itself { IfOk result (λ es. MatchOption es ⊤
-        (λ es. AreWhole read.now → AllZip (IsItself inner) (map expressions.term es.items) (map term terms.now))) }
+        (λ es. AreWhole read.now → AllZip (IsItself inner) (map term es.items) (map term terms.now))) }
+    ensures answered { IfOk result (λ es. MatchOption es ⊤ (λ es. All IsAnswered (map term es.items))) }
 {
     let mut es = Vec::with_capacity(alloc, terms.len())?;
     for t in terms {

@@ -18,6 +18,5 @@ mod tree;
 mod windowing;
 
 pub use gathering::Gathering;
-pub use operators_joins::copies;
 pub use tree::Op;
 pub use windowing::Windowing;

@@ -24,7 +24,7 @@ use Rattle.operators_results.specs.declared.limits.LimitOffset.{LimitOffset}
 use Rattle.operators_results.specs.declared.stream.Results.{Results}
 use Rattle.operators_results.specs.Slices.{sliced}
 use Rattle.operators_results.specs.Coming.{IsComing, IsComingOf, IsResultCause}
-use Rattle.logical_plan.specs.answers.Selection.{result_rows}
+use Rattle.logical_plan.specs.answers.Arms.{result_rows}
 use Rattle.operators_results.proofs.SliceLemmas.{none_sliced}
 
 -- what is still to come of what was at the start

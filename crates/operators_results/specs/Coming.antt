@@ -16,7 +16,7 @@ use Rattle.operators.specs.Left.{IsLeft, plan_of}
 use Rattle.operators_results.specs.Slices.{sliced}
 use Rattle.operators_results.specs.declared.limits.LimitOffset.{LimitOffset}
 use Rattle.operators_results.specs.declared.stream.Results.{Results}
-use Rattle.logical_plan.specs.answers.Selection.{result_rows}
+use Rattle.logical_plan.specs.answers.Arms.{result_rows}
 
 -- Why a fault comes over a steady source: reading failed, or the plan or a result column on one of its rows reaches an
 -- operation out of range.

@@ -1,5 +1,4 @@
 pub mod Slices
 pub mod Coming
-pub mod sorted_results
 pub mod distinct_results
 pub mod compound_results

@@ -6,22 +6,22 @@
 //! last row that LIMIT leaves.
 //!
 //! The modules, in the order in which data passes them: `columns` (result columns on a row), `limits` (LIMIT
-//! and OFFSET), `stream` (the rows of a SELECT in no order), `laws`, `sorted_results` (those of one in
-//! order), `distinct_results` (those of a SELECT DISTINCT) and `compound_results` (those of SELECTs that
-//! UNION, UNION ALL, INTERSECT and EXCEPT combine).
+//! and OFFSET), `stream` (the rows of a SELECT in no order), `laws`, `distinct_results` (those of a SELECT
+//! DISTINCT in no order), `compound_results` (those of SELECTs that UNION, UNION ALL, INTERSECT and EXCEPT
+//! combine) and `sorted_results` (those of an answer that are gathered, as with ORDER BY).
 #![tactic(auto)]
 
 mod columns;
-pub mod compound_results;
-pub mod distinct_results;
+mod compound_results;
+mod distinct_results;
 pub mod laws;
 mod limits;
-pub mod sorted_results;
+mod sorted_results;
 mod stream;
 
 pub use columns::project;
-pub use compound_results::{ChainedResults, compound_rows, is_chain};
-pub use distinct_results::{DistinctResults, sorted_distinct_rows};
+pub use compound_results::{ChainedResults, are_all};
+pub use distinct_results::DistinctResults;
 pub use limits::LimitOffset;
-pub use sorted_results::sorted_rows;
+pub use sorted_results::gathered_rows;
 pub use stream::Results;

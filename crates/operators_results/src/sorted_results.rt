@@ -1,12 +1,11 @@
-//! The rows of one SELECT, put in order by ORDER BY, a list that the query permits, for any value substituted
-//! for an overflow. With a LIMIT, rows after those that it and OFFSET look at are dropped as they come.
+//! The rows of an answer that are all gathered before the first is given, a list that the query permits, for
+//! any value substituted for an overflow. With ORDER BY and a LIMIT, rows of SELECTs that UNION ALL alone
+//! combines, and those of one SELECT DISTINCT, are dropped as they come after those that it and OFFSET look at.
 //!
-//! Its modules, in order: `keys` (the values that a row is put in order by), `pushed` (the rows of a stream,
-//! of which the first in order are kept), `gathered` (the rows) and `laws`.
+//! Its modules, in order: `pushed` (the rows of a stream, of which the first in order are kept), `in_order`
+//! (the rows in order) and `gathered` (what is shown of them).
 mod gathered;
-mod keys;
-pub mod laws;
+mod in_order;
 mod pushed;
 
-pub use gathered::sorted_rows;
-pub use pushed::push_rows;
+pub use gathered::gathered_rows;

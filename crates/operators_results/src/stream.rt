@@ -11,13 +11,14 @@ ghost use Rattle.logical_plan.specs.PlanView.{plan_data};
 ghost use Rattle.operators_loops.specs.Basis.{AreStored, Basis, GivesRowOrNone, ReadsRows};
 ghost use Rattle.operators.specs.Left.{plan_of, steps};
 ghost use Rattle.operators_results.specs.Coming.{IsComing, IsResultCause, SameSelection};
-ghost use Rattle.logical_plan.specs.answers.Selection.{answer_of, result_rows, selection_data};
+ghost use Rattle.operators_results.specs.Slices.{sliced};
+ghost use Rattle.logical_plan.specs.answers.Arms.{result_rows};
 
 use crate::columns::project;
 use crate::limits::LimitOffset;
-use expr::Expr;
-use logical_plan::{Plan, Selection};
-use operators::{Op, copies};
+use expr::{Expr, copy_all};
+use logical_plan::Arm;
+use operators::Op;
 use operators_scan::Sources;
 use pager::{Pager, Source};
 use std::alloc::{AllocError, Global};
@@ -34,16 +35,16 @@ pub struct Results {
 }
 
 impl Results {
-    /// The rows of a SELECT before the first. It reads no page.
-    pub fn open(alloc: Global, selection: &Selection) -> Result<Results, AllocError>
-        ensures plan { IfOk result (λ results. plan_of results.op ≡ plan_data selection.now.plan) }
-        ensures columns { IfOk result (λ results. map term results.columns.items ≡ map term selection.now.columns.items) }
-        ensures rows { IfOk result (λ results. (pages : Pages) (sources : List SourceData) (on : Basis) → on.plan ≡ plan_data selection.now.plan
-            → IsComing pages sources on results (answer_of on.w on.db (selection_data selection.now)) (work on.w on.db on.sizes on.plan)) }
+    /// The rows of a SELECT before the first, of which a slice is left. It reads no page.
+    pub fn open(alloc: Global, arm: &Arm, slice: LimitOffset) -> Result<Results, AllocError>
+        ensures plan { IfOk result (λ results. plan_of results.op ≡ plan_data arm.now.plan) }
+        ensures columns { IfOk result (λ results. map term results.columns.items ≡ map term arm.now.columns.items) }
+        ensures rows { IfOk result (λ results. (pages : Pages) (sources : List SourceData) (on : Basis) → on.plan ≡ plan_data arm.now.plan
+            → IsComing pages sources on results (sliced slice (result_rows on.w (map term arm.now.columns.items) (rows_of on.w on.db on.plan)))
+            (work on.w on.db on.sizes on.plan)) }
     {
-        let op = Op::open(alloc, &selection.plan)?;
-        let columns = copies(alloc, selection.columns.as_slice())?;
-        let slice = LimitOffset::new(selection.limit, selection.offset);
+        let op = Op::open(alloc, &arm.plan)?;
+        let columns = copy_all(alloc, arm.columns.as_slice())?;
         let row = Vec::new(alloc);
         Ok(Results {
             op,
@@ -53,23 +54,17 @@ impl Results {
         })
     }
 
-    /// All result rows of a plan, before the first. It reads no page.
-    pub fn of_all(alloc: Global, plan: &Plan, columns: &[Expr]) -> Result<Results, AllocError>
-        ensures plan { IfOk result (λ results. plan_of results.op ≡ plan_data plan.now) }
-        ensures columns { IfOk result (λ results. map term results.columns.items ≡ map term columns.now) }
-        ensures rows { IfOk result (λ results. (pages : Pages) (sources : List SourceData) (on : Basis) → on.plan ≡ plan_data plan.now
-            → IsComing pages sources on results (result_rows on.w (map term columns.now) (rows_of on.w on.db on.plan)) (work on.w on.db on.sizes on.plan)) }
+    /// All rows of a SELECT, before the first. It reads no page.
+    pub fn of_all(alloc: Global, arm: &Arm) -> Result<Results, AllocError>
+        ensures plan { IfOk result (λ results. plan_of results.op ≡ plan_data arm.now.plan) }
+        ensures columns { IfOk result (λ results. map term results.columns.items ≡ map term arm.now.columns.items) }
+        ensures rows { IfOk result (λ results. (pages : Pages) (sources : List SourceData) (on : Basis) → on.plan ≡ plan_data arm.now.plan
+            → IsComing pages sources on results (result_rows on.w (map term arm.now.columns.items) (rows_of on.w on.db on.plan))
+            (work on.w on.db on.sizes on.plan)) }
     {
-        let op = Op::open(alloc, plan)?;
-        let columns = copies(alloc, columns)?;
-        let slice = LimitOffset::new(None, 0);
-        let row = Vec::new(alloc);
-        Ok(Results {
-            op,
-            columns,
-            slice,
-            row,
-        })
+        let all = LimitOffset::new(None, 0);
+        let results = Results::open(alloc, arm, all)?;
+        Ok(results)
     }
 
     /// Puts the next row into `out`, or tells that there is none; behind the last row that LIMIT leaves no page is asked for.

@@ -1,5 +1,5 @@
 -- The answers of a plan.
-use Rattle.std.proofs.Common.{◌≡◌, ◌∙◌, inl, Bool, false, ℕ, zero, suc, All, List, [], ◌∷◌, map, slice_get, Some, refl, sym, ap, subst, IsPermutation}
+use Rattle.std.proofs.Common.{◌≡◌, ◌∙◌, inl, Bool, false, ℕ, ℤ, zero, suc, All, List, [], ◌∷◌, map, slice_get, None, Option, Some, refl, sym, ap, subst, IsPermutation}
 use Rattle.std.proofs.lemmas.List.{map-append}
 use Rattle.std.proofs.lemmas.List.Elements.{All-head, All-tail}
 use Rattle.std.proofs.lemmas.List.Sorted.{ranks_by}
@@ -11,23 +11,19 @@ use Rattle.values.specs.declared.fault.Fault.{Fault}
 use Rattle.btree.specs.image.Pages.{Pages}
 use Rattle.operators_scan.specs.Coming.{HasRows, IsStoredSource}
 use Rattle.logical_plan.specs.answers.Sources.{SourceData}
-use Rattle.expr.specs.Meaning.{eval}
 use Rattle.semantics.specs.Answer.{Ascends, key_directions, limited, skipped}
-use Rattle.semantics.specs.Body.{Output, plain_outputs}
+use Rattle.semantics.specs.Body.{Output}
 use Rattle.semantics.specs.Query.{Key}
 use Rattle.semantics.specs.OneTable.{shown}
 use Rattle.semantics.specs.Sequence.{ascending}
 use Rattle.semantics.proofs.AnswerLemmas.{is_before}
 use Rattle.semantics.proofs.KeyLemmas.{keys_cmp_total}
 use Rattle.semantics.proofs.OrderLemmas.{IsSortedBy-ascending, ascending-same}
-use Rattle.logical_plan.specs.Plan.{rows_of, table_rows, table_size}
+use Rattle.logical_plan.specs.Plan.{table_rows, table_size}
 use Rattle.operators_loops.specs.Basis.{AreStored, Basis}
 use Rattle.operators_loops.proofs.RowLemmas.{some_one}
+use Rattle.logical_plan.specs.answers.Answers.{IsShown, OrderData, shown_output}
 use Rattle.logical_plan.specs.answers.Arms.{rows_of_arms}
-use Rattle.logical_plan.specs.answers.Distinct.{distinct_answer_of}
-use Rattle.logical_plan.specs.answers.Selection.{answer_of, result_rows}
-use Rattle.logical_plan.specs.answers.Sorted.{outputs_over}
-use Rattle.operators_results.specs.distinct_results.Firsts.{firsts}
 use Rattle.logical_plan_queries.specs.Answers.{IsAnswerOf, PlannedData}
 use Rattle.operators_runs.specs.Faults.{IsOutsideFault}
 use Rattle.operators_runs.specs.Printed.{PrintsUntil}
@@ -93,22 +89,15 @@ some_order order made = record {
   ascends = IsSortedBy-ascending (is_before order) (ranks_by (keys_cmp_total (key_directions order)) (λ (o : Output). o.keys)) made;
 }
 
+-- some rows are shown
+some_shown : (w : Datum) (order : Option OrderData) (limit : Option ℤ) (offset : ℤ) (all : List Row) → (rows : List Row) × IsShown w order limit offset all rows
+some_shown w None limit offset all = (limited limit (skipped offset all), refl)
+some_shown w (Some order) limit offset all =
+    let some = some_order order.keys (map (shown_output w order) all) in (
+      map (λ o. o.row) (limited limit (skipped offset some.ordered)),
+      record { ordered = some.ordered; same = some.same; ascends = some.ascends; shown = refl },
+    )
+
 pub some_answer : (w : Datum) (db : Database) (planned : PlannedData) → (answer : List Row) × IsAnswerOf w db planned answer
 some_answer w db (PlannedData.columns at places) = (map (shown places) (table_rows db at), refl)
-some_answer w db (PlannedData.rows selection) = (answer_of w db selection, refl)
-some_answer w db (PlannedData.distinct selection) = (distinct_answer_of w db selection, refl)
-some_answer w db (PlannedData.sorted selection) =
-    let some = some_order selection.order (outputs_over w selection.columns selection.order (rows_of w db selection.plan)) in (
-      map (λ o. o.row) (limited selection.limit (skipped selection.offset some.ordered)),
-      record { ordered = some.ordered; same = some.same; ascends = some.ascends; shown = refl },
-    )
-some_answer w db (PlannedData.sorted_distinct selection) =
-    let some = some_order selection.order (plain_outputs (eval w) selection.order (firsts (result_rows w selection.columns (rows_of w db selection.plan)))) in (
-      map (λ o. o.row) (limited selection.limit (skipped selection.offset some.ordered)),
-      record { ordered = some.ordered; same = some.same; ascends = some.ascends; shown = refl },
-    )
-some_answer w db (PlannedData.compound joined) =
-    let some = some_order joined.order (plain_outputs (eval w) joined.order (rows_of_arms w db joined.arms)) in (
-      map (λ o. o.row) (limited joined.limit (skipped joined.offset some.ordered)),
-      record { ordered = some.ordered; same = some.same; ascends = some.ascends; shown = refl },
-    )
+some_answer w db (PlannedData.answer a) = some_shown w a.order a.limit a.offset (rows_of_arms w db a.arms)

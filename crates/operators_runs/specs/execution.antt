@@ -1,3 +1,2 @@
 pub mod Columns
-pub mod Gathered
 pub mod Given

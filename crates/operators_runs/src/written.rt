@@ -9,16 +9,18 @@ ghost use Rattle.operators_scan.specs.Coming.{IsRooted};
 ghost use Rattle.btree.specs.image.Pages.{WhereSteady};
 ghost use Rattle.operators_scan.specs.scan.Coming.{Asks};
 ghost use Rattle.operators_loops.specs.Basis.{AreStored, Basis};
-ghost use Rattle.logical_plan_queries.specs.Answers.{IsPlannedOver, PlannedData, planned_data, work_of};
+ghost use Rattle.logical_plan.specs.answers.Answers.{answer_data};
+ghost use Rattle.logical_plan.specs.answers.Arms.{ArePlannedOver, arms_data, work_of_arms};
+ghost use Rattle.logical_plan_queries.specs.Answers.{PlannedData};
 ghost use Rattle.explain.specs.Text.{row_text};
 ghost use Rattle.operators_runs.specs.Faults.{IsRunFault};
 ghost use Rattle.operators_runs.specs.Runs.{WritesAnswer, WritesBeginning};
-ghost use Rattle.operators_runs.specs.execution.Gathered.{IsGathered};
 ghost use Rattle.operators_runs.specs.execution.Given.{HasAhead, HasGiven, IsRunOver};
 
-use crate::execution::{Execution, gathered_rows, streamed};
+use crate::execution::{Execution, streamed};
 use explain::values_text;
-use logical_plan_queries::Planned;
+use logical_plan::Answer;
+use operators_results::gathered_rows;
 use operators_scan::Sources;
 use pager::{Pager, Source};
 use std::alloc::Global;
@@ -65,54 +67,53 @@ fn write_lines<W: Sink>(rows: Vec<Vec<Value>>, out: &mut W) -> Result<(), Fault>
     Ok(())
 }
 
-/// Writes the rows of a plan as lines, once all are computed, and counts them. Its faults are those of a run.
+/// Writes the rows of an answer as lines, once all are computed, and counts them. Its faults are those of a run.
 fn write_gathered<S: Source, W: Sink>(
     alloc: Global,
     pager: &mut Pager<S>,
     sources: &Sources<'_>,
-    planned: &Planned,
+    answer: &Answer,
     out: &mut W,
 ) -> Result<u64, Fault>
     requires roots { All (IsRooted pager.old.state.header) sources.now }
-    requires planned { IsPlannedOver sources.now (planned_data planned.now) }
-    requires gathered { IsGathered (planned_data planned.now) }
+    requires planned { ArePlannedOver sources.now (arms_data answer.now.arms) }
     ensures rows { WhereSteady pager.old.state (λ pages. MatchResult result
-        (WritesAnswer pages sources.now (planned_data planned.now) (W.facts out.old) (W.facts out.new))
-        (WritesBeginning pages sources.now (planned_data planned.now) (W.facts out.old) (W.facts out.new))) }
+        (WritesAnswer pages sources.now (PlannedData.answer (answer_data answer.now)) (W.facts out.old) (W.facts out.new))
+        (WritesBeginning pages sources.now (PlannedData.answer (answer_data answer.now)) (W.facts out.old) (W.facts out.new))) }
     ensures pages { WhereSteady pager.old.state (λ pages. (on : Basis) → AreStored pages sources.now on
-        → OnOk result (Asks on.local pager.old.state (work_of on.w on.db on.sizes (planned_data planned.now)) pager.new.state 0)) }
+        → OnOk result (Asks on.local pager.old.state (work_of_arms on.w on.db on.sizes (arms_data answer.now.arms)) pager.new.state 0)) }
     ensures only { IfErr result IsRunFault }
     ensures reads { ReadsPages result pager.old.state pager.new.state }
     ensures writes { Counts Fault.WriteFailed result (W.facts out.old).failures (W.facts out.new).failures }
 {
-    let rows = gathered_rows(alloc, pager, sources, planned)?;
+    let rows = gathered_rows(alloc, pager, sources, answer)?;
     let count = rows.len();
     write_lines(rows, out)?;
     Ok(count as u64)
 }
 
-/// Writes the rows that a plan gives as lines, as they are computed where they come one by one, and counts them. Its faults are those
-/// of a run.
-pub(crate) fn write_planned<S: Source, W: Sink>(
+/// Writes the rows of an answer as lines, as they are computed where they come one by one, and counts them. Its faults are those of a
+/// run.
+pub(crate) fn write_rows_of<S: Source, W: Sink>(
     alloc: Global,
     pager: &mut Pager<S>,
     sources: &Sources<'_>,
-    planned: &Planned,
+    answer: &Answer,
     out: &mut W,
 ) -> Result<u64, Fault>
     requires roots { All (IsRooted pager.old.state.header) sources.now }
-    requires planned { IsPlannedOver sources.now (planned_data planned.now) }
+    requires planned { ArePlannedOver sources.now (arms_data answer.now.arms) }
     ensures rows { WhereSteady pager.old.state (λ pages. MatchResult result
-        (WritesAnswer pages sources.now (planned_data planned.now) (W.facts out.old) (W.facts out.new))
-        (WritesBeginning pages sources.now (planned_data planned.now) (W.facts out.old) (W.facts out.new))) }
+        (WritesAnswer pages sources.now (PlannedData.answer (answer_data answer.now)) (W.facts out.old) (W.facts out.new))
+        (WritesBeginning pages sources.now (PlannedData.answer (answer_data answer.now)) (W.facts out.old) (W.facts out.new))) }
     ensures pages { WhereSteady pager.old.state (λ pages. (on : Basis) → AreStored pages sources.now on
-        → OnOk result (Asks on.local pager.old.state (work_of on.w on.db on.sizes (planned_data planned.now)) pager.new.state 0)) }
+        → OnOk result (Asks on.local pager.old.state (work_of_arms on.w on.db on.sizes (arms_data answer.now.arms)) pager.new.state 0)) }
     ensures only { IfErr result IsRunFault }
     ensures reads { ReadsPages result pager.old.state pager.new.state }
     ensures writes { Counts Fault.WriteFailed result (W.facts out.old).failures (W.facts out.new).failures }
 {
-    match streamed(alloc, planned)? {
+    match streamed(alloc, answer)? {
         Some(mut execution) => write_each(alloc, pager, sources, &mut execution, out),
-        None => write_gathered(alloc, pager, sources, planned, out),
+        None => write_gathered(alloc, pager, sources, answer, out),
     }
 }

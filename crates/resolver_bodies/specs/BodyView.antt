@@ -5,7 +5,7 @@ use Rattle.semantics.specs.Query as q
 use Rattle.semantics_names.specs.Sources.{kind_of}
 use Rattle.semantics_names.specs.Statement.{operator_of, with_answers}
 use Rattle.resolver_terms.specs.SelectView.{select_of}
-use Rattle.resolver_terms.specs.TermView.{term}
+use Rattle.expr.specs.View.{term}
 use Rattle.resolver_bodies.specs.declared.bodies.Body.{Body}
 use Rattle.resolver_bodies.specs.declared.bodies.Body.TheFolds as folds
 use Rattle.resolver_bodies.specs.declared.bodies.Body.TheOpen as f

@@ -1,6 +1,7 @@
 //! Queries, and the sources that they read.
 
-use resolver_terms::{Select, Term};
+use expr::Expr;
+use resolver_terms::Select;
 use sql_reader_syntax::{CompoundOperator, Join};
 
 /// A source of a FROM. (SELECT, "Determination of input data")
@@ -21,7 +22,7 @@ pub struct Joined {
     pub join: Join,
     pub source: Source,
     /// What stands behind ON, or what USING says, over the rows of the sources up to its own.
-    pub condition: Term,
+    pub condition: Expr,
 }
 
 /// A query inside an expression. (SQL Language Expressions, "The IN and NOT IN Operators", "The EXISTS Operator")

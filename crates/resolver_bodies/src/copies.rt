@@ -2,9 +2,9 @@
 ghost use Rattle.std.specs.Prelude.{◌≡◌, IfOk, map};
 ghost use Rattle.resolver_bodies.specs.BodyView.{body_of, inner_of, joined_of, single_of, source_of, tables_of};
 
-use crate::selects::copy_select;
 use crate::{Body, InnerQuery, Joined, Single, Source, Tables};
-use resolver_terms::copy_term;
+use expr::copy;
+use resolver_terms::copy_select;
 use std::alloc::{AllocError, Global};
 
 /// A copy of a source. (SELECT, "Determination of input data")
@@ -69,7 +69,7 @@ fn copy_joined(alloc: Global, joined: &Joined) -> Result<Joined, AllocError>
     Ok(Joined {
         join: joined.join,
         source: copy_source(alloc, &joined.source)?,
-        condition: copy_term(alloc, &joined.condition)?,
+        condition: copy(alloc, &joined.condition)?,
     })
 }
 

@@ -11,5 +11,5 @@
 mod materialized_bodies;
 mod schema_bodies;
 
-pub use materialized_bodies::{answer, filled_term, last_answers, materialized_body};
+pub use materialized_bodies::{answer, last_answers, materialized_body};
 pub use schema_bodies::settle_body;

@@ -5,4 +5,4 @@
 mod lookup;
 mod terms;
 
-pub use terms::{Key, KeyTerm, keys};
+pub use terms::keys;

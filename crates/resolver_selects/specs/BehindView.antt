@@ -5,9 +5,8 @@ use Rattle.semantics.specs.Query.{Grouping, WindowCall}
 use Rattle.semantics_names.specs.Expression.{Says}
 use Rattle.semantics_names.specs.Places.{Defined}
 use Rattle.semantics_names.specs.Statement.{CoreData, Input}
-use Rattle.resolver_exprs.specs.order_keys.KeyView.{key_of}
-use Rattle.resolver_terms.specs.SelectView.{call_of}
-use Rattle.resolver_terms.specs.TermView.{term}
+use Rattle.resolver_terms.specs.SelectView.{call_of, key_of}
+use Rattle.expr.specs.View.{term}
 use Rattle.resolver_selects.specs.result_columns.Inputs.{over_input}
 use Rattle.resolver_selects.specs.declared.behind.Behind.{Behind}
 use Rattle.resolver_selects.specs.declared.behind.Shown.{Shown}

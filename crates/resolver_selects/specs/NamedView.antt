@@ -1,8 +1,7 @@
 -- A SELECT with its names.
 use Rattle.std.specs.Prelude.{map, string_bytes}
 use Rattle.semantics_names.specs.Statement.{CoreData}
-use Rattle.resolver_exprs.specs.order_keys.KeyView.{key_of}
-use Rattle.resolver_terms.specs.SelectView.{select_of}
+use Rattle.resolver_terms.specs.SelectView.{key_of, select_of}
 use Rattle.resolver_selects.specs.declared.selects.NamedSelect.{NamedSelect}
 use Rattle.resolver_selects.specs.window_names.DefinedView.{defined_of}
 

@@ -7,7 +7,7 @@ ghost use Rattle.semantics_names.specs.Outcome.{followed};
 ghost use Rattle.semantics_names.specs.Statement as spec;
 ghost use Rattle.resolver_terms.specs.Outcome.{Gives};
 ghost use Rattle.resolver_terms.specs.SelectView.{aggregate_of, grouping_of};
-ghost use Rattle.resolver_terms.specs.TermView.{term};
+ghost use Rattle.expr.specs.View.{term};
 ghost use Rattle.resolver_selects.specs.BehindView.{core_behind};
 ghost use Rattle.resolver_selects.specs.Groups.{has_groups};
 ghost use Rattle.resolver_selects.specs.NamedView.{core_data};
@@ -16,10 +16,9 @@ ghost use Rattle.sql_reader_grammar.specs.statement_trees.TreeView as trees;
 use crate::behind::{Behind, Clauses, Input, behind_groups};
 use crate::select_clauses::{condition, keys};
 use crate::window_names::Defined;
-use resolver_exprs::{
-    Columns, Groups, InnerQueries, Key, Scope, first_aggregates, parts_behind_groups,
-};
-use resolver_terms::{Aggregate, Grouping, Select, Term};
+use expr::Expr;
+use resolver_exprs::{Columns, Groups, InnerQueries, Scope, first_aggregates, parts_behind_groups};
+use resolver_terms::{Aggregate, Grouping, Key, Select};
 use sql_reader_grammar as written;
 use sql_reader_grammar::SelectCore;
 use std::alloc::Global;
@@ -36,7 +35,7 @@ pub struct NamedSelect {
     pub defined: Vec<Defined>,
 }
 
-fn named(distinct: bool, condition: Term, grouping: Option<Grouping>, behind: Behind) -> NamedSelect
+fn named(distinct: bool, condition: Expr, grouping: Option<Grouping>, behind: Behind) -> NamedSelect
     ensures { core_data result ≡ core_behind distinct (term condition) (option_map grouping_of grouping) behind }
 {
     let shown = behind.shown;
@@ -55,7 +54,7 @@ fn named(distinct: bool, condition: Term, grouping: Option<Grouping>, behind: Be
 }
 
 // A SELECT with GROUP BY or an aggregate has groups.
-fn has_groups(by: &[Term], aggregates: &[Aggregate]) -> bool
+fn has_groups(by: &[Expr], aggregates: &[Aggregate]) -> bool
     ensures { result ≡ has_groups (map term by.now) (map aggregate_of aggregates.now) }
 {
     !by.is_empty() || !aggregates.is_empty()
@@ -67,8 +66,8 @@ fn grouped<I: InnerQueries>(
     inner: &I,
     clauses: &Clauses<'_>,
     scope: &Scope,
-    test: Term,
-    by: Vec<Term>,
+    test: Expr,
+    by: Vec<Expr>,
     aggregates: Vec<Aggregate>,
 ) -> Result<NamedSelect, Fault>
     ensures { let answers = I.answers inner.now in
@@ -106,7 +105,7 @@ fn ungrouped<I: InnerQueries>(
     inner: &I,
     clauses: &Clauses<'_>,
     scope: &Scope,
-    test: Term,
+    test: Expr,
 ) -> Result<NamedSelect, Fault>
     ensures { Gives core_data result
         (spec.behind_groups (I.answers inner.now) scope.now clauses.now.distinct (results_of (map trees.result_of clauses.now.columns.now))
@@ -128,8 +127,8 @@ fn behind_keys<I: InnerQueries>(
     inner: &I,
     clauses: &Clauses<'_>,
     scope: &Scope,
-    test: Term,
-    by: Vec<Term>,
+    test: Expr,
+    by: Vec<Expr>,
     aggregates: Vec<Aggregate>,
 ) -> Result<NamedSelect, Fault>
     ensures { let answers = I.answers inner.now in

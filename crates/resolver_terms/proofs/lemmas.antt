@@ -1,2 +1,1 @@
-pub mod term_copies
-pub mod same_terms
+pub mod copies

@@ -3,7 +3,7 @@ use Rattle.std.specs.Prelude.{map, option_map}
 use Rattle.semantics.specs.Query as q
 use Rattle.semantics_names.specs.Places.{exclusion_of, unit_of}
 use Rattle.sql_reader_syntax.specs.declared.query.Direction.{Direction}
-use Rattle.resolver_terms.specs.TermView.{term}
+use Rattle.expr.specs.View.{term}
 use Rattle.resolver_terms.specs.declared.selects.Aggregate.{Aggregate}
 use Rattle.resolver_terms.specs.declared.selects.AggregateFunction.{AggregateFunction}
 use Rattle.resolver_terms.specs.declared.selects.AggregateFunction.TheVariants as functions
@@ -11,6 +11,9 @@ use Rattle.resolver_terms.specs.declared.selects.Edge.{Edge}
 use Rattle.resolver_terms.specs.declared.selects.Edge.TheVariants as edges
 use Rattle.resolver_terms.specs.declared.selects.Frame.{Frame}
 use Rattle.resolver_terms.specs.declared.selects.Grouping.{Grouping}
+use Rattle.resolver_terms.specs.declared.selects.Key.{Key}
+use Rattle.resolver_terms.specs.declared.selects.KeyTerm.{KeyTerm}
+use Rattle.resolver_terms.specs.declared.selects.KeyTerm.TheVariants as k
 use Rattle.resolver_terms.specs.declared.selects.Select.{Select}
 use Rattle.resolver_terms.specs.declared.selects.SortTerm.{SortTerm}
 use Rattle.resolver_terms.specs.declared.selects.Window.{Window}
@@ -72,3 +75,10 @@ select_of s = record {
   columns = map term s.columns.items;
   distinct = s.distinct;
 }
+
+abbrev pub key_term_of : KeyTerm → q.KeyTerm
+key_term_of (k.Result at) = q.KeyTerm.result at
+key_term_of (k.Term t) = q.KeyTerm.term (term t)
+
+abbrev pub key_of : Key → q.Key
+key_of key = record { by = key_term_of key.by; direction = direction_of key.direction }

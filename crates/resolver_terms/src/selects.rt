@@ -1,12 +1,12 @@
 //! What a SELECT computes after its FROM.
 
-use crate::terms::Term;
+use expr::Expr;
 use sql_reader_syntax::{Direction, Exclusion, FrameUnit};
 
 /// A term of ORDER BY. (SELECT, "The ORDER BY clause")
 #[derive(Drop)]
 pub struct SortTerm {
-    pub term: Term,
+    pub term: Expr,
     pub direction: Direction,
 }
 
@@ -23,16 +23,16 @@ pub enum AggregateFunction {
 #[derive(Drop)]
 pub struct Aggregate {
     pub function: AggregateFunction,
-    pub argument: Term,
+    pub argument: Expr,
 }
 
 /// GROUP BY and HAVING. (SELECT, "Generation of the set of result rows")
 #[derive(Drop)]
 pub struct Grouping {
-    pub by: Vec<Term>,
+    pub by: Vec<Expr>,
     /// In the order of their first mention.
     pub aggregates: Vec<Aggregate>,
-    pub having: Term,
+    pub having: Expr,
 }
 
 /// Where a frame begins or ends. (Window Functions, "Frame Boundaries")
@@ -58,7 +58,7 @@ pub struct Frame {
 #[derive(Drop)]
 pub struct Window {
     /// What stands behind PARTITION BY.
-    pub partition: Vec<Term>,
+    pub partition: Vec<Expr>,
     /// What stands behind ORDER BY.
     pub order: Vec<SortTerm>,
     pub frame: Frame,
@@ -74,13 +74,13 @@ pub enum WindowFunction {
     /// The number of buckets.
     NTile(u64),
     /// The value, how many rows before, and what stands where there is no such row.
-    Lag(Term, u64, Term),
+    Lag(Expr, u64, Expr),
     /// The value, how many rows behind, and what stands where there is no such row.
-    Lead(Term, u64, Term),
-    FirstValue(Term),
-    LastValue(Term),
+    Lead(Expr, u64, Expr),
+    FirstValue(Expr),
+    LastValue(Expr),
     /// The value, and the row of the frame, from 1.
-    NthValue(Term, u64),
+    NthValue(Expr, u64),
 }
 
 /// A call with OVER. (Window Functions)
@@ -94,11 +94,27 @@ pub struct WindowCall {
 #[derive(Drop)]
 pub struct Select {
     /// WHERE, over the rows of FROM.
-    pub condition: Term,
+    pub condition: Expr,
     pub grouping: Option<Grouping>,
     /// In the order of their first mention, over the rows of FROM, or of groups where there are groups.
     pub windows: Vec<WindowCall>,
     /// Over the same rows, followed by the value of each window call.
-    pub columns: Vec<Term>,
+    pub columns: Vec<Expr>,
     pub distinct: bool,
+}
+
+/// What ORDER BY puts rows in order by. (SELECT, "The ORDER BY clause")
+#[derive(Drop)]
+pub enum KeyTerm {
+    /// A result column, by its place, from 0.
+    Result(usize),
+    /// An expression over the rows of the one SELECT.
+    Term(Expr),
+}
+
+/// A key of ORDER BY, and how it sorts. (SELECT, "The ORDER BY clause")
+#[derive(Drop)]
+pub struct Key {
+    pub by: KeyTerm,
+    pub direction: Direction,
 }

@@ -2,16 +2,13 @@
 //! inner queries of given types, and of conditions, aggregates and calls with OVER are exactly those of the
 //! definition of types, with its faults, unless memory runs out.
 //!
-//! Its modules, in order: `typing` (the type of a term), `terms` (terms that have to be of some type),
-//! `frames` (the frames that there can be), `functions` (aggregates, and functions over windows) and
-//! `windows` (calls with OVER).
+//! Its modules, in order: `terms` (terms that have to be of some type), `frames` (the frames that there can
+//! be), `functions` (aggregates, and functions over windows) and `windows` (calls with OVER).
 mod frames;
 mod functions;
 mod terms;
-mod typing;
 mod windows;
 
 pub use functions::aggregate_types;
 pub use terms::{condition_type, term_type, term_types, typed};
-pub use typing::{RowTypes, type_of};
 pub use windows::call_types;

@@ -15,3 +15,4 @@ pub mod TypedLemmas
 pub mod WidthLemmas
 pub mod OneTableLemmas
 pub mod RunLemmas
+pub mod ItselfLemmas

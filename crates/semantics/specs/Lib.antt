@@ -13,3 +13,4 @@ pub mod Hits
 pub mod HitLaws
 pub mod OneTable
 pub mod Runs
+pub mod Mapped

@@ -1,4 +1,3 @@
 pub mod Within
 pub mod Settled
-pub mod Mapped
 pub mod Examples

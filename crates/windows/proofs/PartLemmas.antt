@@ -6,35 +6,19 @@ use Rattle.std.proofs.lemmas.List.Sorted.{Contains-permutation, IsPermutation-ma
 use Rattle.values.specs.Datum.{Datum, datum_of}
 use Rattle.values.specs.Row.{Row}
 use Rattle.expr.specs.Meaning.{eval}
-use Rattle.expr.specs.Term.{Term}
 use Rattle.semantics.specs.Hits.{CallLeaves}
-use Rattle.semantics.specs.Query.{Direction, WindowCall}
-use Rattle.semantics.specs.Windows.{directions, numbered, places, sequence, window_result}
+use Rattle.semantics.specs.Query.{WindowCall}
+use Rattle.semantics.specs.Windows.{numbered, places, sequence, window_result}
 use Rattle.windows_order.specs.declared.window_order.sorting.Entry.{Entry}
 use Rattle.windows_order.specs.window_order.Entries.{rows_of}
 use Rattle.windows.specs.window_entries.Tags.{tags_of}
 use Rattle.windows.specs.window_partitions.Partition.{IsPartition}
-use Rattle.windows.specs.window_partitions.Tagged.{AreAlike, rows_of_tags, terms_of}
+use Rattle.windows.specs.window_partitions.Tagged.{AreAlike, rows_of_tags}
 use Rattle.windows.proofs.lemmas.window_partitions.AlikeLemmas.{rows-of_tags}
 use Rattle.windows.specs.window_results.Put.{AreWanted}
-use Rattle.windows_terms.specs.CallView.{sort_terms}
 use Rattle.windows.specs.Wanted.{wanted}
 use Rattle.windows.proofs.NumberedLemmas.{length-numbered_after, some_place}
 use Rattle.windows.proofs.WantedLemmas.{given_here, wanted_here}
-
--- ---- terms with their directions
-
-pub directions-sort_terms : (ts : List Term) (ds : List Direction) → length ts ≡ length ds → directions (sort_terms ts ds) ≡ ds
-directions-sort_terms [] [] is = refl
-directions-sort_terms [] (d ∷ ds) is = absurd (omega (arith, is))
-directions-sort_terms (t ∷ ts) [] is = absurd (omega (arith, is))
-directions-sort_terms (t ∷ ts) (d ∷ ds) is = ap (λ l. d ∷ l) (directions-sort_terms ts ds (omega (arith, is)))
-
-pub terms-sort_terms : (ts : List Term) (ds : List Direction) → length ts ≡ length ds → terms_of (sort_terms ts ds) ≡ ts
-terms-sort_terms [] [] is = refl
-terms-sort_terms [] (d ∷ ds) is = absurd (omega (arith, is))
-terms-sort_terms (t ∷ ts) [] is = absurd (omega (arith, is))
-terms-sort_terms (t ∷ ts) (d ∷ ds) is = ap (λ l. t ∷ l) (terms-sort_terms ts ds (omega (arith, is)))
 
 -- ---- one of a list
 

@@ -4,13 +4,13 @@ ghost use Rattle.values.specs.Datum.{Datum, datum_of};
 ghost use Rattle.expr.specs.Meaning.{eval};
 ghost use Rattle.semantics.specs.Sequence.{value_at};
 ghost use Rattle.semantics.specs.Windows.{windowed};
-ghost use Rattle.windows_terms.specs.CallView.{call_data};
 ghost use Rattle.windows.specs.Wanted.{IsReachedBy};
+ghost use Rattle.resolver_terms.specs.SelectView.{call_of};
 
 use crate::evaluated::evaluate_all;
+use resolver_terms::WindowCall;
 use std::alloc::{AllocError, Global};
 use values::{Fault, Value};
-use windows_terms::WindowCall;
 
 /// A copy of the value at a place of a column, and NULL past its end.
 fn value_at_place(alloc: Global, column: &[Value], at: usize) -> Result<Value, AllocError>
@@ -47,9 +47,9 @@ pub fn windowed_rows(
     rows: Vec<Vec<Value>>,
 ) -> Result<Vec<Vec<Value>>, Fault>
     ensures rows { IfOk result (λ whole. (w : Datum) → map (λ row. map datum_of row.items) whole.items
-        ≡ windowed (eval w) w (map call_data calls.now) (map (λ row. map datum_of row.items) rows.items)) }
+        ≡ windowed (eval w) w (map call_of calls.now) (map (λ row. map datum_of row.items) rows.items)) }
     ensures size { IfOk result (λ whole. length whole.items ≡ length rows.items) }
-    ensures overflow { result ≡ Err Fault.Overflow → Any (λ call. IsReachedBy call (map (λ row. map datum_of row.items) rows.items)) (map call_data calls.now) }
+    ensures overflow { result ≡ Err Fault.Overflow → Any (λ call. IsReachedBy call (map (λ row. map datum_of row.items) rows.items)) (map call_of calls.now) }
     ensures only { IfErr result (λ e. (e ≡ Fault.Overflow) ⊎ (e ≡ Fault.NoMemory)) }
 {
     let columns = evaluate_all(alloc, calls, rows.as_slice())?;

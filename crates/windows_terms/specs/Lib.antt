@@ -1,5 +1,3 @@
-pub mod FunctionView
-pub mod CallView
 pub mod Reached
 pub mod aggregates
 pub mod row_groups

@@ -1,2 +1,1 @@
-pub mod AggregateView
 pub mod State

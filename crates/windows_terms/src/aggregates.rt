@@ -2,12 +2,10 @@
 //! exactly the value of each aggregate over all of them, for any value substituted for an overflow;
 //! `Overflow` is returned only where the exact total or count leaves 64 bits, or an argument reaches one.
 //!
-//! Its modules, in order: `asked` (which aggregates are computed), `accumulator` (one aggregate of the values
-//! so far) and `members` (the aggregates of a group).
+//! Its modules, in order: `accumulator` (one aggregate of the values so far) and `members` (the aggregates of a
+//! group).
 mod accumulator;
-mod asked;
 mod members;
 
 pub use accumulator::Accumulator;
-pub use asked::{Aggregate, aggregate_copies};
 pub use members::{add_row, first_states, push_values};

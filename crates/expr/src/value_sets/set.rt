@@ -75,6 +75,13 @@ impl ValueSet {
         })
     }
 
+    /// The set of copies of these values.
+    pub fn of(alloc: Global, values: &[Value]) -> Result<ValueSet, AllocError>
+        ensures { IfOk result (λ set. set ≡ map datum_of values.now) }
+    {
+        ValueSet::new(alloc, copies(alloc, values)?)
+    }
+
     /// A copy of the set.
     pub fn copied(&self, alloc: Global) -> Result<ValueSet, AllocError>
         ensures { IfOk result (λ set. set ≡ self.now) }

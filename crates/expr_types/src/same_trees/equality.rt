@@ -1,5 +1,5 @@
 //! Whether two expressions are one tree.
-ghost use Rattle.std.specs.Prelude.{◌≡◌, ◌↔◌, IsTrue};
+ghost use Rattle.std.specs.Prelude.{◌≡◌, ◌↔◌, IsTrue, map};
 ghost use Rattle.expr.specs.Contract.{trees, arm_trees};
 ghost use Rattle.expr.specs.View.{term};
 
@@ -34,11 +34,20 @@ pub fn same_tree(a: &Expr, b: &Expr) -> bool
             Expr::In(y, others) => same_tree(x, y) && same_trees(items, others),
             // the values may stand in a set
             Expr::Member(y, set) => same_tree(x, y) && are_members(items, set),
+            // a list is no answer of a query
+            Expr::InAnswer(_, _) => false,
             _ => false,
         },
         Expr::Member(x, set) => match b {
             Expr::In(y, items) => same_tree(x, y) && are_members(items, set),
             Expr::Member(y, other) => same_tree(x, y) && same_members(set, other),
+            Expr::InAnswer(_, _) => false,
+            _ => false,
+        },
+        Expr::InAnswer(x, k) => match b {
+            Expr::InAnswer(y, j) => k == j && same_tree(x, y),
+            Expr::In(_, _) => false,
+            Expr::Member(_, _) => false,
             _ => false,
         },
         Expr::Coalesce(items) => matches!(b, Expr::Coalesce(others) if same_trees(items, others)),
@@ -78,4 +87,11 @@ fn same_arms(a: &[Arm], b: &[Arm]) -> bool
         }
     }
     rest.is_empty()
+}
+
+/// Whether two lists of expressions are the same.
+pub fn same_tree_lists(a: &[Expr], b: &[Expr]) -> bool
+    ensures { IsTrue result ↔ map term a.now ≡ map term b.now }
+{
+    same_trees(a, b)
 }

@@ -1,5 +1,5 @@
-pub mod PlainLemmas
-pub mod SortedLemmas
-pub mod DistinctLemmas
-pub mod CompoundLemmas
 pub mod JoinedLemmas
+pub mod ResultLemmas
+pub mod ArmLemmas
+pub mod OrderLemmas
+pub mod PermittedLemmas

@@ -4,18 +4,19 @@ use Rattle.values.specs.Database.{Database}
 use Rattle.values.specs.Datum.{Datum}
 use Rattle.values.specs.Row.{Row}
 use Rattle.logical_plan.specs.answers.Sources.{IsPlanOf, SourceData}
+use Rattle.expr.specs.Meaning.{eval}
 use Rattle.expr.specs.Term.{Term}
 use Rattle.expr.specs.View.{term}
 use Rattle.semantics.specs.Query.{Operator}
+use Rattle.semantics.specs.Valuation.{term_values}
 use Rattle.semantics_names.specs.Statement.{operator_of}
 use Rattle.logical_plan.specs.Plan.{Hits, PlanData, ReachesOverflow, rows_of, work}
 use Rattle.logical_plan.specs.PlanView.{plan_data}
-use Rattle.logical_plan.specs.answers.Selection.{result_rows}
 use Rattle.windows_order.specs.distinct_rows.Firsts.{firsts}
 use Rattle.logical_plan.specs.answers.Joined.{joined_rows}
-use Rattle.logical_plan.specs.declared.answers.compounds.Arm.{Arm}
-use Rattle.logical_plan.specs.declared.answers.compounds.Arms.{Arms}
-use Rattle.logical_plan.specs.declared.answers.compounds.Arms.TheVariants.{One, Joined'}
+use Rattle.logical_plan.specs.declared.answers.Arm.{Arm}
+use Rattle.logical_plan.specs.declared.answers.Arms.{Arms}
+use Rattle.logical_plan.specs.declared.answers.Arms.TheVariants.{One, Joined'}
 
 -- a plan, the result columns over its rows, and whether each result row stands once
 pub record ArmData : Type 0 where
@@ -34,6 +35,10 @@ arm_data arm = record { plan = plan_data arm.plan; columns = map term arm.column
 abbrev pub arms_data : Arms → ArmsData
 arms_data (One arm) = one (arm_data arm)
 arms_data (Joined' p left operator arm) = joined (arms_data left) (operator_of operator) (arm_data arm)
+
+-- the values of result columns on each row
+abbrev pub result_rows : Datum → List Term → List Row → List Row
+result_rows w columns rows = map (term_values (eval w) columns) rows
 
 abbrev pub each_once_if : Bool → List Row → List Row
 each_once_if distinct rows = if distinct then firsts rows else rows

@@ -9,7 +9,7 @@ use Rattle.semantics.specs.Typed.{BodyHasTypes}
 use Rattle.logical_plan.specs.answers.Sources.{IsPlanOf, SourceData}
 use Rattle.logical_plan.specs.Plan.{work}
 use Rattle.logical_plan.specs.answers.Arms.{ArmData}
-use Rattle.logical_plan.specs.answers.PermittedCompound.{HitsWithin, IsArmOf}
+use Rattle.logical_plan.specs.answers.Permitted.{HitsWithin, IsArmOf}
 use Rattle.logical_plan_queries.specs.select_plans.Columns.{HaveColumns}
 use Rattle.logical_plan_queries.specs.select_plans.Read.{IsWideOf}
 use Rattle.logical_plan_queries.specs.select_plans.Served.{IsServedSelect}

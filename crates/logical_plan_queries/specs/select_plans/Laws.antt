@@ -12,7 +12,7 @@ use Rattle.semantics.specs.Typed.{HasTypes, IsTyped}
 use Rattle.logical_plan.specs.answers.Sources.{IsPlanOf, SourceData}
 use Rattle.logical_plan_terms.specs.Over.{StandsOver}
 use Rattle.logical_plan.specs.Plan.{Hits, PlanData, ReachesOverflow, rows_of}
-use Rattle.logical_plan.specs.answers.PermittedPlain.{SeesRows}
+use Rattle.logical_plan.specs.answers.Permitted.{SeesRows}
 use Rattle.logical_plan_queries.specs.select_plans.Columns.{HaveColumns}
 use Rattle.logical_plan_queries.specs.select_plans.Made.{IsMadeOver}
 use Rattle.logical_plan_queries.specs.select_plans.Read.{IsWideOf}

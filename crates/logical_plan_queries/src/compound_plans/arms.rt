@@ -3,7 +3,7 @@ ghost use Rattle.std.specs.Prelude.{IfOk, MatchOption};
 ghost use Rattle.resolver_bodies.specs.BodyView.{body_of, tables_of};
 ghost use Rattle.logical_plan_queries.specs.compound_plans.Arms.{AreServed, IsArmFor, IsServedArm};
 ghost use Rattle.logical_plan.specs.answers.Arms.{arm_data, arms_data};
-ghost use Rattle.logical_plan.specs.answers.PermittedCompound.{AreArmsOf};
+ghost use Rattle.logical_plan.specs.answers.Permitted.{AreArmsOf};
 ghost use Rattle.resolver_terms.specs.SelectView.{select_of};
 
 use crate::select_plans::base_of;

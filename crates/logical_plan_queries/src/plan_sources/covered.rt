@@ -52,10 +52,6 @@ pub fn is_over(tables: &[Table], kept: &[Vec<Vec<Value>>], planned: &Planned) ->
 {
     match planned {
         Planned::Columns(place, columns) => has_place(tables, kept, *place, columns.as_slice()),
-        Planned::Rows(selection) => is_plan_over(tables, kept, &selection.plan),
-        Planned::Sorted(selection) => is_plan_over(tables, kept, &selection.plan),
-        Planned::Distinct(selection) => is_plan_over(tables, kept, &selection.plan),
-        Planned::SortedDistinct(selection) => is_plan_over(tables, kept, &selection.plan),
-        Planned::Compound(compound) => are_arms_over(tables, kept, &compound.arms),
+        Planned::Answer(answer) => are_arms_over(tables, kept, &answer.arms),
     }
 }

@@ -1,14 +1,13 @@
 //! What a SELECT computes on the rows of FROM, on those of groups, or on either with the values of windows,
 //! whatever becomes of its result rows.
 ghost use Rattle.std.specs.Prelude.{◌≡◌, ◌≢◌, [], All, IfOk, MatchOption, map, option_map, ⊤};
-ghost use Rattle.expr.specs.View as expressions;
+ghost use Rattle.expr.specs.View.{term};
 ghost use Rattle.semantics.specs.Hits.{order_terms};
-ghost use Rattle.resolver_exprs.specs.order_keys.KeyView.{key_of};
 ghost use Rattle.logical_plan_terms.specs.Over.{AreWhole};
 ghost use Rattle.logical_plan.specs.PlanView.{plan_data};
 ghost use Rattle.logical_plan_queries.specs.select_plans.Made.{IsMadeOver, IsOverRows, IsOverWindows, StandsOverRows};
 ghost use Rattle.logical_plan_queries.specs.select_plans.Served.{AreOfRows};
-ghost use Rattle.resolver_terms.specs.SelectView.{call_of, grouping_of, select_of};
+ghost use Rattle.resolver_terms.specs.SelectView.{call_of, grouping_of, key_of, select_of};
 ghost use Rattle.logical_plan_terms.specs.table_plans.TableJoins.{AreTableJoins};
 ghost use Rattle.logical_plan_terms.specs.table_plans.Input.{input_from};
 ghost use Rattle.logical_plan_terms.specs.window_plans.Windowed.{IsOverCall};
@@ -19,8 +18,7 @@ use logical_plan::Plan;
 use logical_plan_terms::{
     Input, columns_of_groups, exprs_over, grouped_over, plan_of, windowed_over,
 };
-use resolver_exprs::Key;
-use resolver_terms::{Grouping, Select, WindowCall};
+use resolver_terms::{Grouping, Key, Select, WindowCall};
 use std::alloc::{AllocError, Global};
 
 /// Rows on the way to the result columns: which columns are known of them, and their plan.
@@ -103,7 +101,7 @@ pub fn base_of(
     requires { AreTableJoins (input_from input.now) }
     ensures { IfOk result (λ base. MatchOption base
         (¬ AreOfRows (input_from input.now) (select_of select.now) (order_terms (map key_of order.now)))
-        (λ base. (made : IsMadeOver input.now (select_of select.now) (map key_of order.now) (plan_data base.plan) (map expressions.term base.columns.items))
+        (λ base. (made : IsMadeOver input.now (select_of select.now) (map key_of order.now) (plan_data base.plan) (map term base.columns.items))
         × (made.columns ≡ base.read.items))) }
 {
     let read = columns_read(alloc, input, select, order)?;

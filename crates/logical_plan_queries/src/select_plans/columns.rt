@@ -3,20 +3,19 @@ ghost use Rattle.std.specs.Prelude.{◌≡◌, ◌++◌, ◌+◌, IfOk, OnOk, fl
 ghost use Rattle.expr.specs.Columns.{columns_of};
 ghost use Rattle.semantics.specs.Hits.{key_terms, order_terms};
 ghost use Rattle.semantics.specs.Query.{from_width};
-ghost use Rattle.resolver_exprs.specs.order_keys.KeyView.{key_of, key_term_of};
 ghost use Rattle.logical_plan_terms.specs.Over.{AreWhole};
 ghost use Rattle.logical_plan_queries.specs.select_plans.Read.{AreRead, IsReadOf, reads_all, row_terms, terms_in};
-ghost use Rattle.resolver_terms.specs.SelectView.{select_of};
+ghost use Rattle.resolver_terms.specs.SelectView.{key_of, key_term_of, select_of};
 ghost use Rattle.std.specs.List.{range_with_len};
 ghost use Rattle.std.specs.List.Sorted.{IsStrictlyIncreasing};
 ghost use Rattle.logical_plan_terms.specs.table_plans.Input.{from_of, input_from};
 ghost use Rattle.logical_plan_terms.specs.table_plans.Planned.{on_terms};
 
+use expr::columns;
 use logical_plan_terms::{
-    Input, JoinedTable, push_columns, push_columns_of_all, push_group_columns, read_columns,
+    Input, JoinedTable, push_columns_of_all, push_group_columns, read_columns,
 };
-use resolver_exprs::{Key, KeyTerm};
-use resolver_terms::Select;
+use resolver_terms::{Key, KeyTerm, Select};
 use std::alloc::{AllocError, Global};
 
 /// Puts the columns that a term of ORDER BY names at the end of a list.
@@ -25,7 +24,7 @@ fn push_key(key: &KeyTerm, out: &mut Vec<usize>) -> Result<(), AllocError>
 {
     match key {
         KeyTerm::Result(_) => Ok(()),
-        KeyTerm::Term(t) => push_columns(t, out),
+        KeyTerm::Term(t) => columns(t, out),
     }
 }
 
@@ -59,7 +58,7 @@ fn push_on(tables: &[JoinedTable], out: &mut Vec<usize>) -> Result<(), AllocErro
     ensures { OnOk result (out.new.items ≡ out.old.items ++ flat_map columns_of (on_terms (from_of tables.now))) }
 {
     for table in tables {
-        push_columns(&table.condition, out)?;
+        columns(table.condition, out)?;
     }
     Ok(())
 }
@@ -75,7 +74,7 @@ fn columns_named(
     ensures once { IfOk result (λ read. IsStrictlyIncreasing read.items) }
 {
     let mut named = Vec::new(alloc);
-    push_columns(&select.condition, &mut named)?;
+    columns(&select.condition, &mut named)?;
     push_row_columns(select, order, &mut named)?;
     push_on(input.tables.as_slice(), &mut named)?;
     Ok(read_columns(named))

@@ -5,12 +5,12 @@ use Rattle.resolver_bodies.specs.BodyView.{JoinedData, joined_all}
 use Rattle.semantics.specs.Query.{From, nothing, table}
 use Rattle.semantics_names.specs.Sources.{kind_of}
 use Rattle.logical_plan.specs.JoinPlan as plan
-use Rattle.resolver_terms.specs.TermView.{term}
+use Rattle.expr.specs.View.{term}
 use Rattle.logical_plan_terms.specs.declared.table_plans.inputs.Input.{Input}
 use Rattle.logical_plan_terms.specs.declared.table_plans.inputs.JoinedTable.{JoinedTable}
 
 abbrev pub joined_table : JoinedTable → JoinedData
-joined_table t = record { kind = kind_of t.join; source = table t.table t.width; condition = term t.condition }
+joined_table t = record { kind = kind_of t.join; source = table t.table t.width; condition = term t.condition.now }
 
 -- these tables, joined from the left
 abbrev pub from_of : List JoinedTable → From

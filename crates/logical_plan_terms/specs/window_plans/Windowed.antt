@@ -7,7 +7,7 @@ use Rattle.semantics.specs.Hits.{function_terms}
 use Rattle.semantics.specs.Query.{Aggregate, SortTerm, Window, WindowCall, WindowFunction}
 use Rattle.logical_plan_terms.specs.Over.{IsOver}
 use Rattle.logical_plan.specs.Plan.{PlanData, windowed}
-use Rattle.semantics_rewrites.specs.schema_sources.Mapped.{mapped_aggregate, mapped_call, mapped_function, mapped_window}
+use Rattle.semantics.specs.Mapped.{mapped_aggregate, mapped_call, mapped_function, mapped_sort, mapped_window}
 
 -- the places of the values of a row of so many values, and of those of calls behind them
 abbrev pub windowed_columns : ℕ → List WindowCall → List ℕ
@@ -29,6 +29,9 @@ AggregateIsItself inner aggregate whole = (answers : List (List Datum)) → leng
 
 abbrev pub FunctionIsItself : ℕ → WindowFunction → WindowFunction → Type 0
 FunctionIsItself inner function whole = (answers : List (List Datum)) → length answers ≤ inner → function ≡ mapped_function (filled answers) whole
+
+abbrev pub SortsAreThemselves : ℕ → List SortTerm → List SortTerm → Type 0
+SortsAreThemselves inner sorts wholes = (answers : List (List Datum)) → length answers ≤ inner → sorts ≡ map (mapped_sort (filled answers)) wholes
 
 abbrev pub WindowIsItself : ℕ → Window → Window → Type 0
 WindowIsItself inner window whole = (answers : List (List Datum)) → length answers ≤ inner → window ≡ mapped_window (filled answers) whole

@@ -5,7 +5,8 @@ ghost use Rattle.semantics.specs.Hits.{grouping_terms};
 ghost use Rattle.semantics.specs.Query as query;
 ghost use Rattle.resolver_terms.specs.SelectView.{aggregate_of, grouping_of};
 
-use crate::{push_columns, push_columns_of_all};
+use crate::push_columns_of_all;
+use expr::columns;
 use resolver_terms::{Aggregate, Grouping};
 use std::alloc::AllocError;
 
@@ -14,7 +15,7 @@ fn push_arguments(aggregates: &[Aggregate], out: &mut Vec<usize>) -> Result<(), 
     ensures { OnOk result (out.new.items ≡ out.old.items ++ flat_map columns_of (map (λ (a : query.Aggregate). a.argument) (map aggregate_of aggregates.now))) }
 {
     for aggregate in aggregates {
-        push_columns(&aggregate.argument, out)?;
+        columns(&aggregate.argument, out)?;
     }
     Ok(())
 }

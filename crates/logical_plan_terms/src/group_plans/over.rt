@@ -1,7 +1,6 @@
 //! The plan of a SELECT's groups.
 ghost use Rattle.std.specs.Prelude.{◌≡◌, All, IfOk, MatchOption, map, ⊤};
 ghost use Rattle.std.specs.List.{AllZip, range_with_len};
-ghost use Rattle.windows_terms.specs.aggregates.AggregateView.{aggregate_data};
 ghost use Rattle.logical_plan_terms.specs.group_plans.Grouped.{AggregateStandsOver, IsGroupedOver, IsOverGroups};
 ghost use Rattle.semantics.specs.Query as query;
 ghost use Rattle.logical_plan_terms.specs.Over.{IsOver};
@@ -10,10 +9,9 @@ ghost use Rattle.resolver_terms.specs.SelectView.{aggregate_of, grouping_of};
 
 use crate::{expr_over, exprs_over};
 use logical_plan::Plan;
-use resolver_terms as written;
-use resolver_terms::Grouping;
+use resolver_terms::{Aggregate, Grouping};
 use std::alloc::{AllocError, Global};
-use windows_terms::{Aggregate, GroupTerms};
+use windows_terms::GroupTerms;
 
 /// The places of the values of a group's row, of which there are so many.
 pub fn columns_of_groups(alloc: Global, width: usize) -> Result<Vec<usize>, AllocError>
@@ -32,11 +30,11 @@ fn aggregates_over(
     alloc: Global,
     read: &[usize],
     inner: usize,
-    aggregates: &[written::Aggregate],
+    aggregates: &[Aggregate],
 ) -> Result<Option<Vec<Aggregate>>, AllocError>
     ensures over { IfOk result (λ over. MatchOption over (¬ All (λ (a : query.Aggregate). IsOver read.now inner a.argument) (map aggregate_of aggregates.now)) (λ _. ⊤)) }
     ensures stand { IfOk result (λ over. MatchOption over ⊤
-        (λ over. AllZip (AggregateStandsOver read.now inner) (map aggregate_data over.items) (map aggregate_of aggregates.now))) }
+        (λ over. AllZip (AggregateStandsOver read.now inner) (map aggregate_of over.items) (map aggregate_of aggregates.now))) }
 {
     let mut over = Vec::with_capacity(alloc, aggregates.len())?;
     for aggregate in aggregates {

@@ -6,32 +6,31 @@ ghost use Rattle.semantics.specs.Joins.{pads_left, pads_right};
 ghost use Rattle.semantics.specs.Query.{always, from_width, nothing, table};
 ghost use Rattle.semantics_names.specs.Sources.{kind_of};
 ghost use Rattle.semantics_names.specs.Statement.{with_answers};
-ghost use Rattle.resolver_terms.specs.TermView.{term};
+ghost use Rattle.expr.specs.View.{term};
 ghost use Rattle.logical_plan_terms.specs.table_plans.TableJoins.{AreTableJoins, IsTableSource};
 ghost use Rattle.logical_plan_terms.specs.table_plans.Input.{from_of, input_from, joined_table};
 
-use crate::push_columns;
 use crate::table_plans::columns::place_behind;
+use expr::{Expr, columns};
 use resolver_bodies::{InnerQuery, Joined, Source, Tables};
-use resolver_terms::{Term, copy_term};
 use sql_reader_syntax::Join;
 use std::alloc::{AllocError, Global};
 use values::Value;
 
 /// A table that is joined to those before it. (SELECT, "Determination of input data")
 #[derive(Drop)]
-pub struct JoinedTable {
+pub struct JoinedTable<'a> {
     /// Its place in the catalog.
     pub table: usize,
     /// The number of its columns.
     pub width: usize,
     /// What stands behind ON, or what USING says, over the rows of the tables up to its own.
-    pub condition: Term,
+    pub condition: &'a Expr,
     /// How it is joined.
     pub join: Join,
 }
 
-impl JoinedTable {
+impl JoinedTable<'_> {
     /// Whether a row before the table that meets none of its rows stands beside NULLs: so it is where a LEFT or FULL JOIN joins it.
     pub(crate) fn is_padded(&self) -> bool
         ensures { result ≡ pads_right (kind_of self.now.join) }
@@ -49,15 +48,15 @@ impl JoinedTable {
 
 /// The tables of a FROM, joined from the left; none without FROM. (SELECT, "Determination of input data")
 #[derive(Drop)]
-pub struct Input {
-    pub tables: Vec<JoinedTable>,
+pub struct Input<'a> {
+    pub tables: Vec<JoinedTable<'a>>,
 }
 
 /// Whether a condition is that which every row keeps, as it stands where none is written.
-pub fn is_always(t: &Term) -> bool
+pub fn is_always(t: &Expr) -> bool
     ensures { MatchBool result (term t.now ≡ always) (term t.now ≢ always) }
 {
-    matches!(t, Term::Literal(Value::Int(1)))
+    matches!(t, Expr::Literal(Value::Int(1)))
 }
 
 /// The table that a source is, by its place and the number of its columns.
@@ -71,19 +70,18 @@ fn table_of(source: &Source) -> Option<(usize, usize)>
 }
 
 /// The table that a source is, as it is joined.
-fn table_joined(alloc: Global, joined: &Joined) -> Result<Option<JoinedTable>, AllocError>
-    ensures { IfOk result (λ t. MatchOption t (¬ IsTableSource (joined_of joined.now).source) (λ t. joined_of joined.now ≡ joined_table t)) }
+fn table_joined<'a>(joined: &'a Joined) -> Option<JoinedTable<'a>>
+    ensures { MatchOption result (¬ IsTableSource (joined_of joined.now).source) (λ t. joined_of joined.now ≡ joined_table t) }
 {
-    let Some((table, width)) = table_of(&joined.source) else {
-        return Ok(None);
-    };
-    let condition = copy_term(alloc, &joined.condition)?;
-    Ok(Some(JoinedTable {
-        table,
-        width,
-        condition,
-        join: joined.join,
-    }))
+    match table_of(&joined.source) {
+        Some((table, width)) => Some(JoinedTable {
+            table,
+            width,
+            condition: &joined.condition,
+            join: joined.join,
+        }),
+        None => None,
+    }
 }
 
 /// Whether each of these columns is one of these tables.
@@ -100,23 +98,26 @@ fn are_within(tables: &[JoinedTable], columns: &[usize]) -> bool
 }
 
 /// Whether each column that a term names is one of these tables.
-fn is_within(alloc: Global, tables: &[JoinedTable], t: &Term) -> Result<bool, AllocError>
+fn is_within(alloc: Global, tables: &[JoinedTable], t: &Expr) -> Result<bool, AllocError>
     ensures { IfOk result (λ b. MatchBool b (All (λ c. c < from_width (from_of tables.now)) (columns_of (term t.now)))
         (¬ All (λ c. c < from_width (from_of tables.now)) (columns_of (term t.now)))) }
 {
     let mut named = Vec::new(alloc);
-    push_columns(t, &mut named)?;
+    columns(t, &mut named)?;
     Ok(are_within(tables, named.as_slice()))
 }
 
 /// The tables that these sources are.
-fn tables_among(alloc: Global, sources: &[Joined]) -> Result<Option<Vec<JoinedTable>>, AllocError>
+fn tables_among<'a>(
+    alloc: Global,
+    sources: &'a [Joined],
+) -> Result<Option<Vec<JoinedTable<'a>>>, AllocError>
     ensures { IfOk result (λ tables. MatchOption tables (¬ AreTableJoins (joined_all nothing (map joined_of sources.now)))
         (λ tables. (joined_all nothing (map joined_of sources.now) ≡ from_of tables.items) × AreTableJoins (from_of tables.items))) }
 {
     let mut tables = Vec::new(alloc);
     for joined in sources {
-        let table = match table_joined(alloc, joined)? {
+        let table = match table_joined(joined) {
             None => return Ok(None),
             Some(table) => table,
         };
@@ -129,11 +130,11 @@ fn tables_among(alloc: Global, sources: &[Joined]) -> Result<Option<Vec<JoinedTa
 }
 
 /// What these sources are, beside these inner queries.
-fn input_among(
+fn input_among<'a>(
     alloc: Global,
-    sources: &[Joined],
+    sources: &'a [Joined],
     inner: &[InnerQuery],
-) -> Result<Option<Input>, AllocError>
+) -> Result<Option<Input<'a>>, AllocError>
     ensures { IfOk result (λ input. MatchOption input
         (¬ AreTableJoins (with_answers (joined_all nothing (map joined_of sources.now)) (map inner_of inner.now)))
         (λ input. (with_answers (joined_all nothing (map joined_of sources.now)) (map inner_of inner.now) ≡ input_from input)
@@ -150,7 +151,7 @@ fn input_among(
 
 /// What a SELECT stands on, where that is tables that are joined, or nothing, and no inner query stands beside them. (SELECT,
 /// "Determination of input data")
-pub fn input_of(alloc: Global, tables: &Tables) -> Result<Option<Input>, AllocError>
+pub fn input_of<'a>(alloc: Global, tables: &'a Tables) -> Result<Option<Input<'a>>, AllocError>
     ensures { IfOk result (λ input. MatchOption input (¬ AreTableJoins (tables_of tables.now))
         (λ input. (tables_of tables.now ≡ input_from input) × AreTableJoins (input_from input))) }
 {

@@ -1,12 +1,11 @@
 //! The plan of FROM and WHERE.
 ghost use Rattle.std.specs.Prelude.{◌≡◌, false, IfOk, List, MatchOption, map, ⊤};
 ghost use Rattle.expr.specs.Term as expr_term;
-ghost use Rattle.expr.specs.View as expressions;
 ghost use Rattle.logical_plan_terms.specs.Over.{IsOver};
 ghost use Rattle.logical_plan.specs.JoinPlan.{IsEarlyPlan, IsWrittenPlan, has_right};
 ghost use Rattle.logical_plan.specs.PlanView.{plan_data};
 ghost use Rattle.logical_plan.specs.Stands.{AreTestsOf, tested};
-ghost use Rattle.resolver_terms.specs.TermView.{term};
+ghost use Rattle.expr.specs.View.{term};
 ghost use Rattle.logical_plan_terms.specs.table_plans.Input.{from_of, input_from};
 ghost use Rattle.logical_plan_terms.specs.table_plans.Parted.{AreParted};
 ghost use Rattle.logical_plan_terms.specs.table_plans.Planned.{AreOnOver, IsPlanOver};
@@ -18,12 +17,11 @@ use crate::table_plans::inputs::{Input, JoinedTable};
 use crate::table_plans::written::{some_flagged, written_behind};
 use expr::Expr;
 use logical_plan::{Nested, Plan};
-use resolver_terms::Term;
 use std::alloc::{AllocError, Global};
 
 /// The rows of a plan on which these conditions are true.
 fn kept(alloc: Global, plan: Plan, tests: Vec<Expr>) -> Result<Plan, AllocError>
-    ensures { IfOk result (λ kept. plan_data kept ≡ tested (map expressions.term tests.items) (plan_data plan)) }
+    ensures { IfOk result (λ kept. plan_data kept ≡ tested (map term tests.items) (plan_data plan)) }
 {
     if tests.is_empty() {
         return Ok(plan);
@@ -44,7 +42,7 @@ fn plan_behind(
     requires early { has_right (from_of tables.now) ≡ false }
     ensures over { IfOk result (λ plan. MatchOption plan (¬ AreOnOver read.now (from_of tables.now)) (λ _. AreOnOver read.now (from_of tables.now))) }
     ensures plan { IfOk result (λ plan. MatchOption plan ⊤ (λ plan. (conditions : List expr_term.Term)
-        → AreTestsOf read.now (map expressions.term tests.items) conditions → IsEarlyPlan read.now (from_of tables.now) conditions (plan_data plan))) }
+        → AreTestsOf read.now (map term tests.items) conditions → IsEarlyPlan read.now (from_of tables.now) conditions (plan_data plan))) }
 {
     let [before @ .., last] = tables else {
         let plan = kept(alloc, Plan::SingleRow, tests)?;
@@ -52,7 +50,7 @@ fn plan_behind(
     };
     let columns = columns_behind(alloc, before, read)?;
     let first = columns_left(read, columns.len());
-    let on = match conjuncts_over(alloc, read, 0, &last.condition)? {
+    let on = match conjuncts_over(alloc, read, 0, last.condition)? {
         None => return Ok(None),
         Some(on) => on,
     };
@@ -84,7 +82,7 @@ fn plan_as_written(
     requires { AreParted (from_of tables.now) read.now }
     ensures over { IfOk result (λ plan. MatchOption plan (¬ AreOnOver read.now (from_of tables.now)) (λ _. AreOnOver read.now (from_of tables.now))) }
     ensures plan { IfOk result (λ plan. MatchOption plan ⊤ (λ plan. (conditions : List expr_term.Term)
-        → AreTestsOf read.now (map expressions.term tests.items) conditions → IsWrittenPlan read.now (from_of tables.now) conditions (plan_data plan))) }
+        → AreTestsOf read.now (map term tests.items) conditions → IsWrittenPlan read.now (from_of tables.now) conditions (plan_data plan))) }
 {
     let below = match written_behind(alloc, tables, read)? {
         None => return Ok(None),
@@ -100,7 +98,7 @@ pub fn plan_of(
     alloc: Global,
     input: &Input,
     read: &[usize],
-    condition: &Term,
+    condition: &Expr,
 ) -> Result<Option<Plan>, AllocError>
     requires parted { AreParted (input_from input.now) read.now }
     ensures over { IfOk result (λ plan. MatchOption plan (¬ (IsOver read.now 0 (term condition.now) × AreOnOver read.now (input_from input.now)))

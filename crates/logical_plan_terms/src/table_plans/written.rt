@@ -1,7 +1,7 @@
 //! The plan of tables that are joined as they are written.
 ghost use Rattle.std.specs.Prelude.{◌≡◌, IfOk, MatchOption, map, ⊤};
 ghost use Rattle.std.specs.List.{list_any};
-ghost use Rattle.expr.specs.View as expressions;
+ghost use Rattle.expr.specs.View.{term};
 ghost use Rattle.semantics.specs.Joins.{pads_left, pads_right};
 ghost use Rattle.semantics_names.specs.Sources.{kind_of};
 ghost use Rattle.logical_plan.specs.JoinPlan.{IsWritten, joined_by};
@@ -33,7 +33,7 @@ fn joined(
 ) -> Result<Plan, AllocError>
     requires { nested.padded ≡ pads_right (kind_of last.now.join) }
     ensures { IfOk result (λ plan. plan_data plan
-        ≡ joined_by (kind_of last.now.join) (plan_data left) before nested.table nested.columns.items (map expressions.term nested.tests.items)) }
+        ≡ joined_by (kind_of last.now.join) (plan_data left) before nested.table nested.columns.items (map term nested.tests.items)) }
 {
     let left = Box::new(alloc, left)?;
     if last.is_flagged() {
@@ -59,7 +59,7 @@ pub(crate) fn written_behind(
     };
     let columns = columns_behind(alloc, before, read)?;
     let first = columns_left(read, columns.len());
-    let on = match conjuncts_over(alloc, read, 0, &last.condition)? {
+    let on = match conjuncts_over(alloc, read, 0, last.condition)? {
         None => return Ok(None),
         Some(on) => on,
     };

@@ -4,13 +4,11 @@ ghost use Rattle.logical_plan_terms.specs.Over.{AreWhole};
 ghost use Rattle.logical_plan.specs.PlanView.{plan_data};
 ghost use Rattle.resolver_terms.specs.SelectView.{call_of};
 ghost use Rattle.logical_plan_terms.specs.window_plans.Windowed.{CallsAreThemselves, IsOverCall, IsWindowedOver};
-ghost use Rattle.windows_terms.specs.CallView.{call_data};
 
 use crate::window_plans::calls::call_over;
 use logical_plan::Plan;
-use resolver_terms as written;
+use resolver_terms::WindowCall;
 use std::alloc::{AllocError, Global};
-use windows_terms::WindowCall;
 
 /// Calls over windows, over these columns, beside so many inner queries. There are none exactly where one of their expressions names
 /// another column, or the answer of one of these queries.
@@ -18,11 +16,11 @@ fn calls_over(
     alloc: Global,
     columns: &[usize],
     inner: usize,
-    calls: &[written::WindowCall],
+    calls: &[WindowCall],
 ) -> Result<Option<Vec<WindowCall>>, AllocError>
     requires { AreWhole columns.now }
     ensures over { IfOk result (λ over. MatchOption over (¬ All (IsOverCall columns.now inner) (map call_of calls.now)) (λ _. ⊤)) }
-    ensures themselves { IfOk result (λ over. MatchOption over ⊤ (λ over. CallsAreThemselves inner (map call_data over.items) (map call_of calls.now))) }
+    ensures themselves { IfOk result (λ over. MatchOption over ⊤ (λ over. CallsAreThemselves inner (map call_of over.items) (map call_of calls.now))) }
 {
     let mut over = Vec::with_capacity(alloc, calls.len())?;
     for call in calls {
@@ -42,7 +40,7 @@ pub fn windowed_over(
     alloc: Global,
     columns: &[usize],
     inner: usize,
-    calls: &[written::WindowCall],
+    calls: &[WindowCall],
     below: Plan,
 ) -> Result<Option<Plan>, AllocError>
     requires { AreWhole columns.now }

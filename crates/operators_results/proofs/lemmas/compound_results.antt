@@ -3,4 +3,3 @@ pub mod SetLemmas
 pub mod ArmLemmas
 pub mod ChainLemmas
 pub mod SlicedLemmas
-pub mod ChainAnswerLemmas

@@ -1,4 +1,3 @@
-pub mod PlaceLemmas
 pub mod GatherLemmas
 pub mod AnswerLemmas
 pub mod ShownLemmas

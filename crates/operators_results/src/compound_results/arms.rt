@@ -1,7 +1,7 @@
 //! The rows of each SELECT, combined.
 ghost use Rattle.std.specs.Prelude.{◌≡◌, ◌++◌, All, IfSome, IsNone, List, MatchResult, map};
 ghost use Rattle.values.specs.Datum.{datum_of};
-ghost use Rattle.values.specs.Row.{Row as RowData, rows_data};
+ghost use Rattle.values.specs.Row.{rows_data};
 ghost use Rattle.operators_scan.specs.Coming.{IsRooted};
 ghost use Rattle.btree.specs.image.Pages.{WhereSteady};
 ghost use Rattle.semantics_names.specs.Statement.{operator_of};
@@ -19,9 +19,8 @@ use crate::Results;
 use crate::compound_results::chained::is_union_all;
 use crate::compound_results::gathered::{met_rows, push_rows, put_rows};
 use crate::compound_results::sets::keep_marked;
-use expr::Expr;
 use indexmap::IndexSet;
-use logical_plan::{Arm, Arms, Plan};
+use logical_plan::{Arm, Arms};
 use operators_scan::Sources;
 use pager::{Pager, Source};
 use sql_reader_syntax::CompoundOperator;
@@ -46,7 +45,7 @@ pub(crate) fn push_arm<S: Source>(
         (IsArmCause on (arm_data arm.now))) }
     ensures reads { ReadsRows result pager.old.state pager.new.state }
 {
-    let results = Results::of_all(alloc, &arm.plan, arm.columns.as_slice())?;
+    let results = Results::of_all(alloc, arm)?;
     if !arm.distinct {
         push_rows(alloc, pager, sources, results, rows)?;
         return Ok(());
@@ -90,7 +89,7 @@ fn join_arm<S: Source>(
         (IsArmCause on (arm_data arm.now))) }
     ensures reads { ReadsRows result pager.old.state pager.new.state }
 {
-    let results = Results::of_all(alloc, &arm.plan, arm.columns.as_slice())?;
+    let results = Results::of_all(alloc, arm)?;
     let Some(wanted) = kept_by(operator) else {
         put_rows(alloc, pager, sources, results, set)?;
         return Ok(());

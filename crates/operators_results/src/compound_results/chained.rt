@@ -7,14 +7,14 @@ ghost use Rattle.logical_plan.specs.answers.Sources.{SourceData};
 ghost use Rattle.semantics.specs.Query.{union_all};
 ghost use Rattle.semantics_names.specs.Statement.{operator_of};
 ghost use Rattle.operators_loops.specs.Basis.{AreStored, Basis, GivesRowOrNone, ReadsRows};
-ghost use Rattle.logical_plan.specs.answers.Arms.{ArePlannedOver, arm_data, arms_data, work_of_arms};
-ghost use Rattle.operators_results.specs.compound_results.Chains.{AreAll, IsUnionChain, chain_answer};
+ghost use Rattle.logical_plan.specs.answers.Arms.{ArePlannedOver, arm_data, arms_data, rows_of_arms, work_of_arms};
+ghost use Rattle.operators_results.specs.compound_results.Chains.{AreAll};
 ghost use Rattle.operators_results.specs.compound_results.Compounds.{IsArmsCause};
-ghost use Rattle.logical_plan.specs.answers.Compounds.{compound_data};
+ghost use Rattle.operators_results.specs.Slices.{sliced};
 ghost use Rattle.operators_results.specs.compound_results.InTurn.{AreComing, AreWaiting, IsChainComing, IsWaiting, LeavesArms, arm_of, arms_from, arms_of};
 
 use crate::{LimitOffset, Results};
-use logical_plan::{Arm, Arms, Compound};
+use logical_plan::{Arm, Arms};
 use operators_scan::Sources;
 use pager::{Pager, Source};
 use sql_reader_syntax::CompoundOperator;
@@ -28,8 +28,8 @@ pub(crate) fn is_union_all(operator: CompoundOperator) -> bool
     matches!(operator, CompoundOperator::UnionAll)
 }
 
-/// Whether all rows of each SELECT are given.
-pub(crate) fn are_all(arms: &Arms) -> bool
+/// Whether all rows of each SELECT are given: UNION ALL joins SELECTs without DISTINCT, whose rows `ChainedResults` gives.
+pub fn are_all(arms: &Arms) -> bool
     ensures { IsTrue result ↔ AreAll (arms_data arms.now) }
 {
     match arms {
@@ -41,16 +41,6 @@ pub(crate) fn are_all(arms: &Arms) -> bool
             are_all(left)
         }
     }
-}
-
-/// Whether `ChainedResults` gives its rows: UNION ALL joins SELECTs without DISTINCT, and there is no ORDER BY.
-pub fn is_chain(compound: &Compound) -> bool
-    ensures { IsTrue result ↔ IsUnionChain (compound_data compound.now) }
-{
-    if !compound.order.is_empty() {
-        return false;
-    }
-    are_all(&compound.arms)
 }
 
 /// The rows of SELECTs that are run one after the other.
@@ -68,7 +58,7 @@ fn arm_opened(alloc: Global, arm: &Arm) -> Result<Results, AllocError>
     ensures arm { IfOk result (λ results. arm_of results ≡ arm_data arm.now) }
     ensures rows { IfOk result (λ results. (pages : Pages) (sources : List SourceData) (on : Basis) → IsWaiting pages sources on results) }
 {
-    let results = Results::of_all(alloc, &arm.plan, arm.columns.as_slice())?;
+    let results = Results::of_all(alloc, arm)?;
     Ok(results)
 }
 
@@ -149,16 +139,19 @@ pub struct ChainedResults {
 }
 
 impl ChainedResults {
-    /// The rows before the first. It reads no page.
-    pub fn open(alloc: Global, compound: &Compound) -> Result<ChainedResults, AllocError>
-        requires { IsUnionChain (compound_data compound.now) }
-        ensures arms { IfOk result (λ chained. arms_of chained.arms ≡ arms_data compound.now.arms) }
+    /// The rows before the first, of which a slice is left. It reads no page.
+    pub fn open(
+        alloc: Global,
+        arms: &Arms,
+        slice: LimitOffset,
+    ) -> Result<ChainedResults, AllocError>
+        requires { AreAll (arms_data arms.now) }
+        ensures arms { IfOk result (λ chained. arms_of chained.arms ≡ arms_data arms.now) }
         ensures rows { IfOk result (λ chained. (pages : Pages) (sources : List SourceData) (on : Basis)
-            → IsChainComing pages sources on chained (chain_answer on.w on.db (compound_data compound.now))
-            (work_of_arms on.w on.db on.sizes (arms_data compound.now.arms))) }
+            → IsChainComing pages sources on chained (sliced slice (rows_of_arms on.w on.db (arms_data arms.now)))
+            (work_of_arms on.w on.db on.sizes (arms_data arms.now))) }
     {
-        let arms = opened(alloc, &compound.arms, Vec::new(alloc))?;
-        let slice = LimitOffset::new(compound.limit, compound.offset);
+        let arms = opened(alloc, arms, Vec::new(alloc))?;
         Ok(ChainedResults { arms, slice })
     }
 

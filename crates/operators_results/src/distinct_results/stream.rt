@@ -10,16 +10,14 @@ ghost use Rattle.logical_plan.specs.PlanView.{plan_data};
 ghost use Rattle.operators_loops.specs.Basis.{AreStored, Basis, GivesRowOrNone, ReadsRows};
 ghost use Rattle.operators.specs.Left.{plan_of, steps};
 ghost use Rattle.operators_results.specs.Coming.{IsResultCause, SameSelection};
-ghost use Rattle.logical_plan.specs.answers.Selection.{result_rows, selection_data};
+ghost use Rattle.logical_plan.specs.answers.Arms.{result_rows};
 ghost use Rattle.operators_results.specs.Slices.{sliced};
 ghost use Rattle.operators_results.specs.distinct_results.Coming.{IsDistinctComing};
-ghost use Rattle.logical_plan.specs.answers.Distinct.{distinct_answer_of};
 ghost use Rattle.operators_results.specs.distinct_results.Firsts.{firsts};
 
 use crate::distinct_results::first_rows::FirstRows;
 use crate::{LimitOffset, Results};
-use expr::Expr;
-use logical_plan::{Plan, Selection};
+use logical_plan::Arm;
 use operators_scan::Sources;
 use pager::{Pager, Source};
 use std::alloc::{AllocError, Global};
@@ -34,33 +32,15 @@ pub struct DistinctResults {
 }
 
 impl DistinctResults {
-    /// The rows of a SELECT DISTINCT before the first, with its LIMIT and OFFSET. It reads no page.
-    pub fn open(alloc: Global, selection: &Selection) -> Result<DistinctResults, AllocError>
-        ensures plan { IfOk result (λ distinct. plan_of distinct.results.op ≡ plan_data selection.now.plan) }
-        ensures columns { IfOk result (λ distinct. map term distinct.results.columns.items ≡ map term selection.now.columns.items) }
-        ensures rows { IfOk result (λ distinct. (pages : Pages) (sources : List SourceData) (on : Basis) → on.plan ≡ plan_data selection.now.plan
-            → IsDistinctComing pages sources on distinct (distinct_answer_of on.w on.db (selection_data selection.now)) (work on.w on.db on.sizes on.plan)) }
-    {
-        let slice = LimitOffset::new(selection.limit, selection.offset);
-        let columns = selection.columns.as_slice();
-        let distinct = DistinctResults::sliced(alloc, &selection.plan, columns, slice)?;
-        Ok(distinct)
-    }
-
-    /// The same over a plan, of which a slice is left.
-    pub(crate) fn sliced(
-        alloc: Global,
-        plan: &Plan,
-        columns: &[Expr],
-        slice: LimitOffset,
-    ) -> Result<DistinctResults, AllocError>
-        ensures plan { IfOk result (λ distinct. plan_of distinct.results.op ≡ plan_data plan.now) }
-        ensures columns { IfOk result (λ distinct. map term distinct.results.columns.items ≡ map term columns.now) }
-        ensures rows { IfOk result (λ distinct. (pages : Pages) (sources : List SourceData) (on : Basis) → on.plan ≡ plan_data plan.now
-            → IsDistinctComing pages sources on distinct (sliced slice (firsts (result_rows on.w (map term columns.now) (rows_of on.w on.db on.plan))))
+    /// The rows of a SELECT DISTINCT before the first, of which a slice is left. It reads no page.
+    pub fn open(alloc: Global, arm: &Arm, slice: LimitOffset) -> Result<DistinctResults, AllocError>
+        ensures plan { IfOk result (λ distinct. plan_of distinct.results.op ≡ plan_data arm.now.plan) }
+        ensures columns { IfOk result (λ distinct. map term distinct.results.columns.items ≡ map term arm.now.columns.items) }
+        ensures rows { IfOk result (λ distinct. (pages : Pages) (sources : List SourceData) (on : Basis) → on.plan ≡ plan_data arm.now.plan
+            → IsDistinctComing pages sources on distinct (sliced slice (firsts (result_rows on.w (map term arm.now.columns.items) (rows_of on.w on.db on.plan))))
             (work on.w on.db on.sizes on.plan)) }
     {
-        let results = Results::of_all(alloc, plan, columns)?;
+        let results = Results::of_all(alloc, arm)?;
         let first = FirstRows::new(alloc, slice);
         Ok(DistinctResults { results, first })
     }

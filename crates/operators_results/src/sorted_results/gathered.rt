@@ -1,81 +1,121 @@
-//! The rows of a SELECT, gathered and put in order.
-ghost use Rattle.std.specs.Prelude.{◌≡◌, ◌++◌, All, IfOk, MatchResult, map, take};
-ghost use Rattle.values.specs.Datum.{datum_of};
+//! What is shown of the rows of an answer, once all are gathered.
+ghost use Rattle.std.specs.Prelude.{◌≡◌, All, IfOk, MatchResult, map};
+ghost use Rattle.values.specs.Row.{rows_data};
 ghost use Rattle.operators_scan.specs.Coming.{IsRooted};
 ghost use Rattle.btree.specs.image.Pages.{WhereSteady};
-ghost use Rattle.expr.specs.View.{term};
-ghost use Rattle.semantics.specs.Hits.{order_terms};
-ghost use Rattle.logical_plan.specs.Plan.{work};
-ghost use Rattle.logical_plan.specs.PlanView.{plan_data};
 ghost use Rattle.operators_scan.specs.scan.Coming.{Asks};
 ghost use Rattle.operators_loops.specs.Basis.{AreStored, Basis, ReadsRows};
-ghost use Rattle.logical_plan.specs.answers.Sources.{IsPlanOf};
-ghost use Rattle.operators_results.specs.Coming.{IsResultCause};
-ghost use Rattle.values.specs.Row.{rows_data};
+ghost use Rattle.logical_plan.specs.answers.Answers.{IsAnswer, IsShownInOrder, answer_data, order_data, without};
+ghost use Rattle.logical_plan.specs.answers.Arms.{ArePlannedOver, arms_data, rows_of_arms, work_of_arms};
 ghost use Rattle.operators_results.specs.Slices.{sliced};
-ghost use Rattle.logical_plan.specs.answers.KeyView.{key_data};
-ghost use Rattle.logical_plan.specs.answers.Sorted.{IsSortedAnswer, sorted_data};
+ghost use Rattle.operators_results.specs.compound_results.Compounds.{IsArmsCause};
 
-use crate::sorted_results::keys::{places, wide_columns};
-use crate::sorted_results::pushed::push_rows;
-use crate::{LimitOffset, Results};
-use expr::Expr;
-use logical_plan::{Key, Plan, SortedSelection};
+use crate::LimitOffset;
+use crate::compound_results::arms_rows;
+use crate::sorted_results::in_order::rows_in_order;
+use logical_plan::{Answer, Arms, Order};
 use operators_scan::Sources;
 use pager::{Pager, Source};
 use std::alloc::{AllocError, Global};
 use values::{Fault, Value};
-use windows_order::{FirstInOrder, rows_looked_at};
+use windows_order::rows_looked_at;
 
-/// Of the rows that LIMIT and OFFSET leave of these the first so many values.
+/// Of the rows that a slice leaves, all values but so many at the end.
 fn shown_rows(
     alloc: Global,
     rows: Vec<Vec<Value>>,
     slice: LimitOffset,
-    width: usize,
+    hidden: usize,
 ) -> Result<Vec<Vec<Value>>, AllocError>
-    ensures { IfOk result (λ shown. rows_data shown.items ≡ sliced slice (map (take width) (rows_data rows.items))) }
+    ensures { IfOk result (λ shown. rows_data shown.items ≡ sliced slice (map (without hidden) (rows_data rows.items))) }
 {
     let mut slice = slice;
     let mut shown = Vec::new(alloc);
     for row in rows {
         if slice.gives() {
             let mut row = row;
-            row.truncate(width);
+            row.truncate(row.len().saturating_sub(hidden));
             shown.push(row)?;
         }
     }
     Ok(shown)
 }
 
-/// The rows of a SELECT in order. Its faults are those of an operator.
-pub fn sorted_rows<S: Source>(
+/// The rows of SELECTs as they come, of which a slice is left. Its faults are those of an operator.
+fn sliced_rows<S: Source>(
     alloc: Global,
     pager: &mut Pager<S>,
     sources: &Sources<'_>,
-    selection: &SortedSelection,
+    arms: &Arms,
+    slice: LimitOffset,
 ) -> Result<Vec<Vec<Value>>, Fault>
     requires roots { All (IsRooted pager.old.state.header) sources.now }
-    requires planned { IsPlanOf sources.now (plan_data selection.now.plan) }
-    ensures rows { WhereSteady pager.old.state (λ pages. (on : Basis) → AreStored pages sources.now on → on.plan ≡ plan_data selection.now.plan
+    requires planned { ArePlannedOver sources.now (arms_data arms.now) }
+    ensures rows { WhereSteady pager.old.state (λ pages. (on : Basis) → AreStored pages sources.now on
         → MatchResult result
-        (λ rows. IsSortedAnswer on.w on.db (sorted_data selection.now) (map (λ row. map datum_of row.items) rows.items)
-        × Asks on.local pager.old.state (work on.w on.db on.sizes on.plan) pager.new.state 0)
-        (IsResultCause on (map term selection.now.columns.items ++ order_terms (map key_data selection.now.order.items)))) }
+        (λ rows. (rows_data rows.items ≡ sliced slice (rows_of_arms on.w on.db (arms_data arms.now)))
+        × Asks on.local pager.old.state (work_of_arms on.w on.db on.sizes (arms_data arms.now)) pager.new.state 0)
+        (IsArmsCause on (arms_data arms.now))) }
     ensures reads { ReadsRows result pager.old.state pager.new.state }
 {
-    // A row has the values of ORDER BY that aren't its result columns behind these, so that it is one piece of memory.
-    let columns = selection.columns.as_slice();
-    let by = selection.order.as_slice();
-    let wide = wide_columns(alloc, columns, by)?;
-    let keys = places(alloc, columns, by)?;
-    let order = keys.as_slice();
-    let results = Results::of_all(alloc, &selection.plan, wide.as_slice())?;
-    let most = rows_looked_at(selection.limit, selection.offset);
-    let mut first = FirstInOrder::new(alloc, most);
-    push_rows(alloc, pager, sources, results, order, &mut first)?;
-    let rows = first.in_order(order)?;
-    let slice = LimitOffset::new(selection.limit, selection.offset);
-    let shown = shown_rows(alloc, rows, slice, columns.len())?;
+    let rows = arms_rows(alloc, pager, sources, arms)?;
+    let shown = shown_rows(alloc, rows, slice, 0)?;
     Ok(shown)
+}
+
+/// The rows of SELECTs in order, and of these those that LIMIT and OFFSET leave. Its faults are those of an operator. (SELECT, "The
+/// ORDER BY clause")
+fn ordered_rows<S: Source>(
+    alloc: Global,
+    pager: &mut Pager<S>,
+    sources: &Sources<'_>,
+    arms: &Arms,
+    order: &Order,
+    limit: Option<i64>,
+    offset: i64,
+) -> Result<Vec<Vec<Value>>, Fault>
+    requires roots { All (IsRooted pager.old.state.header) sources.now }
+    requires planned { ArePlannedOver sources.now (arms_data arms.now) }
+    ensures rows { WhereSteady pager.old.state (λ pages. (on : Basis) → AreStored pages sources.now on
+        → MatchResult result
+        (λ rows. IsShownInOrder on.w (order_data order.now) limit offset (rows_of_arms on.w on.db (arms_data arms.now)) (rows_data rows.items)
+        × Asks on.local pager.old.state (work_of_arms on.w on.db on.sizes (arms_data arms.now)) pager.new.state 0)
+        (IsArmsCause on (arms_data arms.now))) }
+    ensures reads { ReadsRows result pager.old.state pager.new.state }
+{
+    let most = rows_looked_at(limit, offset);
+    let keys = order.keys.as_slice();
+    let rows = rows_in_order(alloc, pager, sources, arms, keys, most)?;
+    let slice = LimitOffset::new(limit, offset);
+    let shown = shown_rows(alloc, rows, slice, order.hidden)?;
+    Ok(shown)
+}
+
+/// The rows of an answer, all of them. Its faults are those of an operator. (SELECT)
+pub fn gathered_rows<S: Source>(
+    alloc: Global,
+    pager: &mut Pager<S>,
+    sources: &Sources<'_>,
+    answer: &Answer,
+) -> Result<Vec<Vec<Value>>, Fault>
+    requires roots { All (IsRooted pager.old.state.header) sources.now }
+    requires planned { ArePlannedOver sources.now (arms_data answer.now.arms) }
+    ensures rows { WhereSteady pager.old.state (λ pages. (on : Basis) → AreStored pages sources.now on
+        → MatchResult result
+        (λ rows. IsAnswer on.w on.db (answer_data answer.now) (rows_data rows.items)
+        × Asks on.local pager.old.state (work_of_arms on.w on.db on.sizes (arms_data answer.now.arms)) pager.new.state 0)
+        (IsArmsCause on (arms_data answer.now.arms))) }
+    ensures reads { ReadsRows result pager.old.state pager.new.state }
+{
+    match &answer.order {
+        Some(order) => {
+            let limit = answer.limit;
+            let offset = answer.offset;
+            ordered_rows(alloc, pager, sources, &answer.arms, order, limit, offset)
+        }
+        None => {
+            let slice = LimitOffset::new(answer.limit, answer.offset);
+            sliced_rows(alloc, pager, sources, &answer.arms, slice)
+        }
+    }
 }

@@ -1,5 +1,5 @@
 -- The rows that a plan which is run has given, and what is still to come. (SELECT)
-use Rattle.std.specs.Prelude.{◌≡◌, ◌⊎◌, ◌^◌, ⊤, Bool, true, false, ℕ, List, [], ◌∷◌, ◌++◌, map}
+use Rattle.std.specs.Prelude.{◌≡◌, ◌⊎◌, ◌^◌, ⊤, Bool, true, false, ℕ, List, [], ◌∷◌, ◌++◌, map, None}
 use Rattle.std.specs.Global.{Global, Vec}
 use Rattle.std.specs.Vec.Iter.{into_iter_items, into_iter_len}
 use Rattle.std.specs.declared.vec.IntoIter.{IntoIter}
@@ -14,6 +14,7 @@ use Rattle.pager.specs.PagerState.{PagerState}
 use Rattle.btree.specs.image.Pages.{Pages}
 use Rattle.logical_plan.specs.answers.Sources.{IsPlanOf, SourceData}
 use Rattle.expr.specs.Term.{Term}
+use Rattle.semantics.specs.Answer.{limited, skipped}
 use Rattle.expr.specs.View.{term}
 use Rattle.logical_plan.specs.Plan.{PlanData}
 use Rattle.operators_scan.specs.scan.Coming.{Asks}
@@ -21,12 +22,14 @@ use Rattle.operators_loops.specs.Basis.{AreStored, Basis}
 use Rattle.operators.specs.Left.{plan_of, steps}
 use Rattle.operators_results.specs.Coming.{IsComing}
 use Rattle.operators_results.specs.distinct_results.Coming.{IsDistinctComing}
-use Rattle.logical_plan.specs.answers.Arms.{ArePlannedOver, ArmsHit}
+use Rattle.logical_plan.specs.answers.Answers.{AnswerData, answer_data}
+use Rattle.logical_plan.specs.answers.Arms.{ArePlannedOver, ArmsData, ArmsHit, work_of_arms}
+use Rattle.operators_results.specs.Slices.{sliced}
+use Rattle.operators_results.specs.declared.limits.LimitOffset.{LimitOffset}
 use Rattle.operators_results.specs.compound_results.InTurn.{IsChainComing, arms_of, over_plan, turn_steps}
 use Rattle.operators_results.specs.declared.compound_results.chained.ChainedResults.{ChainedResults}
-use Rattle.logical_plan_queries.specs.Answers.{HitsOf, IsAnswerOf, IsPlannedOver, PlannedData, planned_data, work_of}
+use Rattle.logical_plan_queries.specs.Answers.{HitsOf, IsAnswerOf, IsPlannedOver, PlannedData, work_of}
 use Rattle.logical_plan_queries.specs.select_plans.Laws.{PlanReaches}
-use Rattle.operators_runs.specs.execution.Gathered.{IsGathered}
 use Rattle.operators_runs.specs.declared.execution.rows.Execution.{Execution}
 use Rattle.operators_runs.specs.declared.execution.rows.Execution.TheVariants.{Rows, Distinct, Chained, Waiting, Giving}
 
@@ -70,7 +73,7 @@ HasGiven pages sources planned (Rows results) given =
 HasGiven pages sources planned (Distinct distinct) given =
     Comes pages sources planned (plan_of distinct.results.op) (map term distinct.results.columns.items) (λ on. IsDistinctComing pages sources on distinct) given
 HasGiven pages sources planned (Chained chained) given = ChainComes pages sources planned chained given
-HasGiven pages sources planned (Waiting plan) given = (given ≡ []) × (planned ≡ planned_data plan)
+HasGiven pages sources planned (Waiting answer) given = (given ≡ []) × (planned ≡ PlannedData.answer (answer_data answer))
 HasGiven pages sources planned (Giving rows) given =
     (on : Basis) → AreStored pages sources on → IsAnswerOf on.w on.db planned (given ++ rows_left rows)
 
@@ -84,7 +87,7 @@ abbrev pub IsRunOver : List SourceData → Execution → Type 0
 IsRunOver sources (Rows results) = IsPlanOf sources (plan_of results.op)
 IsRunOver sources (Distinct distinct) = IsPlanOf sources (plan_of distinct.results.op)
 IsRunOver sources (Chained chained) = ArePlannedOver sources (arms_of chained.arms)
-IsRunOver sources (Waiting plan) = IsPlannedOver sources (planned_data plan) × IsGathered (planned_data plan)
+IsRunOver sources (Waiting answer) = ArePlannedOver sources (answer_data answer).arms
 IsRunOver sources (Giving rows) = ⊤
 
 -- so many pages may still be asked for: of what is yet to be gathered those that its plan may ask for, and of rows that were gathered
@@ -94,7 +97,7 @@ HasAhead pages sources on (Rows results) ahead = (rest : List Row) × IsComing p
 HasAhead pages sources on (Distinct distinct) ahead =
     (rest : List Row) × IsDistinctComing pages sources (over_plan on (plan_of distinct.results.op)) distinct rest ahead
 HasAhead pages sources on (Chained chained) ahead = (rest : List Row) × IsChainComing pages sources on chained rest ahead
-HasAhead pages sources on (Waiting plan) ahead = ahead ≡ work_of on.w on.db on.sizes (planned_data plan)
+HasAhead pages sources on (Waiting answer) ahead = ahead ≡ work_of_arms on.w on.db on.sizes (answer_data answer).arms
 HasAhead pages sources on (Giving rows) ahead = ahead ≡ 0
 
 -- of the pages that were ahead some were asked for, and the others are, or none is behind the last row
@@ -108,10 +111,16 @@ pub record IsOpenedRun (planned : PlannedData) (running : Execution) : Type 0 wh
   pub over : (sources : List SourceData) → IsPlannedOver sources planned → IsRunOver sources running
   pub ahead : (pages : Pages) (sources : List SourceData) (on : Basis) → HasAhead pages sources on running (work_of on.w on.db on.sizes planned)
 
+-- rows of these arms, of which this slice is left, are those of each answer that gives them as they come and leaves the same of them
+abbrev pub IsOpenedOf : ArmsData → LimitOffset → Execution → Type 0
+IsOpenedOf arms slice running =
+    (a : AnswerData) → a.arms ≡ arms → a.order ≡ None → ((rows : List Row) → sliced slice rows ≡ limited a.limit (skipped a.offset rows))
+    → IsOpenedRun (PlannedData.answer a) running
+
 -- a measure that falls with each row, over any source of bytes; no more rows are gathered than there are addresses
 abbrev pub steps_left : List SourceData → Execution → ℕ
 steps_left sources (Rows results) = steps sources results.op
 steps_left sources (Distinct distinct) = steps sources distinct.results.op
 steps_left sources (Chained chained) = turn_steps sources chained.arms
-steps_left sources (Waiting plan) = 2 ^ 64
+steps_left sources (Waiting answer) = 2 ^ 64
 steps_left sources (Giving rows) = into_iter_len rows

@@ -4,11 +4,11 @@ ghost use Rattle.std.specs.List.{range_with_len};
 ghost use Rattle.expr.specs.Term.{column};
 ghost use Rattle.expr.specs.View.{term};
 ghost use Rattle.logical_plan.specs.PlanView.{plan_data};
-ghost use Rattle.logical_plan.specs.answers.Selection.{selection_data};
-ghost use Rattle.operators_runs.specs.execution.Columns.{columns_plan, columns_selection};
+ghost use Rattle.logical_plan.specs.answers.Arms.{arm_data};
+ghost use Rattle.operators_runs.specs.execution.Columns.{columns_arm, columns_plan};
 
 use expr::Expr;
-use logical_plan::{Nested, Plan, Selection};
+use logical_plan::{Arm, Nested, Plan};
 use std::alloc::{AllocError, Global};
 
 /// A column by its place.
@@ -44,19 +44,14 @@ fn plan_of(alloc: Global, table: usize, places: &[usize]) -> Result<Plan, AllocE
 }
 
 /// What gives these columns of each row of the table at a place of the catalog, in the table's order.
-pub(crate) fn selection_of(
-    alloc: Global,
-    table: usize,
-    places: &[usize],
-) -> Result<Selection, AllocError>
-    ensures { IfOk result (λ selection. selection_data selection ≡ columns_selection table places.now) }
+pub(crate) fn arm_of(alloc: Global, table: usize, places: &[usize]) -> Result<Arm, AllocError>
+    ensures { IfOk result (λ arm. arm_data arm ≡ columns_arm table places.now) }
 {
     let plan = plan_of(alloc, table, places)?;
     let columns = whole_row(alloc, places.len())?;
-    Ok(Selection {
+    Ok(Arm {
         plan,
         columns,
-        limit: None,
-        offset: 0,
+        distinct: false,
     })
 }

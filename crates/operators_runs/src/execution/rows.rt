@@ -1,21 +1,22 @@
 //! A plan that is run.
-ghost use Rattle.std.specs.Prelude.{◌<◌, ℕ, All, IfNone, IfOk, IfSome, IsTrue, List, MatchResult, map};
+ghost use Rattle.std.specs.Prelude.{◌<◌, ℕ, All, IfOk, IfSome, IsTrue, List, MatchResult, map};
 ghost use Rattle.values.specs.Datum.{datum_of};
 ghost use Rattle.values.specs.Row.{Row};
 ghost use Rattle.operators_scan.specs.Coming.{IsRooted};
 ghost use Rattle.btree.specs.image.Pages.{WhereSteady};
-ghost use Rattle.logical_plan.specs.answers.Compounds.{compound_data};
+ghost use Rattle.logical_plan.specs.answers.Answers.{answer_data};
+ghost use Rattle.logical_plan.specs.answers.Arms.{arm_data, arms_data, one};
 ghost use Rattle.operators_loops.specs.Basis.{AreStored, Basis, ReadsRows};
 ghost use Rattle.logical_plan_queries.specs.Answers.{PlannedData, planned_data};
-ghost use Rattle.logical_plan.specs.answers.Selection.{selection_data};
-ghost use Rattle.operators_runs.specs.execution.Gathered.{IsGathered};
-ghost use Rattle.operators_runs.specs.execution.Given.{HasAhead, HasAnswered, HasAsked, HasGiven, IsOpenedRun, IsRowCause, IsRunOver, steps_left};
+ghost use Rattle.operators_runs.specs.execution.Given.{HasAhead, HasAnswered, HasAsked, HasGiven, IsOpenedOf, IsOpenedRun, IsRowCause, IsRunOver, steps_left};
 
-use crate::execution::columns::selection_of;
-use crate::execution::gathered::{gathered_rows, give};
-use logical_plan::{Compound, Selection};
+use crate::execution::columns;
+use crate::execution::gathered::give;
+use logical_plan::{Answer, Arm, Arms};
 use logical_plan_queries::Planned;
-use operators_results::{ChainedResults, DistinctResults, Results, is_chain};
+use operators_results::{
+    ChainedResults, DistinctResults, LimitOffset, Results, are_all, gathered_rows,
+};
 use operators_scan::Sources;
 use pager::{Pager, Source};
 use std::alloc::{AllocError, Global};
@@ -31,8 +32,8 @@ pub enum Execution {
     Distinct(DistinctResults),
     /// Rows of SELECTs, of each all before those of the next, as they are computed.
     Chained(ChainedResults),
-    /// A plan whose rows are to be gathered.
-    Waiting(Planned),
+    /// An answer whose rows are to be gathered.
+    Waiting(Answer),
     /// Of the rows that were gathered those that are still to be given.
     Giving(IntoIter<Vec<Value>>),
 }
@@ -41,67 +42,73 @@ pub enum Execution {
 fn columns_opened(alloc: Global, table: usize, places: &[usize]) -> Result<Execution, AllocError>
     ensures { IfOk result (IsOpenedRun (PlannedData.columns table places.now)) }
 {
-    let selection = selection_of(alloc, table, places)?;
-    let results = Results::open(alloc, &selection)?;
+    let arm = columns::arm_of(alloc, table, places)?;
+    let results = Results::of_all(alloc, &arm)?;
     Ok(Execution::Rows(results))
 }
 
-/// Rows in no order, before the first.
-fn rows_opened(alloc: Global, selection: &Selection) -> Result<Execution, AllocError>
-    ensures { IfOk result (IsOpenedRun (PlannedData.rows (selection_data selection.now))) }
+/// Rows of one SELECT before the first, of which a slice is left.
+fn arm_opened(alloc: Global, arm: &Arm, slice: LimitOffset) -> Result<Execution, AllocError>
+    ensures { IfOk result (IsOpenedOf (one (arm_data arm.now)) slice) }
 {
-    let results = Results::open(alloc, selection)?;
+    if arm.distinct {
+        let distinct = DistinctResults::open(alloc, arm, slice)?;
+        return Ok(Execution::Distinct(distinct));
+    }
+    let results = Results::open(alloc, arm, slice)?;
     Ok(Execution::Rows(results))
-}
-
-/// The same, each once.
-fn distinct_opened(alloc: Global, selection: &Selection) -> Result<Execution, AllocError>
-    ensures { IfOk result (IsOpenedRun (PlannedData.distinct (selection_data selection.now))) }
-{
-    let distinct = DistinctResults::open(alloc, selection)?;
-    Ok(Execution::Distinct(distinct))
 }
 
 /// Rows of SELECTs that are run one after the other, before the first, where no row depends on others.
-fn chained_opened(alloc: Global, joined: &Compound) -> Result<Option<Execution>, AllocError>
-    ensures { IfOk result (λ opened. IfSome opened (IsOpenedRun (PlannedData.compound (compound_data joined.now)))) }
+fn chained_opened(
+    alloc: Global,
+    arms: &Arms,
+    slice: LimitOffset,
+) -> Result<Option<Execution>, AllocError>
+    ensures { IfOk result (λ opened. IfSome opened (IsOpenedOf (arms_data arms.now) slice)) }
 {
-    if !is_chain(joined) {
+    if !are_all(arms) {
         return Ok(None);
     }
-    let chained = ChainedResults::open(alloc, joined)?;
+    let chained = ChainedResults::open(alloc, arms, slice)?;
     Ok(Some(Execution::Chained(chained)))
 }
 
-/// A plan whose rows come one by one, before the first; none where they are gathered. It reads no page.
-pub(crate) fn streamed(alloc: Global, planned: &Planned) -> Result<Option<Execution>, AllocError>
-    ensures some { IfOk result (λ opened. IfSome opened (IsOpenedRun (planned_data planned.now))) }
-    ensures none { IfOk result (λ opened. IfNone opened (IsGathered (planned_data planned.now))) }
+/// Rows of SELECTs before the first, of which a slice is left; none where they don't come one by one.
+fn arms_opened(
+    alloc: Global,
+    arms: &Arms,
+    slice: LimitOffset,
+) -> Result<Option<Execution>, AllocError>
+    ensures { IfOk result (λ opened. IfSome opened (IsOpenedOf (arms_data arms.now) slice)) }
 {
-    match planned {
-        Planned::Columns(table, places) => {
-            let opened = columns_opened(alloc, *table, places.as_slice())?;
+    match arms {
+        Arms::One(arm) => {
+            let opened = arm_opened(alloc, arm, slice)?;
             Ok(Some(opened))
         }
-        Planned::Rows(selection) => {
-            let opened = rows_opened(alloc, selection)?;
-            Ok(Some(opened))
-        }
-        Planned::Distinct(selection) => {
-            let opened = distinct_opened(alloc, selection)?;
-            Ok(Some(opened))
-        }
-        Planned::Compound(joined) => chained_opened(alloc, joined),
-        Planned::Sorted(_) | Planned::SortedDistinct(_) => Ok(None),
+        Arms::Joined(_, _, _) => chained_opened(alloc, arms, slice),
     }
 }
 
-/// A plan whose rows are to be gathered.
-fn waiting(planned: Planned) -> Execution
-    requires { IsGathered (planned_data planned) }
-    ensures { IsOpenedRun (planned_data planned) result }
+/// An answer whose rows come one by one, before the first; none where they are gathered. It reads no page.
+pub(crate) fn streamed(alloc: Global, answer: &Answer) -> Result<Option<Execution>, AllocError>
+    ensures { IfOk result (λ opened. IfSome opened (IsOpenedRun (PlannedData.answer (answer_data answer.now)))) }
 {
-    Execution::Waiting(planned)
+    match &answer.order {
+        Some(_) => Ok(None),
+        None => {
+            let slice = LimitOffset::new(answer.limit, answer.offset);
+            arms_opened(alloc, &answer.arms, slice)
+        }
+    }
+}
+
+/// An answer whose rows are to be gathered.
+fn waiting(answer: Answer) -> Execution
+    ensures { IsOpenedRun (PlannedData.answer (answer_data answer)) result }
+{
+    Execution::Waiting(answer)
 }
 
 impl Execution {
@@ -109,9 +116,16 @@ impl Execution {
     pub fn open(alloc: Global, planned: Planned) -> Result<Execution, AllocError>
         ensures { IfOk result (IsOpenedRun (planned_data planned)) }
     {
-        match streamed(alloc, &planned)? {
+        let answer = match planned {
+            Planned::Columns(table, places) => {
+                let opened = columns_opened(alloc, table, places.as_slice())?;
+                return Ok(opened);
+            }
+            Planned::Answer(answer) => answer,
+        };
+        match streamed(alloc, &answer)? {
             Some(execution) => Ok(execution),
-            None => Ok(waiting(planned)),
+            None => Ok(waiting(answer)),
         }
     }
 
@@ -140,8 +154,8 @@ impl Execution {
             Execution::Rows(results) => results.next(alloc, pager, sources, row),
             Execution::Distinct(distinct) => distinct.next(alloc, pager, sources, row),
             Execution::Chained(chained) => chained.next(alloc, pager, sources, row),
-            Execution::Waiting(planned) => {
-                let rows = gathered_rows(alloc, pager, sources, planned)?;
+            Execution::Waiting(answer) => {
+                let rows = gathered_rows(alloc, pager, sources, answer)?;
                 let mut left = rows.into_iter();
                 let found = give(&mut left, row);
                 *self = Execution::Giving(left);

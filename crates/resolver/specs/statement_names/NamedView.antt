@@ -3,9 +3,9 @@ use Rattle.std.specs.Prelude.{map, string_bytes}
 use Rattle.resolver_bodies.specs.BodyView.{body_of}
 use Rattle.semantics.specs.Query.{QueryData}
 use Rattle.semantics_names.specs.Statement.{Named}
-use Rattle.resolver_exprs.specs.order_keys.KeyView.{key_of}
 use Rattle.resolver.specs.declared.statement_names.trees.NamedStatement.{NamedStatement}
 use Rattle.resolver.specs.declared.statement_names.trees.Query.{Query}
+use Rattle.resolver_terms.specs.SelectView.{key_of}
 
 abbrev pub query_data : Query → QueryData
 query_data q = record { body = body_of q.body; order = map key_of q.order.items; limit = q.limit; offset = q.offset }

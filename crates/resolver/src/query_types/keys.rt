@@ -2,11 +2,11 @@
 ghost use Rattle.std.specs.Prelude.{◌≡◌, map, option_map};
 ghost use Rattle.resolver_types.specs.body_types.RowView.{row_of};
 ghost use Rattle.semantics_names.specs.Outcome.{each};
-ghost use Rattle.resolver_exprs.specs.order_keys.KeyView.{key_of, key_term_of};
 ghost use Rattle.resolver.specs.query_types.Keys.{key_over};
 ghost use Rattle.resolver_types.specs.term_types.Passed.{passed};
+ghost use Rattle.resolver_terms.specs.SelectView.{key_of, key_term_of};
 
-use resolver_exprs::{Key, KeyTerm};
+use resolver_terms::{Key, KeyTerm};
 use resolver_types::{Row, term_type, typed};
 use values::{Fault, Ty};
 

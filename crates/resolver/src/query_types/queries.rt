@@ -5,14 +5,14 @@ ghost use Rattle.resolver_types.specs.body_types.RowView.{row_of};
 ghost use Rattle.semantics.specs.Query.{QueryData};
 ghost use Rattle.semantics_names.specs.Outcome.{also, each};
 ghost use Rattle.semantics_names.specs.Types as spec;
-ghost use Rattle.resolver_exprs.specs.order_keys.KeyView.{key_of};
 ghost use Rattle.resolver_terms.specs.Outcome.{Gives};
 ghost use Rattle.resolver.specs.query_types.Keys.{key_over, rows_behind};
 ghost use Rattle.resolver.specs.query_types.Ordered.{ordered_compound, ordered_single, ordered_types};
+ghost use Rattle.resolver_terms.specs.SelectView.{key_of};
 
 use crate::query_types::keys::check_keys;
 use resolver_bodies::{Body, Single};
-use resolver_exprs::Key;
+use resolver_terms::Key;
 use resolver_types::body_types::body_types;
 use resolver_types::{Row, column_types, computed_row};
 use std::alloc::Global;

@@ -5,13 +5,13 @@ ghost use Rattle.semantics_names.specs.Outcome.{each};
 ghost use Rattle.semantics_names.specs.Statement.{Named};
 ghost use Rattle.semantics_names.specs.Typed.{with_types};
 ghost use Rattle.semantics_names.specs.Types as spec;
-ghost use Rattle.resolver_exprs.specs.order_keys.KeyView.{key_of};
 ghost use Rattle.resolver_terms.specs.Outcome.{Gives};
 ghost use Rattle.resolver_types.specs.term_types.Passed.{passed};
+ghost use Rattle.resolver_terms.specs.SelectView.{key_of};
 
 use crate::query_types::queries::query_types;
 use resolver_bodies::Body;
-use resolver_exprs::Key;
+use resolver_terms::Key;
 use resolver_types::body_types::body_types;
 use std::alloc::Global;
 use values::{Fault, Ty};

@@ -1,7 +1,7 @@
 //! Statements whose names are resolved.
 
 use resolver_bodies::Body;
-use resolver_exprs::Key;
+use resolver_terms::Key;
 
 /// A query with its ORDER BY, LIMIT and OFFSET. (SELECT)
 #[derive(Drop)]

@@ -6,7 +6,7 @@ ghost use Rattle.semantics_names.specs.Statement.{operator_of};
 
 use crate::same_bodies::selects::same_select;
 use crate::{Body, InnerQuery, Joined, Single, Source, Tables};
-use resolver_terms::same_term;
+use expr_types::same_tree;
 use sql_reader_syntax::{CompoundOperator, Join};
 
 fn same_join(a: Join, b: Join) -> bool
@@ -41,7 +41,7 @@ fn same_joined(a: &Joined, b: &Joined) -> bool
 {
     same_join(a.join, b.join)
         && same_source(&a.source, &b.source)
-        && same_term(&a.condition, &b.condition)
+        && same_tree(&a.condition, &b.condition)
 }
 
 #[cycle(sameness)]

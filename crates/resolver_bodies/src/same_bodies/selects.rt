@@ -2,9 +2,8 @@
 ghost use Rattle.std.specs.Prelude.{◌≡◌, ◌↔◌, IsTrue, map, option_map};
 ghost use Rattle.resolver_terms.specs.SelectView.{aggregate_of, call_of, grouping_of, select_of};
 
-use resolver_terms::{
-    Aggregate, Grouping, Select, WindowCall, same_aggregate, same_call, same_term, same_term_lists,
-};
+use expr_types::{same_tree, same_tree_lists};
+use resolver_terms::{Aggregate, Grouping, Select, WindowCall, same_aggregate, same_call};
 
 fn same_aggregates(a: &[Aggregate], b: &[Aggregate]) -> bool
     ensures { IsTrue result ↔ map aggregate_of a.now ≡ map aggregate_of b.now }
@@ -35,9 +34,9 @@ fn same_calls(a: &[WindowCall], b: &[WindowCall]) -> bool
 fn same_groups(a: &Grouping, b: &Grouping) -> bool
     ensures { IsTrue result ↔ grouping_of a.now ≡ grouping_of b.now }
 {
-    same_term_lists(a.by.as_slice(), b.by.as_slice())
+    same_tree_lists(a.by.as_slice(), b.by.as_slice())
         && same_aggregates(a.aggregates.as_slice(), b.aggregates.as_slice())
-        && same_term(&a.having, &b.having)
+        && same_tree(&a.having, &b.having)
 }
 
 fn same_grouping(a: &Option<Grouping>, b: &Option<Grouping>) -> bool
@@ -55,8 +54,8 @@ pub(crate) fn same_select(a: &Select, b: &Select) -> bool
     ensures { IsTrue result ↔ select_of a.now ≡ select_of b.now }
 {
     a.distinct == b.distinct
-        && same_term_lists(a.columns.as_slice(), b.columns.as_slice())
-        && same_term(&a.condition, &b.condition)
+        && same_tree_lists(a.columns.as_slice(), b.columns.as_slice())
+        && same_tree(&a.condition, &b.condition)
         && same_grouping(&a.grouping, &b.grouping)
         && same_calls(a.windows.as_slice(), b.windows.as_slice())
 }

@@ -10,7 +10,7 @@ use Rattle.resolver_bodies.specs.BodyView.{JoinedData, SingleData, inner_of, sou
 use Rattle.resolver_bodies.specs.declared.bodies.InnerQuery.{InnerQuery}
 use Rattle.resolver_bodies.specs.declared.bodies.Source.{Source}
 use Rattle.semantics_rewrites.specs.materialized_queries.Flat.{materialized_from, materialized_source, kept_source}
-use Rattle.semantics_rewrites.specs.schema_sources.Mapped.{mapped_select}
+use Rattle.semantics.specs.Mapped.{mapped_select}
 
 -- lists of values, as rows are and the values of inner queries
 abbrev pub lists_of : List (Vec Value Global) → List (List Datum)

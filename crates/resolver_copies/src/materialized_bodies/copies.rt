@@ -8,9 +8,9 @@ ghost use Rattle.semantics_rewrites.specs.materialized_queries.FlatWith.{materia
 ghost use Rattle.semantics.specs.Query.{body_width};
 
 use crate::materialized_bodies::parts::{inner_queries, is_table, kept_sources};
-use crate::materialized_bodies::selects::filled_select;
-use crate::materialized_bodies::terms::filled_term;
+use expr::Leaves;
 use resolver_bodies::{Body, Joined, Single, Source, Tables};
+use resolver_terms::select_with;
 use std::alloc::{AllocError, Global};
 use values::Value;
 
@@ -61,7 +61,7 @@ fn materialized_sources(
         copies.push(Joined {
             join: joined.join,
             source: materialized_source(place, &joined.source),
-            condition: filled_term(alloc, answers, &joined.condition)?,
+            condition: Leaves::Answered(answers).copy(alloc, &joined.condition)?,
         })?;
         place = place_behind(place, &joined.source);
     }
@@ -94,7 +94,7 @@ fn materialized_single(
 {
     Ok(Single {
         tables: materialized_tables(alloc, answers, place, &single.tables)?,
-        select: filled_select(alloc, answers, &single.select)?,
+        select: select_with(alloc, Leaves::Answered(answers), &single.select)?,
     })
 }
 

@@ -1,10 +1,10 @@
 -- Two terms.
-use Rattle.expr.specs.Term as t
-use Rattle.resolver_terms.specs.TermView.{term}
-use Rattle.resolver_terms.specs.declared.terms.Term.{Term}
+use Rattle.expr.specs.Term.{Term}
+use Rattle.expr.specs.View.{term}
+use Rattle.expr.specs.declared.tree.Expr.{Expr}
 
 abbrev pub pair : {A B : Type 0} → A → B → A × B
 pair a b = (a, b)
 
-abbrev pub pair_of : Term × Term → t.Term × t.Term
+abbrev pub pair_of : Expr × Expr → Term × Term
 pair_of p = pair (term p.0) (term p.1)

@@ -1,7 +1,7 @@
 -- The result columns of the program.
 use Rattle.std.specs.Prelude.{string_bytes}
 use Rattle.semantics_names.specs.Statement as spec
-use Rattle.resolver_terms.specs.TermView.{term}
+use Rattle.expr.specs.View.{term}
 use Rattle.resolver_exprs.specs.declared.scopes.stars.ResultColumn.{ResultColumn}
 
 abbrev pub result_of : ResultColumn → spec.ResultColumn

@@ -4,12 +4,12 @@ ghost use Rattle.resolver_exprs.specs.expression_names.Parts as parts;
 ghost use Rattle.semantics_names.specs.Expression as spec;
 ghost use Rattle.semantics_names.specs.Outcome.{also};
 ghost use Rattle.resolver_terms.specs.Outcome.{Gives};
-ghost use Rattle.resolver_terms.specs.TermView.{term};
+ghost use Rattle.expr.specs.View.{term};
 ghost use Rattle.sql_reader_grammar.specs.statement_trees.TreeView.{expr_of, query_of};
 
 use crate::expression_names::InnerQueries;
 use crate::expression_nodes as nodes;
-use resolver_terms::Term;
+use expr::Expr as Term;
 use sql_reader_grammar::{Expr, Query};
 use std::alloc::Global;
 use values::{Fault, Value, ValueRef};

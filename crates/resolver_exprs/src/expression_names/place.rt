@@ -3,10 +3,10 @@ ghost use Rattle.std.specs.Prelude.{option_map};
 ghost use Rattle.semantics_names.specs.Expression.{Answers, InnerTree, Says};
 ghost use Rattle.semantics_names.specs.Statement.{answer_at};
 ghost use Rattle.resolver_terms.specs.Outcome.{Gives};
-ghost use Rattle.resolver_terms.specs.TermView.{term};
+ghost use Rattle.expr.specs.View.{term};
 ghost use Rattle.sql_reader_grammar.specs.statement_trees.TreeView.{expr_of, query_of};
 
-use resolver_terms::Term;
+use expr::Expr as Term;
 use sql_reader_grammar::{Expr, Query};
 use std::alloc::Global;
 use values::Fault;

@@ -1,32 +1,32 @@
 //! The terms of CASE.
 ghost use Rattle.std.specs.Prelude.{◌≡◌, IfOk, map, option_map};
 ghost use Rattle.semantics_names.specs.Expression as spec;
-ghost use Rattle.resolver_terms.specs.TermView.{arm_terms, term};
+ghost use Rattle.expr.specs.View.{arm_terms, term};
 
-use resolver_terms::{Arm, Term};
+use expr::{Arm, Expr};
 use std::alloc::{AllocError, Global};
 
 // A CASE with an operand.
-fn case_of(operand: Box<Term>, arms: Vec<Arm>, otherwise: Box<Term>) -> Term
+fn case_of(operand: Box<Expr>, arms: Vec<Arm>, otherwise: Box<Expr>) -> Expr
     ensures { term result ≡ spec.case (Some (term operand.value)) (map arm_terms arms.items) (term otherwise.value) }
 {
-    Term::Case(Some(operand), arms, otherwise)
+    Expr::Case(Some(operand), arms, otherwise)
 }
 
 // A CASE without one.
-pub(crate) fn bare_case(arms: Vec<Arm>, otherwise: Box<Term>) -> Term
+pub(crate) fn bare_case(arms: Vec<Arm>, otherwise: Box<Expr>) -> Expr
     ensures { term result ≡ spec.case None (map arm_terms arms.items) (term otherwise.value) }
 {
-    Term::Case(None, arms, otherwise)
+    Expr::Case(None, arms, otherwise)
 }
 
 /// A CASE with an operand or without. (SQL Language Expressions, "The CASE expression")
 pub fn case(
     alloc: Global,
-    operand: Option<Term>,
+    operand: Option<Expr>,
     arms: Vec<Arm>,
-    otherwise: Term,
-) -> Result<Term, AllocError>
+    otherwise: Expr,
+) -> Result<Expr, AllocError>
     ensures { IfOk result (λ e. term e ≡ spec.case (option_map term operand) (map arm_terms arms.items) (term otherwise)) }
 {
     let otherwise = Box::new(alloc, otherwise)?;
@@ -40,7 +40,7 @@ pub fn case(
 }
 
 /// WHEN and THEN of a CASE.
-pub fn when_then(when: Term, then: Term) -> Arm
+pub fn when_then(when: Expr, then: Expr) -> Arm
     ensures { arm_terms result ≡ (term when, term then) }
 {
     Arm { when, then }

@@ -2,14 +2,13 @@
 ghost use Rattle.std.specs.Prelude.{◌≡◌, map};
 ghost use Rattle.semantics_names.specs.Expression as spec;
 ghost use Rattle.resolver_terms.specs.Outcome.{Gives};
-ghost use Rattle.resolver_terms.specs.TermView.{term};
+ghost use Rattle.expr.specs.View.{term};
 ghost use Rattle.sql_reader_grammar.specs.statement_trees.TreeView.{behind_of};
 ghost use Rattle.sql_reader_syntax.specs.declared.expr.Function.TheVariants as w;
 
 use crate::expression_nodes::cases::{bare_case, when_then};
 use crate::expression_nodes::operators::call;
-use expr::Function;
-use resolver_terms::Term;
+use expr::{Expr, Function};
 use sql_reader_grammar::{CallSuffix, Over};
 use std::alloc::Global;
 use values::Fault;
@@ -29,7 +28,7 @@ fn unary_of(name: sql_reader_syntax::Function) -> Option<Function>
     }
 }
 
-fn unary(alloc: Global, function: Function, items: Vec<Term>) -> Result<Term, Fault>
+fn unary(alloc: Global, function: Function, items: Vec<Expr>) -> Result<Expr, Fault>
     ensures { Gives term result (spec.unary function (map term items.items)) }
 {
     let mut items = items.into_iter();
@@ -39,29 +38,29 @@ fn unary(alloc: Global, function: Function, items: Vec<Term>) -> Result<Term, Fa
     }
 }
 
-fn if_null(items: Vec<Term>) -> Result<Term, Fault>
+fn if_null(items: Vec<Expr>) -> Result<Expr, Fault>
     ensures { Gives term result (spec.several w.IfNull (map term items.items)) }
 {
     match items.as_slice() {
-        [_, _] => Ok(Term::Coalesce(items)),
+        [_, _] => Ok(Expr::Coalesce(items)),
         _ => Err(Fault::WrongPlace),
     }
 }
 
-fn null_if(alloc: Global, items: Vec<Term>) -> Result<Term, Fault>
+fn null_if(alloc: Global, items: Vec<Expr>) -> Result<Expr, Fault>
     ensures { Gives term result (spec.several w.NullIf (map term items.items)) }
 {
     let mut items = items.into_iter();
     match (items.next(), items.next(), items.next()) {
         (Some(x), Some(y), None) => {
             let x = Box::new(alloc, x)?;
-            Ok(Term::NullIf(x, Box::new(alloc, y)?))
+            Ok(Expr::NullIf(x, Box::new(alloc, y)?))
         }
         _ => Err(Fault::WrongPlace),
     }
 }
 
-fn iif(alloc: Global, items: Vec<Term>) -> Result<Term, Fault>
+fn iif(alloc: Global, items: Vec<Expr>) -> Result<Expr, Fault>
     ensures { Gives term result (spec.several w.Iif (map term items.items)) }
 {
     let mut items = items.into_iter();
@@ -79,14 +78,14 @@ fn iif(alloc: Global, items: Vec<Term>) -> Result<Term, Fault>
 fn applied(
     alloc: Global,
     name: sql_reader_syntax::Function,
-    items: Vec<Term>,
-) -> Result<Term, Fault>
+    items: Vec<Expr>,
+) -> Result<Expr, Fault>
     ensures { Gives term result (spec.applied name (map term items.items)) }
 {
     match unary_of(name) {
         Some(function) => unary(alloc, function, items),
         None => match name {
-            sql_reader_syntax::Function::Coalesce => Ok(Term::Coalesce(items)),
+            sql_reader_syntax::Function::Coalesce => Ok(Expr::Coalesce(items)),
             sql_reader_syntax::Function::IfNull => if_null(items),
             sql_reader_syntax::Function::NullIf => null_if(alloc, items),
             sql_reader_syntax::Function::Iif => iif(alloc, items),
@@ -101,8 +100,8 @@ pub fn called(
     alloc: Global,
     behind: &CallSuffix,
     name: sql_reader_syntax::Function,
-    items: Vec<Term>,
-) -> Result<Term, Fault>
+    items: Vec<Expr>,
+) -> Result<Expr, Fault>
     ensures { Gives term result (spec.called (behind_of behind.now) name (map term items.items)) }
 {
     match (&behind.filter, &behind.over) {

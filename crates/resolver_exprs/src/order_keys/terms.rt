@@ -2,35 +2,18 @@
 ghost use Rattle.std.specs.Prelude.{map, option_map, string_bytes};
 ghost use Rattle.sql_reader_grammar.specs.Reading.{terms_of};
 ghost use Rattle.semantics_names.specs.Statement as spec;
-ghost use Rattle.resolver_exprs.specs.order_keys.KeyView.{key_of, key_term_of};
 ghost use Rattle.resolver_exprs.specs.order_keys.Named as places;
 ghost use Rattle.resolver_terms.specs.Outcome.{Gives};
 ghost use Rattle.sql_reader_grammar.specs.statement_trees.TreeView.{expr_of, term_of};
+ghost use Rattle.resolver_terms.specs.SelectView.{key_of, key_term_of};
 
 use crate::expression_names::{InnerQueries, Place, term};
 use crate::order_keys::lookup::named;
-use resolver_terms::Term;
+use resolver_terms::{Key, KeyTerm};
 use sql_reader_grammar as written;
 use sql_reader_grammar::Expr;
-use sql_reader_syntax::Direction;
 use std::alloc::Global;
 use values::Fault;
-
-/// What ORDER BY puts rows in order by. (SELECT, "The ORDER BY clause")
-#[derive(Drop)]
-pub enum KeyTerm {
-    /// A result column, by its place, from 0.
-    Result(usize),
-    /// A term over the rows of the one SELECT.
-    Term(Term),
-}
-
-/// A term of ORDER BY. (SELECT, "The ORDER BY clause")
-#[derive(Drop)]
-pub struct Key {
-    pub by: KeyTerm,
-    pub direction: Direction,
-}
 
 // The result column of this number, from 1, of so many.
 fn numbered(width: usize, number: i64) -> Result<KeyTerm, Fault>

@@ -6,14 +6,15 @@ ghost use Rattle.semantics_names.specs.Places as spec;
 ghost use Rattle.resolver_exprs.specs.places.Transposed.{transposed};
 ghost use Rattle.resolver_terms.specs.Outcome.{Gives};
 ghost use Rattle.resolver_terms.specs.SelectView.{aggregate_function_of, aggregate_of};
-ghost use Rattle.resolver_terms.specs.TermView.{term};
+ghost use Rattle.expr.specs.View.{term};
 ghost use Rattle.sql_reader_syntax.specs.ExprView.{maybe_of};
 ghost use Rattle.sql_reader_grammar.specs.statement_trees.TreeView.{expr_of};
 ghost use Rattle.sql_reader_syntax.specs.ExprTree.{trees_of};
 
 use crate::expression_names::{InnerQueries, Place, term};
 use crate::expression_nodes::{case, when_then};
-use resolver_terms::{Aggregate, AggregateFunction, Term};
+use expr::Expr as Term;
+use resolver_terms::{Aggregate, AggregateFunction};
 use sql_reader_grammar::{Expr, Over};
 use std::alloc::{AllocError, Global};
 use values::{Fault, Value};

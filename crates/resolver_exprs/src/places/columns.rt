@@ -3,11 +3,11 @@ ghost use Rattle.std.specs.Prelude.{option_map, string_bytes};
 ghost use Rattle.semantics_names.specs.Places.{columns_say};
 ghost use Rattle.semantics_names.specs.Scope.{column_of};
 ghost use Rattle.resolver_terms.specs.Outcome.{Gives};
-ghost use Rattle.resolver_terms.specs.TermView.{term};
+ghost use Rattle.expr.specs.View.{term};
 
 use crate::expression_names::Place;
 use crate::scopes::Scope;
-use resolver_terms::Term;
+use expr::Expr as Term;
 use sql_reader_grammar::Expr;
 use std::alloc::Global;
 use values::Fault;

@@ -3,7 +3,7 @@ ghost use Rattle.std.specs.Prelude.{length, map, option_map};
 ghost use Rattle.semantics_names.specs.Places as spec;
 ghost use Rattle.resolver_terms.specs.Outcome.{Gives};
 ghost use Rattle.resolver_terms.specs.SelectView.{aggregate_of};
-ghost use Rattle.resolver_terms.specs.TermView.{term};
+ghost use Rattle.expr.specs.View.{term};
 ghost use Rattle.sql_reader_grammar.specs.statement_trees.TreeView.{expr_of};
 
 use crate::expression_names::{InnerQueries, Place, term};
@@ -11,7 +11,8 @@ use crate::places::aggregates::aggregate;
 use crate::places::columns::{Columns, column};
 use crate::places::listed::{aggregate_place, term_place};
 use crate::scopes::Scope;
-use resolver_terms::{Aggregate, Term};
+use expr::Expr as Term;
+use resolver_terms::Aggregate;
 use sql_reader_grammar::Expr;
 use std::alloc::Global;
 use values::Fault;
@@ -76,7 +77,7 @@ impl<'a, I: InnerQueries> Place for Groups<'a, I> {
     ghost use Rattle.std.specs.Prelude.{map};
     ghost use Rattle.semantics_names.specs.Places.{groups_say};
     ghost use Rattle.resolver_terms.specs.SelectView.{aggregate_of};
-    ghost use Rattle.resolver_terms.specs.TermView.{term};
+    ghost use Rattle.expr.specs.View.{term};
 
     ghost meaning = { λ place.
         groups_say (I.answers place.inner.now) place.scope.now (map term place.by.now) (map aggregate_of place.aggregates.now) };

@@ -3,19 +3,21 @@ ghost use Rattle.std.specs.Prelude.{◌≡◌, ◌<◌, ⊤, length, map, MatchO
 ghost use Rattle.semantics_names.specs.Places.{place_of};
 ghost use Rattle.semantics_names.specs.Same.{is_same_aggregate, is_same_term};
 ghost use Rattle.resolver_terms.specs.SelectView.{aggregate_of};
-ghost use Rattle.resolver_terms.specs.TermView.{term};
+ghost use Rattle.expr.specs.View.{term};
 
-use resolver_terms::{Aggregate, Term, same_aggregate, same_term};
+use expr::Expr;
+use expr_types::same_tree;
+use resolver_terms::{Aggregate, same_aggregate};
 use semantics_names::laws::same_is_equal;
 
 /// The place of the first of these expressions that is the same term.
-pub fn term_place(terms: &[Term], t: &Term) -> Option<usize>
+pub fn term_place(terms: &[Expr], t: &Expr) -> Option<usize>
     ensures place { result ≡ place_of is_same_term (term t.now) (map term terms.now) }
     ensures within { MatchOption result ⊤ (λ at. at < length terms.now) }
 {
     same_is_equal();
     for (at, other) in terms.iter().enumerate() {
-        if same_term(t, other) {
+        if same_tree(t, other) {
             return Some(at);
         }
     }

@@ -3,11 +3,11 @@ ghost use Rattle.std.specs.Prelude.{◌≡◌, ◌≤◌, [], None, drop, length
 ghost use Rattle.semantics_names.specs.Scope as spec;
 ghost use Rattle.semantics_names.specs.Statement as statement;
 ghost use Rattle.resolver_terms.specs.Outcome.{Gives};
-ghost use Rattle.resolver_terms.specs.TermView.{term};
+ghost use Rattle.expr.specs.View.{term};
 ghost use Rattle.resolver_exprs.specs.scopes.Next.{IsNext};
 
 use crate::scopes::Shown;
-use resolver_terms::Term;
+use expr::Expr;
 use std::alloc::{AllocError, Global};
 use values::Fault;
 
@@ -32,7 +32,7 @@ pub(crate) fn column(
     scope: &[Shown],
     table: Option<&str>,
     name: &str,
-) -> Result<Term, Fault>
+) -> Result<Expr, Fault>
     ensures { Gives term result (spec.column_of scope.now (option_map (λ t. t.now) table.entry) name.now) }
 {
     let Some(at) = next_called(scope, 0, table, name) else {

@@ -4,14 +4,14 @@ ghost use Rattle.semantics_names.specs.Scope.{column_of, places_of};
 ghost use Rattle.semantics_names.specs.Sources as sources;
 ghost use Rattle.semantics_names.specs.Statement as spec;
 ghost use Rattle.resolver_terms.specs.Outcome.{Gives};
-ghost use Rattle.resolver_terms.specs.TermView.{term};
+ghost use Rattle.expr.specs.View.{term};
 ghost use Rattle.resolver_exprs.specs.scopes.ResultView.{result_of};
 
 use crate::scopes::lookup::{column, declared_name, places};
 use crate::scopes::stars::{starred, starred_of};
 use crate::scopes::using::{hide, merge};
 use crate::scopes::{ResultColumn, Shown};
-use resolver_terms::Term;
+use expr::Expr;
 use std::alloc::{AllocError, Global};
 use std::marker::Model;
 use values::Fault;
@@ -48,7 +48,7 @@ impl Scope {
 
     /// The term of the one column that is called so, behind the name of its source or by its bare name. The fault is
     /// `UnknownColumn` where none is, `Ambiguous` where two are, or `NoMemory`. (SELECT, "Determination of input data")
-    pub fn column(&self, alloc: Global, table: Option<&str>, name: &str) -> Result<Term, Fault>
+    pub fn column(&self, alloc: Global, table: Option<&str>, name: &str) -> Result<Expr, Fault>
         ensures { Gives term result (column_of self.now (option_map (λ t. t.now) table.entry) name.now) }
     {
         column(alloc, self.columns.as_slice(), table, name)

@@ -2,10 +2,10 @@
 ghost use Rattle.std.specs.Prelude.{◌≡◌, IfOk, OnOk, map, option_map, string_bytes};
 ghost use Rattle.expr.specs.Term.{column};
 ghost use Rattle.semantics_names.specs.Scope as spec;
-ghost use Rattle.resolver_terms.specs.TermView.{term};
+ghost use Rattle.expr.specs.View.{term};
 ghost use Rattle.resolver_exprs.specs.scopes.Using.{hidden_column, merged_column};
 
-use resolver_terms::Term;
+use expr::Expr;
 use std::alloc::{AllocError, Global};
 use std::marker::Model;
 
@@ -30,24 +30,24 @@ impl Model for Shown {
     } };
 }
 
-fn columns(alloc: Global, places: &[usize]) -> Result<Vec<Term>, AllocError>
+fn columns(alloc: Global, places: &[usize]) -> Result<Vec<Expr>, AllocError>
     ensures { IfOk result (λ v. map term v.items ≡ map column places.now) }
 {
     let mut items = Vec::new(alloc);
     for at in places {
-        items.push(Term::Column(*at))?;
+        items.push(Expr::Column(*at))?;
     }
     Ok(items)
 }
 
 /// The value of the first of these places that isn't NULL; mostly the one value. (SELECT, "Determination of input data")
-pub fn bare_term(alloc: Global, places: &[usize]) -> Result<Term, AllocError>
+pub fn bare_term(alloc: Global, places: &[usize]) -> Result<Expr, AllocError>
     ensures { IfOk result (λ e. term e ≡ spec.bare_term places.now) }
 {
     match places {
-        [at] => Ok(Term::Column(*at)),
-        [] => Ok(Term::Coalesce(Vec::new(alloc))),
-        [_, _, ..] => Ok(Term::Coalesce(columns(alloc, places)?)),
+        [at] => Ok(Expr::Column(*at)),
+        [] => Ok(Expr::Coalesce(Vec::new(alloc))),
+        [_, _, ..] => Ok(Expr::Coalesce(columns(alloc, places)?)),
     }
 }
 
@@ -101,12 +101,12 @@ impl Shown {
         alloc: Global,
         table: Option<&str>,
         at: usize,
-    ) -> Result<Term, AllocError>
+    ) -> Result<Expr, AllocError>
         ensures { IfOk result (λ e. term e
             ≡ spec.bare_term (spec.shown_places (option_map (λ t. t.now) table.entry) at self.now)) }
     {
         match table {
-            Some(_) => Ok(Term::Column(at)),
+            Some(_) => Ok(Expr::Column(at)),
             None => bare_term(alloc, self.places.as_slice()),
         }
     }

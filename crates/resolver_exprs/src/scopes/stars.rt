@@ -6,13 +6,13 @@ ghost use Rattle.semantics_names.specs.Statement as spec;
 ghost use Rattle.resolver_exprs.specs.scopes.ResultView.{result_of};
 
 use crate::scopes::Shown;
-use resolver_terms::Term;
+use expr::Expr;
 use std::alloc::{AllocError, Global};
 
 /// A result column. (SELECT, "Generation of the set of result rows")
 #[derive(Drop)]
 pub struct ResultColumn {
-    pub term: Term,
+    pub term: Expr,
     pub name: String,
 }
 
@@ -31,7 +31,7 @@ fn placed(alloc: Global, shown: &Shown, at: usize) -> Result<ResultColumn, Alloc
     ensures { IfOk result (λ r. result_of r ≡ spec.result shown.now.name (column at)) }
 {
     Ok(ResultColumn {
-        term: Term::Column(at),
+        term: Expr::Column(at),
         name: shown.name(alloc)?,
     })
 }

@@ -4,15 +4,15 @@ ghost use Rattle.sql_reader_grammar.specs.Reading.{results_of};
 ghost use Rattle.semantics_names.specs.Outcome.{each, followed};
 ghost use Rattle.semantics_names.specs.Statement as spec;
 ghost use Rattle.resolver_terms.specs.Outcome.{Gives};
-ghost use Rattle.resolver_terms.specs.TermView.{term};
+ghost use Rattle.expr.specs.View.{term};
 ghost use Rattle.resolver_selects.specs.result_columns.Inputs as inputs;
 ghost use Rattle.resolver_exprs.specs.scopes.ResultView.{result_of};
 ghost use Rattle.sql_reader_grammar.specs.statement_trees.TreeView as trees;
 
 use crate::result_columns::inputs::keys;
 use crate::result_columns::titles::title;
+use expr::Expr;
 use resolver_exprs::{InnerQueries, Place, ResultColumn, Scope, term};
-use resolver_terms::Term;
 use sql_reader_grammar as written;
 use std::alloc::Global;
 use values::Fault;
@@ -20,7 +20,7 @@ use values::Fault;
 // Columns of FROM, over the rows that result columns speak of; some there have to be, or this is the fault.
 fn some(
     alloc: Global,
-    by: Option<&[Term]>,
+    by: Option<&[Expr]>,
     columns: Vec<ResultColumn>,
     fault: Fault,
 ) -> Result<Vec<ResultColumn>, Fault>
@@ -43,7 +43,7 @@ fn columns_of<I: InnerQueries, P: Place>(
     inner: &I,
     place: &P,
     scope: &Scope,
-    by: Option<&[Term]>,
+    by: Option<&[Expr]>,
     column: &written::ResultColumn,
 ) -> Result<Vec<ResultColumn>, Fault>
     ensures { let input = inputs.input_of (option_map (λ terms. map term terms.now) by.entry) in
@@ -78,7 +78,7 @@ pub fn result_columns<I: InnerQueries, P: Place>(
     inner: &I,
     place: &P,
     scope: &Scope,
-    by: Option<&[Term]>,
+    by: Option<&[Expr]>,
     columns: &[written::ResultColumn],
 ) -> Result<Vec<ResultColumn>, Fault>
     ensures { let input = inputs.input_of (option_map (λ terms. map term terms.now) by.entry) in

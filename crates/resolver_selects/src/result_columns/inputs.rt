@@ -4,16 +4,16 @@ ghost use Rattle.semantics_names.specs.Outcome.{also, each};
 ghost use Rattle.semantics_names.specs.Places.{key_column};
 ghost use Rattle.semantics_names.specs.Statement as spec;
 ghost use Rattle.resolver_terms.specs.Outcome.{Gives};
-ghost use Rattle.resolver_terms.specs.TermView.{term};
+ghost use Rattle.expr.specs.View.{term};
 ghost use Rattle.resolver_exprs.specs.scopes.ResultView.{result_of};
 
+use expr::Expr;
 use resolver_exprs::{ResultColumn, term_place};
-use resolver_terms::Term;
 use std::alloc::Global;
 use values::Fault;
 
 // A column of FROM, over the rows of groups.
-fn key(alloc: Global, by: &[Term], column: &ResultColumn) -> Result<ResultColumn, Fault>
+fn key(alloc: Global, by: &[Expr], column: &ResultColumn) -> Result<ResultColumn, Fault>
     ensures { let r = result_of column.now in
         Gives result_of result (also (spec.result r.name) (spec.or_bare (key_column (map term by.now) (Ok r.term)))) }
 {
@@ -21,7 +21,7 @@ fn key(alloc: Global, by: &[Term], column: &ResultColumn) -> Result<ResultColumn
         return Err(Fault::BareColumn);
     };
     Ok(ResultColumn {
-        term: Term::Column(at),
+        term: Expr::Column(at),
         name: String::from_str(alloc, column.name.as_str())?,
     })
 }
@@ -30,7 +30,7 @@ fn key(alloc: Global, by: &[Term], column: &ResultColumn) -> Result<ResultColumn
 /// (SELECT, "Generation of the set of result rows")
 pub(crate) fn keys(
     alloc: Global,
-    by: &[Term],
+    by: &[Expr],
     columns: &[ResultColumn],
 ) -> Result<Vec<ResultColumn>, Fault>
     ensures { Gives (λ v. map result_of v.items) result

@@ -2,14 +2,14 @@
 ghost use Rattle.std.specs.Prelude.{◌≡◌, map, option_map};
 ghost use Rattle.semantics_names.specs.Statement as spec;
 ghost use Rattle.resolver_terms.specs.Outcome.{Gives};
-ghost use Rattle.resolver_terms.specs.TermView.{term};
+ghost use Rattle.expr.specs.View.{term};
 ghost use Rattle.resolver_selects.specs.select_clauses.Keys.{is_number, key_of};
 ghost use Rattle.sql_reader_syntax.specs.ExprView.{maybe_of};
 ghost use Rattle.sql_reader_grammar.specs.statement_trees.TreeView.{expr_of};
 ghost use Rattle.sql_reader_syntax.specs.ExprTree.{trees_of};
 
+use expr::Expr as Term;
 use resolver_exprs::{Columns, InnerQueries, Place, Scope, term};
-use resolver_terms::Term;
 use sql_reader_grammar::Expr;
 use std::alloc::Global;
 use values::{Fault, Value};

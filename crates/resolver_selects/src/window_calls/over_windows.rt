@@ -4,13 +4,14 @@ ghost use Rattle.semantics_names.specs.Places.{column_from, place_of};
 ghost use Rattle.semantics_names.specs.Same.{is_same_call};
 ghost use Rattle.resolver_terms.specs.Outcome.{Gives};
 ghost use Rattle.resolver_terms.specs.SelectView.{call_of};
-ghost use Rattle.resolver_terms.specs.TermView.{term};
+ghost use Rattle.expr.specs.View.{term};
 
 use crate::window_calls::calls::call;
 use crate::window_calls::mentions::call_place;
 use crate::window_names::Defined;
+use expr::Expr as Term;
 use resolver_exprs::{InnerQueries, Place};
-use resolver_terms::{Term, WindowCall};
+use resolver_terms::WindowCall;
 use sql_reader_grammar::Expr;
 use std::alloc::Global;
 use values::Fault;

@@ -7,13 +7,13 @@ use Rattle.resolver_bodies.specs.BodyView.{JoinedData, body_of, joined_all, join
 use Rattle.semantics_names.specs.Outcome.{found_or}
 use Rattle.semantics_names.specs.Sources as spec
 use Rattle.semantics_names.specs.Statement as statement
-use Rattle.resolver_exprs.specs.order_keys.KeyView.{key_of}
-use Rattle.resolver_terms.specs.TermView.{term}
+use Rattle.expr.specs.View.{term}
 use Rattle.resolver_sources.specs.declared.source_names.conditions.Condition.{Condition}
 use Rattle.resolver_sources.specs.declared.source_names.given.Given.{Given}
 use Rattle.resolver_sources.specs.declared.source_names.given.Known.{Known}
 use Rattle.resolver_sources.specs.declared.source_names.given.Queried.{Queried}
 use Rattle.resolver_sources.specs.declared.source_names.joins.Sources.{Sources}
+use Rattle.resolver_terms.specs.SelectView.{key_of}
 
 abbrev pub known_of : Known → spec.Known
 known_of k = record {

@@ -5,9 +5,10 @@ ghost use Rattle.semantics_names.specs.Statement as spec;
 ghost use Rattle.resolver_terms.specs.SelectView.{call_of, select_of};
 ghost use Rattle.resolver_selects.specs.window_names.DefinedView.{defined_of};
 
-use resolver_bodies::{Single, Tables, copy_grouping, copy_tables};
+use expr::copy;
+use resolver_bodies::{Single, Tables, copy_tables};
 use resolver_selects::Defined;
-use resolver_terms::{Select, WindowCall, WindowFunction, copy_term, copy_window};
+use resolver_terms::{Select, WindowCall, WindowFunction, copy_grouping, copy_window};
 use std::alloc::{AllocError, Global};
 
 // A call over each of these windows.
@@ -29,7 +30,7 @@ fn calls_over(alloc: Global, defined: &[Defined]) -> Result<Vec<WindowCall>, All
 fn windows_alone(alloc: Global, select: &Select, defined: &[Defined]) -> Result<Select, AllocError>
     ensures { IfOk result (λ s. select_of s ≡ spec.with_windows (select_of select.now) (map defined_of defined.now)) }
 {
-    let condition = copy_term(alloc, &select.condition)?;
+    let condition = copy(alloc, &select.condition)?;
     let grouping = copy_grouping(alloc, &select.grouping)?;
     let windows = calls_over(alloc, defined)?;
     Ok(Select {

@@ -8,8 +8,8 @@ ghost use Rattle.sql_reader_grammar.specs.statement_trees.TreeView.{expr_of, on_
 ghost use Rattle.sql_reader_syntax.specs.ExprTree.{OnTree};
 
 use crate::source_names::using::using;
+use expr::Expr as Term;
 use resolver_exprs::{Columns, InnerQueries, Scope, term};
-use resolver_terms::Term;
 use sql_reader_grammar::{Expr, JoinCondition};
 use std::alloc::Global;
 use values::{Fault, Value};

@@ -8,7 +8,7 @@ ghost use Rattle.resolver_sources.specs.source_names.GivenView.{given_of, known_
 
 use crate::source_names::names::{copy_name, copy_names};
 use resolver_bodies::{Body, Source, copy_source};
-use resolver_exprs::Key;
+use resolver_terms::Key;
 use std::alloc::{AllocError, Global};
 use values::Fault;
 

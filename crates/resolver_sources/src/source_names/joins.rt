@@ -5,7 +5,7 @@ ghost use Rattle.resolver_bodies.specs.BodyView.{joined_of, source_of};
 ghost use Rattle.semantics.specs.Query.{JoinKind};
 ghost use Rattle.semantics_names.specs.Sources as spec;
 ghost use Rattle.resolver_terms.specs.Outcome.{Gives};
-ghost use Rattle.resolver_terms.specs.TermView.{term};
+ghost use Rattle.expr.specs.View.{term};
 ghost use Rattle.resolver_sources.specs.source_names.GivenView.{given_of, joined_data, sources_of};
 ghost use Rattle.sql_reader_grammar.specs.statement_trees.TreeView.{on_of};
 ghost use Rattle.sql_reader_syntax.specs.ExprTree.{OnTree};
@@ -13,9 +13,9 @@ ghost use Rattle.sql_reader_syntax.specs.ExprTree.{OnTree};
 use crate::source_names::Given;
 use crate::source_names::columns::shown_from;
 use crate::source_names::conditions::joined_on;
+use expr::Expr;
 use resolver_bodies::{Body, Joined, Source};
 use resolver_exprs::{InnerQueries, Scope};
-use resolver_terms::Term;
 use sql_reader_grammar::JoinCondition;
 use sql_reader_syntax::Join;
 use std::alloc::Global;
@@ -57,7 +57,7 @@ fn is_among(name: &Option<String>, names: &[Option<String>]) -> bool
 }
 
 // A source, joined so.
-fn joined_by(join: Join, source: Source, condition: Term) -> Joined
+fn joined_by(join: Join, source: Source, condition: Expr) -> Joined
     ensures { joined_of result ≡ joined_data (spec.kind_of join) (source_of source) (term condition) }
 {
     Joined {

@@ -3,18 +3,18 @@ ghost use Rattle.std.specs.Prelude.{◌≡◌, ◌++◌, IfOk, map, option_map, 
 ghost use Rattle.semantics_names.specs.Outcome.{also};
 ghost use Rattle.semantics_names.specs.Sources as spec;
 ghost use Rattle.resolver_terms.specs.Outcome.{Gives};
-ghost use Rattle.resolver_terms.specs.TermView.{term};
+ghost use Rattle.expr.specs.View.{term};
 ghost use Rattle.resolver_exprs.specs.scopes.Using.{all_hidden};
 ghost use Rattle.resolver_sources.specs.source_names.Matched.{and_then, condition, matched, one_matched};
 
+use expr::Expr;
 use resolver_exprs::{Scope, bare_term, binary};
-use resolver_terms::Term;
 use sql_reader_syntax::BinaryOperator;
 use std::alloc::{AllocError, Global};
 use values::{Fault, Value};
 
 // The equality of the columns of both sides, which look at these places.
-fn equal(alloc: Global, left: &[usize], right: &[usize]) -> Result<Term, AllocError>
+fn equal(alloc: Global, left: &[usize], right: &[usize]) -> Result<Expr, AllocError>
     ensures { IfOk result (λ t. term t ≡ spec.equal left.now right.now) }
 {
     let left = bare_term(alloc, left)?;
@@ -23,7 +23,7 @@ fn equal(alloc: Global, left: &[usize], right: &[usize]) -> Result<Term, AllocEr
 }
 
 // The equality that a name says. The column of the left side looks at the places of both.
-fn matching(alloc: Global, left: &mut Scope, theirs: &Scope, name: &str) -> Result<Term, Fault>
+fn matching(alloc: Global, left: &mut Scope, theirs: &Scope, name: &str) -> Result<Expr, Fault>
     ensures { Gives (λ t. (left.new, term t)) result (one_matched theirs.now left.old name.now) }
 {
     let mine = left.places(name)?;
@@ -39,7 +39,7 @@ fn equalities(
     left: &mut Scope,
     theirs: &Scope,
     names: &[String],
-) -> Result<Vec<Term>, Fault>
+) -> Result<Vec<Expr>, Fault>
     ensures { Gives (λ v. (left.new, map term v.items)) result
         (matched theirs.now left.old (map (λ n. string_bytes n) names.now)) }
 {
@@ -61,7 +61,7 @@ fn hide(right: &mut Scope, names: &[String])
 }
 
 // A further condition, behind those before it.
-fn and(alloc: Global, all: Option<Term>, next: Term) -> Result<Term, AllocError>
+fn and(alloc: Global, all: Option<Expr>, next: Expr) -> Result<Expr, AllocError>
     ensures { IfOk result (λ t. term t ≡ and_then (option_map term all) (term next)) }
 {
     match all {
@@ -71,14 +71,14 @@ fn and(alloc: Global, all: Option<Term>, next: Term) -> Result<Term, AllocError>
 }
 
 // All of these conditions.
-fn conjunction(alloc: Global, terms: Vec<Term>) -> Result<Term, AllocError>
+fn conjunction(alloc: Global, terms: Vec<Expr>) -> Result<Expr, AllocError>
     ensures { IfOk result (λ t. term t ≡ spec.conjunction (map term terms.items)) }
 {
-    let mut all: Option<Term> = None;
+    let mut all: Option<Expr> = None;
     for next in terms {
         all = Some(and(alloc, all, next)?);
     }
-    Ok(all.unwrap_or(Term::Literal(Value::Int(1))))
+    Ok(all.unwrap_or(Expr::Literal(Value::Int(1))))
 }
 
 /// The columns that both sides of a join with USING show, and its condition. The fault is `UnknownColumn` where a side has no column
@@ -88,7 +88,7 @@ pub(crate) fn using(
     left: &mut Scope,
     right: Scope,
     names: &[String],
-) -> Result<Term, Fault>
+) -> Result<Expr, Fault>
     ensures { Gives (λ t. condition left.new (term t)) result
         (also (λ u. condition (u.left ++ u.right) (spec.conjunction u.equalities))
         (spec.used right left.old right (map (λ n. string_bytes n) names.now))) }

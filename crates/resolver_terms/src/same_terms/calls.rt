@@ -4,14 +4,14 @@ ghost use Rattle.semantics_names.specs.Places.{exclusion_of, unit_of};
 ghost use Rattle.resolver_terms.specs.SelectView.{call_of, edge_of, frame_of, function_of, sort_of, window_of};
 
 use crate::same_terms::aggregates::same_aggregate;
-use crate::same_terms::equality::{same_term, same_term_lists};
 use crate::{Edge, Frame, SortTerm, Window, WindowCall, WindowFunction};
+use expr_types::{same_tree, same_tree_lists};
 use sql_reader_syntax::{Exclusion, FrameUnit};
 
 fn same_sort(a: &SortTerm, b: &SortTerm) -> bool
     ensures { IsTrue result ↔ sort_of a.now ≡ sort_of b.now }
 {
-    a.direction == b.direction && same_term(&a.term, &b.term)
+    a.direction == b.direction && same_tree(&a.term, &b.term)
 }
 
 fn same_order(a: &[SortTerm], b: &[SortTerm]) -> bool
@@ -57,7 +57,7 @@ fn same_frame(a: Frame, b: Frame) -> bool
 fn same_window(a: &Window, b: &Window) -> bool
     ensures { IsTrue result ↔ window_of a.now ≡ window_of b.now }
 {
-    same_term_lists(a.partition.as_slice(), b.partition.as_slice())
+    same_tree_lists(a.partition.as_slice(), b.partition.as_slice())
         && same_order(a.order.as_slice(), b.order.as_slice())
         && same_frame(a.frame, b.frame)
 }
@@ -74,19 +74,19 @@ fn same_function(a: &WindowFunction, b: &WindowFunction) -> bool
         WindowFunction::DenseRank => matches!(b, WindowFunction::DenseRank),
         WindowFunction::NTile(m) => matches!(b, WindowFunction::NTile(n) if m == n),
         WindowFunction::Lag(x, m, s) => {
-            matches!(b, WindowFunction::Lag(y, n, t) if m == n && same_term(x, y) && same_term(s, t))
+            matches!(b, WindowFunction::Lag(y, n, t) if m == n && same_tree(x, y) && same_tree(s, t))
         }
         WindowFunction::Lead(x, m, s) => {
-            matches!(b, WindowFunction::Lead(y, n, t) if m == n && same_term(x, y) && same_term(s, t))
+            matches!(b, WindowFunction::Lead(y, n, t) if m == n && same_tree(x, y) && same_tree(s, t))
         }
         WindowFunction::FirstValue(x) => {
-            matches!(b, WindowFunction::FirstValue(y) if same_term(x, y))
+            matches!(b, WindowFunction::FirstValue(y) if same_tree(x, y))
         }
         WindowFunction::LastValue(x) => {
-            matches!(b, WindowFunction::LastValue(y) if same_term(x, y))
+            matches!(b, WindowFunction::LastValue(y) if same_tree(x, y))
         }
         WindowFunction::NthValue(x, m) => {
-            matches!(b, WindowFunction::NthValue(y, n) if m == n && same_term(x, y))
+            matches!(b, WindowFunction::NthValue(y, n) if m == n && same_tree(x, y))
         }
     }
 }

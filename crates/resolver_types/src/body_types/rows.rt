@@ -1,7 +1,7 @@
 //! The types of the row that the terms of a SELECT are computed on, and of the answers that they name.
 ghost use Rattle.std.specs.Prelude.{◌≡◌};
 
-use crate::term_types::RowTypes;
+use expr_types::RowTypes;
 use values::Ty;
 
 /// The types of a row, and of the answers of inner queries that terms over it name.

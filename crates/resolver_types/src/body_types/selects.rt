@@ -5,7 +5,8 @@ ghost use Rattle.semantics_names.specs.Types as spec;
 ghost use Rattle.resolver_terms.specs.Outcome.{Gives};
 ghost use Rattle.resolver_terms.specs.SelectView.{call_of, grouping_of, select_of};
 
-use crate::term_types::{RowTypes, aggregate_types, call_types, condition_type, term_types};
+use crate::term_types::{aggregate_types, call_types, condition_type, term_types};
+use expr_types::RowTypes;
 use resolver_terms::{Grouping, Select, WindowCall};
 use std::alloc::Global;
 use values::{Fault, Ty};

@@ -5,7 +5,7 @@ ghost use Rattle.semantics_names.specs.Types as spec;
 ghost use Rattle.semantics_names.specs.Places.{unit_of};
 ghost use Rattle.resolver_terms.specs.SelectView.{edge_of, frame_of, sort_of};
 
-use crate::term_types::typing::RowTypes;
+use expr_types::RowTypes;
 use resolver_terms::{Edge, Frame, SortTerm};
 use sql_reader_syntax::FrameUnit;
 use values::Ty;

@@ -6,7 +6,7 @@ ghost use Rattle.resolver_terms.specs.Outcome.{Gives};
 ghost use Rattle.resolver_terms.specs.SelectView.{aggregate_of, function_of};
 
 use crate::term_types::terms::{both_type, condition_type, term_type};
-use crate::term_types::typing::RowTypes;
+use expr_types::RowTypes;
 use resolver_terms::{Aggregate, AggregateFunction, WindowFunction};
 use std::alloc::Global;
 use values::{Fault, Ty};

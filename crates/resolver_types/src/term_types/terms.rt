@@ -4,12 +4,12 @@ ghost use Rattle.semantics_names.specs.Outcome.{each};
 ghost use Rattle.semantics_names.specs.Types as spec;
 ghost use Rattle.resolver_terms.specs.Outcome.{Gives};
 ghost use Rattle.resolver_terms.specs.SelectView.{sort_of};
-ghost use Rattle.resolver_terms.specs.TermView.{term};
+ghost use Rattle.expr.specs.View.{term};
 ghost use Rattle.resolver_types.specs.term_types.Passed.{passed};
 
-use crate::term_types::typing::RowTypes;
-use expr_types::{one_of, wanted};
-use resolver_terms::{SortTerm, Term};
+use expr::Expr;
+use expr_types::{RowTypes, one_of, wanted};
+use resolver_terms::SortTerm;
 use std::alloc::Global;
 use values::{Fault, Ty};
 
@@ -24,28 +24,28 @@ pub fn typed(found: Option<Ty>) -> Result<Ty, Fault>
 }
 
 /// The type of a term. The fault is `TypeMismatch` where it has none. (STRICT Tables)
-pub fn term_type(over: &RowTypes<'_>, t: &Term) -> Result<Ty, Fault>
+pub fn term_type(over: &RowTypes<'_>, t: &Expr) -> Result<Ty, Fault>
     ensures { result ≡ spec.term_type over.now.answers.now over.now.columns.now (term t.now) }
 {
     typed(over.type_of(t))
 }
 
 /// The type of a condition, that of a whole number. The fault is `TypeMismatch` where it has another, or none. (STRICT Tables)
-pub fn condition_type(over: &RowTypes<'_>, t: &Term) -> Result<Ty, Fault>
+pub fn condition_type(over: &RowTypes<'_>, t: &Expr) -> Result<Ty, Fault>
     ensures { result ≡ spec.condition_type over.now.answers.now over.now.columns.now (term t.now) }
 {
     typed(wanted(Ty::Int, over.type_of(t)))
 }
 
 /// The one type of two terms. The fault is `TypeMismatch` where they have none. (STRICT Tables)
-pub(crate) fn both_type(over: &RowTypes<'_>, x: &Term, y: &Term) -> Result<Ty, Fault>
+pub(crate) fn both_type(over: &RowTypes<'_>, x: &Expr, y: &Expr) -> Result<Ty, Fault>
     ensures { result ≡ spec.both_type over.now.answers.now over.now.columns.now (term x.now) (term y.now) }
 {
     typed(one_of(over.type_of(x), over.type_of(y)))
 }
 
 /// The type of each term. The fault is `TypeMismatch` where one has none, or `NoMemory`. (STRICT Tables)
-pub fn term_types(alloc: Global, over: &RowTypes<'_>, terms: &[Term]) -> Result<Vec<Ty>, Fault>
+pub fn term_types(alloc: Global, over: &RowTypes<'_>, terms: &[Expr]) -> Result<Vec<Ty>, Fault>
     ensures { Gives (λ v. v.items) result (each (spec.term_type over.now.answers.now over.now.columns.now) (map term terms.now)) }
 {
     let mut types = Vec::new(alloc);
@@ -57,7 +57,7 @@ pub fn term_types(alloc: Global, over: &RowTypes<'_>, terms: &[Term]) -> Result<
 }
 
 /// Whether each term has a type. The fault is `TypeMismatch` where one has none. (STRICT Tables)
-pub(crate) fn check_terms(over: &RowTypes<'_>, terms: &[Term]) -> Result<(), Fault>
+pub(crate) fn check_terms(over: &RowTypes<'_>, terms: &[Expr]) -> Result<(), Fault>
     ensures { result ≡ passed (each (spec.term_type over.now.answers.now over.now.columns.now) (map term terms.now)) }
 {
     for t in terms {

@@ -9,7 +9,7 @@ ghost use Rattle.resolver_types.specs.term_types.Passed.{passed};
 use crate::term_types::frames::is_frame;
 use crate::term_types::functions::function_type;
 use crate::term_types::terms::{check_order, check_terms};
-use crate::term_types::typing::RowTypes;
+use expr_types::RowTypes;
 use resolver_terms::{Window, WindowCall};
 use std::alloc::Global;
 use values::{Fault, Ty};

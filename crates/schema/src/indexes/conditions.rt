@@ -227,7 +227,7 @@ pub(crate) fn condition(alloc: Global, table: &Table, tree: &Tree) -> Result<Exp
 {
     let condition = part(alloc, table, tree)?;
     let types = types_of(alloc, table)?;
-    if is_whole(type_of(types.as_slice(), &condition)) {
+    if is_whole(type_of(types.as_slice(), &[], &condition)) {
         Ok(condition)
     } else {
         Err(Fault::TypeMismatch)

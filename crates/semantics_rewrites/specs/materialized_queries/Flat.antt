@@ -7,7 +7,7 @@ use Rattle.expr.specs.Filled.{filled}
 use Rattle.expr.specs.Term.{Term}
 use Rattle.semantics.specs.Body.{answers_in, source_rows}
 use Rattle.semantics.specs.Query.{Body, From, QueryData, Source, body_width, compound, derived, joined, nothing, schema, select, source_width, table, with_inner}
-use Rattle.semantics_rewrites.specs.schema_sources.Mapped.{mapped_key, mapped_select}
+use Rattle.semantics.specs.Mapped.{mapped_key, mapped_select}
 
 -- ---- the sources that are no tables, in their order
 

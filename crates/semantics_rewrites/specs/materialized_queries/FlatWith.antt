@@ -9,7 +9,7 @@ use Rattle.expr.specs.Filled.{filled}
 use Rattle.semantics.specs.Body.{answer_of, one_if_some, source_rows}
 use Rattle.semantics.specs.Query.{Body, From, InnerQuery, QueryData, compound, exists, joined, nothing, select, values_of, with_inner}
 use Rattle.semantics.specs.Sequence.{value_at}
-use Rattle.semantics_rewrites.specs.schema_sources.Mapped.{mapped_key, mapped_select}
+use Rattle.semantics.specs.Mapped.{mapped_key, mapped_select}
 use Rattle.semantics_rewrites.specs.materialized_queries.Flat.{materialized_from, kept_of}
 
 -- ---- the queries inside expressions, in their order

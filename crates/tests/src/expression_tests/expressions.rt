@@ -223,7 +223,8 @@ fn member(alloc: Global, value: Literal, items: &[Literal]) -> Result<Expr, Allo
     for item in items {
         values.push(item.to_value(alloc)?)?;
     }
-    Ok(Expr::Member(literal(alloc, value)?, ValueSet::new(alloc, values)?))
+    let set = ValueSet::new(alloc, values)?;
+    Ok(Expr::Member(literal(alloc, value)?, Box::new(alloc, set)?))
 }
 
 fn two(infix: Infix, left: Box<Expr>, right: Box<Expr>) -> Expr {

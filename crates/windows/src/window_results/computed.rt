@@ -5,15 +5,15 @@ ghost use Rattle.expr.specs.Meaning.{Overflows, eval};
 ghost use Rattle.expr.specs.View.{term};
 ghost use Rattle.semantics.specs.Hits.{function_terms};
 ghost use Rattle.windows_order.specs.window_order.Placed.{rows_in};
-ghost use Rattle.windows_terms.specs.FunctionView.{function_data};
 ghost use Rattle.windows.specs.window_results.Known.{known_for, known_of, shifted_of};
+ghost use Rattle.resolver_terms.specs.SelectView.{function_of};
 
 use crate::window_results::framed::Framed;
 use expr::{Expr, eval};
+use resolver_terms::WindowFunction;
 use std::alloc::Global;
 use values::{Fault, Value};
 use windows_order::Sequence;
-use windows_terms::Function;
 
 /// The values along a sequence of which each row gets that of another, and what stands on each where there is no such row.
 #[derive(Drop)]
@@ -77,38 +77,42 @@ fn shifted_values(
 
 /// What is computed once of a sequence, for the values of a function at its places. Its faults are `Overflow`, where an argument
 /// reaches an operation out of range on a row, and `NoMemory`.
-pub fn compute(alloc: Global, function: &Function, sequence: &Sequence) -> Result<Computed, Fault>
-    ensures known { IfOk result (λ computed. (w : Datum) → known_of computed ≡ known_for (eval w) (function_data function.now) (rows_in sequence.now)) }
-    ensures overflow { result ≡ Err Fault.Overflow → Any (λ row. Any (λ t. Overflows t row) (function_terms (function_data function.now))) (rows_in sequence.now) }
+pub fn compute(
+    alloc: Global,
+    function: &WindowFunction,
+    sequence: &Sequence,
+) -> Result<Computed, Fault>
+    ensures known { IfOk result (λ computed. (w : Datum) → known_of computed ≡ known_for (eval w) (function_of function.now) (rows_in sequence.now)) }
+    ensures overflow { result ≡ Err Fault.Overflow → Any (λ row. Any (λ t. Overflows t row) (function_terms (function_of function.now))) (rows_in sequence.now) }
     ensures only { IfErr result (λ e. (e ≡ Fault.Overflow) ⊎ (e ≡ Fault.NoMemory)) }
 {
     match function {
-        Function::Aggregate(aggregate) => {
+        WindowFunction::Aggregate(aggregate) => {
             let values = values_of(alloc, &aggregate.argument, sequence)?;
             let framed = Framed::aggregate(alloc, aggregate.function, values)?;
             Ok(Computed::OverFrame(framed))
         }
-        Function::RowNumber => Ok(Computed::RowNumber),
-        Function::Rank => Ok(Computed::Rank),
-        Function::DenseRank => Ok(Computed::DenseRank),
-        Function::NTile(buckets) => Ok(Computed::NTile(*buckets)),
-        Function::Lag(expression, count, otherwise) => {
+        WindowFunction::RowNumber => Ok(Computed::RowNumber),
+        WindowFunction::Rank => Ok(Computed::Rank),
+        WindowFunction::DenseRank => Ok(Computed::DenseRank),
+        WindowFunction::NTile(buckets) => Ok(Computed::NTile(*buckets)),
+        WindowFunction::Lag(expression, count, otherwise) => {
             let lagging = shifted_values(alloc, expression, *count, otherwise, sequence)?;
             Ok(Computed::Lag(lagging))
         }
-        Function::Lead(expression, count, otherwise) => {
+        WindowFunction::Lead(expression, count, otherwise) => {
             let leading = shifted_values(alloc, expression, *count, otherwise, sequence)?;
             Ok(Computed::Lead(leading))
         }
-        Function::FirstValue(expression) => {
+        WindowFunction::FirstValue(expression) => {
             let values = values_of(alloc, expression, sequence)?;
             Ok(Computed::OverFrame(Framed::FirstValue(values)))
         }
-        Function::LastValue(expression) => {
+        WindowFunction::LastValue(expression) => {
             let values = values_of(alloc, expression, sequence)?;
             Ok(Computed::OverFrame(Framed::LastValue(values)))
         }
-        Function::NthValue(expression, row) => {
+        WindowFunction::NthValue(expression, row) => {
             let values = values_of(alloc, expression, sequence)?;
             Ok(Computed::OverFrame(Framed::NthValue(values, *row)))
         }

@@ -8,9 +8,8 @@ ghost use Rattle.semantics.specs.Query as query;
 ghost use Rattle.semantics.specs.Valuation.{Valuation};
 ghost use Rattle.semantics.specs.Windows.{places, window_result};
 ghost use Rattle.semantics.specs.Windows as windows;
-ghost use Rattle.resolver_terms.specs.SelectView.{frame_of};
+ghost use Rattle.resolver_terms.specs.SelectView.{frame_of, function_of};
 ghost use Rattle.windows_order.specs.window_order.Placed.{keys_in, rows_in, ways_in};
-ghost use Rattle.windows_terms.specs.FunctionView.{function_data};
 ghost use Rattle.windows.specs.window_results.Known.{IsAsLong, known_for, known_of, known_result};
 ghost use Rattle.windows.specs.window_results.Over.{IsWindowOver};
 ghost use Rattle.windows.specs.window_results.Put.{AreWanted, PutsEach, numbers_in};
@@ -18,11 +17,10 @@ ghost use Rattle.windows.specs.window_results.Put.{AreWanted, PutsEach, numbers_
 use crate::frames::ranges_of;
 use crate::window_results::computed::{Computed, compute};
 use crate::window_values::{dense_rank, lag, lead, ntile, rank, row_number};
-use resolver_terms::Frame;
+use resolver_terms::{Frame, WindowFunction};
 use std::alloc::Global;
 use values::{Fault, Value};
 use windows_order::Sequence;
-use windows_terms::Function;
 
 /// The number of the bucket of a row, from 1. Where there are no buckets, for which no statement asks, each row is one.
 fn bucket_number(sequence: &Sequence, buckets: u64, here: usize) -> Result<Value, Fault>
@@ -153,7 +151,7 @@ impl Computed {
 /// the number of the function leaves 64 bits at a place, and `NoMemory`.
 pub fn put_values(
     alloc: Global,
-    function: &Function,
+    function: &WindowFunction,
     frame: Frame,
     sequence: &Sequence,
     results: &mut Vec<Value>,
@@ -161,12 +159,12 @@ pub fn put_values(
     requires { All (λ i. i < length results.old.items) (numbers_in sequence.now) }
     ensures size { length results.new.items ≡ length results.old.items }
     ensures values { OnOk result ((w : Datum) (o : Option Datum) (window : query.Window) (want : ℕ → Option Datum) → IsWindowOver (eval w) window sequence.now frame
-        → AreWanted want (window_result (eval w) o window (function_data function.now) (rows_in sequence.now)) (numbers_in sequence.now)
+        → AreWanted want (window_result (eval w) o window (function_of function.now) (rows_in sequence.now)) (numbers_in sequence.now)
         → PutsEach want (numbers_in sequence.now) (map datum_of results.old.items) (map datum_of results.new.items)) }
     ensures added { IfOk result (λ added. added ≤ length (rows_in sequence.now)) }
-    ensures overflow { result ≡ Err Fault.Overflow → Any (λ row. Any (λ t. Overflows t row) (function_terms (function_data function.now))) (rows_in sequence.now)
+    ensures overflow { result ≡ Err Fault.Overflow → Any (λ row. Any (λ t. Overflows t row) (function_terms (function_of function.now))) (rows_in sequence.now)
         ⊎ ((w : Datum) (window : query.Window) → IsWindowOver (eval w) window sequence.now frame
-        → Any (λ here. window_result (eval w) None window (function_data function.now) (rows_in sequence.now) here ≡ None) (places (rows_in sequence.now))) }
+        → Any (λ here. window_result (eval w) None window (function_of function.now) (rows_in sequence.now) here ≡ None) (places (rows_in sequence.now))) }
     ensures only { IfErr result (λ e. (e ≡ Fault.Overflow) ⊎ (e ≡ Fault.NoMemory)) }
 {
     let computed = compute(alloc, function, sequence)?;

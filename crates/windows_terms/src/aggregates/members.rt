@@ -5,17 +5,18 @@ ghost use Rattle.values.specs.Row.{Row};
 ghost use Rattle.expr.specs.Meaning.{Overflows, eval};
 ghost use Rattle.semantics.specs.Groups.{aggregate_result, aggregate_value};
 ghost use Rattle.semantics.specs.Query as query;
-ghost use Rattle.windows_terms.specs.aggregates.AggregateView.{aggregate_data};
 ghost use Rattle.windows_terms.specs.aggregates.State.{state_of, states_after};
+ghost use Rattle.resolver_terms.specs.SelectView.{aggregate_of};
 
-use crate::aggregates::{Accumulator, Aggregate};
+use crate::aggregates::Accumulator;
 use expr::eval;
+use resolver_terms::Aggregate;
 use std::alloc::{AllocError, Global};
 use values::{Fault, Value};
 
 /// The aggregates of no rows.
 pub fn first_states(alloc: Global, aggregates: &[Aggregate]) -> Result<Vec<Accumulator>, AllocError>
-    ensures { IfOk result (λ states. (w : Datum) → map state_of states.items ≡ states_after w (map aggregate_data aggregates.now) []) }
+    ensures { IfOk result (λ states. (w : Datum) → map state_of states.items ≡ states_after w (map aggregate_of aggregates.now) []) }
 {
     let mut states = Vec::with_capacity(alloc, aggregates.len())?;
     for aggregate in aggregates {
@@ -32,9 +33,9 @@ pub fn add_row(
     states: &mut [Accumulator],
     row: &[Value],
 ) -> Result<(), Fault>
-    ensures states { OnOk result ((w : Datum) (rows : List Row) → map state_of states.old ≡ states_after w (map aggregate_data aggregates.now) rows
-        → map state_of states.new ≡ states_after w (map aggregate_data aggregates.now) (rows ++ map datum_of row.now ∷ [])) }
-    ensures overflow { result ≡ Err Fault.Overflow → Any (λ a. Overflows a.argument (map datum_of row.now)) (map aggregate_data aggregates.now) }
+    ensures states { OnOk result ((w : Datum) (rows : List Row) → map state_of states.old ≡ states_after w (map aggregate_of aggregates.now) rows
+        → map state_of states.new ≡ states_after w (map aggregate_of aggregates.now) (rows ++ map datum_of row.now ∷ [])) }
+    ensures overflow { result ≡ Err Fault.Overflow → Any (λ a. Overflows a.argument (map datum_of row.now)) (map aggregate_of aggregates.now) }
     ensures only { IfErr result (λ e. (e ≡ Fault.Overflow) ⊎ (e ≡ Fault.NoMemory)) }
 {
     let count = aggregates.len().min(states.len());

@@ -5,16 +5,17 @@ ghost use Rattle.values.specs.Datum.{Datum, datum_of};
 ghost use Rattle.values.specs.Row as rows;
 ghost use Rattle.semantics.specs.Times.{same_row};
 ghost use Rattle.indexmap.specs.IndexSet.{insert_key};
-ghost use Rattle.windows_terms.specs.aggregates.AggregateView.{aggregate_data};
 ghost use Rattle.windows_terms.specs.aggregates.State.{states_after};
 ghost use Rattle.windows_terms.specs.row_groups.GroupView.{GroupTermsData, group_terms_data};
 ghost use Rattle.windows_terms.specs.row_groups.Gathered.{GivesRowAt, IsLeaving, gathered_rows, groups_in_order, ReachesIn};
 ghost use Rattle.windows_terms.specs.row_groups.Kept.{AreGroupsOf, count_of, states_of};
+ghost use Rattle.resolver_terms.specs.SelectView.{aggregate_of};
 
-use crate::aggregates::{Accumulator, Aggregate, add_row, first_states, push_values};
+use crate::aggregates::{Accumulator, add_row, first_states, push_values};
 use crate::row_groups::GroupTerms;
 use crate::row_groups::terms::key_of;
 use indexmap::IndexSet;
+use resolver_terms::Aggregate;
 use std::alloc::Global;
 use values::{Fault, Row, Value};
 
@@ -79,7 +80,7 @@ impl Groups {
         ensures keys { OnOk result (self.new.keys.keys ≡ insert_key same_row self.old.keys.keys key) }
         ensures place { IfOk result (λ at. at ≡ position_or_len (same_row key) self.old.keys.keys) }
         ensures states { OnOk result ((w : Datum) → states_of self.new
-            ≡ states_of self.old ++ (if list_any (same_row key) self.old.keys.keys then [] else (states_after w (map aggregate_data aggregates.now) [] ∷ []))) }
+            ≡ states_of self.old ++ (if list_any (same_row key) self.old.keys.keys then [] else (states_after w (map aggregate_of aggregates.now) [] ∷ []))) }
         ensures unique { OnOk result (IsDistinct same_row self.new.keys.keys) }
         ensures only { IfErr result (λ e. e ≡ Fault.NoMemory) }
     {

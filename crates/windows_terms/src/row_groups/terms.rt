@@ -5,8 +5,8 @@ ghost use Rattle.expr.specs.Meaning.{Overflows, eval};
 ghost use Rattle.expr.specs.View.{term};
 ghost use Rattle.semantics.specs.Valuation.{term_values};
 
-use crate::aggregates::Aggregate;
 use expr::{Expr, eval};
+use resolver_terms::Aggregate;
 use std::alloc::Global;
 use values::{Fault, Row, Value};
 

@@ -29,8 +29,8 @@ use Rattle.logical_plan.specs.Plan.{Hits, PlanData, ReachesOverflow, rows_of}
 use Rattle.logical_plan.proofs.JoinLemmas.{AreTables, choice_width, wide_before}
 use Rattle.logical_plan_queries.specs.select_plans.Made.{IsOverRows, IsOverWindows}
 use Rattle.logical_plan_queries.specs.select_plans.Read.{IsReadBy, IsWideBy, reads_all}
-use Rattle.logical_plan.specs.answers.PermittedPlain.{SaysOf}
-use Rattle.logical_plan.proofs.lemmas.answers.PlainLemmas.{where_is_computed}
+use Rattle.logical_plan.specs.answers.Permitted.{SaysOf}
+use Rattle.logical_plan.proofs.lemmas.answers.ResultLemmas.{where_is_computed}
 use Rattle.logical_plan_terms.specs.table_plans.Input.{input_from, seen}
 use Rattle.logical_plan_terms.specs.table_plans.TableJoins.{AreTableJoins}
 use Rattle.logical_plan_terms.specs.table_plans.Planned.{IsPlanOver}

@@ -11,7 +11,7 @@ use Rattle.semantics.specs.Hits.{FromHits, SelectHits}
 use Rattle.semantics.specs.Query.{From, Key, Select}
 use Rattle.logical_plan_terms.specs.Over.{StandsOver}
 use Rattle.logical_plan.specs.Plan.{PlanData}
-use Rattle.logical_plan.specs.answers.PermittedPlain.{SaysOf, SeesRows}
+use Rattle.logical_plan.specs.answers.Permitted.{SaysOf, SeesRows}
 use Rattle.logical_plan_queries.specs.select_plans.Laws.{MadeHasRows, MadeIsHit, PlanReaches}
 use Rattle.logical_plan_queries.specs.select_plans.Made.{IsMadeOver}
 use Rattle.logical_plan_queries.specs.select_plans.Read.{IsWideOf, reads_all, terms_in}

@@ -5,12 +5,12 @@ use Rattle.std.proofs.lemmas.List.Elements.{All-contains, All-contains_itself, A
 use Rattle.expr.specs.Columns.{columns_of}
 use Rattle.expr.specs.Term.{Term}
 use Rattle.semantics.proofs.ElementLemmas.{All-flat_map}
-use Rattle.logical_plan_terms.specs.Names.{answers_of}
+use Rattle.expr.specs.Names.{answers_of}
 use Rattle.logical_plan_terms.specs.Over.{IsOver}
 use Rattle.semantics.specs.Hits.{order_terms}
 use Rattle.semantics.specs.Query.{From, Key, Select}
 use Rattle.logical_plan_queries.specs.select_plans.Read.{AreRead, row_terms, select_terms, terms_in}
-use Rattle.resolver_terms.specs.TermView.{term}
+use Rattle.expr.specs.View.{term}
 use Rattle.logical_plan_terms.specs.table_plans.Input.{from_of}
 use Rattle.logical_plan_terms.specs.table_plans.Planned.{on_terms}
 use Rattle.logical_plan_terms.specs.declared.table_plans.inputs.JoinedTable.{JoinedTable}
@@ -66,11 +66,11 @@ read_of from s order named read is same at =
 module _ (ts : List JoinedTable) (i : ℕ) (t : JoinedTable) (within : i < length ts) (found : t ≡ get_or ts i t) where
   -- what one ON more names
   pub on_more : (start before after : List ℕ) → before ≡ start ++ flat_map columns_of (on_terms (from_of (take i ts)))
-      → after ≡ before ++ columns_of (term t.condition) → after ≡ start ++ flat_map columns_of (on_terms (from_of (take (i + 1) ts)))
+      → after ≡ before ++ columns_of (term t.condition.now) → after ≡ start ++ flat_map columns_of (on_terms (from_of (take (i + 1) ts)))
   on_more start before after is pushed =
-      pushed ∙ ap (λ n. n ++ columns_of (term t.condition)) is
-      ∙ append_assoc start (flat_map columns_of (on_terms (from_of (take i ts)))) (columns_of (term t.condition))
+      pushed ∙ ap (λ n. n ++ columns_of (term t.condition.now)) is
+      ∙ append_assoc start (flat_map columns_of (on_terms (from_of (take i ts)))) (columns_of (term t.condition.now))
       ∙ ap (λ n. start ++ n)
       (sym (ap (λ from. flat_map columns_of (on_terms from)) (from_of-take ts i t within found)
-      ∙ flat_map-append columns_of (on_terms (from_of (take i ts))) (term t.condition ∷ [])
-      ∙ ap (λ n. flat_map columns_of (on_terms (from_of (take i ts))) ++ n) (append-nil (columns_of (term t.condition)))))
+      ∙ flat_map-append columns_of (on_terms (from_of (take i ts))) (term t.condition.now ∷ [])
+      ∙ ap (λ n. flat_map columns_of (on_terms (from_of (take i ts))) ++ n) (append-nil (columns_of (term t.condition.now)))))

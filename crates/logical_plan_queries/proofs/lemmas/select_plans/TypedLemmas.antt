@@ -15,7 +15,7 @@ use Rattle.semantics.specs.Hits.{function_terms, grouping_terms, key_terms, orde
 use Rattle.semantics.specs.Query.{Aggregate, AggregateFunction, From, Grouping, Key, KeyTerm, QueryData, Select, SortTerm, Source, WindowCall, WindowFunction, from_width, joined, nothing, select, source_width, table, with_inner}
 use Rattle.semantics.proofs.ElementLemmas.{All-flat_map, length_all_zip}
 use Rattle.semantics.specs.Typed.{AggregateGives, AggregateHasType, CallHasType, ComputedHasTypes, FromHasTypes, FunctionHasType, GroupedHasTypes, GroupingHasTypes, HasTypes, IsKeyTerm, IsTerm, IsTermOf, SourceHasTypes}
-use Rattle.logical_plan_terms.specs.Names.{answers_of}
+use Rattle.expr.specs.Names.{answers_of}
 use Rattle.logical_plan_terms.specs.Over.{IsOver}
 use Rattle.logical_plan_queries.specs.select_plans.Read.{reads_all, row_terms, select_terms, terms_in}
 use Rattle.logical_plan_queries.specs.select_plans.Served.{AreOf, AreOfGroups, AreOfRows, AreOfWindows, taken_width}

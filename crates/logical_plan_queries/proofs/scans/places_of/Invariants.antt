@@ -1,6 +1,6 @@
 use Rattle.std.proofs.Common.{◌≡◌, map, take}
 use Rattle.expr.specs.Term.{column}
-use Rattle.resolver_terms.specs.TermView.{term}
+use Rattle.expr.specs.View.{term}
 use Rattle.logical_plan_queries.proofs.scans.places_of.Given as goal
 
 abbrev pub invariant-loop-t : goal.invariant-loop-t

@@ -6,12 +6,10 @@ use Rattle.std.proofs.lemmas.List.{length-map, map-append, take_more}
 use Rattle.std.proofs.lemmas.List.Elements.{All-get_or, AllZip-push}
 use Rattle.std.proofs.lemmas.List.FromFn.{map-range_with_len_more}
 use Rattle.semantics.proofs.ScanLemmas.{map-identity}
-use Rattle.windows_terms.specs.aggregates.AggregateView.{aggregate_data}
-use Rattle.windows_terms.specs.declared.aggregates.asked.Aggregate as asked
 use Rattle.semantics.specs.Query.{Aggregate}
 use Rattle.logical_plan_terms.specs.Over.{IsOver}
 use Rattle.resolver_terms.specs.SelectView.{aggregate_of}
-use Rattle.resolver_terms.specs.TermView.{term}
+use Rattle.expr.specs.View.{term}
 use Rattle.resolver_terms.specs.declared.selects.Aggregate as written
 use Rattle.logical_plan_terms.specs.group_plans.Grouped.{AggregateStandsOver}
 
@@ -26,10 +24,10 @@ module _ (read : List ℕ) (inner : ℕ) (all : List written.Aggregate) (at : �
       fails (subst (λ (a : Aggregate). IsOver read inner a.argument) (get_or-map aggregate_of all at one ∙ ap aggregate_of (sym is))
       (All-get_or (λ (a : Aggregate). IsOver read inner a.argument) (map aggregate_of all) at (aggregate_of one) (omega (arith, within, length-map all aggregate_of)) over))
 
-  pub aggregate_more : (over : List asked.Aggregate) (more : asked.Aggregate)
-      → AllZip (AggregateStandsOver read inner) (map aggregate_data over) (map aggregate_of (take at all))
-      → AggregateStandsOver read inner (aggregate_data more) (aggregate_of one)
-      → AllZip (AggregateStandsOver read inner) (map aggregate_data (over ++ more ∷ [])) (map aggregate_of (take (at + 1) all))
+  pub aggregate_more : (over : List written.Aggregate) (more : written.Aggregate)
+      → AllZip (AggregateStandsOver read inner) (map aggregate_of over) (map aggregate_of (take at all))
+      → AggregateStandsOver read inner (aggregate_of more) (aggregate_of one)
+      → AllZip (AggregateStandsOver read inner) (map aggregate_of (over ++ more ∷ [])) (map aggregate_of (take (at + 1) all))
   aggregate_more over more before stands =
-      rw (map-append aggregate_data over (more ∷ []), take_more all at one within, sym is, map-append aggregate_of (take at all) (one ∷ []))
-      (AllZip-push (AggregateStandsOver read inner) (map aggregate_data over) (map aggregate_of (take at all)) (aggregate_data more) (aggregate_of one) before stands)
+      rw (map-append aggregate_of over (more ∷ []), take_more all at one within, sym is, map-append aggregate_of (take at all) (one ∷ []))
+      (AllZip-push (AggregateStandsOver read inner) (map aggregate_of over) (map aggregate_of (take at all)) (aggregate_of more) (aggregate_of one) before stands)

@@ -7,7 +7,7 @@ use Rattle.semantics.specs.Query.{From, from_width, joined, nothing, table}
 use Rattle.semantics_names.specs.Sources.{kind_of}
 use Rattle.logical_plan_terms.specs.Over.{IsOver}
 use Rattle.logical_plan.specs.JoinPlan.{columns_before, has_right}
-use Rattle.resolver_terms.specs.TermView.{term}
+use Rattle.expr.specs.View.{term}
 use Rattle.logical_plan_terms.specs.table_plans.Input.{from_of}
 use Rattle.logical_plan_terms.specs.table_plans.Parted.{AreParted, columns_from}
 use Rattle.logical_plan_terms.specs.table_plans.Planned.{AreOnOver}
@@ -22,7 +22,7 @@ module _ (tables : List JoinedTable) (last : JoinedTable) (some : 1 ≤ length t
   abbrev before : From
   before = from_of (take (length tables - 1) tables)
 
-  pub whole_is : from_of tables ≡ joined before (kind_of last.join) (table last.table last.width) (term last.condition)
+  pub whole_is : from_of tables ≡ joined before (kind_of last.join) (table last.table last.width) (term last.condition.now)
   whole_is =
       let short : length tables - 1 < length tables = omega (arith, some) in
       let all : length tables ≤ length tables - 1 + 1 = omega (arith, some) in
@@ -52,10 +52,10 @@ module _ (tables : List JoinedTable) (last : JoinedTable) (some : 1 ≤ length t
           ap (λ n. take n read) left ∙ ap (take (length (columns_before (from_width before) read))) split.0
           ∙ take-append_seam (columns_before (from_width before) read) (columns_from (from_width before) read)
 
-  pub on_parts : (read : List ℕ) → AreOnOver read (from_of tables) → IsOver read 0 (term last.condition) × AreOnOver (columns_before (from_width before) read) before
+  pub on_parts : (read : List ℕ) → AreOnOver read (from_of tables) → IsOver read 0 (term last.condition.now) × AreOnOver (columns_before (from_width before) read) before
   on_parts read over = subst (AreOnOver read) whole_is over
 
-  pub on_whole : (read : List ℕ) → IsOver read 0 (term last.condition) → AreOnOver (columns_before (from_width before) read) before → AreOnOver read (from_of tables)
+  pub on_whole : (read : List ℕ) → IsOver read 0 (term last.condition.now) → AreOnOver (columns_before (from_width before) read) before → AreOnOver read (from_of tables)
   on_whole read here rest = subst (AreOnOver read) (sym whole_is) (here, rest)
 
   -- where none is joined by a RIGHT or FULL JOIN, neither are those before the last nor the last

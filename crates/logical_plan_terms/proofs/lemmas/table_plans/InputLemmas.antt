@@ -13,7 +13,7 @@ use Rattle.semantics.specs.Query.{From, InnerQuery, from_width, joined, nothing,
 use Rattle.semantics_names.specs.Sources.{kind_of}
 use Rattle.semantics_names.specs.Statement.{with_answers}
 use Rattle.logical_plan.specs.JoinPlan.{has_right}
-use Rattle.resolver_terms.specs.TermView.{term}
+use Rattle.expr.specs.View.{term}
 use Rattle.logical_plan_terms.specs.table_plans.TableJoins.{AreTableJoins}
 use Rattle.logical_plan_terms.specs.table_plans.Input.{from_of, joined_table}
 use Rattle.logical_plan_terms.specs.declared.table_plans.inputs.JoinedTable.{JoinedTable}
@@ -24,12 +24,12 @@ pub joined_all-append : (from : From) (xs ys : List JoinedData) → joined_all f
 joined_all-append from [] ys = refl
 joined_all-append from (x ∷ xs) ys = joined_all-append (joined from x.kind x.source x.condition) xs ys
 
-pub from_of-push : (ts : List JoinedTable) (t : JoinedTable) → from_of (ts ++ t ∷ []) ≡ joined (from_of ts) (kind_of t.join) (table t.table t.width) (term t.condition)
+pub from_of-push : (ts : List JoinedTable) (t : JoinedTable) → from_of (ts ++ t ∷ []) ≡ joined (from_of ts) (kind_of t.join) (table t.table t.width) (term t.condition.now)
 from_of-push ts t =
     ap (joined_all nothing) (map-append joined_table ts (t ∷ [])) ∙ joined_all-append nothing (map joined_table ts) (joined_table t ∷ [])
 
 module _ (ts : List JoinedTable) (i : ℕ) (t : JoinedTable) (within : i < length ts) (found : t ≡ get_or ts i t) where
-  pub from_of-take : from_of (take (i + 1) ts) ≡ joined (from_of (take i ts)) (kind_of t.join) (table t.table t.width) (term t.condition)
+  pub from_of-take : from_of (take (i + 1) ts) ≡ joined (from_of (take i ts)) (kind_of t.join) (table t.table t.width) (term t.condition.now)
   from_of-take =
       ap from_of (take_more ts i t within ∙ ap (λ (t : JoinedTable). take i ts ++ t ∷ []) (sym found)) ∙ from_of-push (take i ts) t
 
@@ -122,7 +122,7 @@ module _ (sources : List Joined) (i : ℕ) (j : Joined) (within : i < length sou
         subst AreTableJoins (sym (from_of-push ts t)) (
           before,
           record { at = t.table; width = t.width; source_is = refl },
-          subst (λ from. All (λ c. c < from_width from) (columns_of (term t.condition))) (from_of-push ts t)
+          subst (λ from. All (λ c. c < from_width from) (columns_of (term t.condition.now))) (from_of-push ts t)
               (subst (λ e. All (λ c. c < from_width (from_of (ts ++ t ∷ []))) (columns_of e)) (sym (condition_is j) ∙ ap (λ (d : JoinedData). d.condition) same) within),
         )
 

@@ -10,7 +10,7 @@ use Rattle.semantics.specs.Query.{From, from_width, joined, nothing, source_widt
 use Rattle.logical_plan_terms.specs.Over.{IsOver}
 use Rattle.logical_plan_terms.proofs.PlacedLemmas.{All-back, All-front}
 use Rattle.logical_plan.specs.JoinPlan.{columns_before}
-use Rattle.resolver_terms.specs.TermView.{term}
+use Rattle.expr.specs.View.{term}
 use Rattle.logical_plan_terms.specs.table_plans.TableJoins.{AreTableJoins}
 use Rattle.logical_plan_terms.specs.table_plans.Input.{from_of, joined_table}
 use Rattle.logical_plan_terms.specs.table_plans.Laws.{OnIsOver}
@@ -74,9 +74,9 @@ on_terms-all from [] = sym (append-nil (on_terms from))
 on_terms-all from (j ∷ js) =
     on_terms-all (joined from j.kind j.source j.condition) js ∙ append_assoc (on_terms from) (j.condition ∷ []) (map (λ (j : JoinedData). j.condition) js)
 
-conditions_of : (ts : List JoinedTable) → map (λ (j : JoinedData). j.condition) (map joined_table ts) ≡ map (λ (t : JoinedTable). term t.condition) ts
+conditions_of : (ts : List JoinedTable) → map (λ (j : JoinedData). j.condition) (map joined_table ts) ≡ map (λ (t : JoinedTable). term t.condition.now) ts
 conditions_of [] = refl
-conditions_of (t ∷ ts) = ap (λ terms. term t.condition ∷ terms) (conditions_of ts)
+conditions_of (t ∷ ts) = ap (λ terms. term t.condition.now ∷ terms) (conditions_of ts)
 
-pub on_terms_are : (ts : List JoinedTable) → on_terms (from_of ts) ≡ map (λ (t : JoinedTable). term t.condition) ts
+pub on_terms_are : (ts : List JoinedTable) → on_terms (from_of ts) ≡ map (λ (t : JoinedTable). term t.condition.now) ts
 on_terms_are ts = on_terms-all nothing (map joined_table ts) ∙ conditions_of ts

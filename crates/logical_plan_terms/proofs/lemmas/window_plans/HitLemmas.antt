@@ -16,7 +16,7 @@ use Rattle.semantics.proofs.HitLemmas.{column_is_hit, window_is_hit, window_numb
 use Rattle.logical_plan_terms.specs.Over.{StandsOver}
 use Rattle.logical_plan.specs.Plan.{Hits, PlanData, ReachesOverflow, rows_of, windowed}
 use Rattle.logical_plan.proofs.HitLemmas.{any_held}
-use Rattle.semantics_rewrites.specs.schema_sources.Mapped.{mapped_call}
+use Rattle.semantics.specs.Mapped.{mapped_call}
 use Rattle.semantics_rewrites.proofs.lemmas.schema_sources.MappedLemmas.{all_call_terms_mapped, call_mapped}
 use Rattle.logical_plan_terms.proofs.lemmas.window_plans.SeenLemmas.{from_map, partner}
 use Rattle.windows_terms.specs.Reached.{CallsReach, SomeLeaves}

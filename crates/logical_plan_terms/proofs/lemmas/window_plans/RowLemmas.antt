@@ -14,7 +14,7 @@ use Rattle.semantics.specs.Valuation.{Valuation}
 use Rattle.semantics.specs.Windows.{call_value, numbered_after, windowed}
 use Rattle.semantics.proofs.GroupLemmas.{windowed-same}
 use Rattle.logical_plan.specs.Plan.{PlanData, rows_of}
-use Rattle.semantics_rewrites.specs.schema_sources.Mapped.{mapped_call}
+use Rattle.semantics.specs.Mapped.{mapped_call}
 use Rattle.semantics_rewrites.proofs.lemmas.schema_sources.MappedLemmas.{windowed_mapped}
 use Rattle.logical_plan_terms.proofs.lemmas.window_plans.SeenLemmas.{shown_whole}
 use Rattle.logical_plan_terms.specs.window_plans.Laws.{HasTaken, WindowedHasRows, WindowedSay, windows_take}

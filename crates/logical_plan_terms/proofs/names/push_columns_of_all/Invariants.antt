@@ -1,6 +1,6 @@
 use Rattle.std.proofs.Common.{◌≡◌, ◌++◌, flat_map, map, take}
 use Rattle.expr.specs.Columns.{columns_of}
-use Rattle.resolver_terms.specs.TermView.{term}
+use Rattle.expr.specs.View.{term}
 use Rattle.logical_plan_terms.proofs.names.push_columns_of_all.Given as goal
 
 abbrev pub invariant-loop-t : goal.invariant-loop-t

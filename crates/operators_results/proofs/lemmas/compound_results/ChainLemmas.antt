@@ -25,7 +25,7 @@ use Rattle.operators_results.specs.Coming.{IsComing, IsResultCause}
 use Rattle.logical_plan.specs.answers.Arms.{ArePlannedOver, ArmsData, ArmsHit, arm_data, arm_rows, joined, one, rows_of_arms, work_of_arms}
 use Rattle.operators_results.specs.compound_results.Compounds.{IsArmCause, IsArmsCause}
 use Rattle.operators_results.specs.compound_results.InTurn.{AreComing, AreComingOf, AreWaiting, IsWaiting, arm_of, arms_from, arms_of, over_plan, rows_from, work_from}
-use Rattle.logical_plan.specs.declared.answers.compounds.Arm.{Arm}
+use Rattle.logical_plan.specs.declared.answers.Arm.{Arm}
 use Rattle.operators_results.specs.declared.compound_results.chained.ArmsInTurn.{ArmsInTurn}
 
 -- ---- the arms that are left

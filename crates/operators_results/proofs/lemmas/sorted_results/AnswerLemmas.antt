@@ -1,28 +1,21 @@
--- Rows that were put in order are an answer.
-use Rattle.std.proofs.Common.{◌≡◌, ◌∙◌, ◌++◌, ℕ, ℤ, List, is_lt, length, map, take, sym, ap, subst, Option, IsPermutation}
-use Rattle.std.proofs.Math.Seq.{take-append_seam}
-use Rattle.std.proofs.lemmas.List.{length-map, map-append}
-use Rattle.values.specs.Database.{Database}
+-- Rows that were put in order are shown as ORDER BY, LIMIT and OFFSET say.
+use Rattle.std.proofs.Common.{◌≡◌, ◌∙◌, ℕ, ℤ, List, [], is_lt, map, sym, ap, subst, Option, IsPermutation}
 use Rattle.values.specs.Datum.{Datum}
 use Rattle.values.specs.Row.{Row}
 use Rattle.expr.specs.Meaning.{eval}
 use Rattle.semantics.specs.Answer.{key_directions, limited, skipped}
-use Rattle.semantics.specs.Body.{Output, key_value, output}
-use Rattle.semantics.specs.Hits.{order_terms}
-use Rattle.semantics.specs.Query.{Direction}
+use Rattle.semantics.specs.Body.{Output, key_value}
+use Rattle.semantics.specs.Query.{Direction, Key}
 use Rattle.semantics.specs.Sequence.{keys_cmp}
-use Rattle.semantics.specs.Valuation.{term_values}
 use Rattle.semantics.proofs.AnswerLemmas.{limited-map, skipped-map}
 use Rattle.semantics.proofs.GroupLemmas.{map-map}
-use Rattle.logical_plan.specs.Plan.{rows_of}
-use Rattle.logical_plan.specs.answers.Selection.{result_rows}
 use Rattle.operators_results.specs.declared.limits.LimitOffset.{LimitOffset}
 use Rattle.operators_results.specs.Slices.{sliced}
 use Rattle.windows_order.specs.declared.order.ResultKey.{ResultKey}
 use Rattle.windows_order.specs.Firsts.{BeginsAll, at_most}
-use Rattle.windows_order.specs.Keys.{comes_before, directions, key_values}
+use Rattle.windows_order.specs.Keys.{comes_before, directions, key_values, result_key}
 use Rattle.windows_order.proofs.FirstLemmas.{BeginsAll-map, at_most-map}
-use Rattle.logical_plan.specs.answers.Sorted.{IsSortedAnswer, SortedData, outputs_over}
+use Rattle.logical_plan.specs.answers.Answers.{IsShownInOrder, OrderData, shown_output, without}
 
 -- rows in order, of which a part is shown
 module _ (front : Row → Row) (order : List ResultKey) (ways : List Direction) (limit : Option ℤ) (offset : ℤ) (most : Option ℕ) (first all : List Row)
@@ -59,44 +52,39 @@ module _ (front : Row → Row) (order : List ResultKey) (ways : List Direction) 
       ∙ ap (limited limit) (skipped-map row_of offset outputs_begin.ordered)
       ∙ limited-map row_of limit (skipped offset outputs_begin.ordered)
 
--- a row of the result columns and the other terms of ORDER BY
-module _ (w : Datum) (db : Database) (selection : SortedData) (order : List ResultKey) (most : Option ℕ) (first : List Row) (slice : LimitOffset) (rows : List Row)
-    (ways_are : directions order ≡ key_directions selection.order)
-    (values_are : (row : Row) → key_values order (term_values (eval w) (selection.columns ++ order_terms selection.order) row)
-    ≡ map (key_value (eval w) (term_values (eval w) selection.columns row) row) selection.order)
-    (made : BeginsAll (comes_before order) most first (result_rows w (selection.columns ++ order_terms selection.order) (rows_of w db selection.plan)))
-    (looked_at : (rows : List Row) → limited selection.limit (skipped selection.offset (at_most most rows)) ≡ limited selection.limit (skipped selection.offset rows))
-    (shown : rows ≡ sliced slice (map (take (length selection.columns)) first))
-    (slice_is : (rows : List Row) → sliced slice rows ≡ limited selection.limit (skipped selection.offset rows)) where
-  abbrev wide : Row → Row
-  wide row = term_values (eval w) (selection.columns ++ order_terms selection.order) row
+directions_are : (keys : List ResultKey) → directions keys ≡ key_directions (map result_key keys)
+directions_are keys = sym (map-map (λ (key : Key). key.direction) result_key keys)
+
+keys_are : (w : Datum) (keys : List ResultKey) (row : Row) → key_values keys row ≡ map (key_value (eval w) row []) (map result_key keys)
+keys_are w keys row = sym (map-map (key_value (eval w) row []) result_key keys)
+
+module _ (w : Datum) (keys : List ResultKey) (hidden : ℕ) (limit : Option ℤ) (offset : ℤ) (all : List Row) (most : Option ℕ) (first : List Row)
+    (slice : LimitOffset) (rows : List Row)
+    (made : BeginsAll (comes_before keys) most first all)
+    (looked_at : (rows : List Row) → limited limit (skipped offset (at_most most rows)) ≡ limited limit (skipped offset rows))
+    (shown : rows ≡ sliced slice (map (without hidden) first))
+    (slice_is : (rows : List Row) → sliced slice rows ≡ limited limit (skipped offset rows)) where
+  abbrev pub order : OrderData
+  order = record { keys = map result_key keys; hidden = hidden }
 
   abbrev seen : Row → Output
-  seen row = record { row = take (length selection.columns) row; keys = key_values order row }
+  seen row = record { row = without hidden row; keys = key_values keys row }
 
-  front_is : (row : Row) → take (length selection.columns) (wide row) ≡ term_values (eval w) selection.columns row
-  front_is row =
-      ap (take (length selection.columns)) (map-append (λ t. eval w t row) selection.columns (order_terms selection.order))
-      ∙ ap (λ n. take n (term_values (eval w) selection.columns row ++ term_values (eval w) (order_terms selection.order) row)) (sym (length-map selection.columns (λ t. eval w t row)))
-      ∙ take-append_seam (term_values (eval w) selection.columns row) (term_values (eval w) (order_terms selection.order) row)
+  seen_is : (row : Row) → seen row ≡ shown_output w order row
+  seen_is row i = record { row = without hidden row; keys = keys_are w keys row i }
 
-  seen_is : (row : Row) → seen (wide row) ≡ output (eval w) selection.order (term_values (eval w) selection.columns row) row
-  seen_is row i = record { row = front_is row i; keys = values_are row i }
+  outputs_are : map seen all ≡ map (shown_output w order) all
+  outputs_are = ap (λ (f : Row → Output). map f all) (λ i row. seen_is row i)
 
-  outputs_are : map seen (result_rows w (selection.columns ++ order_terms selection.order) (rows_of w db selection.plan))
-      ≡ outputs_over w selection.columns selection.order (rows_of w db selection.plan)
-  outputs_are = map-map seen wide (rows_of w db selection.plan) ∙ ap (λ (f : Row → Output). map f (rows_of w db selection.plan)) (λ i row. seen_is row i)
+  abbrev begin : BeginsAll (λ (a b : Output). is_lt (keys_cmp (key_directions order.keys) a.keys b.keys)) most (map seen first) (map seen all)
+  begin =
+      outputs_begin (without hidden) keys (key_directions order.keys) limit offset most first all slice rows (directions_are keys) made looked_at shown slice_is
 
-  abbrev begin : BeginsAll (λ (a b : Output). is_lt (keys_cmp (key_directions selection.order) a.keys b.keys)) most (map seen first)
-      (map seen (result_rows w (selection.columns ++ order_terms selection.order) (rows_of w db selection.plan)))
-  begin = outputs_begin (take (length selection.columns)) order (key_directions selection.order) selection.limit selection.offset most first _ slice rows
-      ways_are made looked_at shown slice_is
-
-  pub is_answer : IsSortedAnswer w db selection rows
-  is_answer = record {
+  pub is_shown : IsShownInOrder w order limit offset all rows
+  is_shown = record {
     ordered = begin.ordered;
     same = subst (λ (outs : List Output). IsPermutation outs begin.ordered) outputs_are begin.same;
     ascends = begin.ascends;
-    shown = rows_shown (take (length selection.columns)) order (key_directions selection.order) selection.limit selection.offset most first _ slice rows
-        ways_are made looked_at shown slice_is;
+    shown =
+        rows_shown (without hidden) keys (key_directions order.keys) limit offset most first all slice rows (directions_are keys) made looked_at shown slice_is;
   }

@@ -1,12 +1,13 @@
 -- LIMIT and OFFSET along rows that are given one by one.
-use Rattle.std.proofs.Common.{◌≡◌, ◌∙◌, ℕ, List, [], ◌∷◌, ◌++◌, append-nil, append_assoc, map, take, refl, sym, ap}
+use Rattle.std.proofs.Common.{◌≡◌, ◌∙◌, ◌-◌, arith, ℕ, List, [], ◌∷◌, ◌++◌, append-nil, append_assoc, length, map, refl, sym, ap}
 use Rattle.std.specs.Global.{Vec}
-use Rattle.std.proofs.lemmas.List.{map_push}
+use Rattle.std.proofs.lemmas.List.{map_push, take_all}
 use Rattle.values.specs.Datum.{datum_of}
 use Rattle.values.specs.Row.{Row, rows_data}
 use Rattle.values.specs.declared.value.Value.{Value}
 use Rattle.operators_results.specs.declared.limits.LimitOffset.{LimitOffset}
 use Rattle.operators_results.specs.Slices.{sliced}
+use Rattle.logical_plan.specs.answers.Answers.{without}
 use Rattle.operators_results.proofs.SliceLemmas.{none_sliced}
 use Rattle.operators_results.proofs.StreamLemmas.{GivesFirst, PassesFirst}
 use Rattle.windows_order.proofs.FirstLemmas.{row_of}
@@ -27,7 +28,12 @@ pub slice_passes : (first old new : LimitOffset) (done given : List Row) (row : 
 slice_passes first old new done given row before passes rest =
     ap (sliced first) (append_assoc done (row ∷ []) rest) ∙ before (row ∷ rest) ∙ ap (λ t. given ++ t) (passes row rest)
 
--- the first so many values of rows, and of one more
-pub fronts_more : (width : ℕ) (rows : List (Vec Value)) (row : Vec Value)
-    → map (take width) (rows_data (rows ++ row ∷ [])) ≡ map (take width) (rows_data rows) ++ take width (map datum_of row.items) ∷ []
-fronts_more width rows row = ap (map (take width)) (map_push row_of rows row) ∙ map_push (take width) (rows_data rows) (row_of row)
+-- what is shown of rows, and of one more
+pub shown_more : (hidden : ℕ) (rows : List (Vec Value)) (row : Vec Value)
+    → map (without hidden) (rows_data (rows ++ row ∷ [])) ≡ map (without hidden) (rows_data rows) ++ without hidden (map datum_of row.items) ∷ []
+shown_more hidden rows row = ap (map (without hidden)) (map_push row_of rows row) ∙ map_push (without hidden) (rows_data rows) (row_of row)
+
+-- where nothing is hidden they are shown whole
+pub shown_whole : (rows : List Row) → map (without 0) rows ≡ rows
+shown_whole [] = refl
+shown_whole (row ∷ rows) = λ i. take_all (length row - 0) row (omega arith) i ∷ shown_whole rows i

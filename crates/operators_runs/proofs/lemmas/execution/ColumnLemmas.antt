@@ -14,8 +14,8 @@ use Rattle.semantics.specs.Valuation.{term_values}
 use Rattle.logical_plan.proofs.HitLemmas.{any_held, from_map}
 use Rattle.logical_plan.specs.Plan.{ReachesOverflow, rows_of, table_rows}
 use Rattle.logical_plan_queries.specs.select_plans.Laws.{PlanReaches}
-use Rattle.logical_plan.specs.answers.Selection.{answer_of, result_rows}
-use Rattle.operators_runs.specs.execution.Columns.{columns_plan, columns_selection}
+use Rattle.logical_plan.specs.answers.Arms.{result_rows}
+use Rattle.operators_runs.specs.execution.Columns.{columns_plan}
 
 -- ---- all columns of a row
 
@@ -53,8 +53,8 @@ module _ (w : Datum) (db : Database) (at : ℕ) (places : List ℕ) where
   each_whole [] = refl
   each_whole (row ∷ rows) = rw (whole_values w places row, each_whole rows) refl
 
-  -- its answer is the columns of each row of the table
-  pub columns_answer : answer_of w db (columns_selection at places) ≡ map (shown places) (table_rows db at)
+  -- all columns of them are the columns of each row of the table
+  pub columns_answer : result_rows w (map column (range_with_len 0 (length places))) (rows_of w db (columns_plan at places)) ≡ map (shown places) (table_rows db at)
   columns_answer = ap (result_rows w (map column (range_with_len 0 (length places)))) plan_rows ∙ each_whole (table_rows db at)
 
   none_reached : (columns : List ℕ) (row : Row) → ReachesOverflow (map column columns) row → ⊥

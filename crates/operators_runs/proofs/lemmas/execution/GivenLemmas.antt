@@ -1,5 +1,5 @@
 -- Rows that are given one by one.
-use Rattle.std.proofs.Common.{◌≡◌, ◌∙◌, inl, inr, Bool, true, false, ℕ, List, [], ◌∷◌, ◌++◌, length, map, Result, Ok, Err, MatchResult, refl, sym, ap, append-nil, append_assoc, length-append, subst, arith}
+use Rattle.std.proofs.Common.{◌≡◌, ◌∙◌, inl, inr, Bool, true, false, ℕ, List, [], ◌∷◌, ◌++◌, length, IfOk, IfSome, map, None, Option, Some, Result, Ok, Err, MatchResult, refl, sym, ap, append-nil, append_assoc, length-append, subst, arith}
 use Rattle.std.specs.Global.{Global, Vec}
 use Rattle.std.specs.Vec.Iter.{into_iter_items}
 use Rattle.std.specs.declared.vec.IntoIter.{IntoIter}
@@ -13,34 +13,30 @@ use Rattle.btree.specs.image.Pages.{Pages, WhereSteady, pages_seen}
 use Rattle.logical_plan.specs.answers.Sources.{IsPlanOf, SourceData}
 use Rattle.expr.specs.Term.{Term}
 use Rattle.expr.specs.View.{term}
-use Rattle.semantics.specs.Hits.{order_terms}
-use Rattle.logical_plan.specs.Plan.{PlanData, work}
-use Rattle.operators_scan.specs.scan.Coming.{Asks}
+use Rattle.semantics.specs.Answer.{limited, skipped}
+use Rattle.logical_plan.specs.Plan.{PlanData, rows_of, work}
 use Rattle.operators_loops.specs.Basis.{AreStored, Basis, GivesRowOrNone, GivesNext, GivesNone}
 use Rattle.operators.specs.Left.{plan_of}
 use Rattle.operators_results.specs.Coming.{IsComing, IsResultCause}
-use Rattle.logical_plan.specs.answers.Selection.{SelectionData, answer_of}
 use Rattle.operators_results.specs.declared.stream.Results.{Results}
-use Rattle.logical_plan.specs.answers.Sorted.{IsSortedAnswer, SortedData}
+use Rattle.operators_results.specs.Slices.{sliced}
+use Rattle.operators_results.specs.declared.limits.LimitOffset.{LimitOffset}
 use Rattle.operators_results.specs.distinct_results.Coming.{IsDistinctComing}
-use Rattle.logical_plan.specs.answers.Distinct.{distinct_answer_of}
-use Rattle.logical_plan.specs.answers.SortedDistinct.{IsSortedDistinctAnswer}
 use Rattle.operators_results.specs.declared.distinct_results.stream.DistinctResults.{DistinctResults}
-use Rattle.logical_plan_queries.specs.Answers.{HitsOf, IsAnswerOf, PlannedData, planned_data}
+use Rattle.logical_plan_queries.specs.Answers.{HitsOf, IsAnswerOf, IsPlannedOver, PlannedData, work_of}
 use Rattle.logical_plan_queries.specs.select_plans.Laws.{PlanReaches}
-use Rattle.logical_plan.specs.answers.Arms.{ArePlannedOver, ArmsHit, work_of_arms}
-use Rattle.operators_results.specs.compound_results.Chains.{IsUnionChain, chain_answer}
-use Rattle.logical_plan.specs.answers.Compounds.{CompoundData, IsCompoundAnswer}
+use Rattle.logical_plan.specs.answers.Answers.{AnswerData, IsAnswer, IsShown, OrderData, answer_data}
+use Rattle.logical_plan.specs.answers.Arms.{ArePlannedOver, ArmData, ArmsData, ArmsHit, each_once_if, one, result_rows, rows_of_arms, work_of_arms}
+use Rattle.logical_plan.specs.declared.answers.Answer.{Answer}
+use Rattle.windows_order.specs.distinct_rows.Firsts.{firsts}
 use Rattle.operators_results.specs.compound_results.Compounds.{IsArmsCause}
 use Rattle.operators_results.specs.compound_results.InTurn.{IsChainComing, arms_of}
 use Rattle.operators_results.specs.declared.compound_results.chained.ChainedResults.{ChainedResults}
-use Rattle.operators_results.proofs.lemmas.compound_results.ChainAnswerLemmas.{chain_is_answer}
-use Rattle.operators_runs.specs.execution.Columns.{columns_selection}
-use Rattle.operators_runs.specs.execution.Given.{Comes, GivesFirst, HasAhead, HasAnswered, HasGiven, IsOpenedRun, IsRowCause, rows_left}
-use Rattle.logical_plan_queries.specs.declared.planned.Planned.{Planned}
+use Rattle.operators_runs.specs.execution.Columns.{columns_arm}
+use Rattle.operators_runs.specs.execution.Given.{Comes, GivesFirst, HasAhead, HasAnswered, HasGiven, IsOpenedOf, IsOpenedRun, IsRowCause, rows_left}
 use Rattle.operators_runs.specs.declared.execution.rows.Execution.{Execution}
 use Rattle.operators_runs.specs.declared.execution.rows.Execution.TheVariants.{Rows, Distinct, Chained, Waiting, Giving}
-use Rattle.operators_runs.proofs.lemmas.execution.AskedLemmas.{columns_work, distinct_ahead, rows_ahead}
+use Rattle.operators_runs.proofs.lemmas.execution.AskedLemmas.{columns_work, plan_ahead}
 use Rattle.operators_runs.proofs.lemmas.execution.ColumnLemmas.{columns_answer, columns_reach_none}
 
 -- what is said of sources, whatever plan is run
@@ -186,167 +182,160 @@ module _ (start now : PagerState) (sources : List SourceData) (row : Row) where
       → Steps (Giving old) (Giving new) (Ok found)
   giving_step old new found first steady planned given all = giving_answers (pages_seen start) planned given old new found first all
 
-  module _ (gathered : Planned) where
+  module _ (gathered : Answer) where
     -- the rows are gathered, and the first of them is given
     pub waiting_step : (rows : Vec (Vec Value)) (old new : IntoIter (Vec Value) Global) (found : Bool) → into_iter_items old ≡ rows.items
-        → WhereSteady start (λ pages. (on : Basis) → AreStored pages sources on → IsAnswerOf on.w on.db (planned_data gathered) (rows_data rows.items))
+        → WhereSteady start (λ pages. (on : Basis) → AreStored pages sources on → IsAnswerOf on.w on.db (PlannedData.answer (answer_data gathered)) (rows_data rows.items))
         → GivesFirst found (rows_left old) (rows_left new) row → Steps (Waiting gathered) (Giving new) (Ok found)
     waiting_step rows old new found items answers first steady planned given waits =
         giving_answers (pages_seen start) planned given old new found first
         (λ on has.
         subst (λ (p : PlannedData). IsAnswerOf on.w on.db p (given ++ rows_left old)) (sym waits.1)
-        (subst (λ (all : List Row). IsAnswerOf on.w on.db (planned_data gathered) all)
+        (subst (λ (all : List Row). IsAnswerOf on.w on.db (PlannedData.answer (answer_data gathered)) all)
         (ap rows_data (sym items) ∙ ap (λ (before : List Row). before ++ rows_left old) (sym waits.0)) (answers steady on has)))
 
     pub waiting_stops : (then : Execution) (e : Fault)
-        → WhereSteady start (λ pages. (on : Basis) → AreStored pages sources on → IsRowCause on (planned_data gathered) e) → Steps (Waiting gathered) then (Err e)
+        → WhereSteady start (λ pages. (on : Basis) → AreStored pages sources on → IsRowCause on (PlannedData.answer (answer_data gathered)) e) → Steps (Waiting gathered) then (Err e)
     waiting_stops then e causes steady planned given waits = λ on has.
         subst (λ (p : PlannedData). IsRowCause on p e) (sym waits.1) (causes steady on has)
 
--- ---- rows that are gathered
-
-module _ (start now : PagerState) (sources : List SourceData) where
-  -- what is said of the rows of a plan that are gathered
-  abbrev pub Gathers : PlannedData → Result (Vec (Vec Value)) Fault → Type 0
-  Gathers planned result =
-      WhereSteady start (λ pages. (on : Basis) → AreStored pages sources on
-      → MatchResult result (λ rows. IsAnswerOf on.w on.db planned (rows_data rows.items)) (IsRowCause on planned))
-
-  pub gathers_as : (planned other : PlannedData) (result : Result (Vec (Vec Value)) Fault) → planned ≡ other → Gathers other result → Gathers planned result
-  gathers_as planned other result same gathers = subst (λ (p : PlannedData). Gathers p result) (sym same) gathers
-
-  module _ (selection : SortedData) where
-    pub sorted_gathers : (result : Result (Vec (Vec Value)) Fault)
-        → WhereSteady start (λ pages. (on : Basis) → AreStored pages sources on → on.plan ≡ selection.plan
-        → MatchResult result (λ rows. IsSortedAnswer on.w on.db selection (rows_data rows.items) × Asks on.local start (work on.w on.db on.sizes on.plan) now 0)
-        (IsResultCause on (selection.columns ++ order_terms selection.order)))
-        → Gathers (PlannedData.sorted selection) result
-    sorted_gathers (Ok rows) says steady on has = (says steady (with_plan on selection.plan) (stored_with (pages_seen start) sources on selection.plan has) refl).0
-    sorted_gathers (Err e) says steady on has =
-        cause (says steady (with_plan on selection.plan) (stored_with (pages_seen start) sources on selection.plan has) refl)
-      where
-        cause : IsResultCause (with_plan on selection.plan) (selection.columns ++ order_terms selection.order) e → IsRowCause on (PlannedData.sorted selection) e
-        cause (inl read) = inl read
-        cause (inr over) = inr over
-
-    pub distinct_gathers : (result : Result (Vec (Vec Value)) Fault)
-        → WhereSteady start (λ pages. (on : Basis) → AreStored pages sources on → on.plan ≡ selection.plan
-        → MatchResult result (λ rows. IsSortedDistinctAnswer on.w on.db selection (rows_data rows.items) × Asks on.local start (work on.w on.db on.sizes on.plan) now 0)
-        (IsResultCause on selection.columns))
-        → Gathers (PlannedData.sorted_distinct selection) result
-    distinct_gathers (Ok rows) says steady on has = (says steady (with_plan on selection.plan) (stored_with (pages_seen start) sources on selection.plan has) refl).0
-    distinct_gathers (Err e) says steady on has =
-        cause (says steady (with_plan on selection.plan) (stored_with (pages_seen start) sources on selection.plan has) refl)
-      where
-        cause : IsResultCause (with_plan on selection.plan) selection.columns e → IsRowCause on (PlannedData.sorted_distinct selection) e
-        cause (inl read) = inl read
-        cause (inr over) = inr over
-
-  pub compound_gathers : (joined : CompoundData) (result : Result (Vec (Vec Value)) Fault)
-      → WhereSteady start (λ pages. (on : Basis) → AreStored pages sources on
-      → MatchResult result
-      (λ rows. IsCompoundAnswer on.w on.db joined (rows_data rows.items) × Asks on.local start (work_of_arms on.w on.db on.sizes joined.arms) now 0)
-      (IsArmsCause on joined.arms))
-      → Gathers (PlannedData.compound joined) result
-  compound_gathers joined (Ok rows) says steady on has = (says steady on has).0
-  compound_gathers joined (Err e) says steady on has = says steady on has
-
 -- ---- the first row
 
-module _ (pages : Pages) (sources : List SourceData) (selection : SelectionData) where
-  -- all rows of a selection are to come
-  pub rows_come : (planned : PlannedData) (results : Results) → plan_of results.op ≡ selection.plan → map term results.columns.items ≡ selection.columns
-      → ((on : Basis) → on.plan ≡ selection.plan → IsComing pages sources on results (answer_of on.w on.db selection) (work on.w on.db on.sizes on.plan))
-      → ((w : Datum) (db : Database) → IsAnswerOf w db planned (answer_of w db selection))
-      → ((w : Datum) (db : Database) → PlanReaches w db selection.plan selection.columns → HitsOf w db planned)
-      → HasGiven pages sources planned (Rows results) []
-  rows_come planned results plans terms coming answers hits = record {
-    rows = λ on has same. record {
-      rest = answer_of on.w on.db selection;
-      ahead = work on.w on.db on.sizes on.plan;
-      answer = answers on.w on.db;
-      to_come = coming on (same ∙ plans);
-    };
-    hits = λ w db reaches.
-        hits w db
-        (subst (λ (p : PlanData). PlanReaches w db p selection.columns) plans
-        (subst (λ (terms : List Term). PlanReaches w db (plan_of results.op) terms) terms reaches));
-  }
+-- rows that an answer gives as they come
+as_they_come : (w : Datum) (db : Database) (a : AnswerData) (arms : ArmsData) (slice : LimitOffset) → a.arms ≡ arms → a.order ≡ None
+    → ((rows : List Row) → sliced slice rows ≡ limited a.limit (skipped a.offset rows)) → IsAnswer w db a (sliced slice (rows_of_arms w db arms))
+as_they_come w db a arms slice arms_are none slices =
+    subst (λ (order : Option OrderData). IsShown w order a.limit a.offset (rows_of_arms w db a.arms) (sliced slice (rows_of_arms w db arms))) (sym none)
+    (slices (rows_of_arms w db arms) ∙ ap (λ (arms : ArmsData). limited a.limit (skipped a.offset (rows_of_arms w db arms))) (sym arms_are))
 
-  pub distinct_come : (distinct : DistinctResults) → plan_of distinct.results.op ≡ selection.plan → map term distinct.results.columns.items ≡ selection.columns
-      → ((on : Basis) → on.plan ≡ selection.plan → IsDistinctComing pages sources on distinct (distinct_answer_of on.w on.db selection) (work on.w on.db on.sizes on.plan))
-      → HasGiven pages sources (PlannedData.distinct selection) (Distinct distinct) []
-  distinct_come distinct plans terms coming = record {
-    rows = λ on has same. record {
-      rest = distinct_answer_of on.w on.db selection;
-      ahead = work on.w on.db on.sizes on.plan;
-      answer = refl;
-      to_come = coming on (same ∙ plans);
-    };
-    hits = λ w db reaches.
-        subst (λ (p : PlanData). PlanReaches w db p selection.columns) plans
-        (subst (λ (terms : List Term). PlanReaches w db (plan_of distinct.results.op) terms) terms reaches);
-  }
-
--- a selection whose rows come one by one
-pub rows_opened : (selection : SelectionData) (results : Results) → plan_of results.op ≡ selection.plan → map term results.columns.items ≡ selection.columns
-    → ((pages : Pages) (sources : List SourceData) (on : Basis) → on.plan ≡ selection.plan
-    → IsComing pages sources on results (answer_of on.w on.db selection) (work on.w on.db on.sizes on.plan))
-    → IsOpenedRun (PlannedData.rows selection) (Rows results)
-rows_opened selection results plans terms coming = record {
-  given = λ pages sources.
-      rows_come pages sources selection (PlannedData.rows selection) results plans terms (coming pages sources) (λ w db. refl) (λ w db reaches. reaches);
-  over = λ sources over. subst (λ (p : PlanData). IsPlanOf sources p) (sym plans) over;
-  ahead = λ pages sources on. rows_ahead pages sources on selection results plans (coming pages sources);
+-- all rows over a plan are to come
+come : (pages : Pages) (sources : List SourceData) (planned : PlannedData) (plan own : PlanData) (columns shown : List Term) (IsToCome : Basis → List Row → ℕ → Type 0)
+    (all : Basis → List Row) → own ≡ plan → shown ≡ columns
+    → ((on : Basis) → on.plan ≡ plan → IsToCome on (all on) (work on.w on.db on.sizes on.plan))
+    → ((on : Basis) → on.plan ≡ plan → IsAnswerOf on.w on.db planned (all on))
+    → ((w : Datum) (db : Database) → PlanReaches w db plan columns → HitsOf w db planned)
+    → Comes pages sources planned own shown IsToCome []
+come pages sources planned plan own columns shown IsToCome all plans terms coming answers hits = record {
+  rows = λ on has same. record {
+    rest = all on;
+    ahead = work on.w on.db on.sizes on.plan;
+    answer = answers on (same ∙ plans);
+    to_come = coming on (same ∙ plans);
+  };
+  hits = λ w db reaches.
+      hits w db
+      (subst (λ (p : PlanData). PlanReaches w db p columns) plans (subst (λ (terms : List Term). PlanReaches w db own terms) terms reaches));
 }
 
-pub distinct_opened : (selection : SelectionData) (distinct : DistinctResults) → plan_of distinct.results.op ≡ selection.plan
-    → map term distinct.results.columns.items ≡ selection.columns
-    → ((pages : Pages) (sources : List SourceData) (on : Basis) → on.plan ≡ selection.plan
-    → IsDistinctComing pages sources on distinct (distinct_answer_of on.w on.db selection) (work on.w on.db on.sizes on.plan))
-    → IsOpenedRun (PlannedData.distinct selection) (Distinct distinct)
-distinct_opened selection distinct plans terms coming = record {
-  given = λ pages sources. distinct_come pages sources selection distinct plans terms (coming pages sources);
-  over = λ sources over. subst (λ (p : PlanData). IsPlanOf sources p) (sym plans) over;
-  ahead = λ pages sources on. distinct_ahead pages sources on selection distinct plans (coming pages sources);
-}
+module _ (arm : ArmData) (slice : LimitOffset) (a : AnswerData) (arms_are : a.arms ≡ one arm) (none : a.order ≡ None)
+    (slices : (rows : List Row) → sliced slice rows ≡ limited a.limit (skipped a.offset rows)) where
+  -- the rows of the arm, of which the slice is left
+  abbrev rest_of : Basis → List Row
+  rest_of on = sliced slice (each_once_if arm.distinct (result_rows on.w arm.columns (rows_of on.w on.db on.plan)))
+
+  arm_answers : (on : Basis) → on.plan ≡ arm.plan → IsAnswerOf on.w on.db (PlannedData.answer a) (rest_of on)
+  arm_answers on same =
+      subst (λ (p : PlanData). IsAnswer on.w on.db a (sliced slice (each_once_if arm.distinct (result_rows on.w arm.columns (rows_of on.w on.db p))))) (sym same)
+      (as_they_come on.w on.db a (one arm) slice arms_are none slices)
+
+  arm_hits : (w : Datum) (db : Database) → PlanReaches w db arm.plan arm.columns → HitsOf w db (PlannedData.answer a)
+  arm_hits w db reaches = subst (ArmsHit w db) (sym arms_are) reaches
+
+  arm_over : (sources : List SourceData) (own : PlanData) → own ≡ arm.plan → IsPlannedOver sources (PlannedData.answer a) → IsPlanOf sources own
+  arm_over sources own plans over = subst (IsPlanOf sources) (sym plans) (subst (ArePlannedOver sources) arms_are over)
+
+  arm_ahead : (on : Basis) (IsAhead : ℕ → Type 0) → IsAhead (work on.w on.db on.sizes arm.plan) → IsAhead (work_of on.w on.db on.sizes (PlannedData.answer a))
+  arm_ahead on IsAhead ahead = subst (λ (arms : ArmsData). IsAhead (work_of_arms on.w on.db on.sizes arms)) (sym arms_are) ahead
+
+  -- an arm whose rows come one by one
+  pub rows_opened : (results : Results) → arm.distinct ≡ false → plan_of results.op ≡ arm.plan → map term results.columns.items ≡ arm.columns
+      → ((pages : Pages) (sources : List SourceData) (on : Basis) → on.plan ≡ arm.plan
+      → IsComing pages sources on results (sliced slice (result_rows on.w arm.columns (rows_of on.w on.db on.plan))) (work on.w on.db on.sizes on.plan))
+      → IsOpenedRun (PlannedData.answer a) (Rows results)
+  rows_opened results all plans terms coming =
+      let each = λ (pages : Pages) (sources : List SourceData) (on : Basis) (same : on.plan ≡ arm.plan).
+      subst (λ (b : Bool). IsComing pages sources on results (sliced slice (each_once_if b (result_rows on.w arm.columns (rows_of on.w on.db on.plan)))) (work on.w on.db on.sizes on.plan))
+      (sym all) (coming pages sources on same) in
+      record {
+        given = λ pages sources.
+            come pages sources (PlannedData.answer a) arm.plan (plan_of results.op) arm.columns (map term results.columns.items) (λ on. IsComing pages sources on results)
+            rest_of plans terms (each pages sources) arm_answers arm_hits;
+        over = λ sources over. arm_over sources (plan_of results.op) plans over;
+        ahead = λ pages sources on.
+            arm_ahead on (HasAhead pages sources on (Rows results))
+            (plan_ahead on arm.plan (plan_of results.op) (λ on. IsComing pages sources on results) rest_of plans (each pages sources));
+      }
+
+  -- the same, each once
+  pub distinct_opened : (distinct : DistinctResults) → arm.distinct ≡ true → plan_of distinct.results.op ≡ arm.plan → map term distinct.results.columns.items ≡ arm.columns
+      → ((pages : Pages) (sources : List SourceData) (on : Basis) → on.plan ≡ arm.plan
+      → IsDistinctComing pages sources on distinct (sliced slice (firsts (result_rows on.w arm.columns (rows_of on.w on.db on.plan)))) (work on.w on.db on.sizes on.plan))
+      → IsOpenedRun (PlannedData.answer a) (Distinct distinct)
+  distinct_opened distinct once plans terms coming =
+      let each = λ (pages : Pages) (sources : List SourceData) (on : Basis) (same : on.plan ≡ arm.plan).
+      subst (λ (b : Bool). IsDistinctComing pages sources on distinct (sliced slice (each_once_if b (result_rows on.w arm.columns (rows_of on.w on.db on.plan))))
+      (work on.w on.db on.sizes on.plan)) (sym once) (coming pages sources on same) in
+      record {
+        given = λ pages sources.
+            come pages sources (PlannedData.answer a) arm.plan (plan_of distinct.results.op) arm.columns (map term distinct.results.columns.items)
+            (λ on. IsDistinctComing pages sources on distinct) rest_of plans terms (each pages sources) arm_answers arm_hits;
+        over = λ sources over. arm_over sources (plan_of distinct.results.op) plans over;
+        ahead = λ pages sources on.
+            arm_ahead on (HasAhead pages sources on (Distinct distinct))
+            (plan_ahead on arm.plan (plan_of distinct.results.op) (λ on. IsDistinctComing pages sources on distinct) rest_of plans (each pages sources));
+      }
 
 -- SELECTs whose rows come one by one, one SELECT after the other
-pub chained_opened : (joined : CompoundData) (chained : ChainedResults) → IsUnionChain joined → arms_of chained.arms ≡ joined.arms
+pub chained_opened : (arms : ArmsData) (slice : LimitOffset) (chained : ChainedResults) → arms_of chained.arms ≡ arms
     → ((pages : Pages) (sources : List SourceData) (on : Basis)
-    → IsChainComing pages sources on chained (chain_answer on.w on.db joined) (work_of_arms on.w on.db on.sizes joined.arms))
-    → IsOpenedRun (PlannedData.compound joined) (Chained chained)
-chained_opened joined chained chain arms coming = record {
+    → IsChainComing pages sources on chained (sliced slice (rows_of_arms on.w on.db arms)) (work_of_arms on.w on.db on.sizes arms))
+    → IsOpenedOf arms slice (Chained chained)
+chained_opened arms slice chained same coming a arms_are none slices = record {
   given = λ pages sources. record {
     rows = λ on has. record {
-      rest = chain_answer on.w on.db joined;
-      ahead = work_of_arms on.w on.db on.sizes joined.arms;
-      answer = chain_is_answer on.w on.db joined chain;
+      rest = sliced slice (rows_of_arms on.w on.db arms);
+      ahead = work_of_arms on.w on.db on.sizes arms;
+      answer = as_they_come on.w on.db a arms slice arms_are none slices;
       to_come = coming pages sources on;
     };
-    hits = λ w db reached. subst (ArmsHit w db) arms reached;
+    hits = λ w db reached. subst (ArmsHit w db) (same ∙ sym arms_are) reached;
   };
-  over = λ sources over. subst (ArePlannedOver sources) (sym arms) over;
-  ahead = λ pages sources on. (chain_answer on.w on.db joined, coming pages sources on);
+  over = λ sources over. subst (ArePlannedOver sources) (arms_are ∙ sym same) over;
+  ahead = λ pages sources on.
+      subst (λ (whole : ArmsData). HasAhead pages sources on (Chained chained) (work_of_arms on.w on.db on.sizes whole)) (sym arms_are)
+      (sliced slice (rows_of_arms on.w on.db arms), coming pages sources on);
 }
 
+-- an answer in no order gives the rows of its arms as they come
+pub opened_told : {E : Type 0} (a : AnswerData) (arms : ArmsData) (slice : LimitOffset) → a.arms ≡ arms → a.order ≡ None
+    → ((rows : List Row) → sliced slice rows ≡ limited a.limit (skipped a.offset rows)) → (found : Result (Option Execution) E)
+    → IfOk found (λ opened. IfSome opened (IsOpenedOf arms slice)) → IfOk found (λ opened. IfSome opened (IsOpenedRun (PlannedData.answer a)))
+opened_told a arms slice same none slices (Ok None) told = tt
+opened_told a arms slice same none slices (Ok (Some running)) told = told a same none slices
+opened_told a arms slice same none slices (Err e) told = tt
+
 -- columns of each row of a table
-pub columns_opened : (at : ℕ) (places : List ℕ) (selection : SelectionData) → selection ≡ columns_selection at places
-    → (results : Results) → plan_of results.op ≡ selection.plan → map term results.columns.items ≡ selection.columns
-    → ((pages : Pages) (sources : List SourceData) (on : Basis) → on.plan ≡ selection.plan
-    → IsComing pages sources on results (answer_of on.w on.db selection) (work on.w on.db on.sizes on.plan))
+pub columns_opened : (at : ℕ) (places : List ℕ) (arm : ArmData) → arm ≡ columns_arm at places
+    → (results : Results) → plan_of results.op ≡ arm.plan → map term results.columns.items ≡ arm.columns
+    → ((pages : Pages) (sources : List SourceData) (on : Basis) → on.plan ≡ arm.plan
+    → IsComing pages sources on results (result_rows on.w arm.columns (rows_of on.w on.db on.plan)) (work on.w on.db on.sizes on.plan))
     → IsOpenedRun (PlannedData.columns at places) (Rows results)
-columns_opened at places selection same results plans terms coming = record {
-  given = λ pages sources.
-      rows_come pages sources selection (PlannedData.columns at places) results plans terms (coming pages sources)
-      (λ w db. ap (answer_of w db) same ∙ columns_answer w db at places)
-      (λ w db reaches. columns_reach_none w db at places (subst (λ (s : SelectionData). PlanReaches w db s.plan s.columns) same reaches));
-  over = λ sources over. subst (λ (p : PlanData). IsPlanOf sources p) (sym (plans ∙ ap (λ (s : SelectionData). s.plan) same)) (tt, over);
-  ahead = λ pages sources on.
-      subst (HasAhead pages sources on (Rows results))
-      (ap (λ (s : SelectionData). work on.w on.db on.sizes s.plan) same ∙ columns_work pages sources on at places)
-      (rows_ahead pages sources on selection results plans (coming pages sources));
-}
+columns_opened at places arm is results plans terms coming =
+    let all = λ (on : Basis). result_rows on.w arm.columns (rows_of on.w on.db on.plan) in
+    record {
+      given = λ pages sources.
+          come pages sources (PlannedData.columns at places) arm.plan (plan_of results.op) arm.columns (map term results.columns.items) (λ on. IsComing pages sources on results)
+          all plans terms (coming pages sources)
+          (λ on same.
+          ap (λ (p : PlanData). result_rows on.w arm.columns (rows_of on.w on.db p)) same
+          ∙ ap (λ (arm : ArmData). result_rows on.w arm.columns (rows_of on.w on.db arm.plan)) is ∙ columns_answer on.w on.db at places)
+          (λ w db reaches. columns_reach_none w db at places (subst (λ (arm : ArmData). PlanReaches w db arm.plan arm.columns) is reaches));
+      over = λ sources over. subst (λ (p : PlanData). IsPlanOf sources p) (sym (plans ∙ ap (λ (arm : ArmData). arm.plan) is)) (tt, over);
+      ahead = λ pages sources on.
+          subst (HasAhead pages sources on (Rows results))
+          (ap (λ (arm : ArmData). work on.w on.db on.sizes arm.plan) is ∙ columns_work on at places)
+          (plan_ahead on arm.plan (plan_of results.op) (λ on. IsComing pages sources on results) all plans (coming pages sources));
+    }
 
 -- ---- what was given begins an answer
 

@@ -1,9 +1,9 @@
 use Rattle.std.proofs.Common.{map, refl, sym, ap}
 use Rattle.std.proofs.lemmas.Result.{err_from_is_err_and}
 use Rattle.resolver_bodies.specs.BodyView.{body_of}
-use Rattle.resolver_exprs.specs.order_keys.KeyView.{key_of}
 use Rattle.resolver.specs.statement_names.NamedView.{named_data}
 use Rattle.resolver.proofs.resolved.typed.Goals as goal
+use Rattle.resolver_terms.specs.SelectView.{key_of}
 
 pub returns-in_err-check_types : goal.returns-in_err-check_types
 returns-in_err-check_types c =

@@ -1,37 +1,15 @@
--- Expressions, sources and inner queries, one after the other.
-use Rattle.std.proofs.Common.{◌≡◌, ℕ, ◌+◌, List, [], ◌∷◌, ◌++◌, drop, length, map, take, append-nil, append_assoc, refl, sym, ap, ◌∙◌, arith}
+-- Sources and inner queries, one after the other.
+use Rattle.std.proofs.Common.{◌≡◌, ℕ, ◌+◌, List, [], ◌∷◌, ◌++◌, drop, length, take, append-nil, append_assoc, refl, sym, ap, ◌∙◌, arith}
 use Rattle.std.proofs.lemmas.List.{length-append}
 use Rattle.values.specs.Datum.{Datum}
-use Rattle.expr.specs.Filled.{filled, filled_all, filled_arms, filled_firsts, literals}
-use Rattle.expr.specs.Term.{Term, arm, literal, more}
-use Rattle.expr.specs.View.{arms, terms}
+use Rattle.expr.specs.Filled.{filled}
+use Rattle.expr.specs.Term.{Term}
 use Rattle.semantics.specs.Query as q
 use Rattle.semantics_names.specs.Statement.{with_answers}
 use Rattle.resolver_bodies.specs.BodyView.{JoinedData, SingleData, joined_all}
 use Rattle.resolver_copies.specs.materialized_bodies.FlatView.{all_flat, materialized_one, kept_among}
 use Rattle.semantics_rewrites.specs.materialized_queries.Flat.{materialized_from, kept_in, kept_of, kept_source}
 use Rattle.semantics_rewrites.specs.materialized_queries.FlatWith.{materialized_body_with, queries_in, queries_of}
-
-pub literals_are : (values : List Datum) → terms (map (λ v. literal v) values) ≡ literals values
-literals_are [] = refl
-literals_are (v ∷ vs) = ap (more (literal v)) (literals_are vs)
-
-module _ (answers : List (List Datum)) where
-  -- an arm, whose parts are filled
-  abbrev pub filled_arm : Term × Term → Term × Term
-  filled_arm a = (filled answers a.0, filled answers a.1)
-
-  pub all_are_filled : (ts : List Term) → terms (map (filled answers) ts) ≡ filled_all answers (terms ts)
-  all_are_filled [] = refl
-  all_are_filled (t ∷ ts) = ap (more (filled answers t)) (all_are_filled ts)
-
-  pub firsts_are_filled : (ts : List Term) → terms (map (filled answers) ts) ≡ filled_firsts answers (terms ts)
-  firsts_are_filled [] = refl
-  firsts_are_filled (t ∷ ts) = ap (more (filled answers t)) (firsts_are_filled ts)
-
-  pub arms_are_filled : (rest : List (Term × Term)) → arms (map filled_arm rest) ≡ filled_arms answers (arms rest)
-  arms_are_filled [] = refl
-  arms_are_filled (a ∷ rest) = ap (arm (filled answers a.0) (filled answers a.1)) (arms_are_filled rest)
 
 -- ---- what stands in a FROM
 

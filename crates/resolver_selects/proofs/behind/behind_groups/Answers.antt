@@ -7,7 +7,7 @@ use Rattle.semantics_names.specs.Places as places
 use Rattle.semantics_names.specs.Same.{is_same_call}
 use Rattle.semantics_names.specs.Statement as spec
 use Rattle.resolver_terms.specs.SelectView.{call_of}
-use Rattle.resolver_terms.specs.TermView.{term}
+use Rattle.expr.specs.View.{term}
 use Rattle.resolver_selects.proofs.StepLemmas.{ends, goes_on}
 use Rattle.resolver_selects.specs.BehindView.{input_of}
 use Rattle.sql_reader_grammar.specs.statement_trees.TreeView as trees

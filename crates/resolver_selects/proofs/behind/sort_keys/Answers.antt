@@ -1,11 +1,11 @@
 use Rattle.std.proofs.Common.{map, string_bytes, subst}
 use Rattle.sql_reader_grammar.specs.Reading.{terms_of}
 use Rattle.semantics_names.specs.Statement.{keys_of}
-use Rattle.resolver_exprs.specs.order_keys.KeyView.{key_of}
 use Rattle.resolver_terms.specs.Outcome.{Gives}
 use Rattle.sql_reader_grammar.specs.statement_trees.TreeView.{term_of}
 use Rattle.resolver_selects.proofs.KeyLemmas.{one_row}
 use Rattle.resolver_selects.proofs.behind.sort_keys.Goals as goal
+use Rattle.resolver_terms.specs.SelectView.{key_of}
 
 pub returns : goal.returns
 returns g c =

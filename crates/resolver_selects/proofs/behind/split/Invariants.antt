@@ -1,6 +1,6 @@
 -- The terms and the names so far.
 use Rattle.std.proofs.Common.{◌≡◌, map, string_bytes}
-use Rattle.resolver_terms.specs.TermView.{term}
+use Rattle.expr.specs.View.{term}
 use Rattle.resolver_exprs.specs.scopes.ResultView.{result_of}
 use Rattle.resolver_selects.proofs.behind.split.Given as goal
 

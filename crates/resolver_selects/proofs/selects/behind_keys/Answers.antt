@@ -5,7 +5,7 @@ use Rattle.semantics_names.specs.Outcome.{followed}
 use Rattle.semantics_names.specs.Statement as spec
 use Rattle.resolver_terms.specs.Outcome.{Gives}
 use Rattle.resolver_terms.specs.SelectView.{aggregate_of}
-use Rattle.resolver_terms.specs.TermView.{term}
+use Rattle.expr.specs.View.{term}
 use Rattle.resolver_selects.proofs.GroupLemmas.{with_groups, without_groups}
 use Rattle.resolver_selects.specs.NamedView.{core_data}
 use Rattle.sql_reader_grammar.specs.statement_trees.TreeView as trees

@@ -1,6 +1,6 @@
 use Rattle.std.proofs.Common.{None, Ok, ap, sym, ◌∙◌}
 use Rattle.std.proofs.lemmas.Result.{err_from_is_err_and}
-use Rattle.resolver_terms.specs.TermView.{term}
+use Rattle.expr.specs.View.{term}
 use Rattle.resolver_selects.proofs.selects.ungrouped.Goals as goal
 
 pub returns-in_err-behind : goal.returns-in_err-behind

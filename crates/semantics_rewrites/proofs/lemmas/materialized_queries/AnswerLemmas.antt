@@ -11,7 +11,7 @@ use Rattle.values.specs.Row.{Row}
 use Rattle.semantics.specs.Body.{answer_of, answers_in, body_rows, one_if_some}
 use Rattle.semantics.specs.Query.{Body, From, InnerQuery, QueryData, compound, exists, joined, nothing, select, values_of, with_inner}
 use Rattle.semantics.specs.Sequence.{value_at}
-use Rattle.semantics_rewrites.specs.schema_sources.Mapped.{mapped_key, mapped_select}
+use Rattle.semantics.specs.Mapped.{mapped_key, mapped_select}
 use Rattle.semantics_rewrites.specs.materialized_queries.Flat.{flat, materialized_body, materialized_from, kept_of, last_from}
 use Rattle.semantics_rewrites.specs.materialized_queries.FlatWith.{AreAnswers, answer_from, body_in, materialized_body_with, materialized_with, last_answers, queries_in, queries_of}
 

@@ -20,7 +20,7 @@ use Rattle.semantics.specs.Query.{Body, From, Key, QueryData, Select, Source, co
 use Rattle.semantics.specs.Valuation.{Valuation}
 use Rattle.semantics_rewrites.proofs.lemmas.schema_sources.MappedLemmas.{order_terms_mapped}
 use Rattle.semantics_rewrites.proofs.lemmas.schema_sources.SelectHitLemmas.{any_mapped, any_weaker}
-use Rattle.semantics_rewrites.specs.schema_sources.Mapped.{mapped_key, mapped_select}
+use Rattle.semantics.specs.Mapped.{mapped_key, mapped_select}
 use Rattle.semantics_rewrites.specs.schema_sources.Within.{IsBodyWithin, IsFromWithin, IsSourceWithin}
 use Rattle.semantics_rewrites.proofs.lemmas.materialized_queries.AnswerLemmas.{all_same, answers_of, are_own, as_answers, materialized_is, zip_back, zip_front}
 use Rattle.semantics_rewrites.proofs.lemmas.materialized_queries.FilledLemmas.{again}

@@ -19,7 +19,7 @@ use Rattle.semantics.specs.Times.{combined}
 use Rattle.semantics.specs.Valuation.{Valuation}
 use Rattle.expr.specs.Meaning.{eval}
 use Rattle.semantics_rewrites.proofs.lemmas.schema_sources.MappedLemmas.{plain_mapped, results_mapped, select_outputs_mapped}
-use Rattle.semantics_rewrites.specs.schema_sources.Mapped.{mapped_key, mapped_select}
+use Rattle.semantics.specs.Mapped.{mapped_key, mapped_select}
 use Rattle.semantics_rewrites.specs.schema_sources.Within.{IsBodyWithin, IsFromWithin, IsSourceWithin}
 use Rattle.semantics_rewrites.proofs.lemmas.materialized_queries.FilledLemmas.{again}
 use Rattle.semantics_rewrites.proofs.lemmas.materialized_queries.AnswerLemmas.{answers_of, are_own, as_answers, materialized_is, zip_back, zip_front}

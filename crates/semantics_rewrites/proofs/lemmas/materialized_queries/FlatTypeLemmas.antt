@@ -15,7 +15,7 @@ use Rattle.semantics.specs.Query.{AggregateFunction, Body, Edge, FrameUnit, From
 use Rattle.semantics.specs.Typed.{AggregateGives, AggregateHasType, AnswersHaveTypes, BodyHasTypes, CallHasType, ComputedHasTypes, FitTypes, FitsCatalog, FromHasTypes, FunctionHasType, GroupedHasTypes, IsOneNumber, IsTerm, IsWindow, SelectHasTypes, SourceHasTypes, UnitFits}
 use Rattle.semantics.proofs.ElementLemmas.{length_all_zip}
 use Rattle.semantics.proofs.TypedLemmas.{answers_typed, body_width-is, source_typed}
-use Rattle.semantics_rewrites.specs.schema_sources.Mapped.{mapped_aggregate, mapped_call, mapped_function, mapped_grouping, mapped_select, mapped_sort, mapped_window}
+use Rattle.semantics.specs.Mapped.{mapped_aggregate, mapped_call, mapped_function, mapped_grouping, mapped_select, mapped_sort, mapped_window}
 use Rattle.semantics_rewrites.specs.materialized_queries.FlatTyped.{IsFlatTyped}
 use Rattle.semantics_rewrites.specs.materialized_queries.Flat.{answered, materialized_body, materialized_from, materialized_source, kept_in, kept_of, kept_source}
 

@@ -21,7 +21,7 @@ use Rattle.semantics.specs.Valuation.{Valuation, holds_on, kept}
 use Rattle.semantics.specs.Windows.{call_result, numbered}
 use Rattle.semantics_rewrites.proofs.lemmas.schema_sources.MappedLemmas.{all_call_terms_mapped, call_mapped, group_rows_mapped, grouped_mapped, grouping_terms_mapped, groups_mapped, select_rows_mapped}
 use Rattle.semantics_rewrites.proofs.lemmas.schema_sources.SelectHitLemmas.{any_mapped, any_weaker}
-use Rattle.semantics_rewrites.specs.schema_sources.Mapped.{mapped_aggregate, mapped_call, mapped_grouping, mapped_select}
+use Rattle.semantics.specs.Mapped.{mapped_aggregate, mapped_call, mapped_grouping, mapped_select}
 
 some_one : {A : Type 0} (x y : A) → Some x ≡ Some y → x ≡ y
 some_one x y same = cc

@@ -17,7 +17,7 @@ use Rattle.semantics.proofs.TypedLemmas.{answers_typed, body_width-is}
 use Rattle.semantics.specs.Body.{SameTables, answer_of, answers_in, source_rows}
 use Rattle.semantics.specs.Query.{Body, From, Key, KeyTerm, QueryData, Select, Source, compound, derived, joined, nothing, schema, select, table, with_inner}
 use Rattle.semantics.specs.Typed.{BodyHasTypes, AnswersHaveTypes, FitTypes, FitsCatalog, FromHasTypes, HasTypes, IsKeyTerm, IsOrderTerm, SourceHasTypes, schema_types}
-use Rattle.semantics_rewrites.specs.schema_sources.Mapped.{mapped_key, mapped_key_term, mapped_select}
+use Rattle.semantics.specs.Mapped.{mapped_key, mapped_key_term, mapped_select}
 use Rattle.semantics_rewrites.proofs.lemmas.materialized_queries.AnswerLemmas.{as_answers, zip_back, zip_front, zip_turned}
 use Rattle.semantics_rewrites.proofs.lemmas.materialized_queries.FinerLemmas.{Finer, finer_chain, finer_left, finer_right, finer_self, finer_term, meets}
 use Rattle.semantics_rewrites.proofs.lemmas.materialized_queries.FlatTypeLemmas.{ArePlaced, all_placed, computed_still, first_placed, from_kinds, got_front, kinds_from, kinds_of, kinds_source, last_placed, none_answered, of_kinds, rows_typed, select_still, zip_append}

@@ -11,7 +11,7 @@ use Rattle.semantics.specs.Body.{answers_in, source_rows}
 use Rattle.semantics.specs.Hits.{BodyHits, FromHits, Hits, HitsOrdered, InnerHits, IsChoice, IsChosen, SelectHits, SourceHits, order_terms}
 use Rattle.semantics.specs.Joins.{pads_left, pads_right}
 use Rattle.semantics.specs.Query.{Body, From, InnerQuery, Key, QueryData, Select, Source, compound, derived, exists, joined, nothing, schema, select, source_width, table, values_of, with_inner}
-use Rattle.semantics_rewrites.proofs.lemmas.schema_sources.MappedLemmas.{select_itself}
+use Rattle.semantics.proofs.ItselfLemmas.{select_itself}
 use Rattle.semantics_rewrites.proofs.lemmas.schema_sources.RowLemmas.{answers_same, rows_same, source_same, source_wide}
 use Rattle.semantics_rewrites.proofs.lemmas.schema_sources.SelectHitLemmas.{select_hits}
 use Rattle.semantics_rewrites.specs.schema_sources.Settled.{settled, with_schema_body, with_schema_from, with_schema_inner, with_schema_source, with_schema}

@@ -7,7 +7,6 @@ use Rattle.values.specs.Row.{Row}
 use Rattle.expr.specs.operations.Operations.{settle}
 use Rattle.expr.specs.Term.{Term}
 use Rattle.semantics.proofs.GroupLemmas.{map-map, map_agree}
-use Rattle.semantics.proofs.ScanLemmas.{map-identity}
 use Rattle.semantics.specs.Body.{distinct, key_value, output, plain_outputs, results, select_outputs, select_rows}
 use Rattle.semantics.specs.Groups.{Group, aggregate_result, aggregate_value, group_keys, group_of, group_row, group_rows, grouped, groups}
 use Rattle.semantics.specs.Hits.{call_terms, function_terms, grouping_terms, key_terms, order_terms}
@@ -16,7 +15,7 @@ use Rattle.semantics.specs.Sequence.{value_at}
 use Rattle.semantics.specs.Times.{once, same_row}
 use Rattle.semantics.specs.Valuation.{Valuation, kept, term_values}
 use Rattle.semantics.specs.Windows.{call_result, call_value, directions, earlier, frame_rows, in_frame, numbered, partition_of, peer_group, place_of, places, row_at, sequence, sort_values, window_result, windowed}
-use Rattle.semantics_rewrites.specs.schema_sources.Mapped.{mapped_aggregate, mapped_call, mapped_function, mapped_grouping, mapped_key, mapped_key_term, mapped_select, mapped_sort, mapped_window}
+use Rattle.semantics.specs.Mapped.{mapped_aggregate, mapped_call, mapped_function, mapped_grouping, mapped_key, mapped_key_term, mapped_select, mapped_sort, mapped_window}
 
 module _ (value : Valuation) (f : Term → Term) where
   -- the value of what stands in the place of an expression
@@ -196,34 +195,3 @@ module _ (f : Term → Term) where
   order_terms_mapped [] = refl
   order_terms_mapped (key ∷ order) =
       rw (key_terms_mapped key.by, order_terms_mapped order) (sym (map-append f (key_terms key.by) (order_terms order)))
-
--- ---- where each expression stands in its own place
-
-abbrev itself : Term → Term
-itself t = t
-
-function_itself : (function : WindowFunction) → mapped_function itself function ≡ function
-function_itself (WindowFunction.aggregate a) = refl
-function_itself WindowFunction.row_number = refl
-function_itself WindowFunction.rank = refl
-function_itself WindowFunction.dense_rank = refl
-function_itself (WindowFunction.ntile n) = refl
-function_itself (WindowFunction.lag x n otherwise) = refl
-function_itself (WindowFunction.lead x n otherwise) = refl
-function_itself (WindowFunction.first_value x) = refl
-function_itself (WindowFunction.last_value x) = refl
-function_itself (WindowFunction.nth_value x n) = refl
-
-call_itself : (call : WindowCall) → mapped_call itself call ≡ call
-call_itself call = rw (map-identity call.window.partition, map-identity call.window.order, function_itself call.function) refl
-
-calls_itself : (calls : List WindowCall) → map (mapped_call itself) calls ≡ calls
-calls_itself [] = refl
-calls_itself (call ∷ calls) = rw (call_itself call, calls_itself calls) refl
-
-grouping_itself : (g : Option Grouping) → option_map (mapped_grouping itself) g ≡ g
-grouping_itself None = refl
-grouping_itself (Some g) = rw (map-identity g.by, map-identity g.aggregates) refl
-
-pub select_itself : (s : Select) → mapped_select itself s ≡ s
-select_itself s = rw (grouping_itself s.grouping, calls_itself s.windows, map-identity s.columns) refl

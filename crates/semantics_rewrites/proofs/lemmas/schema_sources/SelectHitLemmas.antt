@@ -17,7 +17,7 @@ use Rattle.semantics.specs.Query.{From, Grouping, Select, WindowCall}
 use Rattle.semantics.specs.Valuation.{Valuation, kept}
 use Rattle.semantics.specs.Windows.{call_result, numbered}
 use Rattle.semantics_rewrites.proofs.lemmas.schema_sources.MappedLemmas.{all_call_terms_mapped, call_mapped, group_rows_mapped, grouped_mapped, grouping_terms_mapped, groups_mapped, select_rows_mapped}
-use Rattle.semantics_rewrites.specs.schema_sources.Mapped.{mapped_aggregate, mapped_call, mapped_grouping, mapped_select}
+use Rattle.semantics.specs.Mapped.{mapped_aggregate, mapped_call, mapped_grouping, mapped_select}
 
 pub any_mapped : {A B : Type 0} (P : B → Type 0) (f : A → B) (xs : List A) → Any P (map f xs) → Any (λ x. P (f x)) xs
 any_mapped P f [] (k, y, less, is, has) = absurd (omega arith)

@@ -5,10 +5,10 @@ use Rattle.values.specs.Row.{Row}
 use Rattle.expr.specs.Meaning.{Overflows, eval}
 use Rattle.semantics.specs.Hits.{call_terms}
 use Rattle.windows.specs.window_entries.Tags.{tags_of}
-use Rattle.windows_terms.specs.CallView.{call_data, window_data}
 use Rattle.windows.specs.Wanted.{wanted}
 use Rattle.windows.proofs.AllLemmas.{All-slice, added_before, one_part_more, part_before, rows_before, tags_before}
 use Rattle.windows.proofs.evaluated.put_parts.Goals as goal
+use Rattle.resolver_terms.specs.SelectView.{call_of, window_of}
 
 pub put_part-requires : goal.put_part-requires
 put_part-requires c =
@@ -43,8 +43,8 @@ loop-number-preserved c =
       few = omega (arith, behind, within);
       behind = subst (λ n. c.loop-number.added + c.in_ok-added.field-0 ≤ slice_index starts n) here behind;
       right = λ w o rows are.
-          one_part_more (wanted w o (call_data c.args.call.now) rows) tags starts (map datum_of c.loop-number.results.items) (map datum_of c.put_part.new.results.items) number part some is
-          (c.in_ok-added.ensures.values w o rows (part_before (eval w) (window_data c.args.call.now.window) rows tags part starts number are some inside is))
+          one_part_more (wanted w o (call_of c.args.call.now) rows) tags starts (map datum_of c.loop-number.results.items) (map datum_of c.put_part.new.results.items) number part some is
+          (c.in_ok-added.ensures.values w o rows (part_before (eval w) (window_of c.args.call.now.window) rows tags part starts number are some inside is))
           (c.loop-number.invariant.right w o rows are);
     }
 
@@ -66,7 +66,7 @@ returns-in_err-added-clause-overflow c = λ is.
     let some : 1 ≤ number = omega arith in
     let inside : number < length starts = omega (arith, long, c.loop-number-test.true) in
     elim (c.in_err-added.ensures.overflow (cc (is, p.1, p.2))) [
-      | inl reached ↦ inl (rows_before (λ row. Any (λ t. Overflows t row) (call_terms (call_data c.args.call.now))) c.args.parts.now.entries.items c.as_slice-entries.result.now
+      | inl reached ↦ inl (rows_before (λ row. Any (λ t. Overflows t row) (call_terms (call_of c.args.call.now))) c.args.parts.now.entries.items c.as_slice-entries.result.now
           (slice_index begins (number - 1)) (slice_index begins number) c.as_slice-entries.ensures.value reached)
-      | inr leave ↦ inr (λ w rows are. leave w rows (part_before (eval w) (window_data c.args.call.now.window) rows tags part starts number are some inside same))
+      | inr leave ↦ inr (λ w rows are. leave w rows (part_before (eval w) (window_of c.args.call.now.window) rows tags part starts number are some inside same))
     ]

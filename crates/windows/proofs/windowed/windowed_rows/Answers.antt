@@ -6,10 +6,10 @@ use Rattle.std.proofs.lemmas.Result.{err_from_is_err_and}
 use Rattle.values.specs.Datum.{datum_of}
 use Rattle.values.specs.declared.value.Value.{Value}
 use Rattle.semantics.proofs.ScanLemmas.{map-identity}
-use Rattle.windows_terms.specs.CallView.{call_data}
 use Rattle.windows.specs.Wanted.{column_of}
 use Rattle.windows.proofs.BehindLemmas.{as_many, behind, behind_more, behind_windowed, values_at}
 use Rattle.windows.proofs.windowed.windowed_rows.Goals as goal
+use Rattle.resolver_terms.specs.SelectView.{call_of}
 
 pub loop-given-init : goal.loop-given-init
 loop-given-init c = rw c.in_ok-whole.ensures.items refl
@@ -44,9 +44,9 @@ returns-clause-rows c = λ w.
     let end = YieldsList-end (YieldsList-from_vec c.args.rows.items given.0 (given.1 ∙ c.args.rows.ok.0))
     c.loop-given.yielded _ c.loop-given.yielded_by _ c.next.new.self c.in-None.is c.next.ensures.steps in
     let all = sym (map-identity c.loop-given.yielded) ∙ end.0 in
-    let columns : map shown c.in_ok-columns.columns.items ≡ map (column_of w (map shown c.args.rows.items)) (map call_data c.args.calls.now) =
+    let columns : map shown c.in_ok-columns.columns.items ≡ map (column_of w (map shown c.args.rows.items)) (map call_of c.args.calls.now) =
     rw c.as_slice.ensures.value at (c.in_ok-columns.ensures.columns w) in
-    c.loop-given.invariant ∙ (λ j. behind (columns j) 0 (map shown (all j))) ∙ behind_windowed w (map call_data c.args.calls.now) (map shown c.args.rows.items)
+    c.loop-given.invariant ∙ (λ j. behind (columns j) 0 (map shown (all j))) ∙ behind_windowed w (map call_of c.args.calls.now) (map shown c.args.rows.items)
 
 pub returns-clause-size : goal.returns-clause-size
 returns-clause-size c =

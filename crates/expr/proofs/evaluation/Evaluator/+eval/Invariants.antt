@@ -95,6 +95,9 @@ decreases-among l = 5 * max (the_size l.x.now) (most (λ x. the_size x) l.items.
 abbrev pub decreases-member : goal.decreases-member
 decreases-member l = 5 * the_size l.x.now + 2
 
+abbrev pub decreases-unanswered : goal.decreases-unanswered
+decreases-unanswered l = 5 * the_size l.x.now + 2
+
 abbrev pub decreases-choice : goal.decreases-choice
 decreases-choice l = 5 * max (most (λ x. arm.the_size x) l.arms.now) (the_size l.otherwise.now) + 3
 

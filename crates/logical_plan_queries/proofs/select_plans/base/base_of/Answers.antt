@@ -1,7 +1,5 @@
 use Rattle.std.proofs.Common.{◌≢◌, [], All, List, map, refl, subst, sym}
 use Rattle.std.specs.List.{AllZip}
-use Rattle.expr.specs.View as expressions
-use Rattle.resolver_exprs.specs.order_keys.KeyView.{key_of}
 use Rattle.logical_plan_terms.specs.Over.{IsOver, StandsOver}
 use Rattle.logical_plan.specs.PlanView.{plan_data}
 use Rattle.logical_plan_queries.specs.select_plans.Made.{IsOverWindows}
@@ -9,10 +7,10 @@ use Rattle.logical_plan_queries.specs.select_plans.Served.{taken_width}
 use Rattle.logical_plan_queries.proofs.lemmas.select_plans.PlaceLemmas.{places_whole}
 use Rattle.logical_plan_queries.proofs.lemmas.select_plans.StandLemmas.{calls_over, columns_over, condition_over, groups_over, joins_over, joins_parted, made_of, taken_places}
 use Rattle.logical_plan_queries.proofs.lemmas.select_plans.WindowLemmas.{called}
-use Rattle.resolver_terms.specs.SelectView.{call_of, select_of}
-use Rattle.resolver_terms.specs.TermView.{term}
+use Rattle.resolver_terms.specs.SelectView.{call_of, key_of, select_of}
+use Rattle.expr.specs.View.{term}
 use Rattle.resolver_terms.specs.declared.selects.WindowCall.{WindowCall}
-use Rattle.resolver_terms.specs.declared.terms.Term.{Term}
+use Rattle.expr.specs.declared.tree.Expr.{Expr}
 use Rattle.logical_plan_terms.specs.table_plans.Input.{input_from}
 use Rattle.logical_plan_terms.specs.window_plans.Windowed.{IsOverCall}
 use Rattle.logical_plan_queries.proofs.select_plans.base.base_of.Goals as goal
@@ -59,7 +57,7 @@ pub returns-in-None-shown : goal.returns-in-None-shown
 returns-in-None-shown c = λ of.
     let windows = rw c.in-Some-computed.is at c.in_ok-computed.ensures.rows in
     (rw c.in-None-shown.is at c.in_ok-shown.ensures.over)
-    (subst (λ (ts : List Term). All (IsOver c.as_slice-3.result.now 0) (map term ts)) (sym c.as_slice-4.ensures.value)
+    (subst (λ (ts : List Expr). All (IsOver c.as_slice-3.result.now 0) (map term ts)) (sym c.as_slice-4.ensures.value)
     (columns_over (input_from c.args.input.now) (select_of c.args.select.now) (map key_of c.args.order.now) c.in_ok-read.read.items c.in_ok-read.ensures.read
     c.in_ok-read.read.items refl (plan_data c.in-Some.below) c.in-Some-over.rows.read.items (plan_data c.in-Some-over.rows.plan)
     (rw c.in-Some-over.is at c.in_ok-over.ensures.rows) c.in-Some-computed.rows.read.items c.as_slice-3.result.now (plan_data c.in-Some-computed.rows.plan)
@@ -74,12 +72,12 @@ returns c =
     let windows = rw c.in-Some-computed.is at c.in_ok-computed.ensures.rows in (
       made_of c.args.input.now (select_of c.args.select.now) (map key_of c.args.order.now) c.in_ok-read.read.items c.as_slice.result.now
           (plan_data c.in-Some.below) c.in-Some-over.rows.read.items (plan_data c.in-Some-over.rows.plan) c.in-Some-computed.rows.read.items c.as_slice-3.result.now
-          (plan_data c.in-Some-computed.rows.plan) (map expressions.term c.in-Some-shown.columns.items) c.in_ok-read.ensures.read c.as_slice.ensures.value
+          (plan_data c.in-Some-computed.rows.plan) (map term c.in-Some-shown.columns.items) c.in_ok-read.ensures.read c.as_slice.ensures.value
           (rw c.in-Some.is at c.in_ok-found.ensures.plan) (rw c.in-Some-over.is at c.in_ok-over.ensures.rows)
           (subst (λ (calls : List WindowCall).
           IsOverWindows (map call_of calls) c.in-Some-over.rows.read.items (plan_data c.in-Some-over.rows.plan) c.in-Some-computed.rows.read.items
           (plan_data c.in-Some-computed.rows.plan)) c.as_slice-2.ensures.value windows) c.as_slice-3.ensures.value
-          (subst (λ (ts : List Term). AllZip (StandsOver c.as_slice-3.result.now 0) (map expressions.term c.in-Some-shown.columns.items) (map term ts))
+          (subst (λ (ts : List Expr). AllZip (StandsOver c.as_slice-3.result.now 0) (map term c.in-Some-shown.columns.items) (map term ts))
           c.as_slice-4.ensures.value stand),
       refl,
     )

@@ -1,8 +1,7 @@
 use Rattle.std.proofs.Common.{◌∙◌, ◌++◌, List, ap, flat_map, map}
 use Rattle.expr.specs.Columns.{columns_of}
 use Rattle.semantics.specs.Hits.{order_terms}
-use Rattle.resolver_exprs.specs.order_keys.KeyView.{key_of}
-use Rattle.resolver_terms.specs.SelectView.{select_of}
+use Rattle.resolver_terms.specs.SelectView.{key_of, select_of}
 use Rattle.logical_plan_queries.proofs.lemmas.select_plans.ReadLemmas.{named_is, read_of}
 use Rattle.logical_plan_queries.specs.select_plans.Read.{row_terms}
 use Rattle.logical_plan_terms.specs.table_plans.Input.{from_of, input_from}
@@ -17,8 +16,8 @@ returns-clause-read c =
     let behind = flat_map columns_of (row_terms s.grouping (s.columns ++ order_terms order)) in
     let named = c.push_on.new.out.items in
     read_of (input_from c.args.input.now) s order named c.read_columns.result.items
-    (named_is c.new-named.result.items c.push_columns.new.out.items c.push_row_columns.new.out.items named
+    (named_is c.new-named.result.items c.columns.new.out.items c.push_row_columns.new.out.items named
     (columns_of s.condition) behind (flat_map columns_of (on_terms (from_of c.as_slice.result.now)))
-    c.new-named.ensures.items c.in_ok-push_columns.ensures c.in_ok-push_row_columns.ensures c.in_ok-push_on.ensures
+    c.new-named.ensures.items c.in_ok-columns.ensures c.in_ok-push_row_columns.ensures c.in_ok-push_on.ensures
     ∙ ap (λ (ts : List JoinedTable). (columns_of s.condition ++ behind) ++ flat_map columns_of (on_terms (from_of ts))) c.as_slice.ensures.value)
     c.read_columns.ensures.same

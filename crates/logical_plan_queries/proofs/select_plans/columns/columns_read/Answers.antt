@@ -1,8 +1,7 @@
 use Rattle.std.proofs.Common.{◌≡◌, ◌∙◌, IfOk, List, map, subst, sym}
 use Rattle.std.specs.List.{range_with_len}
 use Rattle.semantics.specs.Query.{from_width}
-use Rattle.resolver_exprs.specs.order_keys.KeyView.{key_of}
-use Rattle.resolver_terms.specs.SelectView.{select_of}
+use Rattle.resolver_terms.specs.SelectView.{key_of, select_of}
 use Rattle.logical_plan_queries.proofs.lemmas.select_plans.PlaceLemmas.{all_told, named_told, up_told}
 use Rattle.logical_plan_terms.specs.table_plans.Input.{from_of, input_from}
 use Rattle.logical_plan_terms.specs.declared.table_plans.inputs.JoinedTable.{JoinedTable}

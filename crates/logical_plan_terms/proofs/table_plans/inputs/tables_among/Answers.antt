@@ -3,7 +3,7 @@ use Rattle.resolver_bodies.specs.BodyView.{joined_all, joined_of}
 use Rattle.expr.specs.Columns.{columns_of}
 use Rattle.semantics.specs.Query.{from_width, nothing}
 use Rattle.logical_plan_terms.proofs.OverLemmas.{told}
-use Rattle.resolver_terms.specs.TermView.{term}
+use Rattle.expr.specs.View.{term}
 use Rattle.logical_plan_terms.specs.table_plans.Input.{from_of}
 use Rattle.logical_plan_terms.specs.table_plans.TableJoins.{AreTableJoins}
 use Rattle.logical_plan_terms.specs.declared.table_plans.inputs.JoinedTable.{JoinedTable}
@@ -12,20 +12,20 @@ use Rattle.logical_plan_terms.proofs.table_plans.inputs.tables_among.Goals as go
 
 pub returns-in-None : goal.returns-in-None
 returns-in-None c = λ all.
-    (rw c.in-None.is at c.in_ok-table_joined.ensures)
+    (rw c.in-None.is at c.table_joined.ensures)
     (these_joined c.args.sources.now c.loop-joined.joined-index c.joined-item.result c.loop-joined-test.true c.joined-item.is c.loop-joined.tables.items
     c.loop-joined.invariant.0 all).1
 
 pub returns-then-not-branch : goal.returns-then-not-branch
 returns-then-not-branch c =
     outside c.args.sources.now c.loop-joined.joined-index c.joined-item.result c.loop-joined-test.true c.joined-item.is c.loop-joined.tables.items
-    c.loop-joined.invariant.0 c.in-Some.table (rw c.in-Some.is at c.in_ok-table_joined.ensures)
+    c.loop-joined.invariant.0 c.in-Some.table (rw c.in-Some.is at c.table_joined.ensures)
     (subst (λ (ts : List JoinedTable). ¬ All (λ n. n < from_width (from_of ts)) (columns_of (term c.joined-item.result.condition)))
     (c.as_slice.ensures.value ∙ c.in_ok-push.ensures.items) (rw c.if-not-branch.true at c.in_ok-is_within.ensures))
 
 pub loop-joined-preserved : goal.loop-joined-preserved
 loop-joined-preserved c =
-    let same = rw c.in-Some.is at c.in_ok-table_joined.ensures in
+    let same = rw c.in-Some.is at c.table_joined.ensures in
     let sources = c.args.sources.now in
     let i = c.loop-joined.joined-index in
     let j = c.joined-item.result in

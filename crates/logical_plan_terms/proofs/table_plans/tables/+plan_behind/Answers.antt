@@ -1,6 +1,5 @@
 use Rattle.std.proofs.Common.{◌≡◌, ◌∙◌, ◌-◌, ◌<◌, Bool, [], List, ℕ, ap, length, map, rules, subst, sym, take, arith}
 use Rattle.std.proofs.lemmas.List.{length-take}
-use Rattle.expr.specs.View as expressions
 use Rattle.semantics.specs.Joins.{pads_right}
 use Rattle.semantics.specs.Query.{from_width, joined, table}
 use Rattle.semantics_names.specs.Sources.{kind_of}
@@ -8,7 +7,7 @@ use Rattle.logical_plan.specs.JoinPlan.{IsEarlyPlan, columns_before}
 use Rattle.logical_plan.specs.Plan as p
 use Rattle.logical_plan.specs.PlanView.{plan_data}
 use Rattle.logical_plan.specs.Stands.{AreTestsOf, tested}
-use Rattle.resolver_terms.specs.TermView.{term}
+use Rattle.expr.specs.View.{term}
 use Rattle.logical_plan_terms.specs.table_plans.Input.{from_of}
 use Rattle.logical_plan_terms.specs.table_plans.Parted.{AreParted, ArePlaced}
 use Rattle.logical_plan_terms.specs.table_plans.Planned.{AreOnOver}
@@ -20,7 +19,7 @@ use Rattle.logical_plan_terms.proofs.table_plans.tables.+plan_behind.Goals as go
 pub returns-in_default-clause-plan : goal.returns-in_default-clause-plan
 returns-in_default-clause-plan t c = λ conditions stand.
     subst (λ from. IsEarlyPlan c.args.read.now from conditions (plan_data c.in_ok-plan.plan)) (sym (none_are c.args.tables.now c.in_default.len_below))
-    (plan_of_nothing c.args.read.now (plan_data c.in_ok-plan.plan) (map expressions.term c.args.tests.items) conditions c.in_ok-plan.ensures stand)
+    (plan_of_nothing c.args.read.now (plan_data c.in_ok-plan.plan) (map term c.args.tests.items) conditions c.in_ok-plan.ensures stand)
 
 pub columns_left-first-requires : goal.columns_left-first-requires
 columns_left-first-requires t c =
@@ -70,22 +69,22 @@ returns-clause-plan t c = λ conditions stand.
     let first_is : c.columns_left-first.result.now ≡ columns_before (from_width before) read =
     c.columns_left-first.ensures ∙ front c.args.tables.now last c.in-len1-up.len_at_least c.last-item.is read c.requires.parted
     columns c.len.result c.in_ok-columns.ensures (c.len.ensures ∙ c.in_ok-columns.columns.ok.0) in
-    let ons = map expressions.term c.in-Some.on.items in
-    let tests = map expressions.term c.args.tests.items in
-    let early = map expressions.term c.in_ok-parts.parts.before.items in
-    let here = map expressions.term c.in_ok-parts.parts.here.items in
-    let above = map expressions.term c.in_ok-parts.parts.above.items in
+    let ons = map term c.in-Some.on.items in
+    let tests = map term c.args.tests.items in
+    let early = map term c.in_ok-parts.parts.before.items in
+    let here = map term c.in_ok-parts.parts.here.items in
+    let above = map term c.in_ok-parts.parts.above.items in
     let on = rw c.in-Some.is at c.in_ok-conjuncts_over.ensures.stand in
     let left = rw c.in-Some-2.is at c.in_ok-plan_behind.ensures.plan in
     let left_is : plan_data c.in_ok-new.field-0.value ≡ plan_data c.in-Some-2.left = ap plan_data c.in_ok-new.ensures.ok in
     let kind = kind_of last.join in
     let padded : c.is_padded-padded.result ≡ pads_right kind = c.is_padded-padded.ensures in
     subst (λ from. IsEarlyPlan read from conditions (plan_data c.in_ok-plan-2.plan)) (sym (whole_is c.args.tables.now last c.in-len1-up.len_at_least c.last-item.is))
-    (subst (IsEarlyPlan read (joined before kind (table last.table last.width) (term last.condition)) conditions)
+    (subst (IsEarlyPlan read (joined before kind (table last.table last.width) (term last.condition.now)) conditions)
     (sym
     (c.in_ok-plan-2.ensures
     ∙ ap (λ (b : Bool). tested above (p.joined (plan_data c.in_ok-new.field-0.value) (record { table = last.table; columns = columns; tests = here; padded = b }))) padded))
-    (placed_behind before last.table last.width (term last.condition) read columns
+    (placed_behind before last.table last.width (term last.condition.now) read columns
     (split c.args.tables.now last c.in-len1-up.len_at_least c.last-item.is read c.requires.parted).0 c.in_ok-columns.ensures
     kind (none_right c.args.tables.now last c.in-len1-up.len_at_least c.last-item.is c.requires.early).1 conditions ons tests early here above (plan_data c.in_ok-new.field-0.value) (on [] (omega arith)) stand
     (subst (λ (b : Bool). ArePlaced b (length (columns_before (from_width before) read)) ons tests early here above) padded

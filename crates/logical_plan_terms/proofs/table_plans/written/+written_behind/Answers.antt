@@ -1,6 +1,6 @@
 use Rattle.std.proofs.Common.{◌++◌, refl, ◌≡◌, ◌∙◌, ◌-◌, ◌<◌, [], List, ℕ, ap, length, map, rules, subst, sym, take, arith}
 use Rattle.std.proofs.lemmas.List.{length-take}
-use Rattle.expr.specs.View as expressions
+use Rattle.expr.specs.View.{term}
 use Rattle.semantics.specs.Query.{from_width}
 use Rattle.semantics_names.specs.Sources.{kind_of}
 use Rattle.logical_plan.specs.JoinPlan.{IsWritten, columns_before, joined_by}
@@ -70,10 +70,10 @@ returns-clause-plan t c =
       source_is = refl;
       left = plan_data c.in-Some-2.left;
       columns = columns;
-      tests = map expressions.term c.in-Some.on.items;
+      tests = map term c.in-Some.on.items;
       plan_is =
           c.in_ok-plan.ensures
-          ∙ ap (λ n. joined_by (kind_of last.join) (plan_data c.in-Some-2.left) n last.table columns (map expressions.term c.in-Some.on.items)) (ap length first_is);
+          ∙ ap (λ n. joined_by (kind_of last.join) (plan_data c.in-Some-2.left) n last.table columns (map term c.in-Some.on.items)) (ap length first_is);
       read_is = (split c.args.tables.now last c.in-len1-up.len_at_least c.last-item.is read c.requires).0 ∙ ap (λ behind. columns_before (from_width before) read ++ behind) (sym c.in_ok-columns.ensures);
       tests_are = on [] (omega arith);
       before = subst (λ (r : List ℕ). IsWritten r before (plan_data c.in-Some-2.left)) first_is left;

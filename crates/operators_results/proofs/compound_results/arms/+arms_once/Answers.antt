@@ -6,7 +6,7 @@ use Rattle.operators_loops.specs.Basis.{Basis}
 use Rattle.operators_results.specs.distinct_results.Firsts.{firsts}
 use Rattle.logical_plan.specs.answers.Arms.{arm_data, arm_rows, arms_data, joined, rows_of_arms}
 use Rattle.logical_plan.specs.answers.Joined.{joined_rows}
-use Rattle.logical_plan.specs.declared.answers.compounds.Arms.{Arms}
+use Rattle.logical_plan.specs.declared.answers.Arms.{Arms}
 use Rattle.operators_results.proofs.lemmas.compound_results.ArmLemmas.{before_fails, beside_fails, both_joined}
 use Rattle.operators_results.proofs.lemmas.compound_results.SetLemmas.{firsts_same}
 use Rattle.operators_results.proofs.compound_results.arms.+arms_once.Goals as goal

@@ -1,4 +1,4 @@
-use Rattle.std.proofs.Common.{◌∙◌, ◌++◌, List, ap, map, refl, subst}
+use Rattle.std.proofs.Common.{◌∙◌, List, ap, map, refl, subst}
 use Rattle.std.proofs.lemmas.Result.{err_from_is_err_and}
 use Rattle.values.specs.Row.{Row}
 use Rattle.btree.specs.image.Pages.{pages_seen}
@@ -6,11 +6,9 @@ use Rattle.expr.specs.View.{term}
 use Rattle.logical_plan.specs.Plan.{rows_of, work}
 use Rattle.logical_plan.specs.PlanView.{plan_data}
 use Rattle.operators_results.specs.Coming.{IsResultCause}
-use Rattle.logical_plan.specs.answers.Selection.{result_rows}
-use Rattle.operators_results.specs.distinct_results.Firsts.{firsts}
-use Rattle.logical_plan.specs.answers.Arms.{arm_data, arm_rows}
+use Rattle.logical_plan.specs.answers.Arms.{arm_data, arm_rows, result_rows}
 use Rattle.operators_results.specs.compound_results.InTurn.{over_plan}
-use Rattle.logical_plan.specs.answers.Joined.{filtered, has_row}
+use Rattle.logical_plan.specs.answers.Joined.{filtered}
 use Rattle.operators_results.proofs.lemmas.compound_results.ArmLemmas.{stored_over}
 use Rattle.operators_results.proofs.lemmas.compound_results.SetLemmas.{filtered_once, once_behind}
 use Rattle.operators_results.proofs.compound_results.arms.join_arm.Goals as goal
@@ -22,7 +20,7 @@ returns-in_err-put_rows-clause-rows g c = λ steady on has.
     let plan = plan_data c.args.arm.now.plan in
     let over = over_plan on plan in
     rw (p.1, p.2)
-    (subst (λ columns. IsResultCause over columns c.in_err-put_rows.field-0.0) (c.in_ok-results.ensures.columns ∙ ap (map term) c.as_slice.ensures.value)
+    (subst (λ columns. IsResultCause over columns c.in_err-put_rows.field-0.0) c.in_ok-results.ensures.columns
     (c.in_err-put_rows.ensures.rows steady over _ (work on.w on.db on.sizes plan) (stored_over pages c.args.sources.now on plan has)
     (c.in_ok-results.ensures.rows pages c.args.sources.now over refl)))
 
@@ -35,7 +33,6 @@ returns-in_default-clause-rows g c = λ steady on has.
     let put = c.in_ok-put_rows.ensures.rows steady over _ (work on.w on.db on.sizes plan) (stored_over pages c.args.sources.now on plan has)
     (c.in_ok-results.ensures.rows pages c.args.sources.now over refl) in (
       (λ left is. put.0 left is
-          ∙ ap (λ columns. firsts (left ++ result_rows on.w (map term columns) (rows_of on.w on.db plan))) c.as_slice.ensures.value
           ∙ once_behind arm.distinct left (result_rows on.w (map term arm.columns.items) (rows_of on.w on.db plan))
           ∙ c.in_default.ensures.none refl left (arm_rows on.w on.db (arm_data arm))),
       put.1,
@@ -48,7 +45,7 @@ returns-in_err-marks-clause-rows g c = λ steady on has.
     let plan = plan_data c.args.arm.now.plan in
     let over = over_plan on plan in
     rw (p.1, p.2)
-    (subst (λ columns. IsResultCause over columns c.in_err-marks.field-0.0) (c.in_ok-results.ensures.columns ∙ ap (map term) c.as_slice.ensures.value)
+    (subst (λ columns. IsResultCause over columns c.in_err-marks.field-0.0) c.in_ok-results.ensures.columns
     (c.in_err-marks.ensures.rows steady over _ (work on.w on.db on.sizes plan) (stored_over pages c.args.sources.now on plan has)
     (c.in_ok-results.ensures.rows pages c.args.sources.now over refl)))
 
@@ -65,8 +62,7 @@ returns-clause-rows g c = λ steady on has.
     (c.in_ok-results.ensures.rows pages c.args.sources.now over refl) in (
       (λ left is.
           c.keep_marked.ensures rows
-          (c.as_slice-2.ensures.value ∙ met.0
-          ∙ ap (λ columns. map (has_row (result_rows on.w (map term columns) (rows_of on.w on.db plan))) keys) c.as_slice.ensures.value)
+          (c.as_slice.ensures.value ∙ met.0)
           ∙ filtered_once arm.distinct wanted keys rows
           ∙ ap (λ (keys : List Row). filtered wanted keys (arm_rows on.w on.db (arm_data arm))) is
           ∙ c.in-Some.ensures.some left (arm_rows on.w on.db (arm_data arm))),

@@ -7,10 +7,8 @@ use Rattle.expr.specs.View.{term}
 use Rattle.logical_plan.specs.Plan.{rows_of, work}
 use Rattle.logical_plan.specs.PlanView.{plan_data}
 use Rattle.operators_results.specs.Coming.{IsResultCause}
-use Rattle.logical_plan.specs.answers.Selection.{result_rows}
+use Rattle.logical_plan.specs.answers.Arms.{each_once_if, result_rows}
 use Rattle.windows_order.proofs.FirstLemmas.{row_of}
-use Rattle.operators_results.specs.distinct_results.Firsts.{firsts}
-use Rattle.logical_plan.specs.answers.Arms.{each_once_if}
 use Rattle.operators_results.specs.compound_results.InTurn.{over_plan}
 use Rattle.operators_results.proofs.lemmas.compound_results.ArmLemmas.{stored_over}
 use Rattle.operators_results.proofs.compound_results.arms.push_arm.Goals as goal
@@ -22,7 +20,7 @@ returns-in_err-push_rows-clause-rows g c = λ steady on has.
     let plan = plan_data c.args.arm.now.plan in
     let over = over_plan on plan in
     rw (p.1, p.2)
-    (subst (λ columns. IsResultCause over columns c.in_err-push_rows.field-0.0) (c.in_ok-results.ensures.columns ∙ ap (map term) c.as_slice.ensures.value)
+    (subst (λ columns. IsResultCause over columns c.in_err-push_rows.field-0.0) c.in_ok-results.ensures.columns
     (c.in_err-push_rows.ensures.rows steady over _ (work on.w on.db on.sizes plan) (stored_over pages c.args.sources.now on plan has)
     (c.in_ok-results.ensures.rows pages c.args.sources.now over refl)))
 
@@ -37,7 +35,6 @@ returns-then-not-arm-clause-rows g c = λ steady on has.
     let pushed = c.in_ok-push_rows.ensures.rows steady over _ (work on.w on.db on.sizes plan) (stored_over pages c.args.sources.now on plan has)
     (c.in_ok-results.ensures.rows pages c.args.sources.now over refl) in (
       pushed.0
-          ∙ ap (λ columns. before ++ result_rows on.w (map term columns) (rows_of on.w on.db plan)) c.as_slice.ensures.value
           ∙ ap (λ (distinct : Bool). before ++ each_once_if distinct rows) (sym c.if-not-arm.true),
       pushed.1,
     )
@@ -49,7 +46,7 @@ returns-in_err-put_rows-clause-rows g c = λ steady on has.
     let plan = plan_data c.args.arm.now.plan in
     let over = over_plan on plan in
     rw (p.1, p.2)
-    (subst (λ columns. IsResultCause over columns c.in_err-put_rows.field-0.0) (c.in_ok-results.ensures.columns ∙ ap (map term) c.as_slice.ensures.value)
+    (subst (λ columns. IsResultCause over columns c.in_err-put_rows.field-0.0) c.in_ok-results.ensures.columns
     (c.in_err-put_rows.ensures.rows steady over _ (work on.w on.db on.sizes plan) (stored_over pages c.args.sources.now on plan has)
     (c.in_ok-results.ensures.rows pages c.args.sources.now over refl)))
 
@@ -65,8 +62,7 @@ returns-clause-rows g c = λ steady on has.
     (c.in_ok-results.ensures.rows pages c.args.sources.now over refl) in (
       ap rows_data c.in_ok-append.ensures.items ∙ map-append row_of c.args.rows.now.items c.in_ok-once.once.items
           ∙ ap (λ (once : List Row). before ++ once)
-          (c.in_ok-once.ensures ∙ put.0 [] c.new-set.ensures.empty
-          ∙ ap (λ columns. firsts (result_rows on.w (map term columns) (rows_of on.w on.db plan))) c.as_slice.ensures.value)
+          (c.in_ok-once.ensures ∙ put.0 [] c.new-set.ensures.empty)
           ∙ ap (λ (distinct : Bool). before ++ each_once_if distinct rows) (sym c.if-not-arm.false),
       put.1,
     )

@@ -4,7 +4,7 @@ use Rattle.semantics_names.specs.Statement.{operator_of}
 use Rattle.logical_plan.specs.answers.Arms.{ArmsData, arm_data, arms_data, joined}
 use Rattle.operators_results.specs.compound_results.Chains.{AreAll}
 use Rattle.operators_results.specs.compound_results.InTurn.{arms_from, arms_of}
-use Rattle.logical_plan.specs.declared.answers.compounds.Arms.{Arms}
+use Rattle.logical_plan.specs.declared.answers.Arms.{Arms}
 use Rattle.operators_results.proofs.lemmas.compound_results.ChainLemmas.{arms_next, opened_more}
 use Rattle.operators_results.proofs.compound_results.chained.+opened.Goals as goal
 

@@ -1,16 +1,15 @@
-use Rattle.std.proofs.Common.{◌∙◌, map, sym, ap, subst}
-use Rattle.expr.specs.View.{term}
+use Rattle.std.proofs.Common.{sym, subst}
 use Rattle.logical_plan.specs.Plan.{rows_of, work}
 use Rattle.operators.specs.Left.{plan_of}
 use Rattle.operators_results.specs.Coming.{IsComing}
-use Rattle.logical_plan.specs.answers.Selection.{result_rows}
+use Rattle.logical_plan.specs.answers.Arms.{result_rows}
 use Rattle.operators_results.specs.compound_results.InTurn.{over_plan}
 use Rattle.operators_results.proofs.lemmas.compound_results.ChainLemmas.{arm_made}
 use Rattle.operators_results.proofs.compound_results.chained.arm_opened.Goals as goal
 
 pub returns-clause-arm : goal.returns-clause-arm
 returns-clause-arm c =
-    arm_made c.in_ok-results.results c.args.arm.now c.in_ok-results.ensures.plan (c.in_ok-results.ensures.columns ∙ ap (map term) c.as_slice.ensures.value) c.requires
+    arm_made c.in_ok-results.results c.args.arm.now c.in_ok-results.ensures.plan c.in_ok-results.ensures.columns c.requires
 
 pub returns-clause-rows : goal.returns-clause-rows
 returns-clause-rows c = λ pages sources on.

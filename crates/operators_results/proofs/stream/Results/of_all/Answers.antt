@@ -1,24 +1,12 @@
-use Rattle.std.proofs.Common.{◌∙◌, map, sym, ap, subst}
-use Rattle.std.proofs.lemmas.List.Elements.{All-contains_itself}
-use Rattle.values.specs.Datum.{datum_of}
+use Rattle.std.proofs.Common.{map, subst}
 use Rattle.expr.specs.View.{term}
-use Rattle.logical_plan.specs.Plan.{Hits, PlanData, rows_of, work}
-use Rattle.operators.specs.Left.{IsLeft}
-use Rattle.logical_plan.specs.answers.Selection.{result_rows}
-use Rattle.operators_results.specs.Slices.{sliced}
+use Rattle.logical_plan.specs.Plan.{rows_of, work}
+use Rattle.logical_plan.specs.answers.Arms.{result_rows}
+use Rattle.operators_results.specs.Coming.{IsComing}
 use Rattle.operators_results.proofs.stream.Results.of_all.Goals as goal
 
 pub returns-clause-rows : goal.returns-clause-rows
 returns-clause-rows c = λ pages sources on same.
-    let shown = map term c.args.columns.now in
-    let all = result_rows on.w shown (rows_of on.w on.db on.plan) in
-    record {
-      rows = rows_of on.w on.db on.plan;
-      is_left =
-          subst (λ (p : PlanData). IsLeft pages sources on c.in_ok-op.op (map datum_of c.new-row.result.items) (rows_of on.w on.db p) (work on.w on.db on.sizes p)) (sym same)
-          (c.in_ok-op.ensures.rows pages sources on (map datum_of c.new-row.result.items) (λ hits. subst (Hits on.w on.db) (sym same) hits));
-      rest_is =
-          sym (c.new-slice.ensures all)
-          ∙ ap (λ columns. sliced c.new-slice.result (result_rows on.w columns (rows_of on.w on.db on.plan))) (sym c.in_ok-columns.ensures);
-      among = All-contains_itself (rows_of on.w on.db on.plan);
-    }
+    let all = result_rows on.w (map term c.args.arm.now.columns.items) (rows_of on.w on.db on.plan) in
+    subst (λ rest. IsComing pages sources on c.in_ok-results.results rest (work on.w on.db on.sizes on.plan)) (c.new-all.ensures all)
+    (c.in_ok-results.ensures.rows pages sources on same)

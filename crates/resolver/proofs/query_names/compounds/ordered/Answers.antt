@@ -1,11 +1,11 @@
 use Rattle.std.proofs.Common.{Ok, map, ap, string_bytes, sym, ◌∙◌}
 use Rattle.std.proofs.lemmas.Result.{err_from_is_err_and}
 use Rattle.sql_reader_grammar.specs.Reading.{terms_of}
-use Rattle.resolver_exprs.specs.order_keys.KeyView.{key_of}
 use Rattle.resolver.proofs.lemmas.query_names.CompoundLemmas.{order_refused, order_taken}
 use Rattle.resolver_sources.specs.source_names.GivenView.{queried_of}
 use Rattle.sql_reader_grammar.specs.statement_trees.TreeView.{term_of}
 use Rattle.resolver.proofs.query_names.compounds.ordered.Goals as goal
+use Rattle.resolver_terms.specs.SelectView.{key_of}
 
 pub returns-in_err-order : goal.returns-in_err-order
 returns-in_err-order g c =

@@ -2,10 +2,10 @@
 use Rattle.std.proofs.Common.{◌≡◌, drop, map, option_map}
 use Rattle.resolver_types.specs.body_types.RowView.{row_of}
 use Rattle.semantics_names.specs.Outcome.{each}
-use Rattle.resolver_exprs.specs.order_keys.KeyView.{key_of}
 use Rattle.resolver.specs.query_types.Keys.{key_over}
 use Rattle.resolver_types.specs.term_types.Passed.{passed}
 use Rattle.resolver.proofs.query_types.keys.check_keys.Given as goal
+use Rattle.resolver_terms.specs.SelectView.{key_of}
 
 abbrev pub invariant-loop-key : goal.invariant-loop-key
 invariant-loop-key l =

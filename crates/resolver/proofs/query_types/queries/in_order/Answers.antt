@@ -2,11 +2,11 @@ use Rattle.std.proofs.Common.{map, option_map, ap, inr, ◌∙◌}
 use Rattle.std.proofs.lemmas.Result.{err_from_is_err_and}
 use Rattle.resolver_types.specs.body_types.RowView.{row_of}
 use Rattle.semantics_names.specs.Outcome.{each}
-use Rattle.resolver_exprs.specs.order_keys.KeyView.{key_of}
 use Rattle.resolver.proofs.lemmas.query_types.OrderLemmas.{keys_refused}
 use Rattle.resolver.specs.query_types.Keys.{key_over}
 use Rattle.resolver_types.specs.term_types.Passed.{passed}
 use Rattle.resolver.proofs.query_types.queries.in_order.Goals as goal
+use Rattle.resolver_terms.specs.SelectView.{key_of}
 
 pub returns-in_err-check_keys : goal.returns-in_err-check_keys
 returns-in_err-check_keys c =

@@ -1,9 +1,9 @@
 use Rattle.std.proofs.Common.{map, subst, sym}
 use Rattle.resolver_bodies.specs.BodyView.{body_of}
-use Rattle.resolver_exprs.specs.order_keys.KeyView.{key_of}
 use Rattle.resolver_terms.specs.Outcome.{Gives}
 use Rattle.resolver.proofs.lemmas.query_types.OrderLemmas.{query_is}
 use Rattle.resolver.proofs.query_types.queries.query_types.Goals as goal
+use Rattle.resolver_terms.specs.SelectView.{key_of}
 
 pub returns : goal.returns
 returns c = λ query same_body same_order.

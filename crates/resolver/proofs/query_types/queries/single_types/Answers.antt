@@ -6,9 +6,8 @@ use Rattle.resolver_bodies.specs.declared.bodies.Single.{out-Single}
 use Rattle.resolver_types.specs.body_types.RowView.{row_of}
 use Rattle.resolver_types.specs.body_types.Rows.{column_types}
 use Rattle.semantics_names.specs.Outcome.{also, each}
-use Rattle.resolver_exprs.specs.order_keys.KeyView.{key_of}
 use Rattle.resolver_terms.specs.Outcome.{Gives}
-use Rattle.resolver_terms.specs.SelectView.{select_of}
+use Rattle.resolver_terms.specs.SelectView.{key_of, select_of}
 use Rattle.resolver.proofs.lemmas.query_types.OrderLemmas.{keys_left}
 use Rattle.resolver.specs.query_types.Keys.{key_over, rows_behind}
 use Rattle.resolver.proofs.query_types.queries.single_types.Goals as goal

@@ -4,11 +4,11 @@ use Rattle.resolver_bodies.specs.declared.bodies.Body.TheFolds.{fold-roll-Body, 
 use Rattle.resolver_bodies.specs.declared.bodies.Body.TheViews.{the_lemmas}
 use Rattle.semantics.specs.Query.{Body}
 use Rattle.semantics_names.specs.Statement.{operator_of}
-use Rattle.resolver_exprs.specs.order_keys.KeyView.{key_of}
 use Rattle.resolver_terms.specs.Outcome.{Gives}
 use Rattle.resolver.proofs.lemmas.query_types.OrderLemmas.{compound_is, single_is}
 use Rattle.resolver.specs.query_types.Ordered.{ordered_compound, ordered_types}
 use Rattle.resolver.proofs.query_types.queries.types_in_order.Goals as goal
+use Rattle.resolver_terms.specs.SelectView.{key_of}
 
 pub returns-in-Select : goal.returns-in-Select
 returns-in-Select c =

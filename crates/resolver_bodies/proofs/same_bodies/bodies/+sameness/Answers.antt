@@ -4,7 +4,7 @@ use Rattle.resolver_bodies.specs.declared.bodies.Body.TheFolds.{fold-roll-Tables
 use Rattle.resolver_bodies.specs.declared.bodies.Body.TheViews.{the_lemmas}
 use Rattle.resolver_bodies.specs.declared.bodies.Tables.{out-Tables}
 use Rattle.resolver_bodies.proofs.lemmas.same_bodies.FromLemmas.{same_whole_queries, same_whole_sources, whole}
-use Rattle.resolver_terms.proofs.lemmas.same_terms.SameLemmas.{list_end, list_step}
+use Rattle.expr_types.proofs.lemmas.same_trees.SameLemmas.{list_end, list_step}
 use Rattle.resolver_bodies.proofs.same_bodies.bodies.+sameness.Goals as goal
 
 pub same_sources-returns : goal.same_sources-returns

@@ -1,6 +1,6 @@
 use Rattle.std.proofs.Common.{rules}
 use Rattle.resolver_terms.specs.SelectView.{aggregate_of}
-use Rattle.resolver_terms.proofs.lemmas.same_terms.SameLemmas.{list_end, list_step}
+use Rattle.expr_types.proofs.lemmas.same_trees.SameLemmas.{list_end, list_step}
 use Rattle.resolver_bodies.proofs.same_bodies.selects.same_aggregates.Goals as goal
 
 pub returns : goal.returns

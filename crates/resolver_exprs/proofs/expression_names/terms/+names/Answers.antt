@@ -3,7 +3,7 @@ use Rattle.std.proofs.Common.{◌≡◌, ◌+◌, ◌++◌, map, drop, refl, sym
 use Rattle.std.proofs.lemmas.Result.{err_from_is_err_and}
 use Rattle.semantics_names.specs.Expression as spec
 use Rattle.semantics_names.specs.Outcome.{also}
-use Rattle.resolver_terms.specs.TermView.{term}
+use Rattle.expr.specs.View.{term}
 use Rattle.sql_reader_grammar.specs.statement_trees.TreeView.{expr_of}
 use Rattle.sql_reader_syntax.specs.ExprTree.{trees_of}
 use Rattle.resolver_exprs.proofs.lemmas.expression_names.OutcomeLemmas.{all_done, begun, one_fails, one_more}

@@ -5,7 +5,7 @@ use denote.Param.Weighed.{most}
 use Rattle.sql_reader_grammar.proofs.statement_trees.expressions.Arm.TheLaws as arm
 use Rattle.sql_reader_grammar.proofs.statement_trees.expressions.Expr.TheLaws.{the_size}
 use Rattle.sql_reader_grammar.specs.declared.statement_trees.expressions.Expr.TheShapes.{weighed-Expr-Case-0}
-use Rattle.resolver_terms.specs.TermView.{arm_terms, term}
+use Rattle.expr.specs.View.{arm_terms, term}
 use Rattle.sql_reader_grammar.specs.statement_trees.TreeView.{arm_of, expr_of}
 use Rattle.sql_reader_syntax.specs.ExprTree.{arms_of, trees_of}
 use Rattle.semantics_names.specs.Expression as spec

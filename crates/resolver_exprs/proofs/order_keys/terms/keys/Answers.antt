@@ -7,9 +7,9 @@ use Rattle.semantics_names.specs.Outcome.{also}
 use Rattle.semantics_names.specs.Statement.{keys_of}
 use Rattle.sql_reader_grammar.specs.statement_trees.TreeView.{term_of}
 use Rattle.resolver_exprs.proofs.lemmas.order_keys.KeyLemmas.{one_by_one}
-use Rattle.resolver_exprs.specs.order_keys.KeyView.{key_of}
 use Rattle.resolver_exprs.specs.order_keys.Named.{on_rows, sort_key}
 use Rattle.resolver_exprs.proofs.order_keys.terms.keys.Goals as goal
+use Rattle.resolver_terms.specs.SelectView.{key_of}
 
 pub loop-sort-init : goal.loop-sort-init
 loop-sort-init g c =

@@ -4,9 +4,9 @@ use Rattle.sql_reader_grammar.specs.Reading.{terms_of}
 use Rattle.semantics_names.specs.Outcome.{also}
 use Rattle.semantics_names.specs.Statement as spec
 use Rattle.sql_reader_grammar.specs.statement_trees.TreeView as trees
-use Rattle.resolver_exprs.specs.order_keys.KeyView.{key_of}
 use Rattle.resolver_exprs.specs.order_keys.Named.{on_rows}
 use Rattle.resolver_exprs.proofs.order_keys.terms.keys.Given as goal
+use Rattle.resolver_terms.specs.SelectView.{key_of}
 
 abbrev pub invariant-loop-sort : goal.invariant-loop-sort
 invariant-loop-sort g l =

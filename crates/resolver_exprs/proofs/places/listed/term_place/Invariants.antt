@@ -1,7 +1,7 @@
 -- The first that is the same is none of those before this place.
 use Rattle.std.proofs.Common.{map, drop}
 use Rattle.semantics_names.specs.Same.{is_same_term}
-use Rattle.resolver_terms.specs.TermView.{term}
+use Rattle.expr.specs.View.{term}
 use Rattle.resolver_exprs.proofs.lemmas.places.ListedLemmas.{IsBehind}
 use Rattle.resolver_exprs.proofs.places.listed.term_place.Given as goal
 

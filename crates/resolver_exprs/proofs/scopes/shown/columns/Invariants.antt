@@ -1,6 +1,6 @@
 use Rattle.std.proofs.Common.{◌≡◌, map, take}
 use Rattle.expr.specs.Term.{column}
-use Rattle.resolver_terms.specs.TermView.{term}
+use Rattle.expr.specs.View.{term}
 use Rattle.resolver_exprs.proofs.scopes.shown.columns.Given as goal
 
 abbrev pub invariant-loop-at : goal.invariant-loop-at

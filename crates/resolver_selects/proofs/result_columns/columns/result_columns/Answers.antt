@@ -4,7 +4,7 @@ use Rattle.std.proofs.lemmas.Result.{err_from_is_err_and}
 use Rattle.sql_reader_grammar.specs.Reading.{results_of}
 use Rattle.semantics_names.specs.Outcome.{also}
 use Rattle.semantics_names.specs.Statement as spec
-use Rattle.resolver_terms.specs.TermView.{term}
+use Rattle.expr.specs.View.{term}
 use Rattle.resolver_selects.proofs.lemmas.result_columns.AppendLemmas.{more_done, one_fails}
 use Rattle.resolver_selects.specs.result_columns.Inputs.{input_of}
 use Rattle.resolver_exprs.specs.scopes.ResultView.{result_of}

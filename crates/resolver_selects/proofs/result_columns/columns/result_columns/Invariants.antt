@@ -3,7 +3,7 @@ use Rattle.std.proofs.Common.{◌≡◌, ◌++◌, drop, map, option_map}
 use Rattle.sql_reader_grammar.specs.Reading.{results_of}
 use Rattle.semantics_names.specs.Outcome.{also}
 use Rattle.semantics_names.specs.Statement as spec
-use Rattle.resolver_terms.specs.TermView.{term}
+use Rattle.expr.specs.View.{term}
 use Rattle.resolver_selects.specs.result_columns.Inputs.{input_of}
 use Rattle.resolver_exprs.specs.scopes.ResultView.{result_of}
 use Rattle.sql_reader_grammar.specs.statement_trees.TreeView as trees

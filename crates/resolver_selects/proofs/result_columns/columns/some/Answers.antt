@@ -1,7 +1,7 @@
 use Rattle.std.proofs.Common.{◌≡◌, ◌==◌, false, None, Some, length, map, rules, subst, sym, ◌∙◌}
 use Rattle.semantics_names.specs.Outcome.{each}
 use Rattle.resolver_terms.specs.Outcome.{Gives}
-use Rattle.resolver_terms.specs.TermView.{term}
+use Rattle.expr.specs.View.{term}
 use Rattle.resolver_selects.proofs.lemmas.result_columns.InputLemmas.{all_themselves, some_are}
 use Rattle.resolver_selects.specs.result_columns.Inputs.{over_rows}
 use Rattle.resolver_exprs.specs.scopes.ResultView.{result_of}

@@ -3,7 +3,7 @@ use Rattle.std.proofs.Common.{◌≡◌, ◌++◌, Ok, drop, map}
 use Rattle.semantics_names.specs.Outcome.{also, each}
 use Rattle.semantics_names.specs.Places.{key_column}
 use Rattle.semantics_names.specs.Statement as spec
-use Rattle.resolver_terms.specs.TermView.{term}
+use Rattle.expr.specs.View.{term}
 use Rattle.resolver_exprs.specs.scopes.ResultView.{result_of}
 use Rattle.resolver_selects.proofs.result_columns.inputs.keys.Given as goal
 

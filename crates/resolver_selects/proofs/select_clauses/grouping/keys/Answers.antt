@@ -4,7 +4,7 @@ use Rattle.std.proofs.lemmas.Result.{err_from_is_err_and}
 use Rattle.resolver_exprs.proofs.lemmas.expression_names.OutcomeLemmas.{all_done, begun, one_fails, one_more}
 use Rattle.semantics_names.specs.Outcome.{also}
 use Rattle.semantics_names.specs.Statement.{by_of}
-use Rattle.resolver_terms.specs.TermView.{term}
+use Rattle.expr.specs.View.{term}
 use Rattle.sql_reader_grammar.specs.statement_trees.TreeView.{expr_of}
 use Rattle.sql_reader_syntax.specs.ExprTree.{trees_of}
 use Rattle.resolver_selects.proofs.lemmas.select_clauses.ClauseLemmas.{key_by_key}

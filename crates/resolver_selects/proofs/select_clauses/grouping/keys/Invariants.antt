@@ -2,7 +2,7 @@
 use Rattle.std.proofs.Common.{◌≡◌, ◌++◌, drop, map}
 use Rattle.semantics_names.specs.Outcome.{also}
 use Rattle.semantics_names.specs.Statement as spec
-use Rattle.resolver_terms.specs.TermView.{term}
+use Rattle.expr.specs.View.{term}
 use Rattle.sql_reader_grammar.specs.statement_trees.TreeView.{expr_of}
 use Rattle.sql_reader_syntax.specs.ExprTree.{trees_of}
 use Rattle.resolver_selects.proofs.select_clauses.grouping.keys.Given as goal

@@ -1,5 +1,5 @@
 use Rattle.std.proofs.lemmas.Result.{err_from_is_err_and}
-use Rattle.resolver_terms.specs.TermView.{term}
+use Rattle.expr.specs.View.{term}
 use Rattle.resolver_sources.proofs.lemmas.source_names.JoinLemmas.{on_is, on_refused}
 use Rattle.sql_reader_grammar.specs.statement_trees.TreeView.{expr_of}
 use Rattle.resolver_sources.proofs.source_names.conditions.on.Goals as goal

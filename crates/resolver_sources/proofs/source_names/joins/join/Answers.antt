@@ -3,7 +3,7 @@ use Rattle.std.proofs.lemmas.Result.{err_from_is_err_and}
 use Rattle.std.specs.List.{list_any}
 use Rattle.resolver_bodies.specs.BodyView.{body_of, joined_of, source_of}
 use Rattle.semantics_names.specs.Sources.{is_same_source, kind_of, shown_from}
-use Rattle.resolver_terms.specs.TermView.{term}
+use Rattle.expr.specs.View.{term}
 use Rattle.resolver_sources.proofs.lemmas.source_names.JoinLemmas.{lists_are, none_more, one_more}
 use Rattle.resolver_sources.specs.source_names.GivenView.{condition_of, given_of, joined_data, sources_of}
 use Rattle.sql_reader_grammar.specs.statement_trees.TreeView.{on_of}

@@ -1,6 +1,6 @@
 use Rattle.std.proofs.Common.{[], ◌∷◌, Some, map, ap, sym, ◌∙◌}
 use Rattle.std.proofs.lemmas.List.{map-append}
-use Rattle.resolver_terms.specs.TermView.{term}
+use Rattle.expr.specs.View.{term}
 use Rattle.resolver_sources.proofs.lemmas.source_names.UsingLemmas.{so_far_more}
 use Rattle.resolver_sources.specs.source_names.Matched.{and_then, so_far}
 use Rattle.resolver_sources.proofs.source_names.using.conjunction.Goals as goal

@@ -1,6 +1,6 @@
 -- All conditions so far.
 use Rattle.std.proofs.Common.{◌≡◌, map, option_map}
-use Rattle.resolver_terms.specs.TermView.{term}
+use Rattle.expr.specs.View.{term}
 use Rattle.resolver_sources.specs.source_names.Matched.{so_far}
 use Rattle.resolver_sources.proofs.source_names.using.conjunction.Given as goal
 

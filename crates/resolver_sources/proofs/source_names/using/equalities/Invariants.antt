@@ -1,7 +1,7 @@
 -- The equalities so far, before those of what is left, are those of all.
 use Rattle.std.proofs.Common.{◌≡◌, ◌++◌, drop, map, string_bytes}
 use Rattle.semantics_names.specs.Outcome.{also}
-use Rattle.resolver_terms.specs.TermView.{term}
+use Rattle.expr.specs.View.{term}
 use Rattle.resolver_sources.specs.source_names.Matched.{matched}
 use Rattle.resolver_sources.proofs.source_names.using.equalities.Given as goal
 

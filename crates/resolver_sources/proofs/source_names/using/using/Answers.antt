@@ -1,7 +1,7 @@
 use Rattle.std.proofs.Common.{◌++◌, Ok, map, string_bytes, ap, sym, ◌∙◌}
 use Rattle.std.proofs.lemmas.Result.{err_from_is_err_and}
 use Rattle.semantics_names.specs.Sources.{conjunction}
-use Rattle.resolver_terms.specs.TermView.{term}
+use Rattle.expr.specs.View.{term}
 use Rattle.resolver_sources.proofs.lemmas.source_names.UsingLemmas.{matches, matches_none}
 use Rattle.resolver_sources.specs.source_names.Matched.{condition}
 use Rattle.resolver_sources.proofs.source_names.using.using.Goals as goal

@@ -1,6 +1,6 @@
 use Rattle.std.proofs.Common.{rules}
 use Rattle.resolver_terms.specs.SelectView.{sort_of}
-use Rattle.resolver_terms.proofs.lemmas.same_terms.SameLemmas.{list_end, list_step}
+use Rattle.expr_types.proofs.lemmas.same_trees.SameLemmas.{list_end, list_step}
 use Rattle.resolver_terms.proofs.same_terms.calls.same_order.Goals as goal
 
 pub returns : goal.returns

@@ -2,7 +2,7 @@
 use Rattle.std.proofs.Common.{◌≡◌, drop, map}
 use Rattle.semantics_names.specs.Outcome.{each}
 use Rattle.semantics_names.specs.Types.{term_type}
-use Rattle.resolver_terms.specs.TermView.{term}
+use Rattle.expr.specs.View.{term}
 use Rattle.resolver_types.specs.term_types.Passed.{passed}
 use Rattle.resolver_types.proofs.term_types.terms.check_terms.Given as goal
 

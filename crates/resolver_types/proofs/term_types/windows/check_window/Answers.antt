@@ -3,7 +3,7 @@ use Rattle.std.proofs.lemmas.Result.{err_from_is_err_and}
 use Rattle.semantics_names.specs.Outcome.{each}
 use Rattle.semantics_names.specs.Types.{is_frame, term_type}
 use Rattle.resolver_terms.specs.SelectView.{sort_of, window_of}
-use Rattle.resolver_terms.specs.TermView.{term}
+use Rattle.expr.specs.View.{term}
 use Rattle.resolver_types.proofs.lemmas.term_types.WindowLemmas.{order_fails}
 use Rattle.resolver_types.specs.term_types.Passed.{passed}
 use Rattle.resolver_types.proofs.term_types.windows.check_window.Goals as goal

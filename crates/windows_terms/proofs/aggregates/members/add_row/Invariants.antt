@@ -1,11 +1,11 @@
 use Rattle.std.proofs.Common.{◌≡◌, ◌++◌, [], ◌∷◌, List, drop, map, take}
 use Rattle.values.specs.Datum.{Datum, datum_of}
 use Rattle.values.specs.Row.{Row}
-use Rattle.windows_terms.specs.aggregates.AggregateView.{aggregate_data}
 use Rattle.windows_terms.specs.aggregates.State.{state_of, states_after}
 use Rattle.windows_terms.proofs.aggregates.members.add_row.Given as goal
+use Rattle.resolver_terms.specs.SelectView.{aggregate_of}
 
 abbrev pub invariant-loop-at : goal.invariant-loop-at
-invariant-loop-at l = (w : Datum) (rows : List Row) → map state_of l.fn.states ≡ states_after w (map aggregate_data l.aggregates) rows
-    → map state_of l.states ≡ states_after w (take l.at (map aggregate_data l.aggregates)) (rows ++ map datum_of l.row ∷ [])
-    ++ states_after w (drop l.at (map aggregate_data l.aggregates)) rows
+invariant-loop-at l = (w : Datum) (rows : List Row) → map state_of l.fn.states ≡ states_after w (map aggregate_of l.aggregates) rows
+    → map state_of l.states ≡ states_after w (take l.at (map aggregate_of l.aggregates)) (rows ++ map datum_of l.row ∷ [])
+    ++ states_after w (drop l.at (map aggregate_of l.aggregates)) rows

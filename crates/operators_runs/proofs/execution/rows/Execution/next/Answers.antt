@@ -36,15 +36,15 @@ pub returns-in_err-rows-in-Waiting-clause-rows : goal.returns-in_err-rows-in-Wai
 returns-in_err-rows-in-Waiting-clause-rows g c = λ steady planned given has.
     let p = err_from_is_err_and c.from_residual.result c.from_residual.ensures.1 in
     rw (p.1, p.2)
-    (waiting_stops c.args.pager.now.state c.args.pager.now.state c.args.sources.now (map datum_of c.args.row.now.items) c.in-Waiting.planned c.args.self.now _
+    (waiting_stops c.args.pager.now.state c.args.pager.now.state c.args.sources.now (map datum_of c.args.row.now.items) c.in-Waiting.answer c.args.self.now _
     c.in_err-rows-in-Waiting.ensures.rows steady planned given
     (subst (λ (r : Execution). HasGiven (pages_seen c.args.pager.now.state) c.args.sources.now planned r given) c.in-Waiting.is has))
 
 pub returns-in_ok-rows-in-Waiting-clause-rows : goal.returns-in_ok-rows-in-Waiting-clause-rows
 returns-in_ok-rows-in-Waiting-clause-rows g c = λ steady planned given has.
-    waiting_step c.args.pager.now.state c.args.pager.now.state c.args.sources.now (map datum_of c.give-found.new.row.items) c.in-Waiting.planned
+    waiting_step c.args.pager.now.state c.args.pager.now.state c.args.sources.now (map datum_of c.give-found.new.row.items) c.in-Waiting.answer
     c.in_ok-rows-in-Waiting.rows c.into_iter-left.result c.give-found.new.rows c.give-found.result c.into_iter-left.ensures.rest
-    c.in_ok-rows-in-Waiting.ensures.rows c.give-found.ensures.rows steady planned given
+    (λ steady on has. (c.in_ok-rows-in-Waiting.ensures.rows steady on has).0) c.give-found.ensures.rows steady planned given
     (subst (λ (r : Execution). HasGiven (pages_seen c.args.pager.now.state) c.args.sources.now planned r given) c.in-Waiting.is has)
 
 pub returns-in-Rows-clause-pages : goal.returns-in-Rows-clause-pages
@@ -72,6 +72,6 @@ returns-in-Giving-clause-pages g c = λ steady on ahead has all.
 
 pub returns-in_ok-rows-in-Waiting-clause-pages : goal.returns-in_ok-rows-in-Waiting-clause-pages
 returns-in_ok-rows-in-Waiting-clause-pages g c = λ steady on ahead has all.
-    waiting_ask c.args.pager.now.state c.gathered_rows.new.pager.state c.args.sources.now c.in-Waiting.planned (map datum_of c.give-found.new.row.items)
-    c.in_ok-rows-in-Waiting.rows c.give-found.new.rows c.give-found.result c.in_ok-rows-in-Waiting.ensures.pages steady on ahead has
+    waiting_ask c.args.pager.now.state c.gathered_rows.new.pager.state c.args.sources.now c.in-Waiting.answer (map datum_of c.give-found.new.row.items)
+    c.give-found.new.rows c.give-found.result (λ steady on has. (c.in_ok-rows-in-Waiting.ensures.rows steady on has).1) steady on ahead has
     (subst (λ (r : Execution). HasAhead (pages_seen c.args.pager.now.state) c.args.sources.now on r ahead) c.in-Waiting.is all)

@@ -3,7 +3,7 @@ use Rattle.std.proofs.lemmas.Result.{err_from_is_err_and}
 use Rattle.semantics_names.specs.Places as spec
 use Rattle.resolver_terms.specs.Outcome.{Gives}
 use Rattle.resolver_terms.specs.SelectView.{call_of}
-use Rattle.resolver_terms.specs.TermView.{term}
+use Rattle.expr.specs.View.{term}
 use Rattle.sql_reader_grammar.specs.statement_trees.TreeView.{expr_of}
 use Rattle.resolver_selects.proofs.lemmas.window_calls.CallLemmas.{is_found, is_none, is_refused}
 use Rattle.resolver_selects.specs.window_names.DefinedView.{defined_of}

@@ -15,19 +15,19 @@ use Rattle.semantics.specs.Times.{same_row}
 use Rattle.windows_terms.specs.declared.aggregates.accumulator.Accumulator.{Accumulator}
 use Rattle.windows_terms.specs.aggregates.State.{state_of, states_after}
 use Rattle.windows_terms.specs.row_groups.Kept.{states_of}
-use Rattle.windows_terms.specs.aggregates.AggregateView.{aggregate_data}
 use Rattle.windows_terms.proofs.lemmas.row_groups.AnyLemmas.{any_left, any_mapped, any_right}
 use Rattle.windows_terms.specs.row_groups.GroupView.{group_terms_data}
 use Rattle.windows_terms.proofs.lemmas.row_groups.GatherLemmas.{group_added, group_here, group_within, written_over}
 use Rattle.windows_terms.proofs.lemmas.row_groups.KeyLemmas.{key_on, members}
 use Rattle.windows_terms.proofs.row_groups.gathered.Groups.add.Goals as goal
+use Rattle.resolver_terms.specs.SelectView.{aggregate_of}
 
 pub returns-in_err-key-clause-overflow : goal.returns-in_err-key-clause-overflow
 returns-in_err-key-clause-overflow c = λ is.
     let p = err_from_is_err_and c.from_residual.result c.from_residual.ensures.1 in
     let e : c.in_err-key.field-0.0 ≡ Overflow = cc (p.1, p.2, is) in
     any_left (λ t. Overflows t (map datum_of c.args.row.now)) (map term c.args.terms.now.by.items)
-    (map (λ (a : Aggregate). a.argument) (map aggregate_data c.args.terms.now.aggregates.items))
+    (map (λ (a : Aggregate). a.argument) (map aggregate_of c.args.terms.now.aggregates.items))
     (rw c.as_slice.ensures.value at (c.in_err-key.ensures.overflow (ap Err e)))
 
 pub returns-in_err-add_row-clause-overflow : goal.returns-in_err-add_row-clause-overflow
@@ -35,8 +35,8 @@ returns-in_err-add_row-clause-overflow c = λ is.
     let p = err_from_is_err_and c.from_residual-in_err-add_row.result c.from_residual-in_err-add_row.ensures.1 in
     let e : c.in_err-add_row.field-0.0 ≡ Overflow = cc (p.1, p.2, is) in
     any_right (λ t. Overflows t (map datum_of c.args.row.now)) (map term c.args.terms.now.by.items)
-    (map (λ (a : Aggregate). a.argument) (map aggregate_data c.args.terms.now.aggregates.items))
-    (any_mapped (λ t. Overflows t (map datum_of c.args.row.now)) (λ (a : Aggregate). a.argument) (map aggregate_data c.args.terms.now.aggregates.items)
+    (map (λ (a : Aggregate). a.argument) (map aggregate_of c.args.terms.now.aggregates.items))
+    (any_mapped (λ t. Overflows t (map datum_of c.args.row.now)) (λ (a : Aggregate). a.argument) (map aggregate_of c.args.terms.now.aggregates.items)
     (rw c.as_slice-3.ensures.value at (c.in_err-add_row.ensures.overflow (ap Err e))))
 
 pub returns-then-at-len-clause-rows : goal.returns-then-at-len-clause-rows

@@ -1,9 +1,0 @@
-use Rattle.std.proofs.Common.{◌≡◌, map, take}
-use Rattle.expr.specs.View.{term, arm_terms}
-use Rattle.expr.proofs.conditions.+copy.Given as goal
-
-abbrev pub invariant-copy_all-loop-item : goal.invariant-copy_all-loop-item
-invariant-copy_all-loop-item l = map term l.out.items ≡ map term (take l.item-index l.items)
-
-abbrev pub invariant-copy_arms-loop-arm : goal.invariant-copy_arms-loop-arm
-invariant-copy_arms-loop-arm l = map arm_terms l.out.items ≡ map arm_terms (take l.arm-index l.arms)

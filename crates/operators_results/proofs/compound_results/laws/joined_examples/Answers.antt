@@ -1,5 +1,0 @@
-use Rattle.operators_results.proofs.lemmas.compound_results.ExampleLemmas.{joined_examples}
-use Rattle.operators_results.proofs.compound_results.laws.joined_examples.Goals as goal
-
-pub returns : goal.returns
-returns c = joined_examples

@@ -1,5 +1,0 @@
-use Rattle.windows_order.proofs.lemmas.distinct_rows.FirstLemmas.{firsts_are_once}
-use Rattle.operators_results.proofs.distinct_results.laws.firsts_are_once.Goals as goal
-
-pub returns : goal.returns
-returns c = firsts_are_once
