@@ -20,6 +20,6 @@ mod scopes;
 pub use expression_names::{InnerQueries, Place, all_terms, term};
 pub use expression_nodes::binary;
 pub use expression_parts::{core_parts, parts_behind_groups};
-pub use order_keys::keys;
+pub use order_keys::{keys, number_alone};
 pub use places::{Columns, Groups, aggregate_call, count_rows, first_aggregates, term_place};
 pub use scopes::{ResultColumn, Scope, Shown, bare_term};

@@ -5,4 +5,4 @@
 mod lookup;
 mod terms;
 
-pub use terms::keys;
+pub use terms::{keys, number_alone};

@@ -10,7 +10,7 @@ use Rattle.sql_reader_syntax.specs.declared.query.Exclusion.TheVariants.{NoOther
 use Rattle.sql_reader_syntax.specs.declared.query.Frame as frames
 use Rattle.sql_reader_syntax.specs.declared.query.FrameUnit.TheVariants.{Range, Rows}
 use Rattle.sql_reader_syntax.specs.declared.query.Join.TheVariants as joins
-use Rattle.semantics_names.specs.Worked.{IsFault, by_term, call_over, called, from_alias, id, item, name, name_alone, name_of, number, one, ordered, select, select_by, select_distinct, select_where, select_windows, shown, statement, table, union_of, window_by, with, with_item, without_from}
+use Rattle.semantics_names.specs.Worked.{IsFault, by_term, call_over, called, from_alias, id, item, name, name_alone, name_of, number, one, ordered, select, select_by, select_distinct, select_where, select_windows, shown, signed, statement, table, union_of, window_by, with, with_item, without_from}
 
 -- SELECT nme FROM item
 abbrev pub unknown_column : StatementTree
@@ -155,6 +155,14 @@ order_by_zero = ordered (select (shown id ∷ []) item) (by_term (number 0))
 abbrev pub group_by_number : StatementTree
 group_by_number = statement (select_by (shown (number 1) ∷ []) item (number 1 ∷ []))
 
+-- SELECT 1 FROM item GROUP BY +1
+abbrev pub group_by_signed_number : StatementTree
+group_by_signed_number = statement (select_by (shown (number 1) ∷ []) item (signed 1 ∷ []))
+
+-- SELECT id FROM item ORDER BY +2
+abbrev pub order_by_signed_number : StatementTree
+order_by_signed_number = ordered (select (shown id ∷ []) item) (by_term (signed 2))
+
 -- SELECT *
 abbrev pub star_of_nothing : StatementTree
 star_of_nothing = statement (without_from (ResultTree.All ∷ []))
@@ -210,7 +218,8 @@ RefusedPlaces =
     × IsFault rank_without_over f.WrongPlace × IsFault scalar_over f.WrongPlace × IsFault scalar_filter f.WrongPlace
     × IsFault order_out_of_range f.WrongPlace
     × IsFault order_by_zero f.WrongPlace
-    × IsFault group_by_number f.WrongPlace × IsFault star_of_nothing f.WrongPlace × IsFault sum_behind_compound f.WrongPlace
+    × IsFault order_by_signed_number f.WrongPlace
+    × IsFault group_by_number f.WrongPlace × IsFault group_by_signed_number f.WrongPlace × IsFault star_of_nothing f.WrongPlace × IsFault sum_behind_compound f.WrongPlace
 
 abbrev pub RefusedFrames : Type 0
 RefusedFrames =

@@ -8,6 +8,7 @@ use Rattle.expr.specs.Term.{Term, Terms, column, answer, none}
 use Rattle.sql_reader_syntax.specs.ExprTree.{CoreTree, DefinitionTrees, ExprTree, ExprTrees, FromTree, MaybeExpr, NameTree, OnTree, QueryTree, ResultTree, ResultTrees, SourceTree, TermTrees}
 use Rattle.sql_reader_syntax.specs.StatementTree.{ItemTree, StatementTree}
 use Rattle.sql_reader_syntax.specs.Tree.{Name}
+use Rattle.sql_reader_syntax.specs.declared.expr.PrefixOperator.TheVariants as prefixes
 use Rattle.sql_reader_syntax.specs.declared.query.CompoundOperator.{CompoundOperator}
 use Rattle.sql_reader_syntax.specs.declared.query.CompoundOperator.TheVariants as operators
 use Rattle.semantics.specs.Query.{always, Aggregate, Body, Direction, From, Grouping, InnerQuery, JoinKind, Key, KeyTerm, Operator, QueryData, Select, Source, WindowCall, WindowFunction}
@@ -86,12 +87,29 @@ one_or [] otherwise = otherwise
 one_or (at ∷ []) otherwise = Ok (KeyTerm.result at)
 one_or (at ∷ other ∷ rest) otherwise = Err Ambiguous
 
--- a number alone is the result column of this number, from 1; a name alone the one of this name
+-- the number that an expression is alone; a sign + is no operation
+abbrev pub number_alone : ExprTree → Option ℤ
+number_alone (ExprTree.Number z) = Some z
+number_alone (ExprTree.Prefix prefixes.Plus e) = number_alone e
+number_alone e = None
+
+-- the result column of this number, from 1, of a list of this length
+abbrev pub numbered : ℕ → ℤ → Result KeyTerm Fault
+numbered width (pos (suc at)) = checked (nat_lt at width) WrongPlace (Ok (KeyTerm.result at))
+numbered width z = Err WrongPlace
+
+abbrev pub numbered_or : ℕ → Option ℤ → Result KeyTerm Fault → Result KeyTerm Fault
+numbered_or width (Some z) otherwise = numbered width z
+numbered_or width None otherwise = otherwise
+
+-- a name alone is the result column of this name
+abbrev pub named_or : List Name → (ExprTree → Result KeyTerm Fault) → ExprTree → Result KeyTerm Fault
+named_or names otherwise (ExprTree.Column None name) = one_or (named_at name 0 names) (otherwise (ExprTree.Column None name))
+named_or names otherwise e = otherwise e
+
+-- a number alone is the result column of this number; a name alone the one of this name
 abbrev pub key_term : List Name → (ExprTree → Result KeyTerm Fault) → ExprTree → Result KeyTerm Fault
-key_term names otherwise (ExprTree.Number (pos (suc at))) = checked (nat_lt at (length names)) WrongPlace (Ok (KeyTerm.result at))
-key_term names otherwise (ExprTree.Number z) = Err WrongPlace
-key_term names otherwise (ExprTree.Column None name) = one_or (named_at name 0 names) (otherwise (ExprTree.Column None name))
-key_term names otherwise e = otherwise e
+key_term names otherwise e = numbered_or (length names) (number_alone e) (named_or names otherwise e)
 
 abbrev pub key : Direction → KeyTerm → Key
 key direction k = record { by = k; direction = direction }
@@ -124,6 +142,10 @@ pub record CoreData : Type 0 where
 abbrev pub or_bare : Option Term → Result Term Fault
 or_bare (Some t) = Ok t
 or_bare None = Err BareColumn
+
+abbrev pub no_number : Option ℤ → Result Term Fault → Result Term Fault
+no_number (Some z) t = Err WrongPlace
+no_number None t = t
 
 abbrev pub max_columns : ℕ
 max_columns = 100
@@ -184,11 +206,13 @@ module _ (answers : Answers) where
   input_of scope [] [] having = Ok (ungrouped scope)
   input_of scope by aggregates having = grouped scope by aggregates having
 
-  -- a number alone in GROUP BY stands at a wrong place
+  -- an expression of GROUP BY: a number alone is at a wrong place
+  abbrev pub group_term : Scope → ExprTree → Result Term Fault
+  group_term scope e = no_number (number_alone e) (term_of answers (columns_say scope) e)
+
   abbrev pub by_of : Scope → ExprTrees → Result (List Term) Fault
   by_of scope ExprTrees.No_more = Ok []
-  by_of scope (ExprTrees.More (ExprTree.Number z) rest) = Err WrongPlace
-  by_of scope (ExprTrees.More e rest) = both ◌∷◌ (term_of answers (columns_say scope) e) (by_of scope rest)
+  by_of scope (ExprTrees.More e rest) = both ◌∷◌ (group_term scope e) (by_of scope rest)
 
   abbrev pub defined_of : Says → DefinitionTrees → Result (List Defined) Fault
   defined_of says DefinitionTrees.No_definition = Ok []

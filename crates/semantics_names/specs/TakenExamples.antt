@@ -10,7 +10,7 @@ use Rattle.sql_reader_syntax.specs.declared.expr.Function.TheVariants as w
 use Rattle.sql_reader_syntax.specs.declared.query.Join.TheVariants as joins
 use Rattle.semantics.specs.Query.{always, filtered, AggregateFunction, Body, Direction, From, Grouping, InnerQuery, JoinKind, Key, KeyTerm, Operator, Source, WindowFunction, of_columns, only}
 use Rattle.semantics_names.specs.Places.{default_frame}
-use Rattle.semantics_names.specs.Worked.{IsQuery, by_term, call_over, called, id, item, name_alone, name_of, number, one, ordered, sales, select, select_by, select_where, shown, statement, table, union_of, window_by, with, with_item}
+use Rattle.semantics_names.specs.Worked.{IsQuery, by_term, call_over, called, id, item, name_alone, name_of, number, one, ordered, sales, select, select_by, select_where, shown, signed, statement, table, union_of, window_by, with, with_item}
 
 abbrev pub items : From
 items = only (Source.table 0 3)
@@ -42,12 +42,20 @@ inner_body =
     Body.select (From.with_inner items (InnerQuery.values_of (Body.select (only (Source.table 1 2)) (of_columns (column 0 ∷ [])))))
     (record (of_columns (column 0 ∷ [])) { condition = among (column 0) (answer 0) })
 
--- SELECT Name, count(*) FROM item GROUP BY item.name ORDER BY 2
-abbrev pub grouped : StatementTree
-grouped =
+-- SELECT Name, count(*) FROM item GROUP BY item.name, in this order
+abbrev pub grouped_by : ExprTree → StatementTree
+grouped_by order =
     ordered
     (select_by (shown (name_alone (codes "Name")) ∷ called plain_count (codes "n") ∷ []) item (name_of (codes "item") (codes "name") ∷ []))
-    (by_term (number 2))
+    (by_term order)
+
+-- ORDER BY 2
+abbrev pub grouped : StatementTree
+grouped = grouped_by (number 2)
+
+-- ORDER BY +2: a sign + is no operation
+abbrev pub grouped_signed : StatementTree
+grouped_signed = grouped_by (signed 2)
 
 abbrev pub by_name : Grouping
 by_name = record { by = column 1 ∷ []; aggregates = record { function = AggregateFunction.count; argument = always } ∷ []; having = always }
@@ -149,6 +157,7 @@ TakenStatements =
     × IsQuery star_of_using star_of_using_body [] (codes "item" ∷ codes "n" ∷ [])
     × IsQuery inner_query inner_body (upwards (KeyTerm.term (column 2))) (codes "id" ∷ [])
     × IsQuery grouped grouped_body (upwards (KeyTerm.result 1)) (codes "name" ∷ codes "n" ∷ [])
+    × IsQuery grouped_signed grouped_body (upwards (KeyTerm.result 1)) (codes "name" ∷ codes "n" ∷ [])
     × IsQuery grouped_by_inner grouped_by_inner_body [] (codes "c" ∷ codes "s" ∷ [])
     × IsQuery hiding hiding_body [] (codes "k" ∷ [])
     × IsQuery by_alias by_alias_body [] (codes "k" ∷ [])

@@ -6,6 +6,7 @@ use Rattle.sql_reader_syntax.specs.ExprTree.{ExprTree, ExprTrees, MaybeExpr, Beh
 use Rattle.sql_reader_syntax.specs.StatementTree.{ItemTree, StatementTree}
 use Rattle.sql_reader_syntax.specs.Tree.{Name}
 use Rattle.sql_reader_syntax.specs.declared.expr.Function as functions
+use Rattle.sql_reader_syntax.specs.declared.expr.PrefixOperator.TheVariants as prefixes
 use Rattle.sql_reader_syntax.specs.declared.query.CompoundOperator.TheVariants.{Union}
 use Rattle.sql_reader_syntax.specs.declared.query.Direction as written
 use Rattle.sql_reader_syntax.specs.declared.query.Frame as frames
@@ -26,6 +27,9 @@ tables =
 
 abbrev pub number : ℕ → ExprTree
 number n = ExprTree.Number (pos n)
+
+abbrev pub signed : ℕ → ExprTree
+signed n = ExprTree.Prefix prefixes.Plus (number n)
 
 abbrev pub name_alone : Name → ExprTree
 name_alone name = ExprTree.Column None name

@@ -1,5 +1,5 @@
 -- One SELECT behind its FROM, or why it is none.
-use Rattle.std.proofs.Common.{◌≡◌, ◌⊎◌, inl, inr, Bool, false, ℕ, suc, pos, List, [], ◌∷◌, ◌++◌, length, Option, Some, None, Result, Ok, Err, Contains, nat_le, nat_lt, refl, subst, sym}
+use Rattle.std.proofs.Common.{◌≡◌, ◌⊎◌, inl, inr, Bool, false, ℕ, suc, ℤ, pos, List, [], ◌∷◌, ◌++◌, length, Option, Some, None, Result, Ok, Err, Contains, nat_le, nat_lt, refl, subst, sym}
 use Rattle.std.specs.List.{filter_map}
 use Rattle.std.proofs.lemmas.List.Elements.{Contains-append_left, Contains-append_right, Contains-push}
 use Rattle.values.specs.declared.fault.Fault.{Fault}
@@ -13,7 +13,7 @@ use Rattle.semantics_names.specs.Parts.{all_parts, definitions_parts, maybe_part
 use Rattle.semantics_names.specs.Places.{Defined, aggregate_of, call_of, columns_say, groups_say, key_column, window_of, windows_say}
 use Rattle.semantics_names.specs.Same.{is_same_aggregate, is_same_call}
 use Rattle.semantics_names.specs.Scope.{Scope}
-use Rattle.semantics_names.specs.Statement.{Input, ResultColumn, all_results, are_distinct, as_input, behind_groups, by_of, condition_of, core_of, defined_of, finished, firsts, grouped, input_of, key_term, keys_of, max_columns, named_at, no_row, on_row, one_or, or_bare, result, results_of, select_of, shown, some_of, starred, starred_of, ungrouped, window_names}
+use Rattle.semantics_names.specs.Statement.{Input, ResultColumn, all_results, are_distinct, as_input, behind_groups, by_of, condition_of, core_of, defined_of, finished, firsts, group_term, grouped, input_of, key_term, keys_of, max_columns, named_at, named_or, no_number, no_row, number_alone, numbered, numbered_or, on_row, one_or, or_bare, result, results_of, select_of, shown, some_of, starred, starred_of, ungrouped, window_names}
 use Rattle.semantics_refusals.specs.Columns.{names_of_results, results_in}
 use Rattle.semantics_refusals.specs.UnknownColumns.{IsNamedAt}
 use Rattle.semantics_refusals.specs.Written.{spoken_in, stars_in, terms_in, windows_in}
@@ -68,6 +68,15 @@ module _ (F : Fault → Type 0) (takes : Takes F) where
   one_only (at ∷ []) otherwise two o = ok _
   one_only (at ∷ other ∷ more) otherwise two o = record { is = two at other more refl }
 
+  numbered_only : (width : ℕ) (z : ℤ) → Only F (numbered width z)
+  numbered_only width (pos (suc at)) = checked_only (nat_lt at width) WrongPlace _ (λ _. takes.wrong_place) (ok _)
+  numbered_only width z = refused WrongPlace takes.wrong_place
+
+  numbered_or_only : (width : ℕ) (number : Option ℤ) (otherwise : Result KeyTerm Fault) → Only F otherwise
+      → Only F (numbered_or width number otherwise)
+  numbered_or_only width (Some z) otherwise o = numbered_only width z
+  numbered_or_only width None otherwise o = o
+
   module _ (names : List Name) (otherwise : ExprTree → Result KeyTerm Fault) (Q : ExprTree → Type 0)
       (others : (e : ExprTree) → Each Q (parts e) → Only F (otherwise e)) where
     no_name_only : (e : ExprTree) → ((alone : Name) → ¬ (e ≡ ExprTree.Column None alone)) → IsFineTerm Q names e → Only F (otherwise e)
@@ -86,14 +95,15 @@ module _ (F : Fault → Type 0) (takes : Takes F) where
             let called : alone ≡ name = cc in absurd (named_none name 0 names e at (subst (λ n. IsNamedAt names n at) called is))
         by (inr all) = others (ExprTree.Column None name) all
 
+    named_or_only : (e : ExprTree) → ((name : Name) → e ≡ ExprTree.Column None name → (at other : ℕ) (more : List ℕ)
+        → named_at name 0 names ≡ at ∷ other ∷ more → F Ambiguous) → IsFineTerm Q names e → Only F (named_or names otherwise e)
+    named_or_only (ExprTree.Column None name) two fine =
+        one_only (named_at name 0 names) _ (two name refl) (λ e. name_only name e fine)
+    named_or_only e two fine = no_name_only e (λ alone same. absurd cc) fine
+
     key_term_only : (e : ExprTree) → ((name : Name) → e ≡ ExprTree.Column None name → (at other : ℕ) (more : List ℕ)
         → named_at name 0 names ≡ at ∷ other ∷ more → F Ambiguous) → IsFineTerm Q names e → Only F (key_term names otherwise e)
-    key_term_only (ExprTree.Number (pos (suc at))) two fine =
-        checked_only (nat_lt at (length names)) WrongPlace _ (λ _. takes.wrong_place) (ok _)
-    key_term_only (ExprTree.Number z) two fine = refused WrongPlace takes.wrong_place
-    key_term_only (ExprTree.Column None name) two fine =
-        one_only (named_at name 0 names) _ (two name refl) (λ e. name_only name e fine)
-    key_term_only e two fine = no_name_only e (λ alone same. absurd cc) fine
+    key_term_only e two fine = numbered_or_only (length names) (number_alone e) (named_or names otherwise e) (named_or_only e two fine)
 
     pub keys_only : (order : TermTrees) → IsFineOrder F order names → Each (IsFineTerm Q names) (terms_in order) → Only F (keys_of names otherwise order)
     keys_only TermTrees.No_term fine all = ok _
@@ -201,12 +211,16 @@ module _ (F : Fault → Type 0) (takes : Takes F) where
     input_gives [] (a ∷ aggregates) having all = grouped_gives [] (a ∷ aggregates) having all
     input_gives (t ∷ by) aggregates having all = grouped_gives (t ∷ by) aggregates having all
 
+    no_number_only : (number : Option ℤ) (t : Result Term Fault) → Only F t → Only F (no_number number t)
+    no_number_only (Some z) t o = refused WrongPlace takes.wrong_place
+    no_number_only None t o = o
+
     by_only : (by : ExprTrees) → Each (Deep (Sound F answers (columns_say scope))) (all_parts by) → Only F (by_of answers scope by)
     by_only ExprTrees.No_more all = ok _
-    by_only (ExprTrees.More (ExprTree.Number z) others) all = refused WrongPlace takes.wrong_place
     by_only (ExprTrees.More e others) all =
-        both_only ◌∷◌ (term_of answers (columns_say scope) e) (by_of answers scope others)
-        (term_so (columns_say scope) columns_speak e (front (parts e) (all_parts others) all)) (by_only others (back (parts e) (all_parts others) all))
+        both_only ◌∷◌ (group_term answers scope e) (by_of answers scope others)
+        (no_number_only (number_alone e) (term_of answers (columns_say scope) e)
+        (term_so (columns_say scope) columns_speak e (front (parts e) (all_parts others) all))) (by_only others (back (parts e) (all_parts others) all))
 
     defined_only : (says : Says) → Speaks says → (windows : DefinitionTrees) → Each (Deep (Sound F answers (columns_say scope))) (definitions_parts windows)
         → Only F (defined_of answers says windows)

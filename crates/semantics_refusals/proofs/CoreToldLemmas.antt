@@ -1,5 +1,5 @@
 -- In a SELECT that is taken each name of a column stands for one.
-use Rattle.std.proofs.Common.{◌≡◌, ◌≢◌, Bool, true, false, ℕ, List, [], ◌∷◌, ◌++◌, length, None, Result, Ok, Contains, nat_le, refl, sym, subst}
+use Rattle.std.proofs.Common.{◌≡◌, ◌≢◌, Bool, true, false, ℕ, ℤ, List, [], ◌∷◌, ◌++◌, length, Option, Some, None, Result, Ok, Contains, nat_le, refl, sym, subst}
 use Rattle.std.specs.List.{filter_map}
 use Rattle.values.specs.declared.fault.Fault.{Fault}
 use Rattle.values.specs.declared.fault.Fault.TheVariants.{DuplicateName, Limit, UnknownColumn}
@@ -13,7 +13,8 @@ use Rattle.semantics_names.specs.Parts.{all_parts, definitions_parts, maybe_part
 use Rattle.semantics_names.specs.Places.{Defined, aggregate_of, call_of, columns_say, direction_of, groups_say, window_of, windows_say}
 use Rattle.semantics_names.specs.Same.{is_same_aggregate, is_same_call}
 use Rattle.semantics_names.specs.Scope.{Scope}
-use Rattle.semantics_names.specs.Statement.{CoreData, Input, ResultColumn, all_results, are_distinct, as_input, behind_groups, by_of, condition_of, core_of, defined_of, finished, firsts, input_of, key, key_term, keys_of, max_columns, named_at, on_row, one_or, results_of, shown, some_of, starred_of, ungrouped, window_names}
+use Rattle.sql_reader_syntax.specs.declared.expr.PrefixOperator.TheVariants as prefixes
+use Rattle.semantics_names.specs.Statement.{CoreData, Input, ResultColumn, all_results, are_distinct, as_input, behind_groups, by_of, condition_of, core_of, defined_of, finished, firsts, group_term, input_of, key, key_term, keys_of, max_columns, named_at, named_or, no_number, number_alone, numbered_or, on_row, one_or, results_of, shown, some_of, starred_of, ungrouped, window_names}
 use Rattle.semantics_names.proofs.OutcomeLemmas.{also-ok, both-ok, checked-ok, followed-ok}
 use Rattle.semantics_refusals.specs.Columns.{names_of_results, results_in}
 use Rattle.semantics_refusals.specs.UnknownColumns.{IsNoResult}
@@ -36,15 +37,28 @@ keys_given names otherwise (TermTrees.Term x direction others) ks e =
 
 module _ (scope : Scope) (names : List Name) (otherwise : ExprTree → Result KeyTerm Fault)
     (tells : (e : ExprTree) (k : KeyTerm) → otherwise e ≡ Ok k → Each (IsNamed scope) (parts e)) where
-  key_told : (e : ExprTree) (k : KeyTerm) → key_term names otherwise e ≡ Ok k → IsNoResult names e → Each (IsNamed scope) (parts e)
-  key_told (ExprTree.Number z) k e apart = one (record { is = λ table name same. absurd cc })
-  key_told (ExprTree.Column None name) k e apart = by (named_at name 0 names) refl e
+  number_told : (e : ExprTree) (z : ℤ) → number_alone e ≡ Some z → Each (IsNamed scope) (parts e)
+  number_told (ExprTree.Number z) n is = one (record { is = λ table name same. absurd cc })
+  number_told (ExprTree.Prefix prefixes.Plus x) n is =
+      join (parts x) (ExprTree.Prefix prefixes.Plus x ∷ []) (number_told x n is) (one (record { is = λ table name same. absurd cc }))
+  number_told x n is = absurd cc
+
+  named_told : (e : ExprTree) (k : KeyTerm) → named_or names otherwise e ≡ Ok k → IsNoResult names e → Each (IsNamed scope) (parts e)
+  named_told (ExprTree.Column None name) k e apart = by (named_at name 0 names) refl e
     where
       by : (places : List ℕ) → named_at name 0 names ≡ places → one_or places (otherwise (ExprTree.Column None name)) ≡ Ok k
           → Each (IsNamed scope) (parts (ExprTree.Column None name))
       by [] are e = tells (ExprTree.Column None name) k e
       by (at ∷ more) are e = let (found, is) = named_some name 0 names at more are in absurd (apart name found refl is)
-  key_told x k e apart = tells x k e
+  named_told x k e apart = tells x k e
+
+  key_told : (e : ExprTree) (k : KeyTerm) → key_term names otherwise e ≡ Ok k → IsNoResult names e → Each (IsNamed scope) (parts e)
+  key_told e k made apart = by (number_alone e) refl made
+    where
+      by : (number : Option ℤ) → number_alone e ≡ number → numbered_or (length names) number (named_or names otherwise e) ≡ Ok k
+          → Each (IsNamed scope) (parts e)
+      by (Some z) is same = number_told e z is
+      by None is same = named_told e k same apart
 
 -- ---- the clauses
 
@@ -60,12 +74,19 @@ module _ (answers : Answers) (scope : Scope) where
   condition_told says tells MaybeExpr.Absent t e = none
   condition_told says tells (MaybeExpr.Present x) t e = told scope answers says tells x t e
 
+  group_told : (e : ExprTree) (t : Term) → group_term answers scope e ≡ Ok t → term_of answers (columns_say scope) e ≡ Ok t
+  group_told e t made = by (number_alone e) made
+    where
+      by : (number : Option ℤ) → no_number number (term_of answers (columns_say scope) e) ≡ Ok t
+          → term_of answers (columns_say scope) e ≡ Ok t
+      by (Some z) same = absurd cc
+      by None same = same
+
   by_told : (by : ExprTrees) (ts : List Term) → by_of answers scope by ≡ Ok ts → Each (IsNamed scope) (all_parts by)
   by_told ExprTrees.No_more ts e = none
-  by_told (ExprTrees.More (ExprTree.Number z) others) ts e = absurd cc
   by_told (ExprTrees.More x others) ts e =
-      let (u, us, is, rest, same) = both-ok ◌∷◌ (term_of answers (columns_say scope) x) (by_of answers scope others) ts e in
-      join (parts x) (all_parts others) (told scope answers (columns_say scope) (columns_tell scope answers) x u is) (by_told others us rest)
+      let (u, us, is, rest, same) = both-ok ◌∷◌ (group_term answers scope x) (by_of answers scope others) ts e in
+      join (parts x) (all_parts others) (told scope answers (columns_say scope) (columns_tell scope answers) x u (group_told x u is)) (by_told others us rest)
 
   defined_told : (says : Says) → Tells scope answers says → (windows : DefinitionTrees) (ds : List Defined) → defined_of answers says windows ≡ Ok ds
       → Each (IsNamed scope) (definitions_parts windows)
@@ -121,9 +142,8 @@ module _ (answers : Answers) (scope : Scope) where
       → input_of answers scope keys aggregates having ≡ Ok input → (by ≡ ExprTrees.No_more → having ≡ MaybeExpr.Absent)
       → Each (IsNamed scope) (maybe_parts having)
   having_told ExprTrees.No_more keys aggregates having input are e stands = subst (λ having. Each (IsNamed scope) (maybe_parts having)) (sym (stands refl)) none
-  having_told (ExprTrees.More (ExprTree.Number z) others) keys aggregates having input are e stands = absurd cc
   having_told (ExprTrees.More x others) keys aggregates having input are e stands =
-      let (u, us, is, rest, same) = both-ok ◌∷◌ (term_of answers (columns_say scope) x) (by_of answers scope others) keys are in
+      let (u, us, is, rest, same) = both-ok ◌∷◌ (group_term answers scope x) (by_of answers scope others) keys are in
       let given : input_of answers scope (u ∷ us) aggregates having ≡ Ok input = subst (λ keys. input_of answers scope keys aggregates having ≡ Ok input)
       (sym same) e in
       let (t, of, made) = also-ok _ (condition_of answers (groups_say answers scope (u ∷ us) aggregates) having) input given in

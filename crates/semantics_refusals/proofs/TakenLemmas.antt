@@ -1,5 +1,5 @@
 -- Where a query is taken, so is each SELECT of it, however deep it stands.
-use Rattle.std.proofs.Common.{◌≡◌, ℕ, zero, suc, List, [], ◌∷◌, length, map, Some, None, Result, Ok, All, Contains, nat_eq, refl}
+use Rattle.std.proofs.Common.{◌≡◌, ℕ, zero, suc, ℤ, List, [], ◌∷◌, length, map, Option, Some, None, Result, Ok, All, Contains, nat_eq, refl}
 use Rattle.std.proofs.lemmas.List.Elements.{All-append, All-cons, All-contains, All-nil, All-push, Contains-append_right}
 use Rattle.values.specs.declared.fault.Fault.{Fault}
 use Rattle.values.specs.declared.fault.Fault.TheVariants.{ColumnCount}
@@ -10,7 +10,8 @@ use Rattle.semantics_names.specs.Outcome.{each}
 use Rattle.semantics_names.specs.Parts.{core_parts, inner_tree, inner_trees, parts, terms_parts}
 use Rattle.semantics_names.specs.Places.{direction_of}
 use Rattle.semantics_names.specs.Sources.{Given, Known, Sources, joined, kind_of, no_sources}
-use Rattle.semantics_names.specs.Statement.{CoreData, Inner, Queried, Single, answers_of, compounded, core_of, exists_inner, from_of, from_tree, given_query, inner_of, key, key_term, keys_of, no_row, queried, query_of, simple, single, single_of, source_of, values_inner, with_inners}
+use Rattle.sql_reader_syntax.specs.declared.expr.PrefixOperator.TheVariants as prefixes
+use Rattle.semantics_names.specs.Statement.{CoreData, Inner, Queried, Single, answers_of, compounded, core_of, exists_inner, from_of, from_tree, given_query, inner_of, key, key_term, keys_of, named_or, no_row, number_alone, numbered_or, queried, query_of, simple, single, single_of, source_of, values_inner, with_inners}
 use Rattle.semantics_names.proofs.OutcomeLemmas.{also-ok, both-ok, checked-ok, followed-ok}
 use Rattle.semantics_refusals.specs.Written.{HasQuery, IsDerived, IsOperand, IsSelect, StandsIn, sources_in}
 use Rattle.semantics_refusals.proofs.OkLemmas.{IsGiven, each-ok, filtered}
@@ -26,10 +27,27 @@ number_none z query is = elim is [ ]
 column_none : (table : _) (name : _) → NoOperand (ExprTree.Column table name)
 column_none table name query is = elim is [ ]
 
+prefix_none : (op : _) (x : _) → NoOperand (ExprTree.Prefix op x)
+prefix_none op x query is = elim is [ ]
+
+number_parts : (e : ExprTree) (z : _) → number_alone e ≡ Some z → All NoOperand (parts e)
+number_parts (ExprTree.Number z) n is = All-cons NoOperand (ExprTree.Number z) [] (number_none z) (All-nil NoOperand)
+number_parts (ExprTree.Prefix prefixes.Plus x) n is =
+    All-append NoOperand (parts x) (ExprTree.Prefix prefixes.Plus x ∷ []) (number_parts x n is)
+    (All-cons NoOperand (ExprTree.Prefix prefixes.Plus x) [] (prefix_none prefixes.Plus x) (All-nil NoOperand))
+number_parts _ n is = absurd cc
+
+named_parts : (names : List _) (e : ExprTree) (k : KeyTerm) → named_or names no_row e ≡ Ok k → All NoOperand (parts e)
+named_parts names (ExprTree.Column None name) k e = All-cons NoOperand (ExprTree.Column None name) [] (column_none None name) (All-nil NoOperand)
+named_parts names _ k e = absurd cc
+
 key_none : (names : List _) (e : ExprTree) (k : KeyTerm) → key_term names no_row e ≡ Ok k → All NoOperand (parts e)
-key_none names (ExprTree.Number z) k e = All-cons NoOperand (ExprTree.Number z) [] (number_none z) (All-nil NoOperand)
-key_none names (ExprTree.Column None name) k e = All-cons NoOperand (ExprTree.Column None name) [] (column_none None name) (All-nil NoOperand)
-key_none names _ k e = absurd cc
+key_none names e k made = by (number_alone e) refl made
+  where
+    by : (number : Option ℤ) → number_alone e ≡ number → numbered_or (length names) number (named_or names no_row e) ≡ Ok k
+        → All NoOperand (parts e)
+    by (Some z) is same = number_parts e z is
+    by None is same = named_parts names e k same
 
 keys_none : (names : List _) (order : TermTrees) (ks : List _) → keys_of names no_row order ≡ Ok ks → All NoOperand (terms_parts order)
 keys_none names TermTrees.No_term ks e = All-nil NoOperand

@@ -1,5 +1,5 @@
 -- One SELECT behind its FROM names columns that there are.
-use Rattle.std.proofs.Common.{◌≡◌, Bool, true, false, if◌then◌else◌, ℕ, suc, pos, ◌+◌, ◌<◌, ◌≤◌, List, [], ◌∷◌, ◌++◌, length, map, Option, Some, None, Result, Ok, Err, nat_le, nat_lt, refl, subst, sym, ◌∙◌, arith}
+use Rattle.std.proofs.Common.{◌≡◌, Bool, true, false, if◌then◌else◌, ℕ, suc, ℤ, pos, ◌+◌, ◌<◌, ◌≤◌, List, [], ◌∷◌, ◌++◌, length, map, Option, Some, None, Result, Ok, Err, nat_le, nat_lt, refl, subst, sym, ◌∙◌, arith}
 use Rattle.std.specs.List.{filter_map}
 use Rattle.std.specs.Str.{str_eq_ignore_ascii_case}
 use Rattle.std.proofs.lemmas.Bool.{ltb-true}
@@ -16,7 +16,7 @@ use Rattle.semantics_names.specs.Parts.{parts_behind_groups}
 use Rattle.semantics_names.specs.Places.{Defined, aggregate_of, call_of, columns_say, direction_of, groups_say, key_column, window_of, windows_say}
 use Rattle.semantics_names.specs.Same.{is_same_aggregate, is_same_call}
 use Rattle.semantics_names.specs.Scope.{Scope}
-use Rattle.semantics_names.specs.Statement.{CoreData, Input, ResultColumn, all_results, are_distinct, as_input, behind_groups, by_of, condition_of, core_of, defined_of, finished, firsts, grouped, input_of, key, key_term, keys_of, max_columns, named_at, on_row, one_or, or_bare, result, results_of, select_of, shown, some_of, starred, starred_of, ungrouped, window_names}
+use Rattle.semantics_names.specs.Statement.{CoreData, Input, ResultColumn, all_results, are_distinct, as_input, behind_groups, by_of, condition_of, core_of, defined_of, finished, firsts, group_term, grouped, input_of, key, key_term, keys_of, max_columns, named_at, named_or, no_number, number_alone, numbered, numbered_or, on_row, one_or, or_bare, result, results_of, select_of, shown, some_of, starred, starred_of, ungrouped, window_names}
 use Rattle.semantics_refusals.proofs.ClashLemmas.{IsWithin}
 use Rattle.semantics_refusals.proofs.HandsLemmas.{Hands, IfAny, also_hands, both_hands, checked_hands, firsts_hands, followed_hands, given_hands, if_hands, no_hands}
 use Rattle.semantics_refusals.proofs.NameLemmas.{names_in}
@@ -48,18 +48,27 @@ module _ (K : KeyTerm → Type 0) (names : List Name) (there : (at : ℕ) → at
   one_within (at ∷ []) r all h = record { is = there at (first all) }
   one_within (at ∷ second ∷ places) r all h = no_hands Ambiguous
 
-  key_within : (e : ExprTree) → Hands K (key_term names otherwise e)
-  key_within (ExprTree.Number (pos (suc at))) =
+  numbered_within : (z : ℤ) → Hands K (numbered (length names) z)
+  numbered_within (pos (suc at)) =
       checked_hands (nat_lt at (length names)) WrongPlace _ (λ e. record { is = there at (ltb-true at (length names) e) })
-  key_within (ExprTree.Number z) = no_hands WrongPlace
-  key_within (ExprTree.Column None name) =
+  numbered_within z = no_hands WrongPlace
+
+  named_within : (e : ExprTree) → Hands K (named_or names otherwise e)
+  named_within (ExprTree.Column None name) =
       one_within (named_at name 0 names) (otherwise (ExprTree.Column None name)) (from_start (named_at name 0 names) (below_from name 0 names))
       (other (ExprTree.Column None name))
     where
       from_start : (ks : List ℕ) → Each (λ k. k < 0 + length names) ks → Each (λ k. k < length names) ks
       from_start [] all = none
       from_start (k ∷ ks) all = let less : k < 0 + length names = first all in more k ks (omega arith) (from_start ks (rest all))
-  key_within e = other e
+  named_within e = other e
+
+  key_within : (e : ExprTree) → Hands K (key_term names otherwise e)
+  key_within e = by (number_alone e)
+    where
+      by : (number : Option ℤ) → Hands K (numbered_or (length names) number (named_or names otherwise e))
+      by (Some z) = numbered_within z
+      by None = named_within e
 
   pub keys_within : (order : TermTrees) → Hands (Each (λ (k : Key). K k.by)) (keys_of names otherwise order)
   keys_within TermTrees.No_term = record { is = none }
@@ -129,12 +138,16 @@ module _ (count : ℕ) (answers : Answers) (answered : AreAnswers count answers)
   input_within [] (a ∷ aggregates) having in_by in_aggregates = grouped_within [] (a ∷ aggregates) having in_by in_aggregates
   input_within (t ∷ by) aggregates having in_by in_aggregates = grouped_within (t ∷ by) aggregates having in_by in_aggregates
 
+  no_number_within : (number : Option ℤ) (t : Result Term Fault) → Hands (IsWithin count width) t → Hands (IsWithin count width) (no_number number t)
+  no_number_within (Some z) t h = no_hands WrongPlace
+  no_number_within None t h = h
+
   by_within : (by : ExprTrees) → Hands (Each (IsWithin count width)) (by_of answers scope by)
   by_within ExprTrees.No_more = record { is = none }
-  by_within (ExprTrees.More (ExprTree.Number z) others) = no_hands WrongPlace
   by_within (ExprTrees.More e others) =
-      both_hands ◌∷◌ (term_of answers (columns_say scope) e) (by_of answers scope others)
-      (term_so count answers answered width (columns_say scope) scope_says e) (by_within others) (λ t ts h all. more t ts h all)
+      both_hands ◌∷◌ (group_term answers scope e) (by_of answers scope others)
+      (no_number_within (number_alone e) (term_of answers (columns_say scope) e)
+      (term_so count answers answered width (columns_say scope) scope_says e)) (by_within others) (λ t ts h all. more t ts h all)
 
   defined_within : (w : ℕ) (says : Says) → IsSaying w says → (windows : DefinitionTrees)
       → Hands (Each (λ (d : Defined). IsWithinWindow count w d.window)) (defined_of answers says windows)

@@ -1,20 +1,15 @@
 -- What ORDER BY may name.
-use Rattle.std.specs.Prelude.{ℕ, suc, ℤ, pos, List, [], ◌∷◌, false, Option, Some, None, Result, Ok, Err, nat_lt}
+use Rattle.std.specs.Prelude.{ℕ, List, [], ◌∷◌, false, Option, Some, None, Result, Ok, Err}
 use Rattle.values.specs.declared.fault.Fault.{Fault}
-use Rattle.values.specs.declared.fault.Fault.TheVariants.{Ambiguous, WrongPlace}
+use Rattle.values.specs.declared.fault.Fault.TheVariants.{Ambiguous}
 use Rattle.semantics.specs.Query.{Key, KeyTerm}
 use Rattle.semantics_names.specs.Expression.{Answers, Says}
-use Rattle.semantics_names.specs.Outcome.{also, checked}
+use Rattle.semantics_names.specs.Outcome.{also}
 use Rattle.semantics_names.specs.Places.{direction_of}
 use Rattle.semantics_names.specs.Statement.{key, key_term, no_row, on_row}
 use Rattle.sql_reader_syntax.specs.ExprTree.{ExprTree}
 use Rattle.sql_reader_syntax.specs.Tree.{Name}
 use Rattle.sql_reader_syntax.specs.declared.query.Direction as written
-
--- the result column of this number, from 1, of so many
-abbrev pub numbered : ℕ → ℤ → Result KeyTerm Fault
-numbered width (pos (suc at)) = checked (nat_lt at width) WrongPlace (Ok (KeyTerm.result at))
-numbered width z = Err WrongPlace
 
 -- of these places one, if there is one, and not two
 abbrev pub only_one : List ℕ → Result (Option ℕ) Fault

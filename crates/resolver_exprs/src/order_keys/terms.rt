@@ -12,12 +12,24 @@ use crate::order_keys::lookup::named;
 use resolver_terms::{Key, KeyTerm};
 use sql_reader_grammar as written;
 use sql_reader_grammar::Expr;
+use sql_reader_syntax::PrefixOperator;
 use std::alloc::Global;
 use values::Fault;
 
-// The result column of this number, from 1, of so many.
+/// The number that an expression is alone: a sign + before it is no operation. (SELECT, "The ORDER BY clause")
+pub fn number_alone(e: &Expr) -> Option<i64>
+    ensures { result ≡ spec.number_alone (expr_of e.now) }
+{
+    match e {
+        Expr::Number(number) => Some(*number),
+        Expr::Prefix(PrefixOperator::Plus, x) => number_alone(x),
+        _ => None,
+    }
+}
+
+// The result column of this number, from 1, of a list of this length.
 fn numbered(width: usize, number: i64) -> Result<KeyTerm, Fault>
-    ensures { Gives key_term_of result (places.numbered width number) }
+    ensures { Gives key_term_of result (spec.numbered width number) }
 {
     match usize::try_from(number) {
         Ok(number) if 1 <= number && number <= width => Ok(KeyTerm::Result(number - 1)),
@@ -52,8 +64,10 @@ fn key_term<I: InnerQueries, P: Place>(
     ensures { Gives key_term_of result (spec.key_term (map (λ n. string_bytes n) names.now)
         (places.on_rows (I.answers inner.now) (option_map (λ p. P.meaning p.now) place.entry)) (expr_of e.now)) }
 {
+    if let Some(number) = number_alone(e) {
+        return numbered(names.len(), number);
+    }
     match e {
-        Expr::Number(number) => numbered(names.len(), *number),
         Expr::Column(None, name) => match named(names, name.as_str())? {
             Some(at) => Ok(KeyTerm::Result(at)),
             None => on_rows(alloc, inner, place, e),

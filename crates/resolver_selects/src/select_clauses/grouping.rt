@@ -1,15 +1,14 @@
 //! WHERE, HAVING and GROUP BY.
-ghost use Rattle.std.specs.Prelude.{◌≡◌, map, option_map};
+ghost use Rattle.std.specs.Prelude.{map, option_map};
 ghost use Rattle.semantics_names.specs.Statement as spec;
 ghost use Rattle.resolver_terms.specs.Outcome.{Gives};
 ghost use Rattle.expr.specs.View.{term};
-ghost use Rattle.resolver_selects.specs.select_clauses.Keys.{is_number, key_of};
 ghost use Rattle.sql_reader_syntax.specs.ExprView.{maybe_of};
 ghost use Rattle.sql_reader_grammar.specs.statement_trees.TreeView.{expr_of};
 ghost use Rattle.sql_reader_syntax.specs.ExprTree.{trees_of};
 
 use expr::Expr as Term;
-use resolver_exprs::{Columns, InnerQueries, Place, Scope, term};
+use resolver_exprs::{Columns, InnerQueries, Place, Scope, number_alone, term};
 use sql_reader_grammar::Expr;
 use std::alloc::Global;
 use values::{Fault, Value};
@@ -30,23 +29,14 @@ pub fn condition<I: InnerQueries, P: Place>(
     }
 }
 
-fn is_number(e: &Expr) -> bool
-    ensures { result ≡ is_number (expr_of e.now) }
-{
-    match e {
-        Expr::Number(_) => true,
-        _ => false,
-    }
-}
-
-// An expression of GROUP BY; a number alone stands at a wrong place.
+// An expression of GROUP BY; a number alone is at a wrong place.
 fn key<I: InnerQueries>(alloc: Global, inner: &I, scope: &Scope, e: &Expr) -> Result<Term, Fault>
-    ensures { Gives term result (key_of (I.answers inner.now) scope.now (expr_of e.now)) }
+    ensures { Gives term result (spec.group_term (I.answers inner.now) scope.now (expr_of e.now)) }
 {
-    if is_number(e) {
-        return Err(Fault::WrongPlace);
+    match number_alone(e) {
+        Some(_) => Err(Fault::WrongPlace),
+        None => term(alloc, inner, &Columns { scope }, e),
     }
-    term(alloc, inner, &Columns { scope }, e)
 }
 
 /// The expressions of GROUP BY. The fault is one of `term`, or `WrongPlace` of a number alone. (SELECT)
