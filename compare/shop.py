@@ -66,6 +66,10 @@ ANSWERS = {
     # A number in parentheses is a place too; with a sign it is an expression.
     "SELECT name, id FROM item ORDER BY (1), 2 DESC": "'bolt',1\n'cap',3\n'nut',4\n'nut',2\n",
     "SELECT id FROM item ORDER BY -1, id DESC": "4\n3\n2\n1\n",
+    "SELECT name, id FROM item ORDER BY +1, + +2 DESC": "'bolt',1\n'cap',3\n'nut',4\n'nut',2\n",
+    "SELECT DISTINCT name FROM item ORDER BY +1 DESC": "'nut'\n'cap'\n'bolt'\n",
+    "SELECT id FROM item UNION SELECT item FROM sale ORDER BY +(1) DESC LIMIT 2": "9\n4\n",
+    "SELECT id FROM item GROUP BY id + 0 HAVING id > 3": "4\n",
     # Inner joins: each row beside those of the table behind it on which ON and WHERE are true.
     "SELECT name, n FROM item, sale WHERE item = id": "'bolt',5\n'cap',2\n'cap',9\n",
     "SELECT name, n FROM item JOIN sale ON item = id AND n > 2": "'bolt',5\n'cap',9\n",
@@ -383,6 +387,9 @@ REFUSED = {
     "SELECT 1 FROM item WHERE count(*) > 0": 36,
     "SELECT id FROM item ORDER BY 2": 36,
     "SELECT id FROM item ORDER BY 0": 36,
+    "SELECT id FROM item ORDER BY +0": 36,
+    "SELECT id FROM item ORDER BY +2": 36,
+    "SELECT DISTINCT name FROM item ORDER BY +name": 36,
     "SELECT id FROM item WHERE rank() OVER ()": 36,
     "SELECT sum(id) OVER (ROWS BETWEEN CURRENT ROW AND 1 PRECEDING) FROM item": 37,
     "SELECT sum(id) OVER (ORDER BY id ROWS BETWEEN CURRENT ROW AND 1 PRECEDING) FROM item": 37,
@@ -457,6 +464,7 @@ REFUSED = {
     "SELECT 1 FROM item GROUP BY rank() OVER ()": 36,
     "SELECT 1 FROM item GROUP BY count(*)": 36,
     "SELECT id FROM item GROUP BY 1": 36,
+    "SELECT id FROM item GROUP BY +1": 36,
     "SELECT sum(count(*)) FROM item": 36,
     "SELECT sum(id) FILTER (WHERE count(*)) FROM item": 36,
     "SELECT name FROM item GROUP BY name HAVING rank() OVER ()": 36,

@@ -8,7 +8,7 @@ pub returns-clause-types : goal.returns-clause-types
 returns-clause-types c = (refl, refl, refl, refl, refl)
 
 pub returns-clause-places : goal.returns-clause-places
-returns-clause-places c = (refl, refl, refl, refl, refl, refl, refl, refl, refl, refl, refl, refl, refl, refl)
+returns-clause-places c = (refl, refl, refl, refl, refl, refl, refl, refl, refl, refl, refl, refl, refl, refl, refl, refl)
 
 pub returns-clause-frames : goal.returns-clause-frames
 returns-clause-frames c = (refl, refl, refl, refl)
