@@ -69,7 +69,7 @@ ANSWERS = {
     "SELECT name, id FROM item ORDER BY +1, + +2 DESC": "'bolt',1\n'cap',3\n'nut',4\n'nut',2\n",
     "SELECT DISTINCT name FROM item ORDER BY +1 DESC": "'nut'\n'cap'\n'bolt'\n",
     "SELECT id FROM item UNION SELECT item FROM sale ORDER BY +(1) DESC LIMIT 2": "9\n4\n",
-    "SELECT id FROM item GROUP BY id + 0 HAVING id > 3": "4\n",
+    "SELECT qty, count(*) FROM item GROUP BY +qty": "40,1\nNULL,1\n7,2\n",
     # Inner joins: each row beside those of the table behind it on which ON and WHERE are true.
     "SELECT name, n FROM item, sale WHERE item = id": "'bolt',5\n'cap',2\n'cap',9\n",
     "SELECT name, n FROM item JOIN sale ON item = id AND n > 2": "'bolt',5\n'cap',9\n",
