@@ -1,5 +1,5 @@
 //! The terms of ORDER BY.
-ghost use Rattle.std.specs.Prelude.{map, option_map, string_bytes};
+ghost use Rattle.std.specs.Prelude.{◌≡◌, map, option_map, string_bytes};
 ghost use Rattle.sql_reader_grammar.specs.Reading.{terms_of};
 ghost use Rattle.semantics_names.specs.Statement as spec;
 ghost use Rattle.resolver_exprs.specs.order_keys.Named as places;

@@ -53,5 +53,5 @@ returns-clause-overflow c = λ is.
 
 pub returns-in_err-entries-clause-overflow : goal.returns-in_err-entries-clause-overflow
 returns-in_err-entries-clause-overflow c = λ is.
-    let p = err_from_is_err_and c.from_residual.result c.from_residual.ensures.1 in
+    let p = err_from_is_err_and c.from_residual-in_err-entries.result c.from_residual-in_err-entries.ensures.1 in
     inl (reached_by_order c.args.call.now c.as_slice-order.result.now (rows_of c.args.part.now) c.as_slice-order.ensures.value (c.in_err-entries.ensures.overflow (cc (is, p.1, p.2))))
