@@ -1,7 +1,7 @@
 //! The rows of each SELECT, combined.
 ghost use Rattle.std.specs.Prelude.{◌≡◌, ◌++◌, All, IfSome, IsNone, List, MatchResult, map};
 ghost use Rattle.values.specs.Datum.{datum_of};
-ghost use Rattle.values.specs.Row.{rows_data};
+ghost use Rattle.values.specs.Row.{Row as RowData, rows_data};
 ghost use Rattle.operators_scan.specs.Coming.{IsRooted};
 ghost use Rattle.btree.specs.image.Pages.{WhereSteady};
 ghost use Rattle.semantics_names.specs.Statement.{operator_of};

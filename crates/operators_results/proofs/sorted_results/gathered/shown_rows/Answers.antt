@@ -19,7 +19,7 @@ loop-row-preserved-in-Continue-1 c = λ rest.
     let kept : map datum_of (take c.saturating_sub.result c.in-Some.row.items) ≡ row =
     sym (take-map datum_of c.saturating_sub.result c.in-Some.row.items)
     ∙ ap (λ n. take n (map datum_of c.in-Some.row.items))
-    (c.saturating_sub.ensures ∙ ap (λ n. n - hidden) (sym (length-map c.in-Some.row.items datum_of))) in
+    (c.saturating_sub.ensures ∙ ap (λ n. n - hidden) (c.len.ensures ∙ c.in-Some.row.ok.0 ∙ sym (length-map c.in-Some.row.items datum_of))) in
     let shown : rows_data c.push.new.self.items ≡ before ++ row ∷ [] =
     ap rows_data c.in_ok-push.ensures.items ∙ map_push row_of c.loop-row.shown.items c.truncate.new.self
     ∙ ap (λ row. before ++ row ∷ []) (ap (map datum_of) c.truncate.ensures.items ∙ kept) in
