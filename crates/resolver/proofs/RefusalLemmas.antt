@@ -11,7 +11,7 @@ use Rattle.semantics_names.specs.Laws.{AmbiguousIsTwo, AreSameSources, UnknownIs
 use Rattle.semantics_names.specs.Outcome.{also, both, checked}
 use Rattle.semantics_names.specs.Scope.{bare_term, places_of}
 use Rattle.semantics_names.specs.Sources.{is_same_source}
-use Rattle.semantics_names.specs.Statement.{are_distinct, key_term, keys_of, named_at, no_row, one_or}
+use Rattle.semantics_names.specs.Statement.{are_distinct, key_term, keys_of, named_at, named_or, no_row, number_alone, numbered, numbered_or, one_or}
 use Rattle.resolver.specs.Refusals.{CompoundWidths, InnerWidth, ItemWidths, RepeatedSource, UsingAmbiguous, UsingUnknown}
 
 -- this fault isn't handed on
@@ -50,28 +50,21 @@ one-other [] e = absurd cc
 one-other (at ∷ []) e = absurd cc
 one-other (at ∷ other ∷ rest) e = absurd cc
 
-number-other : (names : List Name) (z : ℤ) → IsOther (key_term names no_row (ExprTree.Number z))
-number-other names (pos zero) e = absurd cc
-number-other names (pos (suc at)) e = checked-other (nat_lt at (length names)) (KeyTerm.result at) e
-number-other names (negsuc n) e = absurd cc
+number-other : (width : ℕ) (z : ℤ) → IsOther (numbered width z)
+number-other width (pos zero) e = absurd cc
+number-other width (pos (suc at)) e = checked-other (nat_lt at width) (KeyTerm.result at) e
+number-other width (negsuc n) e = absurd cc
+
+name-other : (names : List Name) (t : ExprTree) → IsOther (named_or names no_row t)
+name-other names (ExprTree.Column None name) e = one-other (named_at name 0 names) e
+name-other names t e = absurd cc
 
 term-other : (names : List Name) (t : ExprTree) → IsOther (key_term names no_row t)
-term-other names ExprTree.Null e = absurd cc
-term-other names (ExprTree.Number z) e = number-other names z e
-term-other names (ExprTree.Text s) e = absurd cc
-term-other names (ExprTree.Blob s) e = absurd cc
-term-other names (ExprTree.Column None name) e = one-other (named_at name 0 names) e
-term-other names (ExprTree.Column (Some table) name) e = absurd cc
-term-other names (ExprTree.Prefix op x) e = absurd cc
-term-other names (ExprTree.Binary op x y) e = absurd cc
-term-other names (ExprTree.Postfix op x) e = absurd cc
-term-other names (ExprTree.Between n x low high) e = absurd cc
-term-other names (ExprTree.In n x items) e = absurd cc
-term-other names (ExprTree.InQuery n x q) e = absurd cc
-term-other names (ExprTree.Exists q) e = absurd cc
-term-other names (ExprTree.CountRows behind) e = absurd cc
-term-other names (ExprTree.Call f items behind) e = absurd cc
-term-other names (ExprTree.Case x arms y) e = absurd cc
+term-other names t = by (number_alone t)
+  where
+    by : (number : Option ℤ) → IsOther (numbered_or (length names) number (named_or names no_row t))
+    by (Some z) = number-other (length names) z
+    by None = name-other names t
 
 keys-other : (names : List Name) (order : TermTrees) → IsOther (keys_of names no_row order)
 keys-other names TermTrees.No_term e = absurd cc
