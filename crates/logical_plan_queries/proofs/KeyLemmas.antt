@@ -41,7 +41,7 @@ placed_more read order shown wide now places key place before way is =
       stand = AllZip-push (KeyStandsOver read) before.keys order over key before.stand (record { by = is.stands; direction = refl });
       wide_is =
           is.columns_are ∙ ap (λ terms. terms ++ key_terms is.by) before.wide_is
-          ∙ sym (flat_map_more (λ (k : query.Key). key_terms k.by) shown before.keys over);
+          ∙ flat_map_more (λ (k : query.Key). key_terms k.by) shown before.keys over;
       places_are =
           PlacesOf-more shown before.keys places (length wide) before.places_are over place way is.place (length now)
           (ap length is.columns_are ∙ length-append wide (key_terms is.by));

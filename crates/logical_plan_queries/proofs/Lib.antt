@@ -3,6 +3,7 @@ pub mod WideLemmas
 pub mod ServedLemmas
 pub mod ResultLemmas
 pub mod PlaceLemmas
+pub mod PlacedLemmas
 pub mod KeyLemmas
 pub mod OrderedLemmas
 pub mod JoinedLemmas

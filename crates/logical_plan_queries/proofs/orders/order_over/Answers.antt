@@ -10,7 +10,7 @@ use Rattle.logical_plan_queries.proofs.orders.order_over.Goals as goal
 
 pub loop-key-init : goal.loop-key-init
 loop-key-init c = record {
-  width = c.len-width.ensures;
+  width = c.len-width.ensures ∙ c.args.columns.now.ok.0;
   placed =
       subst (λ (keys : List ResultKey). ArePlacedOver c.args.read.now [] (map term c.args.columns.now.items) (map term c.args.columns.now.items) keys)
       (sym c.in_ok-keys.ensures.items) (none_placed c.args.read.now (map term c.args.columns.now.items));
@@ -47,7 +47,7 @@ overflow_sub-hidden c =
     let width = c.loop-key.invariant.width in
     let wide = length-map c.loop-key.columns.items term in
     let first = length-map c.args.columns.now.items term in
-    let count = c.len-count.ensures in
+    let count = c.len-count.ensures ∙ c.loop-key.columns.ok.0 in
     omega (arith, next, width, wide, first, count)
 
 pub returns-clause-placed : goal.returns-clause-placed
@@ -58,7 +58,7 @@ returns-clause-placed c =
     let long = length-map c.loop-key.columns.items term in
     let first = length-map c.args.columns.now.items term in
     let width = c.loop-key.invariant.width in
-    let count = c.len-count.ensures in
+    let count = c.len-count.ensures ∙ c.loop-key.columns.ok.0 in
     let few : length c.loop-key.columns.items < 2 ^ 63 = search rules in
     all_placed c.args.read.now (map key_of c.args.order.now) shown wide c.loop-key.keys.items _
     (subst (λ (keys : List Key). ArePlacedOver c.args.read.now (map key_of keys) shown wide c.loop-key.keys.items) all c.loop-key.invariant.placed)

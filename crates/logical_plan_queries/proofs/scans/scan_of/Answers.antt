@@ -6,8 +6,8 @@ use Rattle.expr.specs.declared.tree.Expr.{Expr}
 use Rattle.logical_plan_terms.specs.table_plans.Input.{from_of}
 use Rattle.logical_plan_queries.proofs.scans.scan_of.Goals as goal
 
-pub returns-in-Some-places : goal.returns-in-Some-places
-returns-in-Some-places c =
+pub returns : goal.returns
+returns c =
     let served = rw c.in-Some.is at c.in_ok-served.ensures in
     let least = c.in-len1.len_at_least in
     let most = c.in-len1.len_below in
