@@ -46,7 +46,7 @@ PROGRAMS = {
 # The scripts of compare/ that ask the built program.
 OURS = (
     *("worked", "conditions", "interrupted", "sessions", "catalogs", "searches"),
-    *("statements", "nested", "joins", "windows", "names"),
+    *("statements", "nested", "joins", "windows", "names", "plans"),
 )
 # The kit's command.
 RT = ["python3", "-B", str(TOP / "gate" / "command.py")]

@@ -6,6 +6,7 @@ use Rattle.pager.specs.Header.{IsHeaderFault, IsLeastBroken, KeepsAll, header_of
 use Rattle.pager.specs.PagerState.{IsPageNumber, PagerState}
 use Rattle.pager.specs.Source.{SourceFacts}
 use Rattle.btree.specs.image.Pages.{Pages, pages_of}
+use Rattle.access_plans.specs.Keyed.{Counted}
 use Rattle.schema_tables.specs.TableData.{TableData}
 use Rattle.schema_tables.specs.table_copies.Whole.{all_tables}
 use Rattle.logical_plan.specs.answers.Sources.{SourceData, sources_of}
@@ -14,11 +15,13 @@ use Rattle.integrity.specs.Denotes.{HasCatalog, HasTables}
 use Rattle.schema.specs.indexes.IndexData.{IndexData}
 use Rattle.values.specs.Row.{Row}
 
--- the pages that are read, the tables, and what the check counted of them and of the image's indexes
+-- the pages that are read, the tables and the indexes, what the check counted of them, and what a plan takes of that
 pub record EngineState : Type 0 where
   pub pager : PagerState
   pub tables : List TableData
+  pub indexes : List IndexData
   pub found : FoundData
+  pub counted : Counted
 
 -- what queries are run over: the tables, the schema's own behind them, and no kept rows
 abbrev pub sources_over : List TableData → List SourceData
@@ -71,3 +74,5 @@ pub record ReadsTables {T : Type 0} (result : Result T Fault) (old new : EngineS
   pub pages : ReadsPages result old.pager new.pager
   pub tables : new.tables ≡ old.tables
   pub found : new.found ≡ old.found
+  pub counted : new.counted ≡ old.counted
+  pub indexes : new.indexes ≡ old.indexes

@@ -6,12 +6,13 @@ ghost use Rattle.values.specs.Fault.{Counts};
 ghost use Rattle.values.specs.Row.{Row as RowData};
 ghost use Rattle.semantics.specs.Query.{QueryData};
 ghost use Rattle.operators_loops.specs.Basis.{IsOperatorFault};
-ghost use Rattle.shell.specs.Prepared.{IsPreparedFor, Means, RefusesText};
+ghost use Rattle.shell.specs.Prepared.{IsPreparedFor, IsShownFor, Means, RefusesText};
 ghost use Rattle.shell.specs.PreparedView.{prepared_data};
 ghost use Rattle.shell.specs.Run.{HasRun, HasStopped};
 ghost use Rattle.shell.specs.State.{IsOpenedOver, IsEngineFault, ReadsTables};
 ghost use Rattle.shell.specs.Stepped.{HasGivenSoFar, HasStarted, IsSteppedOver, IsUnstarted, StepsStatement, rows_ahead};
 
+use crate::explained::explained_query;
 use crate::{Prepared, Started, Statement};
 use integrity::{Checked, check};
 use pager::{Pager, Source};
@@ -33,13 +34,14 @@ pub struct Engine<S: Source> {
 }
 
 impl<S: Source> Model for Engine<S> {
+    ghost use Rattle.access_plans.specs.Keyed.{counted};
     ghost use Rattle.integrity.specs.Checked.{found_data};
     ghost use Rattle.integrity.specs.CheckedView.{checked_data};
     ghost use Rattle.shell.specs.State.{EngineState, IsReadyWith};
 
     ghost Value = { EngineState };
 
-    ghost view = { λ e. record { pager = e.pager.state; tables = (checked_data e.checked).tables; found = found_data (checked_data e.checked) } };
+    ghost view = { λ e. record { pager = e.pager.state; tables = (checked_data e.checked).tables; indexes = (checked_data e.checked).indexes; found = found_data (checked_data e.checked); counted = counted (checked_data e.checked) } };
 
     ghost invariant = { λ e. IsReadyWith e.pager.state (checked_data e.checked) e.tables.items };
 }
@@ -87,20 +89,18 @@ impl<S: Source> Engine<S> {
     /// # Errors
     ///
     /// `Syntax` where the text spells no statement, with the place of a byte where it stopped being one; `Limit`; the faults of
-    /// its names and its types, as `UnknownTable`, `Ambiguous` and `TypeMismatch`; `NotYet` for one with EXPLAIN, whose plan isn't told yet;
-    /// and `NoMemory`.
+    /// its names and its types, as `UnknownTable`, `Ambiguous` and `TypeMismatch`; and `NoMemory`.
     pub fn prepare(&self, text: &str) -> Result<Prepared, Fault>
         ensures { MatchResult result
-            (λ p. IsPreparedFor self.now.tables (prepared_data p) × Means self.now.tables text.now (prepared_data p))
+            (λ p. IsPreparedFor self.now.tables (prepared_data p) × Means self.now.tables text.now (prepared_data p)
+            × IsShownFor self.now.counted self.now.tables self.now.indexes text.now (prepared_data p))
             (RefusesText self.now.tables text.now) }
     {
         let statement = read_select(self.alloc, text)?;
         let named = resolve(self.alloc, self.checked.tables(), &statement)?;
-        if statement.explain {
-            return Err(Fault::NotYet);
-        }
+        let explained = explained_query(self.alloc, &self.checked, &statement, &named.query)?;
         let place = self.checked.tables().len();
-        let prepared = Prepared::new(self.alloc, named, place)?;
+        let prepared = Prepared::new(self.alloc, named, explained, place)?;
         Ok(prepared)
     }
 
@@ -144,7 +144,8 @@ impl<S: Source> Engine<S> {
         if spelt.explain {
             return Err(Fault::WrongPlace);
         }
-        let prepared = Prepared::new(self.alloc, named, tables.len())?;
+        let explained = explained_query(self.alloc, &self.checked, &spelt, &named.query)?;
+        let prepared = Prepared::new(self.alloc, named, explained, tables.len())?;
         let started = prepared.start(self.alloc)?;
         Ok(started)
     }

@@ -84,7 +84,8 @@ fn write_header<W: Sink>(prepared: &Prepared, header: bool, out: &mut W) -> Resu
     prepared.header(out)
 }
 
-/// Writes the line of the column names, where it is wanted, and then those of the rows.
+/// Writes the line of the column names, where it is wanted, and then those of the rows; of a statement with EXPLAIN QUERY PLAN
+/// the plan alone.
 fn write_lines<S: Source, W: Sink>(
     engine: &mut Engine<S>,
     prepared: &Prepared,
@@ -96,6 +97,9 @@ fn write_lines<S: Source, W: Sink>(
         (HasLines engine.old.pager.source.bytes engine.old.tables (prepared_data prepared.now) header (W.facts out.old) (W.facts out.new)) }
     ensures unfailed { OnOk result ((W.facts out.new).failures ≡ (W.facts out.old).failures) }
 {
+    if prepared.is_explained() {
+        return prepared.explain(out);
+    }
     write_header(prepared, header, out)?;
     engine.run(prepared, out)?;
     Ok(())
