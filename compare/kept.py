@@ -1,6 +1,7 @@
 #!/usr/bin/env python3
-"""The images that lie beside the programs for tests, written byte by byte: a shop with indexes, a table without rowids, and rows that
-are older than columns; an index of three pages.
+"""The images that lie beside the programs for tests, written byte by byte: tables that a text makes, once with few rows on a page and
+once with each tree on one page; a shop with indexes, a table without rowids, and rows that are older than columns; an index of three
+pages.
 
     kept.py     writes them again
 """
@@ -15,6 +16,10 @@ from shop import SHOP
 from writer import Writer, record
 
 CRATES = Path(__file__).resolve().parent.parent / "crates"
+# The tables of `agreement` as a text, and their images by name, each with the size of its pages, the bytes that lie unused before each
+# cell, and how many rows or entries a leaf has and how many children a page.
+TABLES = CRATES / "agreement" / "data" / "tables.sql"
+SHAPES = {"deep": (512, 3, 3, 4), "flat": (4096, 0, 1000, 1000)}
 
 # What the shop of `stepped_statements` has beside the shop's tables.
 MORE = """
@@ -52,9 +57,9 @@ def primary_key_of(connection: sqlite3.Connection, table: str) -> str | None:
     return found and found[0]
 
 
-def write_tables(writer: Writer, text: str) -> None:
-    """Writes the tables and indexes that a text makes, each tree on one page."""
-    connection, shape = sqlite3.connect(":memory:"), {"leaf": 1000, "fan": 1000}
+def write_tables(writer: Writer, text: str, leaf: int = 1000, fan: int = 1000) -> None:
+    """Writes the tables and indexes that a text makes, with at most `leaf` rows or entries on a leaf and `fan` children of a page."""
+    connection, shape = sqlite3.connect(":memory:"), {"leaf": leaf, "fan": fan}
     connection.executescript(text)
     objects = "SELECT type, name, tbl_name, sql FROM sqlite_schema ORDER BY rowid"
     for kind, name, table, sql in connection.execute(objects).fetchall():
@@ -66,6 +71,13 @@ def write_tables(writer: Writer, text: str) -> None:
         else:
             writer.table(name, sql, rows_of(connection, table), **shape)
     connection.close()
+
+
+def agreed(size: int, gap: int, leaf: int, fan: int) -> bytes:
+    """An image of the tables of `agreement`."""
+    writer = Writer(size, gap=gap)
+    write_tables(writer, TABLES.read_text(), leaf, fan)
+    return bytes(writer.image(leaf))
 
 
 def stepped() -> bytes:
@@ -89,6 +101,7 @@ def three_pages() -> bytes:
 def kept() -> dict[Path, bytes]:
     """The files that are written here, each with its bytes."""
     return {
+        **{TABLES.with_name(f"{name}.db"): agreed(*shape) for name, shape in SHAPES.items()},
         CRATES / "stepped_statements" / "data" / "shop.db": stepped(),
         CRATES / "table_rows" / "data" / "index.db": three_pages(),
     }

@@ -35,6 +35,7 @@ TOP = Path(__file__).resolve().parent.parent
 MADE = ("out", ".git", "__pycache__")
 # The programs that are run here and by the scripts of compare/, with the words of a run.
 PROGRAMS = {
+    "agreement": ["data/tables.sql", "data/deep.db", "data/flat.db"],
     "catalog_lines": [],
     "further_runs": ["data/rows.db", "data/chains.db"],
     "seleq": ["data/shop.db", "SELECT name FROM item"],
