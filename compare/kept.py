@@ -21,7 +21,7 @@ CRATES = Path(__file__).resolve().parent.parent / "crates"
 TABLES = CRATES / "agreement" / "data" / "tables.sql"
 SHAPES = {"deep": (512, 3, 3, 4), "flat": (4096, 0, 1000, 1000)}
 
-# What the shop of `stepped_statements` has beside the shop's tables.
+# What the shop of `engines` has beside the shop's tables.
 MORE = """
     CREATE INDEX item_up ON item(qty); CREATE INDEX item_down ON item(qty DESC);
     CREATE TABLE tag(item INT, label TEXT, w INT, PRIMARY KEY (label, item)) STRICT, WITHOUT ROWID;
@@ -81,7 +81,7 @@ def agreed(size: int, gap: int, leaf: int, fan: int) -> bytes:
 
 
 def stepped() -> bytes:
-    """The shop of `stepped_statements`."""
+    """The shop of `engines`."""
     writer = Writer(1024)
     write_tables(writer, SHOP + MORE)
     writer.table("old", OLD, [(rowid, record(row)) for rowid, row in enumerate(OLD_ROWS, 1)])
@@ -102,8 +102,8 @@ def kept() -> dict[Path, bytes]:
     """The files that are written here, each with its bytes."""
     return {
         **{TABLES.with_name(f"{name}.db"): agreed(*shape) for name, shape in SHAPES.items()},
-        CRATES / "stepped_statements" / "data" / "shop.db": stepped(),
-        CRATES / "table_rows" / "data" / "index.db": three_pages(),
+        CRATES / "engines" / "data" / "shop.db": stepped(),
+        CRATES / "images" / "data" / "index.db": three_pages(),
     }
 
 
