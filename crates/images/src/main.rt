@@ -5,6 +5,8 @@
 //! - `counts IMAGE`: what the check finds, a line `name rows pages levels` for each table, in the order of the
 //!   schema, and then one for each index, with its entries and, after its levels, how many different values its
 //!   first columns have, for each number of columns. The levels are those below the root.
+//! - `changed IMAGE`, and then for each piece its place, a blank and its bytes as hex digits: the line of the
+//!   fault that the check finds in the image with these bytes, or `sound`.
 //! - `rows IMAGE ROOT`: the rows of a table, each as its number and the values of its record.
 //! - `table IMAGE ROOT [PAGES]`: nothing; the searches that follow are of this table, for rows by their numbers.
 //! - `index IMAGE ROOT SIGNS [PAGES]`: the entries of an index, of which a sign for each column, `+` or `-`,
@@ -14,16 +16,18 @@
 //!
 //! The cache keeps PAGES pages, one if the word is left out.
 //!
-//! The modules: `counts` (what the check finds), `rows` (of a table), `keys` (what is sought) and `searches`
-//! (where a search ends).
+//! The modules: `counts` (what the check finds), `changed` (the same of images with other bytes), `rows` (of a
+//! table), `keys` (what is sought) and `searches` (where a search ends).
 #![tactic(auto)]
 
+mod changed;
 mod counts;
 mod keys;
 mod rows;
 mod searches;
 
 use anyhow::{Context, Result, bail};
+use changed::write_fault;
 use counts::write_counts;
 use keys::{directions, sought};
 use pager::{FileSource, Pager};
@@ -81,6 +85,7 @@ fn answer<O: Sink>(
             let mut pager = open(rt, rest, NonZeroUsize::MIN)?;
             write_counts(alloc, &mut pager, out)?;
         }
+        "changed" => write_fault(rt, rest, out)?,
         "rows" => {
             let mut table = tree_of(rt, rest, false)?;
             write_rows(alloc, &mut table.pager, table.root, out)?;
