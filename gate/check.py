@@ -43,7 +43,7 @@ OURS = (
 # The kit's command.
 RT = ["python3", "-B", str(TOP / "gate" / "command.py")]
 # How many minutes after its beginning the whole begins no further check of an edit of a turn, so that it ends on a slow machine too.
-MINUTES = 140
+MINUTES = 110
 COUNTS = re.compile(r"(\d+) passed, (\d+) failed")
 # How many lines of a part that failed are shown again at the end, and how much of each.
 LAST_LINES, MOST_OF_A_LINE = 12, 300

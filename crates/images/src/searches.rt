@@ -63,12 +63,12 @@ fn asked_since<S: Source>(pager: &Pager<S>, before: u64) -> Value {
 
 /// Writes a line for a search of the index with this root: the values of the entry at which it ends or that is found, and how many
 /// pages were asked for, those of chains apart.
-fn write_search<S: Source, O: Sink>(
+fn write_search<'k, S: Source, O: Sink>(
     alloc: Global,
     pager: &mut Pager<S>,
     root: u32,
-    descends: &[bool],
-    sought: &SearchKey,
+    descends: &'k [bool],
+    sought: &'k SearchKey,
     out: &mut O,
 ) -> Result<(), Fault> {
     let equal = sought.values.as_slice();
