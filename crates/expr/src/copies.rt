@@ -12,7 +12,7 @@ use crate::{Arm, Expr, ValueSet};
 use std::alloc::{AllocError, Global};
 use values::Value;
 
-/// What stands in a copy of an expression for the columns and the answers of inner queries that it names.
+/// What a copy of an expression has for the columns and the answers of inner queries that it names.
 #[derive(Clone, Copy)]
 pub enum Leaves<'a> {
     /// They themselves.
@@ -57,7 +57,7 @@ fn set_copy(alloc: Global, set: &ValueSet) -> Result<Box<ValueSet>, AllocError>
 }
 
 impl Leaves<'_> {
-    /// What stands for a column.
+    /// What is put for a column.
     fn column(self, at: usize) -> usize
         ensures { result ≡ column_in self.entry at }
     {

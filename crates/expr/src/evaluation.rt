@@ -201,7 +201,7 @@ impl<'a> Evaluator<'a> {
         Ok(from_condition(set.any_equal(&*self.operand(x)?)))
     }
 
-    // IN the values of an inner query, which are none until they stand in its place.
+    // IN the values of an inner query, which are none until they are in its place.
     #[cycle(eval)]
     fn unanswered(&self, x: &'a Expr) -> Result<Value, Stop>
         ensures { Computes result (both (λ v vs. Some (condition (any_equal v vs))) (value_on self.now.row.now x.now) (Some [])) }

@@ -30,7 +30,7 @@ fn type_of_values(values: &[Value]) -> Option<Ty>
     ty
 }
 
-/// The types of what an expression stands over.
+/// The types of what an expression is over.
 #[derive(Clone, Copy)]
 pub struct RowTypes<'a> {
     /// Of the columns of a row.
@@ -98,7 +98,7 @@ impl RowTypes<'_> {
         ty
     }
 
-    // The one type of what stands after WHEN.
+    // The one type of what is after WHEN.
     #[cycle(types)]
     fn type_of_whens(&self, rest: &[Arm]) -> Option<Ty>
         ensures { result ≡ spec.type_of_whens self.now.columns.now self.now.answers.now (arm_trees rest.now) }
@@ -110,7 +110,7 @@ impl RowTypes<'_> {
         ty
     }
 
-    // The one type of what stands after THEN.
+    // The one type of what is after THEN.
     #[cycle(types)]
     fn type_of_thens(&self, rest: &[Arm]) -> Option<Ty>
         ensures { result ≡ spec.type_of_thens self.now.columns.now self.now.answers.now (arm_trees rest.now) }

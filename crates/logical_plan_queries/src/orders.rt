@@ -67,7 +67,7 @@ pub(crate) fn in_order(keys: Vec<ResultKey>) -> Option<Order>
     Some(Order { keys, hidden: 0 })
 }
 
-/// The place of the values of a term of ORDER BY in rows of so many result columns. One that is no result column becomes the last of
+/// The place of the values of a term of ORDER BY in rows of `width` result columns. One that is no result column becomes the last of
 /// the columns. There is none where it names another column than those that are read, or the answer of an inner query.
 fn place_over(
     alloc: Global,

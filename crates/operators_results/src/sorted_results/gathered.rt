@@ -20,7 +20,7 @@ use std::alloc::{AllocError, Global};
 use values::{Fault, Value};
 use windows_order::rows_looked_at;
 
-/// Of the rows that a slice leaves, all values but so many at the end.
+/// Of the rows that a slice leaves, all values but the hidden ones at the end.
 fn shown_rows(
     alloc: Global,
     rows: Vec<Vec<Value>>,
