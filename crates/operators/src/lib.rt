@@ -6,17 +6,16 @@
 //! any source of bytes each call returns, decreases a measure and reports a failed read.
 //!
 //! The modules, in the order in which data passes them: `flagged` (the rows of the table of a RIGHT or FULL
-//! JOIN), `gathering` (groups, and how many of them were given), `windowing` (rows with the values of
-//! windows, and which of them are left), `tree` (a plan's sources, conditions, groups and windows) and
-//! `laws`.
+//! JOIN), `gathering` (groups, and how many of them were given), `gathered_rows` (rows that were gathered, and
+//! which of them are left), `tree` (a plan's sources, conditions, groups and windows) and `laws`.
 #![tactic(auto)]
 
 mod flagged;
+mod gathered_rows;
 mod gathering;
 pub mod laws;
 mod tree;
-mod windowing;
 
+pub use gathered_rows::GatheredRows;
 pub use gathering::Gathering;
 pub use tree::Op;
-pub use windowing::Windowing;

@@ -1,7 +1,5 @@
 -- Faults of operators, and the text of rows.
-use Rattle.std.proofs.Common.{◌≡◌, ◌≢◌, ◌∙◌, ◌≤◌, ◌-◌, ◌^◌, inl, inr, min, arith, ℕ, List, [], ◌∷◌, ◌++◌, length, map, refl, sym, ap, append-nil, append_assoc}
-use Rattle.std.specs.List.{flat_map}
-use Rattle.std.proofs.lemmas.List.{length-map}
+use Rattle.std.proofs.Common.{◌≡◌, ◌≢◌, ◌∙◌, ◌-◌, inl, inr, List, [], ◌∷◌, ◌++◌, refl, sym, ap, append-nil, append_assoc}
 use Rattle.values.specs.Row.{Row}
 use Rattle.values.specs.Sink.{SinkFacts}
 use Rattle.values.specs.declared.fault.Fault.{Fault}
@@ -37,11 +35,3 @@ rows_text-push given row = rows_text-append given (row ∷ []) ∙ ap (λ t. row
 -- nothing was written, at a fault that is no failed write
 pub nothing_printed : (e : Fault) (old : SinkFacts) → e ≢ WriteFailed → PrintsUntil e [] old old
 nothing_printed e old other = record { cut = λ is. absurd (other is); whole = λ _. Appends-none old.written }
-
-pub rows_text-map : {X : Type 0} (f : X → Row) (xs : List X) → rows_text (map f xs) ≡ flat_map (λ x. row_text (f x)) xs
-rows_text-map f [] = refl
-rows_text-map f (x ∷ xs) = ap (λ t. row_text (f x) ++ t) (rows_text-map f xs)
-
--- as many are counted as there are, since no count stops
-pub rows_counted : {X : Type 0} (f : X → Row) (xs : List X) (n : ℕ) → n ≡ length xs → n ≤ 2 ^ 64 - 1 → n ≡ min (length (map f xs)) (2 ^ 64 - 1)
-rows_counted f xs n is few = let long = length-map xs f in omega (arith, is, few, long)

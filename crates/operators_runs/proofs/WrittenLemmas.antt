@@ -1,5 +1,5 @@
--- Rows of a plan that is run, written one after another, or once all are computed.
-use Rattle.std.proofs.Common.{◌≡◌, ◌∙◌, ◌+◌, ◌-◌, ◌^◌, inl, inr, min, arith, true, ℕ, List, [], ◌∷◌, ◌++◌, length, Ok, Err, refl, sym, ap, append-nil, append_assoc, subst}
+-- Rows of a plan that is run, written one after another.
+use Rattle.std.proofs.Common.{◌≡◌, ◌∙◌, ◌+◌, ◌-◌, ◌^◌, inl, inr, min, arith, Bool, true, ℕ, List, [], ◌∷◌, ◌++◌, length, OnOk, Result, Ok, Err, refl, sym, ap, append_assoc, subst}
 use Rattle.std.proofs.lemmas.Grind.{common_steps}
 use Rattle.std.specs.Io.KnownBytes.{Appends}
 use Rattle.values.specs.Row.{Row}
@@ -8,7 +8,7 @@ use Rattle.values.specs.declared.fault.Fault.{Fault}
 use Rattle.values.specs.declared.fault.Fault.TheVariants.{WriteFailed}
 use Rattle.values.proofs.SinkLemmas.{Appends-none, Appends-then}
 use Rattle.pager.specs.PagerState.{PagerState}
-use Rattle.pager.specs.Calls.{IsReadFault, SameImage}
+use Rattle.pager.specs.Calls.{SameImage}
 use Rattle.pager.proofs.CallLemmas.{SameImage-trans}
 use Rattle.btree.specs.image.Pages.{Pages, WhereSteady, pages_seen}
 use Rattle.logical_plan.specs.answers.Sources.{SourceData}
@@ -20,14 +20,13 @@ use Rattle.logical_plan_queries.specs.Answers.{IsAnswerOf, PlannedData}
 use Rattle.explain.specs.Text.{row_text, rows_text}
 use Rattle.operators_runs.specs.Faults.{IsRunCause}
 use Rattle.operators_runs.specs.Runs.{BeginsAnswer, WritesAnswer, WritesBeginning}
-use Rattle.operators_runs.specs.execution.Given.{HasAhead, HasAsked, HasGiven, IsRowCause, IsRunOver, rows_left}
+use Rattle.operators_runs.specs.execution.Given.{HasAhead, HasAsked, HasGiven, IsRowCause, IsRunOver}
 use Rattle.operators_runs.specs.declared.execution.rows.Execution.{Execution}
 use Rattle.operators_runs.specs.declared.execution.rows.Execution.TheVariants.{Rows, Distinct, Chained, Waiting, Giving}
 use Rattle.operators_runs.proofs.lemmas.execution.GivenLemmas.{stored_with, with_plan}
 use Rattle.operators_runs.proofs.lemmas.inner_rows.AddingLemmas.{at_first}
 use Rattle.operators_runs.proofs.AnswerLemmas.{some_answer}
 use Rattle.operators_runs.proofs.PrintedLemmas.{not_operators, nothing_printed, rows_text-push}
-use Rattle.operators_runs.proofs.StreamLemmas.{not_write}
 
 -- what stops a plan stops its run
 run_cause : (on : Basis) (planned : PlannedData) (e : Fault) → IsRowCause on planned e → IsRunCause on planned e
@@ -35,7 +34,7 @@ run_cause on planned e (inl read) = inl (inl read)
 run_cause on planned e (inr over) = inr over
 
 -- the rows that were given are the front of an answer
-given_begin : (pages : Pages) (sources : List SourceData) (planned : PlannedData) (execution : Execution) (given : List Row)
+pub given_begin : (pages : Pages) (sources : List SourceData) (planned : PlannedData) (execution : Execution) (given : List Row)
     → HasGiven pages sources planned execution given → (on : Basis) → AreStored pages sources on → BeginsAnswer on.w on.db planned given
 given_begin pages sources planned (Rows results) given comes on has =
     let here = comes.rows (with_plan on (plan_of results.op)) (stored_with pages sources on (plan_of results.op) has) refl in (here.rest, here.answer)
@@ -44,16 +43,17 @@ given_begin pages sources planned (Distinct distinct) given comes on has =
 given_begin pages sources planned (Chained chained) given comes on has = let here = comes.rows on has in (here.rest, here.answer)
 given_begin pages sources planned (Waiting plan) given waits on has =
     let some = some_answer on.w on.db planned in (some.0, subst (λ (front : List Row). IsAnswerOf on.w on.db planned (front ++ some.0)) (sym waits.0) some.1)
-given_begin pages sources planned (Giving rows) given all on has = (rows_left rows, all on has)
+given_begin pages sources planned (Giving rows) given all on has = (rows, all on has)
 
--- a fault of reading before the first row
-pub none_written : (start : PagerState) (sources : List SourceData) (planned : PlannedData) (e : Fault) (old : SinkFacts) → IsReadFault e
-    → WritesBeginning (pages_seen start) sources planned old old e
-none_written start sources planned e old read = record {
+-- a fault before the first row
+pub none_written : (start : PagerState) (sources : List SourceData) (planned : PlannedData) (e : Fault) (old : SinkFacts) → IsOperatorFault e
+    → WhereSteady start (λ pages. (on : Basis) → AreStored pages sources on → IsRowCause on planned e)
+    → WhereSteady start (λ pages. WritesBeginning pages sources planned old old e)
+none_written start sources planned e old only causes = λ steady. record {
   given = [];
   begins = λ on has. some_answer on.w on.db planned;
-  prints = nothing_printed e old (not_write e read);
-  cause = λ on has. inl (inl read);
+  prints = nothing_printed e old (not_operators e only);
+  cause = λ on has. run_cause on planned e (causes steady on has);
 }
 
 -- ---- one after another
@@ -183,35 +183,10 @@ module _ (start now : PagerState) (sources : List SourceData) (first execution :
         call steady planned s.given (s.come steady planned begun) on has);
   }
 
--- ---- once all are computed
+-- ---- behind what was asked for before the first row
 
-module _ (start : PagerState) (sources : List SourceData) (planned : PlannedData) where
-  -- a fault before the first row
-  pub gathering_stopped : (e : Fault) (old : SinkFacts) → IsOperatorFault e
-      → WhereSteady start (λ pages. (on : Basis) → AreStored pages sources on → IsRowCause on planned e)
-      → WhereSteady start (λ pages. WritesBeginning pages sources planned old old e)
-  gathering_stopped e old only causes = λ steady. record {
-    given = [];
-    begins = λ on has. some_answer on.w on.db planned;
-    prints = nothing_printed e old (not_operators e only);
-    cause = λ on has. run_cause on planned e (causes steady on has);
-  }
-
-  module _ (rows : List Row) (answers : WhereSteady start (λ pages. (on : Basis) → AreStored pages sources on → IsAnswerOf on.w on.db planned rows)) where
-    pub gathered_written : (old new : SinkFacts) (n : ℕ) → Writes {T = Unit {0}} (rows_text rows) (Ok tt) old new → n ≡ min (length rows) (2 ^ 64 - 1)
-        → WhereSteady start (λ pages. WritesAnswer pages sources planned old new n)
-    gathered_written old new n wrote counted = λ steady. record {
-      given = rows;
-      answer = answers steady;
-      prints = record { written = wrote.written; counted_is = counted };
-    }
-
-    -- a failed write of them
-    pub gathered_cut : (e : Fault) (old new : SinkFacts) → e ≡ WriteFailed → Writes {T = Unit {0}} (rows_text rows) (Err e) old new
-        → WhereSteady start (λ pages. WritesBeginning pages sources planned old new e)
-    gathered_cut e old new is wrote = λ steady. record {
-      given = rows;
-      begins = λ on has. ([], subst (IsAnswerOf on.w on.db planned) (sym (append-nil rows)) (answers steady on has));
-      prints = record { cut = λ _. wrote.written; whole = λ other. absurd (other is) };
-      cause = λ on has. inl (inr is);
-    }
+-- what was asked for then and behind it is within what is ahead
+pub asked_behind : (local : Bool) (start mid now : PagerState) (most left : ℕ) (result : Result ℕ Fault) → Asks local start most mid left
+    → OnOk result (Asks local mid left now 0) → OnOk result (Asks local start most now 0)
+asked_behind local start mid now most left (Ok counted) first then = Asks-then local start most mid left now 0 first then
+asked_behind local start mid now most left (Err e) first then = tt

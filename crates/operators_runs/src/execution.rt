@@ -2,11 +2,9 @@
 //! plan answers, for any value substituted for an overflow, and are the whole of one once it gives no more;
 //! that all calls together ask for no more pages than the plan's work, whatever else reads pages in between.
 //!
-//! Its modules, in order: `columns` (columns of a table's rows, as rows of a SELECT), `gathered` (rows that are
-//! all gathered before the first is given) and `rows` (a plan that is run).
+//! Its modules, in order: `columns` (columns of a table's rows, as rows of a SELECT) and `rows` (a plan that is
+//! run).
 mod columns;
-mod gathered;
 mod rows;
 
 pub use rows::Execution;
-pub(crate) use rows::streamed;

@@ -9,8 +9,8 @@
 //! The modules, in the order in which data passes them: `execution` (plans that are run and stopped at each
 //! row), `inner_rows` (the rows of the queries in a query, computed innermost first), `columns` (columns of a
 //! table's rows, written), `kept` (those of materialized rows), `written` (the rows of any other plan, written
-//! as its execution gives them), `planned` (what a plan answers), and `nested_runs` (queries with queries in
-//! them that are run whole, or stepped a row at a time).
+//! as its execution gives them), `planned` (what a plan answers), and `nested_runs` (queries, with a plan or with
+//! queries in them, that are run whole, or stepped a row at a time).
 #![tactic(auto)]
 
 mod columns;
@@ -22,5 +22,4 @@ mod planned;
 mod written;
 
 pub use execution::Execution;
-pub use nested_runs::{NestedRun, write_nested};
-pub use planned::write_answer;
+pub use nested_runs::{QueryRun, write_query};

@@ -1,5 +1,5 @@
 -- Columns of kept rows, and the rows behind a place.
-use Rattle.std.proofs.Common.{◌≡◌, ◌∙◌, ◌<◌, ◌+◌, ℕ, zero, suc, List, [], ◌∷◌, ◌++◌, add-one, append_assoc, drop, get_or, length, map, slice_get, take, None, Some, Vec, Global, sym, ap, refl}
+use Rattle.std.proofs.Common.{◌≡◌, ◌∙◌, ◌<◌, ◌+◌, ℕ, zero, suc, List, [], ◌∷◌, ◌++◌, add-one, append_assoc, drop, get_or, length, map, slice_get, take, Some, Vec, Global, sym, ap}
 use Rattle.std.proofs.lemmas.List.{map_push, take_more}
 use Rattle.std.proofs.lemmas.Option.{same_Some}
 use Rattle.values.specs.Datum.{Datum, datum_of}
@@ -29,10 +29,3 @@ after_row (here ∷ rows) (suc at) row found = after_row rows at row found
 pub row_at : (rows : List (Vec Value Global)) (at : ℕ) (row : Vec Value Global) → slice_get rows at ≡ Some row
     → drop at (rows_data rows) ≡ map datum_of row.items ∷ drop (at + 1) (rows_data rows)
 row_at rows at row found = rw add-one (after_row rows at row found)
-
--- there is none
-pub none_behind : (rows : List (Vec Value Global)) (at : ℕ) → slice_get rows at ≡ None → drop at (rows_data rows) ≡ []
-none_behind [] zero none = refl
-none_behind [] (suc at) none = refl
-none_behind (here ∷ rows) zero none = absurd cc
-none_behind (here ∷ rows) (suc at) none = none_behind rows at none

@@ -1,15 +1,20 @@
 -- What is given of a table or of kept rows, is given of what stands at a place.
-use Rattle.std.proofs.Common.{◌≡◌, ◌∙◌, Bool, true, false, ℕ, List, drop, sym, subst}
+use Rattle.std.proofs.Common.{◌≡◌, ◌∙◌, inl, inr, Bool, ℕ, List, MatchResult, Result, Ok, Err, drop, sym, subst}
 use Rattle.values.specs.Row.{Row}
+use Rattle.values.specs.declared.fault.Fault.{Fault}
 use Rattle.pager.specs.PagerState.{PagerState}
 use Rattle.btree.specs.image.Pages.{Pages}
 use Rattle.btree_cursor.specs.declared.cursor.cursor.Cursor.{Cursor}
 use Rattle.schema_tables.specs.TableData.{TableData}
-use Rattle.operators_scan.specs.scan.Coming.{Asks, GivesRow, IsToCome, size_of}
+use Rattle.operators_scan.specs.scan.Coming.{Asks, IsToCome, size_of}
 use Rattle.operators_scan.proofs.lemmas.scan.ComingLemmas.{Asks-none}
+use Rattle.expr.specs.Term.{Term}
 use Rattle.logical_plan.specs.answers.Sources.{SourceData, of_table}
 use Rattle.operators_scan.specs.Coming.{AreToCome, IsStoredWith}
 use Rattle.operators_scan.specs.declared.rows.SourceCursor.TheVariants.{Stored}
+use Rattle.operators_scan.specs.declared.tested_rows.stored.Taken.{Taken}
+use Rattle.operators_scan.specs.declared.tested_rows.stored.Taken.TheVariants.{End, Passed, Found}
+use Rattle.operators_scan.specs.tested_rows.Tested.{GivesTested, IsTakeCause}
 
 -- a table is opened
 pub table_opened : (pages : Pages) (source : SourceData) (table : TableData) → source ≡ of_table table → (local : Bool) (rows : List Row) (size : ℕ)
@@ -23,10 +28,24 @@ table_opened pages source table is local rows size has cursor old new given = (
   subst (λ (n : ℕ). Asks local old n new given.0) has.size_is given.2,
 )
 
-module _ (pages : Pages) (kept : List Row) (local : Bool) (columns : List ℕ) (old new : ℕ) (rows : List Row) (ahead : ℕ) (state : PagerState) (before after : Row)
-    (is : rows ≡ drop old kept) where
-  -- a kept row is given, or there is none: no page is asked for
-  pub kept_given : (found : Bool) → GivesRow found columns (drop old kept) before after (λ later. later ≡ drop new kept)
-      → GivesRow found columns rows before after (λ later. (left : ℕ) × (later ≡ drop new kept) × Asks local state ahead state left)
-  kept_given true gives = (gives.0, gives.1, is ∙ gives.2, gives.3, (ahead, gives.4, Asks-none local state ahead))
-  kept_given false gives = (is ∙ gives.0, gives.1, (ahead, gives.2, Asks-none local state ahead))
+module _ (kept : List Row) (local : Bool) (tests : List Term) (columns : List ℕ) (old new : ℕ) (rows : List Row) (ahead : ℕ) (state : PagerState)
+    (before after : Row) (is : rows ≡ drop old kept) where
+  -- a kept row is taken, or there is none: no page is asked for
+  kept_taken : (taken : Taken) → GivesTested taken tests columns (drop old kept) before after (λ later. later ≡ drop new kept)
+      → GivesTested taken tests columns rows before after (λ later. (left : ℕ) × (later ≡ drop new kept) × Asks local state ahead state left)
+  kept_taken Found gives = (gives.0, gives.1, is ∙ gives.2, gives.3, gives.4, (ahead, gives.5, Asks-none local state ahead))
+  kept_taken Passed gives = (gives.0, gives.1, is ∙ gives.2, gives.3, (ahead, gives.4, Asks-none local state ahead))
+  kept_taken End gives = (is ∙ gives.0, gives.1, (ahead, gives.2, Asks-none local state ahead))
+
+  kept_cause : (e : Fault) → IsTakeCause tests columns (drop old kept) before e → IsTakeCause tests columns rows before e
+  kept_cause e (inl read) = inl read
+  kept_cause e (inr out) = inr (out.0, (out.1.0, out.1.1, is ∙ out.1.2, out.1.3))
+
+  pub kept_tested : (result : Result Taken Fault)
+      → MatchResult result (λ taken. GivesTested taken tests columns (drop old kept) before after (λ later. later ≡ drop new kept))
+      (IsTakeCause tests columns (drop old kept) before)
+      → MatchResult result
+      (λ taken. GivesTested taken tests columns rows before after (λ later. (left : ℕ) × (later ≡ drop new kept) × Asks local state ahead state left))
+      (IsTakeCause tests columns rows before)
+  kept_tested (Ok taken) gives = kept_taken taken gives
+  kept_tested (Err e) cause = kept_cause e cause

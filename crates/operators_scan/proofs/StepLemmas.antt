@@ -23,12 +23,6 @@ module _ (sources : List SourceData) (at : ℕ) (source : SourceData) (found : s
   pub source_found : source_at sources at ≡ source
   source_found = get_or_from_slice_get sources at source (of_rows []) found
 
-  -- a cursor at the first row has fewer steps than there are at most
-  pub few_at : (cursor : SourceCursor) → source_steps source cursor < steps_of source → steps_at sources at (Some cursor) < most_steps sources
-  few_at cursor few =
-      let most = opened_are_few sources at source found in
-      subst (λ (s : SourceData). source_steps s cursor < most_steps sources) (sym source_found) (omega (arith, few, most))
-
   -- what falls of the source falls at its place
   pub falls_at : (old new : SourceCursor) → source_steps source new < source_steps source old
       → steps_at sources at (Some new) < steps_at sources at (Some old)

@@ -10,4 +10,4 @@ mod rows;
 
 pub use buffer::{front_of, put_value};
 pub use cells::{payload_of, put_columns};
-pub use rows::{cell_at, first_row, next_row, take_row};
+pub use rows::{cell_at, first_row, next_row};

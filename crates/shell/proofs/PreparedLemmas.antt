@@ -29,7 +29,7 @@ planned_for tables query planned typed plan over = record {
 
 runs_for : (tables : List TableData) (query : QueryData) (planned : Option PlannedData) → IsTyped (column_types tables) query
     → IsPlannedAs (with_schema_over tables query) planned → RunsFor tables query planned
-runs_for tables query None typed is = tt
+runs_for tables query None typed is = is
 runs_for tables query (Some planned) typed is = planned_for tables query planned typed is.0 is.1
 
 -- what is run is for the query

@@ -1,11 +1,12 @@
 -- What preparing a text answers, over the tables of an engine. (SELECT; EXPLAIN QUERY PLAN)
-use Rattle.std.specs.Prelude.{◌≡◌, ◌⊎◌, ⊤, true, false, ℕ, List, length, Option, Some, None}
+use Rattle.std.specs.Prelude.{◌≡◌, ◌⊎◌, true, false, ℕ, List, length, Option, Some, None}
 use Rattle.values.specs.declared.fault.Fault.{Fault}
 use Rattle.values.specs.declared.fault.Fault.TheVariants.{NotYet}
 use Rattle.semantics.specs.Query.{QueryData}
 use Rattle.semantics.specs.Typed.{IsTyped}
 use Rattle.semantics_names.specs.Statement.{Named}
 use Rattle.logical_plan_queries.specs.Answers.{IsPlanFor, IsPlannedAsTyped, IsPlannedOver, PlannedData}
+use Rattle.logical_plan_queries.specs.Served.{IsServed}
 use Rattle.resolver.specs.Resolved.{IsNoQueryOver, Resolves}
 use Rattle.semantics_rewrites.specs.schema_sources.Settled.{settled}
 use Rattle.schema_tables.specs.ColumnTypes.{column_types}
@@ -25,10 +26,10 @@ pub record IsPlannedFor (tables : List TableData) (query : QueryData) (planned :
   pub plan : IsPlanFor (with_schema_over tables query) planned
   pub over : IsPlannedOver (sources_over tables) planned
 
--- so is its plan, where it has one; a query without is run once the queries in it are computed
+-- so is its plan, where it has one; a query has none that isn't served before the queries in it are computed
 abbrev pub RunsFor : List TableData → QueryData → Option PlannedData → Type 0
 RunsFor tables query (Some planned) = IsPlannedFor tables query planned
-RunsFor tables query None = ⊤
+RunsFor tables query None = ¬ IsServed (with_schema_over tables query)
 
 -- The query is typed over the columns of these tables, and what is run is for it.
 pub record IsPreparedFor (tables : List TableData) (prepared : PreparedData) : Type 0 where
@@ -58,10 +59,10 @@ pub record IsUnresolved (tables : List TableData) (text : List ℕ) (fault : Fau
   pub within : IsAllowed text tree
   pub refused : IsNoQueryOver tables tree fault
 
--- a query has this plan, which is made as it is typed
+-- a query has this plan, which is made as it is typed, or it isn't served
 abbrev pub IsPlannedAs : QueryData → Option PlannedData → Type 0
 IsPlannedAs query (Some planned) = IsPlanFor query planned × IsPlannedAsTyped query planned
-IsPlannedAs query None = ⊤
+IsPlannedAs query None = ¬ IsServed query
 
 -- it spells a statement with EXPLAIN, which isn't served yet
 pub record IsUnserved (tables : List TableData) (text : List ℕ) (fault : Fault) : Type 0 where

@@ -1,11 +1,11 @@
 -- Statements that are stepped, a row at a time. (SELECT; EXPLAIN QUERY PLAN)
-use Rattle.std.specs.Prelude.{◌≡◌, ◌≤◌, ◌⊎◌, ⊤, true, false, IfOk, IsTrue, ℕ, List, [], ◌∷◌, ◌++◌, OnSome, Option, Some, None, Result, Ok, Err, map, string_bytes}
+use Rattle.std.specs.Prelude.{◌≡◌, ◌≤◌, ◌⊎◌, true, false, IfErr, IfOk, IsTrue, ℕ, List, [], ◌∷◌, ◌++◌, OnSome, Option, Some, None, Result, Ok, Err, map, string_bytes}
 use Rattle.values.specs.Datum.{Datum}
 use Rattle.values.specs.Row.{Row}
 use Rattle.values.specs.declared.fault.Fault.{Fault}
-use Rattle.values.specs.declared.fault.Fault.TheVariants.{Overflow, WrongPlace}
+use Rattle.values.specs.declared.fault.Fault.TheVariants.{Finished, Overflow, WrongPlace}
 use Rattle.pager.specs.Calls.{IsReadFault}
-use Rattle.btree.specs.image.Pages.{Pages, pages_of, pages_seen}
+use Rattle.btree.specs.image.Pages.{pages_of, pages_seen}
 use Rattle.operators_runs.specs.inner_rows.Over.{AreSaid}
 use Rattle.operators_runs.specs.inner_rows.Work.{body_work}
 use Rattle.semantics.specs.Answer.{Begins, IsStandIn}
@@ -13,28 +13,26 @@ use Rattle.semantics.specs.Hits.{Hits}
 use Rattle.semantics.specs.Query.{QueryData}
 use Rattle.semantics.specs.Typed.{IsTyped}
 use Rattle.semantics_names.specs.Statement.{Named}
-use Rattle.operators_runs.specs.nested_runs.Steps.{HasGivenOf}
-use Rattle.operators_runs.specs.nested_runs.Steps as nested
-use Rattle.operators_runs.specs.declared.nested_runs.steps.NestedRun.{NestedRun}
-use Rattle.operators_loops.specs.Basis.{Basis}
+use Rattle.operators_runs.specs.nested_runs.Steps.{EndsBy, HasGivenOf, IsAhead, IsQueryOver, NeedsNoPage, steps_ahead}
+use Rattle.operators_runs.specs.declared.nested_runs.steps.QueryRun.{QueryRun}
+use Rattle.operators_runs.specs.declared.nested_runs.steps.QueryRun.TheVariants.{Planned, Nested, Gathered, Ended}
+use Rattle.operators_loops.specs.Basis.{Basis, IsOperatorFault}
 use Rattle.logical_plan_queries.specs.Answers.{PlannedData}
-use Rattle.operators_runs.specs.execution.Given.{HasAhead, HasGiven, IsOpenedRun, IsRunOver, steps_left}
+use Rattle.operators_runs.specs.execution.Given.{IsOpenedRun}
 use Rattle.operators_runs.specs.declared.execution.rows.Execution.{Execution}
 use Rattle.operators_scan.specs.scan.Coming.{Asks}
-use Rattle.logical_plan.specs.answers.Sources.{SourceData, sources_of}
+use Rattle.resolver.specs.statement_names.NamedView.{query_data}
 use Rattle.sql_reader.specs.StatementTexts.{IsRefusedStatement}
 use Rattle.sql_reader_syntax.specs.Tree.{Name}
 use Rattle.schema_tables.specs.table_copies.Whole.{all_tables}
 use Rattle.schema_tables.specs.ColumnTypes.{column_types}
 use Rattle.schema_tables.specs.TableData.{TableData}
 use Rattle.shell.specs.Answer.{IsAnswerOver, OverTables}
-use Rattle.shell.specs.Prepared.{IsPlannedFor, IsUnresolved, SpellsQuery, with_schema_over}
+use Rattle.shell.specs.Prepared.{IsUnresolved, SpellsQuery, with_schema_over}
 use Rattle.shell.specs.PreparedView.{PreparedData}
 use Rattle.shell.specs.State.{EngineState, sources_over}
 use Rattle.shell.specs.declared.stepped.Started.{Started}
 use Rattle.shell.specs.declared.stepped.Statement.{Statement}
-use Rattle.shell.specs.declared.stepped.Stepping.{Stepping}
-use Rattle.shell.specs.declared.stepped.Stepping.TheVariants.{Planned, Nested}
 
 -- whatever value stands for results out of range, an answer over the tables that the image denotes may begin with these rows
 abbrev pub IsBeginningOver : List ℕ → List TableData → QueryData → List Row → Type 0
@@ -67,53 +65,45 @@ pub record IsExplained (tables : List TableData) (text : List ℕ) (fault : Faul
 abbrev pub IsUnstarted : List TableData → List ℕ → Fault → Type 0
 IsUnstarted tables text fault = IsRefusedStatement text fault ⊎ (IsUnresolved tables text fault ⊎ IsExplained tables text fault)
 
--- what is stepped reads some of these sources
-abbrev pub IsSteppingOver : List SourceData → Stepping → Type 0
-IsSteppingOver sources (Planned running) = IsRunOver sources running
-IsSteppingOver sources (Nested run) = ⊤
-
--- how many steps it may still take, over any source of bytes
-abbrev pub steps_ahead : List SourceData → Stepping → ℕ
-steps_ahead sources (Planned running) = steps_left sources running
-steps_ahead sources (Nested run) = nested.rows_ahead run
-
 -- what a statement reads is some of these tables and, behind them, the schema's own
 abbrev pub IsSteppedOver : List TableData → Statement → Type 0
-IsSteppedOver tables statement = IsSteppingOver (sources_over tables) statement.stepping
+IsSteppedOver tables statement = IsQueryOver (sources_over tables) statement.run
 
 -- how many steps it may still take, over any source
 abbrev pub rows_ahead : List TableData → Statement → ℕ
-rows_ahead tables statement = steps_ahead (sources_over tables) statement.stepping
+rows_ahead tables statement = steps_ahead (sources_over tables) statement.run
 
--- the plan of a query has given these rows over a steady source
-pub record HasPlanGiven (engine : EngineState) (query : QueryData) (running : Execution) (given : List Row) : Type 0 where
-  pub planned : PlannedData
-  pub is : IsPlannedFor engine.tables query planned
-  pub gave : IsTrue engine.pager.source.steady → HasGiven (pages_seen engine.pager) (sources_over engine.tables) planned running given
+-- its last row was given, or it failed
+abbrev pub HasEnded : Statement → Type 0
+HasEnded statement = statement.run ≡ Ended
 
--- a query with queries in it has
-abbrev pub HasQueryGiven : EngineState → QueryData → NestedRun → List Row → Type 0
-HasQueryGiven engine query run given =
+-- LIMIT leaves no further row of it, all of its rows were gathered, or it has ended
+abbrev pub NeedsNoFurther : Statement → Type 0
+NeedsNoFurther statement = NeedsNoPage statement.run
+
+-- after the last row and after a fault a statement has ended
+abbrev pub EndsStatement : Result (Option Row) Fault → Statement → Type 0
+EndsStatement result statement = EndsBy result statement.run
+
+-- the faults of a step: those of an operator, and that of a statement that has ended
+abbrev pub IsStepFault : Statement → Fault → Type 0
+IsStepFault statement fault = IsOperatorFault fault ⊎ ((fault ≡ Finished) × HasEnded statement)
+
+-- what is run of a query over a steady source has given these rows
+abbrev pub HasRunGiven : EngineState → QueryData → QueryRun → List Row → Type 0
+HasRunGiven engine query run given =
     IsTrue engine.pager.source.steady → HasGivenOf (pages_seen engine.pager) (all_tables engine.tables) (with_schema_over engine.tables query) run given
 
-abbrev pub HasGivenBy : EngineState → QueryData → List Row → Stepping → Type 0
-HasGivenBy engine query given (Planned running) = HasPlanGiven engine query running given
-HasGivenBy engine query given (Nested run) = HasQueryGiven engine query run given
-
--- a statement of this query has given these rows: over a steady source what is run for it has given them
+-- a statement of this query that hasn't ended has given these rows: over a steady source what is run for it has given them
 pub record HasGivenSoFar (engine : EngineState) (query : QueryData) (statement : Statement) (given : List Row) : Type 0 where
   pub typed : IsTyped (column_types engine.tables) query
-  pub gave : HasGivenBy engine query given statement.stepping
-
--- so many pages are ahead of what is run of a query
-abbrev pub IsAhead : Pages → List TableData → Basis → QueryData → Stepping → ℕ → Type 0
-IsAhead pages tables on query (Planned running) ahead = HasAhead pages (sources_of tables []) on running ahead
-IsAhead pages tables on query (Nested run) ahead = ahead ≡ nested.work_ahead on query run
+  pub going : ¬ HasEnded statement
+  pub gave : HasRunGiven engine query statement.run given
 
 -- of tables of which this is said, a statement of a query may still ask for no more pages than these, whatever else asks for pages in between
 pub record MayAsk (image : List ℕ) (tables : List TableData) (on : Basis) (query : QueryData) (statement : Statement) (most : ℕ) : Type 0 where
   pub ahead : ℕ
-  pub is_ahead : IsAhead (pages_of image) (all_tables tables) on (with_schema_over tables query) statement.stepping ahead
+  pub is_ahead : IsAhead (pages_of image) (all_tables tables) on (with_schema_over tables query) statement.run ahead
   pub within : ahead ≤ most
 
 -- Of the pages that a statement may still ask for, a step asks for some, and the others are left for the steps behind it, whatever is said
@@ -130,19 +120,21 @@ pub record IsPlanOpened (planned : Option PlannedData) (running : Execution) : T
   pub plan_is : planned ≡ Some plan
   pub opened : IsOpenedRun plan running
 
--- it has none, and has given no row
-pub record IsQueryOpened (settled : QueryData) (planned : Option PlannedData) (run : NestedRun) : Type 0 where
+-- it has none, and none of the queries in it is computed
+pub record IsQueryOpened (settled : QueryData) (planned : Option PlannedData) (waits : QueryData) : Type 0 where
   pub unplanned : planned ≡ None
-  pub waits : (pages : Pages) (tables : List TableData) → HasGivenOf pages tables settled run []
+  pub waits_is : waits ≡ settled
 
-abbrev pub IsSteppingOf : QueryData → Option PlannedData → Stepping → Type 0
-IsSteppingOf settled planned (Planned running) = IsPlanOpened planned running
-IsSteppingOf settled planned (Nested run) = IsQueryOpened settled planned run
+abbrev pub IsRunOf : QueryData → Option PlannedData → QueryRun → Type 0
+IsRunOf settled planned (Planned running) = IsPlanOpened planned running
+IsRunOf settled planned (Nested waits) = IsQueryOpened settled planned (query_data waits)
+IsRunOf settled planned (Gathered left) = ⊥
+IsRunOf settled planned Ended = ⊥
 
 -- what is run of a query that was prepared was opened, with the names of its result columns
 pub record IsStartedFor (prepared : PreparedData) (started : Started) : Type 0 where
   pub names : map (λ name. string_bytes name) started.names.items ≡ prepared.names
-  pub opened : IsSteppingOf prepared.settled prepared.planned started.statement.stepping
+  pub opened : IsRunOf prepared.settled prepared.planned started.statement.run
 
 -- A statement before its first row, with the names of its result columns. It may ask for no more pages than the query's joins and those of
 -- each query in it may ask for, each query once.
@@ -165,7 +157,9 @@ HasSteppedStatement old new query given statement (Ok (Some row)) = HasGivenRow 
 HasSteppedStatement old new query given statement (Ok None) = IsTrue old.pager.source.steady → IsAnswerOver old.pager.source.bytes old.tables query given
 HasSteppedStatement old new query given statement (Err fault) = IsTrue old.pager.source.steady → IsStepCause old.pager.source.bytes old.tables query fault
 
--- a step of a statement that has given these rows: what comes of it, and that it stays within the pages that the statement may ask for
+-- a step of a statement that has given these rows: what comes of it, that it stays within the pages that the statement may ask for, and
+-- that a fault is an operator's
 pub record StepsStatement (old new : EngineState) (query : QueryData) (given : List Row) (was statement : Statement) (result : Result (Option Row) Fault) : Type 0 where
   pub rows : HasSteppedStatement old new query given statement result
   pub pages : StaysWithin old new query was statement result
+  pub only : IfErr result IsOperatorFault

@@ -1,16 +1,15 @@
 //! An engine, which answers queries over one image.
-ghost use Rattle.std.specs.Prelude.{◌<◌, IfErr, IfOk, List, MatchResult, OnSome};
+ghost use Rattle.std.specs.Prelude.{◌≡◌, ◌<◌, Err, IfErr, IfOk, List, MatchResult, OnSome};
 ghost use Rattle.std.specs.NonZero.{non_zero_usize_get};
 ghost use Rattle.pager.specs.Calls.{HandsBack};
 ghost use Rattle.values.specs.Fault.{Counts};
 ghost use Rattle.values.specs.Row.{Row as RowData};
 ghost use Rattle.semantics.specs.Query.{QueryData};
-ghost use Rattle.operators_loops.specs.Basis.{IsOperatorFault};
 ghost use Rattle.shell.specs.Prepared.{IsPreparedFor, Means, RefusesText};
 ghost use Rattle.shell.specs.PreparedView.{prepared_data};
 ghost use Rattle.shell.specs.Run.{HasRun, HasStopped};
 ghost use Rattle.shell.specs.State.{IsOpenedOver, IsEngineFault, ReadsTables};
-ghost use Rattle.shell.specs.Stepped.{HasGivenSoFar, HasStarted, IsSteppedOver, IsUnstarted, StepsStatement, rows_ahead};
+ghost use Rattle.shell.specs.Stepped.{EndsStatement, HasEnded, HasGivenSoFar, HasStarted, IsStepFault, IsSteppedOver, IsUnstarted, NeedsNoFurther, StepsStatement, rows_ahead};
 
 use crate::{Prepared, Started, Statement};
 use integrity::{Checked, check};
@@ -150,24 +149,28 @@ impl<S: Source> Engine<S> {
     }
 
     /// Gives the next row of a statement of this engine, or none where the rows that it gave are an answer; whatever was asked of
-    /// the engine in between; all calls together ask for no more pages than the statement may. It isn't called again behind the last
-    /// row or an error. (SELECT)
+    /// the engine in between; all calls together ask for no more pages than the statement may, and none after the last row that LIMIT
+    /// leaves. (SELECT)
     ///
     /// # Errors
     ///
-    /// `ReadFailed` where the source failed, `NoMemory`, `Overflow` where the query computes what leaves 64 bits, and `Changed`,
-    /// which comes only where the source no longer has the bytes that were checked.
+    /// `ReadFailed` where the source failed, `NoMemory`, `Overflow` where the query computes what leaves 64 bits, `Changed`, which
+    /// comes only where the source no longer has the bytes that were checked, and `Finished` at any call after the last row or an
+    /// error.
     pub fn next_row(&mut self, statement: &mut Statement) -> Result<Option<Row>, Fault>
         requires { IsSteppedOver self.old.tables statement.old }
         ensures step { (query : QueryData) (given : List RowData) → HasGivenSoFar self.old query statement.old given
             → StepsStatement self.old self.new query given statement.old statement.new result }
         ensures over { IsSteppedOver self.new.tables statement.new }
         ensures left { IfOk result (λ found. OnSome found (rows_ahead self.new.tables statement.new < rows_ahead self.old.tables statement.old)) }
-        ensures only { IfErr result IsOperatorFault }
+        ensures done { NeedsNoFurther statement.old → self.new.pager ≡ self.old.pager }
+        ensures ended { HasEnded statement.old → result ≡ Err Fault.Finished }
+        ensures ends { EndsStatement result statement.new }
+        ensures only { IfErr result (IsStepFault statement.old) }
         ensures reads { ReadsTables result self.old self.new }
     {
         statement
-            .stepping
+            .run
             .next(self.alloc, &mut self.pager, self.tables.as_slice())
     }
 }

@@ -1,5 +1,5 @@
 //! Queries whose names are resolved, and what is run for them.
-ghost use Rattle.std.specs.Prelude.{◌≡◌, [], All, IfErr, IfOk, MatchResult, None, OnOk, Some, map, option_map, string_bytes};
+ghost use Rattle.std.specs.Prelude.{◌≡◌, [], All, IfErr, IfOk, MatchResult, OnOk, Some, map, option_map, string_bytes};
 ghost use Rattle.values.specs.Datum.{text};
 ghost use Rattle.values.specs.Fault.{Counts};
 ghost use Rattle.values.specs.Sink.{Writes};
@@ -13,6 +13,7 @@ ghost use Rattle.logical_plan.specs.answers.Sources.{sources_of};
 ghost use Rattle.operators_runs.specs.inner_rows.Over.{AreSaid};
 ghost use Rattle.operators_runs.specs.inner_rows.Runnable.{IsRunnableBody};
 ghost use Rattle.operators_runs.specs.inner_rows.Work.{body_work};
+ghost use Rattle.operators_runs.specs.nested_runs.Writes.{HasPlanOver, WritesBeginning, WritesPermitted};
 ghost use Rattle.semantics.specs.Typed.{IsTyped};
 ghost use Rattle.operators_loops.specs.Basis.{AreStored, Basis};
 ghost use Rattle.logical_plan_queries.specs.Answers.{PlannedData, planned_data, work_of};
@@ -21,15 +22,12 @@ ghost use Rattle.semantics_rewrites.specs.schema_sources.Settled.{settled};
 ghost use Rattle.schema_tables.specs.ColumnTypes.{column_types};
 ghost use Rattle.shell.specs.Prepared.{IsPlannedAs};
 ghost use Rattle.shell.specs.PreparedView.{prepared_data};
-ghost use Rattle.shell.specs.Stepped.{IsStartedFor, IsSteppingOf};
-ghost use Rattle.shell.specs.Written.{HasBegun, HasWritten, IsRunOverSome};
+ghost use Rattle.shell.specs.Stepped.{IsRunOf, IsStartedFor};
 
-use crate::stepped::Stepping;
 use crate::{Started, Statement};
 use explain::rows_text;
 use logical_plan_queries::{Planned, plan};
-use operators_runs::{Execution, NestedRun, write_answer, write_nested};
-use operators_scan::Sources;
+use operators_runs::{Execution, QueryRun, write_query};
 use pager::{Pager, Source};
 use resolver::{NamedStatement, Query, with_schema_query};
 use schema_tables::Table;
@@ -90,19 +88,19 @@ impl Header {
 }
 
 /// What is run for a query that is stepped, before its first row.
-fn stepping_of(
+fn run_of(
     alloc: Global,
     settled: Query,
     planned: Option<Planned>,
-) -> Result<Stepping, AllocError>
-    ensures { IfOk result (IsSteppingOf (query_data settled) (option_map planned_data planned)) }
+) -> Result<QueryRun, AllocError>
+    ensures { IfOk result (IsRunOf (query_data settled) (option_map planned_data planned)) }
 {
     match planned {
         Some(planned) => {
             let running = Execution::open(alloc, planned)?;
-            Ok(Stepping::Planned(running))
+            Ok(QueryRun::Planned(running))
         }
-        None => Ok(Stepping::Nested(NestedRun::Waiting(settled))),
+        None => Ok(QueryRun::Nested(settled)),
     }
 }
 
@@ -154,10 +152,10 @@ impl Prepared {
             ..
         } = self;
         let Header { names, .. } = header;
-        let stepping = stepping_of(alloc, settled, planned)?;
+        let run = run_of(alloc, settled, planned)?;
         Ok(Started {
             names,
-            statement: Statement { stepping },
+            statement: Statement { run },
         })
     }
 
@@ -171,27 +169,22 @@ impl Prepared {
         out: &mut W,
     ) -> Result<u64, Fault>
         requires roots { All (IsRooted pager.old.state.header) (sources_of tables.now []) }
-        requires planned { IsRunOverSome (sources_of tables.now []) (prepared_data self.now).planned }
-        ensures rows { WhereSteady pager.old.state (λ pages. All (IsStoredSource pages) (sources_of tables.now []) → MatchResult result
-            (HasWritten pages tables.now (prepared_data self.now).settled (prepared_data self.now).planned (W.facts out.old) (W.facts out.new))
-            (HasBegun pages tables.now (prepared_data self.now).settled (prepared_data self.now).planned (W.facts out.old) (W.facts out.new))) }
+        requires planned { HasPlanOver tables.now (prepared_data self.now).settled (prepared_data self.now).planned }
+        ensures rows { WhereSteady pager.old.state (λ pages. IsTyped (column_types tables.now) (prepared_data self.now).settled
+            → IsRunnableBody (prepared_data self.now).settled.body → All (IsStoredSource pages) (sources_of tables.now []) → MatchResult result
+            (WritesPermitted pages tables.now (prepared_data self.now).settled (W.facts out.old) (W.facts out.new))
+            (WritesBeginning pages tables.now (prepared_data self.now).settled (W.facts out.old) (W.facts out.new))) }
         ensures pages { (planned : PlannedData) → (prepared_data self.now).planned ≡ Some planned → WhereSteady pager.old.state (λ pages.
             (on : Basis) → AreStored pages (sources_of tables.now []) on
             → OnOk result (Asks on.local pager.old.state (work_of on.w on.db on.sizes planned) pager.new.state 0)) }
-        ensures each_once { (prepared_data self.now).planned ≡ None → WhereSteady pager.old.state (λ pages. (on : Basis) → AreSaid pages tables.now on
+        ensures each_once { WhereSteady pager.old.state (λ pages. (on : Basis) → AreSaid pages tables.now on
             → IsTyped (column_types tables.now) (prepared_data self.now).settled → IsRunnableBody (prepared_data self.now).settled.body
             → OnOk result (Asks on.local pager.old.state (body_work on.w on.db on.sizes (prepared_data self.now).settled.body) pager.new.state 0)) }
         ensures only { IfErr result IsRunFault }
         ensures reads { ReadsPages result pager.old.state pager.new.state }
         ensures writes { Counts Fault.WriteFailed result (W.facts out.old).failures (W.facts out.new).failures }
     {
-        match &self.planned {
-            Some(planned) => {
-                let sources = Sources::new(tables, &[]);
-                write_answer(alloc, pager, &sources, planned, out)
-            }
-            None => write_nested(alloc, pager, tables, &self.settled, out),
-        }
+        write_query(alloc, pager, tables, &self.settled, &self.planned, out)
     }
 
     /// Writes the names of the result columns, as they were declared, as a line of texts. Its one fault is `WriteFailed`,

@@ -110,11 +110,12 @@ module _ (old new : EngineState) (statement then : Statement) where
 
   pub fault_asked : (fault : Fault) (at : SlotState)
       → ((query : QueryData) (given : List Row) → HasGivenSoFar old query statement given → StepsStatement old new query given statement then (Err fault))
-      → IsOperatorFault fault → SlotStandsAt old (Running statement) at → Replied (base_of old) asks at (answers.Fault fault) (SlotStandsAt new Ended)
-  fault_asked fault missing steps only stands = absurd stands
-  fault_asked fault closed steps only stands = absurd stands
-  fault_asked fault (running query given) steps only stands = record { next = ended; may = (only, (steps query given stands).rows, refl); stands = refl }
-  fault_asked fault ended steps only stands = absurd stands
+      → SlotStandsAt old (Running statement) at → Replied (base_of old) asks at (answers.Fault fault) (SlotStandsAt new Ended)
+  fault_asked fault missing steps stands = absurd stands
+  fault_asked fault closed steps stands = absurd stands
+  fault_asked fault (running query given) steps stands =
+      let step = steps query given stands in record { next = ended; may = (step.only, step.rows, refl); stands = refl }
+  fault_asked fault ended steps stands = absurd stands
 
 -- ---- all further rows
 

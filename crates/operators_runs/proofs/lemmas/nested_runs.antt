@@ -1,2 +1,3 @@
 pub mod NestedLemmas
+pub mod PlannedLemmas
 pub mod StepLemmas

@@ -1,12 +1,8 @@
 -- The rows that a plan which is run has given, and what is still to come. (SELECT)
-use Rattle.std.specs.Prelude.{◌≡◌, ◌⊎◌, ◌^◌, ⊤, Bool, true, false, ℕ, List, [], ◌∷◌, ◌++◌, map, None}
-use Rattle.std.specs.Global.{Global, Vec}
-use Rattle.std.specs.Vec.Iter.{into_iter_items, into_iter_len}
-use Rattle.std.specs.declared.vec.IntoIter.{IntoIter}
+use Rattle.std.specs.Prelude.{◌≡◌, ◌⊎◌, ◌^◌, ⊤, Bool, true, false, ℕ, List, [], ◌∷◌, ◌++◌, length, map, None, Some}
 use Rattle.values.specs.Database.{Database}
 use Rattle.values.specs.Datum.{Datum}
-use Rattle.values.specs.Row.{Row, rows_data}
-use Rattle.values.specs.declared.value.Value.{Value}
+use Rattle.values.specs.Row.{Row}
 use Rattle.values.specs.declared.fault.Fault.{Fault}
 use Rattle.values.specs.declared.fault.Fault.TheVariants.{Overflow}
 use Rattle.pager.specs.Calls.{IsReadFault}
@@ -37,15 +33,6 @@ use Rattle.operators_runs.specs.declared.execution.rows.Execution.TheVariants.{R
 abbrev pub IsRowCause : Basis → PlannedData → Fault → Type 0
 IsRowCause on planned fault = IsReadFault fault ⊎ ((fault ≡ Overflow) × HitsOf on.w on.db planned)
 
--- the next row is the first of these, or there is none
-abbrev pub GivesFirst : Bool → List Row → List Row → Row → Type 0
-GivesFirst true old new row = old ≡ row ∷ new
-GivesFirst false old new row = old ≡ []
-
--- the rows that were gathered and weren't given yet
-abbrev pub rows_left : IntoIter (Vec Value) Global → List Row
-rows_left rows = rows_data (into_iter_items rows)
-
 -- what is to come makes an answer of the rows that were given
 pub record Completes (on : Basis) (planned : PlannedData) (IsToCome : List Row → ℕ → Type 0) (given : List Row) : Type 0 where
   pub rest : List Row
@@ -75,7 +62,7 @@ HasGiven pages sources planned (Distinct distinct) given =
 HasGiven pages sources planned (Chained chained) given = ChainComes pages sources planned chained given
 HasGiven pages sources planned (Waiting answer) given = (given ≡ []) × (planned ≡ PlannedData.answer (answer_data answer))
 HasGiven pages sources planned (Giving rows) given =
-    (on : Basis) → AreStored pages sources on → IsAnswerOf on.w on.db planned (given ++ rows_left rows)
+    (on : Basis) → AreStored pages sources on → IsAnswerOf on.w on.db planned (given ++ rows)
 
 -- a row more was given, or those that were are an answer
 abbrev pub HasAnswered : Bool → Pages → List SourceData → PlannedData → Execution → List Row → Row → Type 0
@@ -105,6 +92,14 @@ abbrev pub HasAsked : Pages → List SourceData → Basis → PagerState → ℕ
 HasAsked pages sources on old ahead new running true = (left : ℕ) × HasAhead pages sources on running left × Asks on.local old ahead new left
 HasAsked pages sources on old ahead new running false = Asks on.local old ahead new 0
 
+-- LIMIT leaves no further row, or all rows were gathered: no further page is needed
+abbrev pub NeedsNone : Execution → Type 0
+NeedsNone (Rows results) = results.slice.left ≡ Some 0
+NeedsNone (Distinct distinct) = distinct.first.slice.left ≡ Some 0
+NeedsNone (Chained chained) = chained.slice.left ≡ Some 0
+NeedsNone (Waiting answer) = ⊥
+NeedsNone (Giving rows) = ⊤
+
 -- a plan was opened: no row was given, and the pages that it may ask for are ahead
 pub record IsOpenedRun (planned : PlannedData) (running : Execution) : Type 0 where
   pub given : (pages : Pages) (sources : List SourceData) → HasGiven pages sources planned running []
@@ -123,4 +118,4 @@ steps_left sources (Rows results) = steps sources results.op
 steps_left sources (Distinct distinct) = steps sources distinct.results.op
 steps_left sources (Chained chained) = turn_steps sources chained.arms
 steps_left sources (Waiting answer) = 2 ^ 64
-steps_left sources (Giving rows) = into_iter_len rows
+steps_left sources (Giving rows) = length rows

@@ -1,5 +1,5 @@
--- What the run of a query with queries in it writes over tables that are stored. (SELECT)
-use Rattle.std.specs.Prelude.{◌≡◌, ◌⊎◌, ℕ, List}
+-- What the run of a query writes over tables that are stored. (SELECT)
+use Rattle.std.specs.Prelude.{◌≡◌, ◌⊎◌, ⊤, ℕ, List, [], Option, None, Some}
 use Rattle.values.specs.Row.{Row}
 use Rattle.values.specs.Sink.{SinkFacts}
 use Rattle.values.specs.declared.fault.Fault.{Fault}
@@ -10,9 +10,16 @@ use Rattle.semantics.specs.Answer.{Begins, Permits}
 use Rattle.semantics.specs.Hits.{Hits}
 use Rattle.semantics.specs.Query.{QueryData}
 use Rattle.operators_loops.specs.Basis.{Basis}
+use Rattle.logical_plan.specs.answers.Sources.{sources_of}
+use Rattle.logical_plan_queries.specs.Answers.{IsPlanFor, IsPlannedOver, PlannedData}
 use Rattle.operators_runs.specs.Faults.{IsOutsideFault}
 use Rattle.operators_runs.specs.Printed.{Prints, PrintsUntil}
 use Rattle.schema_tables.specs.TableData.{TableData}
+
+-- a plan that a query has is one for it, over some of these tables
+abbrev pub HasPlanOver : List TableData → QueryData → Option PlannedData → Type 0
+HasPlanOver tables query (Some planned) = IsPlanFor query planned × IsPlannedOver (sources_of tables []) planned
+HasPlanOver tables query None = ⊤
 
 -- What was written is the text of one list of rows, which the query permits whatever stands for results out of range.
 pub record WritesPermitted (pages : Pages) (tables : List TableData) (query : QueryData) (old new : SinkFacts) (counted : ℕ) : Type 0 where

@@ -1,26 +1,25 @@
 //! A plan that is run.
-ghost use Rattle.std.specs.Prelude.{◌<◌, ℕ, All, IfOk, IfSome, IsTrue, List, MatchResult, map};
+ghost use Rattle.std.specs.Prelude.{◌≡◌, ◌<◌, ℕ, [], true, All, IfOk, IfSome, IsTrue, List, MatchResult, map};
 ghost use Rattle.values.specs.Datum.{datum_of};
 ghost use Rattle.values.specs.Row.{Row};
 ghost use Rattle.operators_scan.specs.Coming.{IsRooted};
 ghost use Rattle.btree.specs.image.Pages.{WhereSteady};
 ghost use Rattle.logical_plan.specs.answers.Answers.{answer_data};
-ghost use Rattle.logical_plan.specs.answers.Arms.{arm_data, arms_data, one};
+ghost use Rattle.logical_plan.specs.answers.Arms.{ArePlannedOver, arm_data, arms_data, one, work_of_arms};
 ghost use Rattle.operators_loops.specs.Basis.{AreStored, Basis, ReadsRows};
-ghost use Rattle.logical_plan_queries.specs.Answers.{PlannedData, planned_data};
-ghost use Rattle.operators_runs.specs.execution.Given.{HasAhead, HasAnswered, HasAsked, HasGiven, IsOpenedOf, IsOpenedRun, IsRowCause, IsRunOver, steps_left};
+ghost use Rattle.logical_plan_queries.specs.Answers.{IsPlannedOver, PlannedData, planned_data, work_of};
+ghost use Rattle.operators_runs.specs.execution.Given.{HasAhead, HasAnswered, HasAsked, HasGiven, IsOpenedOf, IsOpenedRun, IsRowCause, IsRunOver, NeedsNone, steps_left};
 
 use crate::execution::columns;
-use crate::execution::gathered::give;
 use logical_plan::{Answer, Arm, Arms};
 use logical_plan_queries::Planned;
+use operators::GatheredRows;
 use operators_results::{
     ChainedResults, DistinctResults, LimitOffset, Results, are_all, gathered_rows,
 };
 use operators_scan::Sources;
 use pager::{Pager, Source};
 use std::alloc::{AllocError, Global};
-use std::vec::IntoIter;
 use values::{Fault, Value};
 
 /// A plan that is run, and where it stands. (SELECT)
@@ -35,7 +34,7 @@ pub enum Execution {
     /// An answer whose rows are to be gathered.
     Waiting(Answer),
     /// Of the rows that were gathered those that are still to be given.
-    Giving(IntoIter<Vec<Value>>),
+    Giving(GatheredRows),
 }
 
 /// Columns of each row of a table, before the first.
@@ -92,7 +91,7 @@ fn arms_opened(
 }
 
 /// An answer whose rows come one by one, before the first; none where they are gathered. It reads no page.
-pub(crate) fn streamed(alloc: Global, answer: &Answer) -> Result<Option<Execution>, AllocError>
+fn streamed(alloc: Global, answer: &Answer) -> Result<Option<Execution>, AllocError>
     ensures { IfOk result (λ opened. IfSome opened (IsOpenedRun (PlannedData.answer (answer_data answer.now)))) }
 {
     match &answer.order {
@@ -102,6 +101,31 @@ pub(crate) fn streamed(alloc: Global, answer: &Answer) -> Result<Option<Executio
             arms_opened(alloc, &answer.arms, slice)
         }
     }
+}
+
+/// An answer before its first row, once rows that don't come one by one are gathered. Its faults are those of an operator.
+fn answer_begun<S: Source>(
+    alloc: Global,
+    pager: &mut Pager<S>,
+    sources: &Sources<'_>,
+    answer: &Answer,
+) -> Result<Execution, Fault>
+    requires roots { All (IsRooted pager.old.state.header) sources.now }
+    requires planned { ArePlannedOver sources.now (arms_data answer.now.arms) }
+    ensures rows { WhereSteady pager.old.state (λ pages. MatchResult result
+        (λ execution. HasGiven pages sources.now (PlannedData.answer (answer_data answer.now)) execution [])
+        (λ e. (on : Basis) → AreStored pages sources.now on → IsRowCause on (PlannedData.answer (answer_data answer.now)) e)) }
+    ensures pages { WhereSteady pager.old.state (λ pages. (on : Basis) → AreStored pages sources.now on
+        → IfOk result (λ execution. HasAsked pages sources.now on pager.old.state
+        (work_of_arms on.w on.db on.sizes (arms_data answer.now.arms)) pager.new.state execution true)) }
+    ensures over { IfOk result (IsRunOver sources.now) }
+    ensures reads { ReadsRows result pager.old.state pager.new.state }
+{
+    if let Some(execution) = streamed(alloc, answer)? {
+        return Ok(execution);
+    }
+    let gathered = gathered_rows(alloc, pager, sources, answer)?;
+    Ok(Execution::Giving(GatheredRows::new(gathered)))
 }
 
 /// An answer whose rows are to be gathered.
@@ -129,9 +153,38 @@ impl Execution {
         }
     }
 
-    /// Puts the next row into `row`, or tells that there is none; all calls together ask for no more pages than the work of the plan.
-    /// It isn't called again after `false` or a fault. Its faults are `ReadFailed`, `NoMemory`, `Overflow`, and `Changed`, which comes
-    /// only where the source no longer has the bytes that were checked.
+    /// A plan before its first row, once rows that don't come one by one are gathered; that asks for no more pages than the work of the
+    /// plan, and the calls of `next` for no more than it left. Its faults are `ReadFailed`, `NoMemory`, `Overflow`, and `Changed`, which
+    /// comes only where the source no longer has the bytes that were checked.
+    pub fn begin<S: Source>(
+        alloc: Global,
+        pager: &mut Pager<S>,
+        sources: &Sources<'_>,
+        planned: &Planned,
+    ) -> Result<Execution, Fault>
+        requires roots { All (IsRooted pager.old.state.header) sources.now }
+        requires planned { IsPlannedOver sources.now (planned_data planned.now) }
+        ensures rows { WhereSteady pager.old.state (λ pages. MatchResult result
+            (λ execution. HasGiven pages sources.now (planned_data planned.now) execution [])
+            (λ e. (on : Basis) → AreStored pages sources.now on → IsRowCause on (planned_data planned.now) e)) }
+        ensures pages { WhereSteady pager.old.state (λ pages. (on : Basis) → AreStored pages sources.now on
+            → IfOk result (λ execution. HasAsked pages sources.now on pager.old.state
+            (work_of on.w on.db on.sizes (planned_data planned.now)) pager.new.state execution true)) }
+        ensures over { IfOk result (IsRunOver sources.now) }
+        ensures reads { ReadsRows result pager.old.state pager.new.state }
+    {
+        match planned {
+            Planned::Columns(table, places) => {
+                let execution = columns_opened(alloc, *table, places.as_slice())?;
+                Ok(execution)
+            }
+            Planned::Answer(answer) => answer_begun(alloc, pager, sources, answer),
+        }
+    }
+
+    /// Puts the next row into `row`, or tells that there is none; all calls together ask for no more pages than the work of the plan,
+    /// and none after the last row that LIMIT leaves. It isn't called again after `false` or a fault. Its faults are `ReadFailed`,
+    /// `NoMemory`, `Overflow`, and `Changed`, which comes only where the source no longer has the bytes that were checked.
     pub fn next<S: Source>(
         &mut self,
         alloc: Global,
@@ -146,6 +199,7 @@ impl Execution {
             (λ e. (on : Basis) → AreStored pages sources.now on → IsRowCause on planned e)) }
         ensures pages { WhereSteady pager.old.state (λ pages. (on : Basis) (ahead : ℕ) → AreStored pages sources.now on
             → HasAhead pages sources.now on self.old ahead → IfOk result (HasAsked pages sources.now on pager.old.state ahead pager.new.state self.new)) }
+        ensures done { NeedsNone self.old → pager.new.state ≡ pager.old.state }
         ensures over { IsRunOver sources.now self.new }
         ensures left { IfOk result (λ found. IsTrue found → steps_left sources.now self.new < steps_left sources.now self.old) }
         ensures reads { ReadsRows result pager.old.state pager.new.state }
@@ -156,12 +210,12 @@ impl Execution {
             Execution::Chained(chained) => chained.next(alloc, pager, sources, row),
             Execution::Waiting(answer) => {
                 let rows = gathered_rows(alloc, pager, sources, answer)?;
-                let mut left = rows.into_iter();
-                let found = give(&mut left, row);
+                let mut left = GatheredRows::new(rows);
+                let found = left.next(row);
                 *self = Execution::Giving(left);
                 Ok(found)
             }
-            Execution::Giving(rows) => Ok(give(rows, row)),
+            Execution::Giving(rows) => Ok(rows.next(row)),
         }
     }
 }

@@ -1,78 +1,158 @@
-//! A query with subqueries that is stepped.
-ghost use Rattle.std.specs.Prelude.{◌<◌, [], All, IfOk, List, MatchResult, OnOk, OnSome};
-ghost use Rattle.std.specs.Vec.Iter.{into_iter_len};
+//! A query that is stepped, with a plan or with queries in it.
+ghost use Rattle.std.specs.Prelude.{◌≡◌, ◌<◌, [], ℕ, All, Err, IfOk, List, MatchResult, OnSome, length};
 ghost use Rattle.btree.specs.image.Pages.{WhereSteady};
 ghost use Rattle.operators_runs.specs.inner_rows.Over.{AreSaid, IsQueryCause};
 ghost use Rattle.operators_runs.specs.inner_rows.Runnable.{IsRunnableBody};
 ghost use Rattle.semantics.specs.Query.{QueryData};
 ghost use Rattle.semantics.specs.Typed.{IsTyped};
-ghost use Rattle.operators_runs.specs.nested_runs.Steps.{HasGivenOf, HasSteppedRows, TakesFirst, rows_ahead, work_ahead};
-ghost use Rattle.operators_loops.specs.Basis.{Basis, ReadsRows};
-ghost use Rattle.operators_runs.specs.execution.Given.{rows_left};
-ghost use Rattle.operators_scan.specs.scan.Coming.{Asks};
+ghost use Rattle.operators_runs.specs.nested_runs.Steps.{AsksStep, EndsBy, GoesOn, HasGivenOf, HasSteppedRows, IsAhead, IsQueryOver, NeedsNoPage, PlanAsks, PlanSteps, ReadsRowsOrEnded, TakesFirst, steps_ahead};
+ghost use Rattle.operators_loops.specs.Basis.{AreStored, Basis, ReadsRows};
+ghost use Rattle.operators_runs.specs.execution.Given.{HasAhead, HasGiven, IsRunOver, NeedsNone, steps_left};
 ghost use Rattle.operators_scan.specs.Coming.{IsRooted};
 ghost use Rattle.logical_plan.specs.answers.Sources.{sources_of};
+ghost use Rattle.logical_plan_queries.specs.Answers.{PlannedData};
 ghost use Rattle.schema_tables.specs.ColumnTypes.{column_types};
 ghost use Rattle.values.specs.Row.{Row as RowData};
 
+use crate::execution::Execution;
 use crate::nested_runs::gathered::answer_rows;
+use operators::GatheredRows;
+use operators_scan::Sources;
 use pager::{Pager, Source};
 use resolver::Query;
 use schema_tables::Table;
 use std::alloc::Global;
-use std::vec::IntoIter;
-use values::{Fault, Row, Value};
+use values::{Fault, Row};
 
-/// A query with queries in it, and where it stands: its rows are gathered before the first is given. (SELECT)
+/// A query that is run a row at a time, and where it is. (SELECT)
 #[derive(Drop)]
-pub enum NestedRun {
-    /// No row was given yet, and none is computed.
-    Waiting(Query),
-    /// The rows that are still to be given.
-    Giving(IntoIter<Vec<Value>>),
+pub enum QueryRun {
+    /// Its plan over the tables.
+    Planned(Execution),
+    /// A query with queries in it, of which none is computed.
+    Nested(Query),
+    /// The rows of such a query that are still to be given.
+    Gathered(GatheredRows),
+    /// Its last row was given, or it failed. Nothing of it is kept.
+    Ended,
+}
+
+/// The next row of a plan over tables, or none where those that it gave are an answer. Its faults are those of an operator.
+fn next_planned<S: Source>(
+    alloc: Global,
+    pager: &mut Pager<S>,
+    tables: &[Table],
+    running: &mut Execution,
+) -> Result<Option<Row>, Fault>
+    requires roots { All (IsRooted pager.old.state.header) (sources_of tables.now []) }
+    requires planned { IsRunOver (sources_of tables.now []) running.old }
+    ensures rows { WhereSteady pager.old.state (λ pages. (planned : PlannedData) (given : List RowData)
+        → HasGiven pages (sources_of tables.now []) planned running.old given
+        → PlanSteps pages (sources_of tables.now []) planned given running.new result) }
+    ensures pages { WhereSteady pager.old.state (λ pages. (on : Basis) (ahead : ℕ) → AreStored pages (sources_of tables.now []) on
+        → HasAhead pages (sources_of tables.now []) on running.old ahead
+        → PlanAsks pages (sources_of tables.now []) on pager.old.state ahead pager.new.state running.new result) }
+    ensures done { NeedsNone running.old → pager.new.state ≡ pager.old.state }
+    ensures over { IsRunOver (sources_of tables.now []) running.new }
+    ensures left { IfOk result (λ found. OnSome found (steps_left (sources_of tables.now []) running.new < steps_left (sources_of tables.now []) running.old)) }
+    ensures reads { ReadsRows result pager.old.state pager.new.state }
+{
+    let mut values = Vec::new(alloc);
+    let sources = Sources::new(tables, &[]);
+    let found = running.next(alloc, pager, &sources, &mut values)?;
+    if !found {
+        return Ok(None);
+    }
+    Ok(Some(Row::from(values)))
 }
 
 /// The first of the rows that are still to be given, or none.
-fn next_row(left: &mut IntoIter<Vec<Value>>) -> Option<Row>
-    ensures rows { TakesFirst result (rows_left left.old) (rows_left left.new) }
-    ensures left { OnSome result (into_iter_len left.new < into_iter_len left.old) }
+fn next_row(alloc: Global, left: &mut GatheredRows) -> Option<Row>
+    ensures rows { TakesFirst result left.old left.new }
+    ensures left { OnSome result (length left.new < length left.old) }
 {
-    match left.next() {
-        Some(values) => Some(Row::from(values)),
-        None => None,
+    let mut values = Vec::new(alloc);
+    if !left.next(&mut values) {
+        return None;
     }
+    Some(Row::from(values))
 }
 
-impl NestedRun {
-    /// The next row, or none where those that it gave are an answer. The first call computes each query once, and the others ask for no
-    /// page. It isn't called again behind the last row or a fault. Its faults are `ReadFailed`, `NoMemory`, `Overflow`, and `Changed`,
-    /// which comes only where the source no longer has the bytes that were checked.
-    pub fn next<S: Source>(
+impl QueryRun {
+    /// What `next` gives, which stays where it is after the last row or a fault.
+    fn step<S: Source>(
         &mut self,
         alloc: Global,
         pager: &mut Pager<S>,
         tables: &[Table],
     ) -> Result<Option<Row>, Fault>
-        requires { All (IsRooted pager.old.state.header) (sources_of tables.now []) }
+        requires roots { All (IsRooted pager.old.state.header) (sources_of tables.now []) }
+        requires over { IsQueryOver (sources_of tables.now []) self.old }
         ensures rows { WhereSteady pager.old.state (λ pages. (query : QueryData) (given : List RowData) → IsTyped (column_types tables.now) query
             → IsRunnableBody query.body → HasGivenOf pages tables.now query self.old given → MatchResult result
             (HasSteppedRows pages tables.now query self.new given)
             (λ e. (on : Basis) → AreSaid pages tables.now on → IsQueryCause on query e)) }
         ensures pages { WhereSteady pager.old.state (λ pages. (query : QueryData) (given : List RowData) → IsTyped (column_types tables.now) query
             → IsRunnableBody query.body → HasGivenOf pages tables.now query self.old given → (on : Basis) → AreSaid pages tables.now on
-            → OnOk result (Asks on.local pager.old.state (work_ahead on query self.old) pager.new.state (work_ahead on query self.new))) }
-        ensures left { IfOk result (λ found. OnSome found (rows_ahead self.new < rows_ahead self.old)) }
-        ensures reads { ReadsRows result pager.old.state pager.new.state }
+            → (ahead : ℕ) → IsAhead pages tables.now on query self.old ahead
+            → AsksStep pages tables.now on query pager.old.state ahead pager.new.state self.new result) }
+        ensures done { NeedsNoPage self.old → pager.new.state ≡ pager.old.state }
+        ensures over { IsQueryOver (sources_of tables.now []) self.new }
+        ensures left { IfOk result (λ found. OnSome found (steps_ahead (sources_of tables.now []) self.new < steps_ahead (sources_of tables.now []) self.old)) }
+        ensures going { GoesOn result self.new }
+        ensures ended { self.old ≡ QueryRun.Ended → result ≡ Err Fault.Finished }
+        ensures reads { ReadsRowsOrEnded self.old result pager.old.state pager.new.state }
     {
         match self {
-            NestedRun::Waiting(query) => {
+            QueryRun::Planned(running) => next_planned(alloc, pager, tables, running),
+            QueryRun::Nested(query) => {
                 let rows = answer_rows(alloc, pager, tables, query)?;
-                let mut left = rows.into_iter();
-                let first = next_row(&mut left);
-                *self = NestedRun::Giving(left);
+                let mut left = GatheredRows::new(rows);
+                let first = next_row(alloc, &mut left);
+                *self = QueryRun::Gathered(left);
                 Ok(first)
             }
-            NestedRun::Giving(left) => Ok(next_row(left)),
+            QueryRun::Gathered(left) => Ok(next_row(alloc, left)),
+            QueryRun::Ended => Err(Fault::Finished),
+        }
+    }
+
+    /// The next row, or none where those that it gave are an answer. Where there are queries in the query, the first call computes each
+    /// of them once, and the others ask for no page; nor does any after the last row that LIMIT leaves. Its faults are `ReadFailed`, `NoMemory`, `Overflow`, `Changed`, which comes only
+    /// where the source no longer has the bytes that were checked, and `Finished`, of any call after the last row or a fault.
+    pub fn next<S: Source>(
+        &mut self,
+        alloc: Global,
+        pager: &mut Pager<S>,
+        tables: &[Table],
+    ) -> Result<Option<Row>, Fault>
+        requires roots { All (IsRooted pager.old.state.header) (sources_of tables.now []) }
+        requires over { IsQueryOver (sources_of tables.now []) self.old }
+        ensures rows { WhereSteady pager.old.state (λ pages. (query : QueryData) (given : List RowData) → IsTyped (column_types tables.now) query
+            → IsRunnableBody query.body → HasGivenOf pages tables.now query self.old given → MatchResult result
+            (HasSteppedRows pages tables.now query self.new given)
+            (λ e. (on : Basis) → AreSaid pages tables.now on → IsQueryCause on query e)) }
+        ensures pages { WhereSteady pager.old.state (λ pages. (query : QueryData) (given : List RowData) → IsTyped (column_types tables.now) query
+            → IsRunnableBody query.body → HasGivenOf pages tables.now query self.old given → (on : Basis) → AreSaid pages tables.now on
+            → (ahead : ℕ) → IsAhead pages tables.now on query self.old ahead
+            → AsksStep pages tables.now on query pager.old.state ahead pager.new.state self.new result) }
+        ensures done { NeedsNoPage self.old → pager.new.state ≡ pager.old.state }
+        ensures over { IsQueryOver (sources_of tables.now []) self.new }
+        ensures left { IfOk result (λ found. OnSome found (steps_ahead (sources_of tables.now []) self.new < steps_ahead (sources_of tables.now []) self.old)) }
+        ensures ended { self.old ≡ QueryRun.Ended → result ≡ Err Fault.Finished }
+        ensures ends { EndsBy result self.new }
+        ensures reads { ReadsRowsOrEnded self.old result pager.old.state pager.new.state }
+    {
+        match self.step(alloc, pager, tables) {
+            Ok(Some(row)) => Ok(Some(row)),
+            Ok(None) => {
+                *self = QueryRun::Ended;
+                Ok(None)
+            }
+            Err(fault) => {
+                *self = QueryRun::Ended;
+                Err(fault)
+            }
         }
     }
 }

@@ -1,22 +1,20 @@
 //! The columns that are read of a cell, put after the front of a row.
-ghost use Rattle.std.specs.Prelude.{◌≡◌, ◌⊎◌, ◌<◌, ◌≤◌, ◌+◌, ◌++◌, ℕ, All, IfErr, IfOk, List, MatchResult, None, length, map, min, take};
+ghost use Rattle.std.specs.Prelude.{◌≡◌, ◌⊎◌, ◌<◌, ◌≤◌, ◌+◌, ◌++◌, ℕ, All, IfErr, IfOk, List, MatchResult, None, length, map, take};
 ghost use Rattle.std.specs.Cow.{cow_slice_items};
 ghost use Rattle.values.specs.Datum.{datum_of};
 ghost use Rattle.values.specs.Row.{Row, Grows};
 ghost use Rattle.pager.specs.Calls.{IsReadFault, ReadsChainPages};
 ghost use Rattle.btree.specs.image.Chain.{HasBytes};
 ghost use Rattle.btree.specs.image.Pages.{WhereSteady};
-ghost use Rattle.btree.specs.Views.{cell_data, payload_data};
+ghost use Rattle.btree.specs.Views.{payload_data};
 ghost use Rattle.semantics.specs.OneTable.{shown};
 ghost use Rattle.records_tables.specs.Reading.{IsReadingRow, table_read};
-ghost use Rattle.records_tables.specs.Tables.{IsAnyRecord, IsAnyRow};
 ghost use Rattle.operators_scan.specs.scan.Coming.{IsScanFault};
 
 use crate::scan::buffer::put_value;
 use btree::{Cell, payload};
 use pager::{Pager, Source};
 use records_tables::ValueReader;
-use schema_tables::Table;
 use std::alloc::Global;
 use std::borrow::CowSlice;
 use values::{Fault, Value};
@@ -68,62 +66,4 @@ pub fn put_columns(
         next += 1;
     }
     Ok(())
-}
-
-/// Puts the values of these columns of the row that the bytes of a payload are behind the first `before` values of `row`, over
-/// what stands there. Its faults are `NoMemory`, and `Changed` where they are none.
-fn put_values(
-    alloc: Global,
-    table: &Table,
-    rowid: Option<i64>,
-    payload: &[u8],
-    columns: &[usize],
-    before: usize,
-    row: &mut Vec<Value>,
-) -> Result<(), Fault>
-    requires { All (λ at. at < length table.now.columns) columns.now }
-    ensures shown { (whole : Row) → IsAnyRecord table.now rowid payload.now whole
-        → MatchResult result (λ _. map datum_of row.new.items ≡ take before (map datum_of row.old.items) ++ shown columns.now whole) (λ e. e ≡ Fault.NoMemory) }
-    ensures front { IfOk result (λ _. Grows (take before (map datum_of row.old.items)) (map datum_of row.new.items)) }
-    ensures long { IfOk result (λ _. length row.new.items ≡ min before (length row.old.items) + length columns.now) }
-    ensures only { IfErr result (λ e. (e ≡ Fault.NoMemory) ⊎ (e ≡ Fault.Changed)) }
-{
-    let Some(mut reader) = ValueReader::new(table, rowid, payload) else {
-        return Err(Fault::Changed);
-    };
-    let at = before.min(row.len());
-    put_columns(alloc, &mut reader, columns, at, row)?;
-    row.truncate(at + columns.len());
-    Ok(())
-}
-
-/// Puts these columns of the row that a cell is behind the first `before` values of `row`.
-pub(crate) fn put_cell<S: Source>(
-    alloc: Global,
-    pager: &mut Pager<S>,
-    table: &Table,
-    cell: &Cell<'_>,
-    columns: &[usize],
-    before: usize,
-    row: &mut Vec<Value>,
-) -> Result<(), Fault>
-    requires { All (λ at. at < length table.now.columns) columns.now }
-    ensures shown { WhereSteady pager.old.state (λ pages. (whole : Row) → IsAnyRow pages table.now (cell_data cell.now) whole
-        → MatchResult result (λ _. map datum_of row.new.items ≡ take before (map datum_of row.old.items) ++ shown columns.now whole) IsReadFault) }
-    ensures front { IfOk result (λ _. Grows (take before (map datum_of row.old.items)) (map datum_of row.new.items)) }
-    ensures long { IfOk result (λ _. length row.new.items ≡ min before (length row.old.items) + length columns.now) }
-    ensures only { IfErr result IsScanFault }
-    ensures reads { ReadsChainPages result pager.old.state pager.new.state }
-    ensures unread { cell.now.payload.overflow ≡ None → pager.new.state ≡ pager.old.state }
-{
-    let bytes = payload_of(alloc, pager, cell)?;
-    put_values(
-        alloc,
-        table,
-        cell.rowid,
-        bytes.as_slice(),
-        columns,
-        before,
-        row,
-    )
 }

@@ -1,10 +1,7 @@
 -- The pages that a plan which is run may still ask for.
 use Rattle.std.proofs.Common.{◌≡◌, Bool, true, false, ℕ, List, map, Result, Ok, Err, IfOk, MatchResult, refl, sym, subst, arith}
-use Rattle.std.specs.Global.{Global, Vec}
-use Rattle.std.specs.declared.vec.IntoIter.{IntoIter}
 use Rattle.values.specs.Row.{Row}
 use Rattle.values.specs.declared.fault.Fault.{Fault}
-use Rattle.values.specs.declared.value.Value.{Value}
 use Rattle.pager.specs.PagerState.{PagerState}
 use Rattle.btree.specs.image.Pages.{Pages, WhereSteady, pages_seen}
 use Rattle.logical_plan.specs.answers.Sources.{SourceData}
@@ -105,7 +102,7 @@ module _ (start now : PagerState) (sources : List SourceData) (row : Row) where
     chained_ask (Err e) says steady on ahead has coming = tt
 
 -- of rows that were gathered no page is asked for
-pub giving_ask : (start : PagerState) (sources : List SourceData) (row : Row) (old new : IntoIter (Vec Value) Global) (found : Bool)
+pub giving_ask : (start : PagerState) (sources : List SourceData) (row : Row) (old new : List Row) (found : Bool)
     → AsksStep start start sources row (Giving old) (Giving new) (Ok found)
 giving_ask start sources row old new true steady on ahead has none = (0, refl, subst (λ (n : ℕ). Asks on.local start n start 0) (sym none) (Asks-none on.local start 0))
 giving_ask start sources row old new false steady on ahead has none = subst (λ (n : ℕ). Asks on.local start n start 0) (sym none) (Asks-none on.local start 0)
@@ -113,7 +110,7 @@ giving_ask start sources row old new false steady on ahead has none = subst (λ 
 -- ---- rows that are gathered
 
 -- they are gathered, and the first of them is given
-pub waiting_ask : (start now : PagerState) (sources : List SourceData) (gathered : Answer) (row : Row) (new : IntoIter (Vec Value) Global) (found : Bool)
+pub waiting_ask : (start now : PagerState) (sources : List SourceData) (gathered : Answer) (row : Row) (new : List Row) (found : Bool)
     → WhereSteady start (λ pages. (on : Basis) → AreStored pages sources on → Asks on.local start (work_of_arms on.w on.db on.sizes (answer_data gathered).arms) now 0)
     → AsksStep start now sources row (Waiting gathered) (Giving new) (Ok found)
 waiting_ask start now sources gathered row new true asks steady on ahead has all =

@@ -1,8 +1,6 @@
 -- Rows that are given one by one.
-use Rattle.std.proofs.Common.{◌≡◌, ◌∙◌, inl, inr, Bool, true, false, ℕ, List, [], ◌∷◌, ◌++◌, length, IfOk, IfSome, map, None, Option, Some, Result, Ok, Err, MatchResult, refl, sym, ap, append-nil, append_assoc, length-append, subst, arith}
-use Rattle.std.specs.Global.{Global, Vec}
-use Rattle.std.specs.Vec.Iter.{into_iter_items}
-use Rattle.std.specs.declared.vec.IntoIter.{IntoIter}
+use Rattle.std.proofs.Common.{◌≡◌, ◌∙◌, inl, inr, Bool, true, false, ℕ, List, [], ◌∷◌, ◌++◌, IfOk, IfSome, map, None, Option, Some, Result, Ok, Err, MatchResult, refl, sym, ap, append-nil, append_assoc, subst}
+use Rattle.std.specs.Global.{Vec}
 use Rattle.values.specs.Database.{Database}
 use Rattle.values.specs.Datum.{Datum}
 use Rattle.values.specs.Row.{Row, rows_data}
@@ -16,7 +14,7 @@ use Rattle.expr.specs.View.{term}
 use Rattle.semantics.specs.Answer.{limited, skipped}
 use Rattle.logical_plan.specs.Plan.{PlanData, rows_of, work}
 use Rattle.operators_loops.specs.Basis.{AreStored, Basis, GivesRowOrNone, GivesNext, GivesNone}
-use Rattle.operators.specs.Left.{plan_of}
+use Rattle.operators.specs.Left.{GivesFirst, plan_of}
 use Rattle.operators_results.specs.Coming.{IsComing, IsResultCause}
 use Rattle.operators_results.specs.declared.stream.Results.{Results}
 use Rattle.operators_results.specs.Slices.{sliced}
@@ -33,7 +31,7 @@ use Rattle.operators_results.specs.compound_results.Compounds.{IsArmsCause}
 use Rattle.operators_results.specs.compound_results.InTurn.{IsChainComing, arms_of}
 use Rattle.operators_results.specs.declared.compound_results.chained.ChainedResults.{ChainedResults}
 use Rattle.operators_runs.specs.execution.Columns.{columns_arm}
-use Rattle.operators_runs.specs.execution.Given.{Comes, GivesFirst, HasAhead, HasAnswered, HasGiven, IsOpenedOf, IsOpenedRun, IsRowCause, rows_left}
+use Rattle.operators_runs.specs.execution.Given.{Comes, HasAhead, HasAnswered, HasGiven, IsOpenedOf, IsOpenedRun, IsRowCause}
 use Rattle.operators_runs.specs.declared.execution.rows.Execution.{Execution}
 use Rattle.operators_runs.specs.declared.execution.rows.Execution.TheVariants.{Rows, Distinct, Chained, Waiting, Giving}
 use Rattle.operators_runs.proofs.lemmas.execution.AskedLemmas.{columns_work, plan_ahead}
@@ -169,30 +167,30 @@ module _ (start now : PagerState) (sources : List SourceData) (row : Row) where
         cause on (inr reached) = inr (reached.0, comes.hits on.w on.db reached.1)
 
   -- of the rows that were gathered the next is given, or there is none
-  pub giving_answers : (pages : Pages) (planned : PlannedData) (given : List Row) (old new : IntoIter (Vec Value) Global) (found : Bool)
-      → GivesFirst found (rows_left old) (rows_left new) row
+  pub giving_answers : (pages : Pages) (planned : PlannedData) (given : List Row) (old new : List Row) (found : Bool)
+      → GivesFirst found old new row
       → HasGiven pages sources planned (Giving old) given → HasAnswered found pages sources planned (Giving new) given row
   giving_answers pages planned given old new true first all = λ on has.
       subst (IsAnswerOf on.w on.db planned)
-      (ap (λ (rest : List Row). given ++ rest) first ∙ sym (append_assoc given (row ∷ []) (rows_left new))) (all on has)
+      (ap (λ (rest : List Row). given ++ rest) first ∙ sym (append_assoc given (row ∷ []) new)) (all on has)
   giving_answers pages planned given old new false none all = λ on has.
       subst (IsAnswerOf on.w on.db planned) (ap (λ (rest : List Row). given ++ rest) none ∙ append-nil given) (all on has)
 
-  pub giving_step : (old new : IntoIter (Vec Value) Global) (found : Bool) → GivesFirst found (rows_left old) (rows_left new) row
+  pub giving_step : (old new : List Row) (found : Bool) → GivesFirst found old new row
       → Steps (Giving old) (Giving new) (Ok found)
   giving_step old new found first steady planned given all = giving_answers (pages_seen start) planned given old new found first all
 
   module _ (gathered : Answer) where
     -- the rows are gathered, and the first of them is given
-    pub waiting_step : (rows : Vec (Vec Value)) (old new : IntoIter (Vec Value) Global) (found : Bool) → into_iter_items old ≡ rows.items
+    pub waiting_step : (rows : Vec (Vec Value)) (old new : List Row) (found : Bool) → old ≡ rows_data rows.items
         → WhereSteady start (λ pages. (on : Basis) → AreStored pages sources on → IsAnswerOf on.w on.db (PlannedData.answer (answer_data gathered)) (rows_data rows.items))
-        → GivesFirst found (rows_left old) (rows_left new) row → Steps (Waiting gathered) (Giving new) (Ok found)
+        → GivesFirst found old new row → Steps (Waiting gathered) (Giving new) (Ok found)
     waiting_step rows old new found items answers first steady planned given waits =
         giving_answers (pages_seen start) planned given old new found first
         (λ on has.
-        subst (λ (p : PlannedData). IsAnswerOf on.w on.db p (given ++ rows_left old)) (sym waits.1)
+        subst (λ (p : PlannedData). IsAnswerOf on.w on.db p (given ++ old)) (sym waits.1)
         (subst (λ (all : List Row). IsAnswerOf on.w on.db (PlannedData.answer (answer_data gathered)) all)
-        (ap rows_data (sym items) ∙ ap (λ (before : List Row). before ++ rows_left old) (sym waits.0)) (answers steady on has)))
+        (sym items ∙ ap (λ (before : List Row). before ++ old) (sym waits.0)) (answers steady on has)))
 
     pub waiting_stops : (then : Execution) (e : Fault)
         → WhereSteady start (λ pages. (on : Basis) → AreStored pages sources on → IsRowCause on (PlannedData.answer (answer_data gathered)) e) → Steps (Waiting gathered) then (Err e)
@@ -336,18 +334,3 @@ columns_opened at places arm is results plans terms coming =
           (ap (λ (arm : ArmData). work on.w on.db on.sizes arm.plan) is ∙ columns_work on at places)
           (plan_ahead on arm.plan (plan_of results.op) (λ on. IsComing pages sources on results) all plans (coming pages sources));
     }
-
--- ---- what was given begins an answer
-
--- behind a row the rows are the front of an answer
-pub given_begins : (pages : Pages) (sources : List SourceData) (planned : PlannedData) (running : Execution) (given : List Row) (row : Row)
-    → HasGiven pages sources planned running (given ++ row ∷ []) → (on : Basis) → AreStored pages sources on
-    → (rest : List Row) × IsAnswerOf on.w on.db planned ((given ++ row ∷ []) ++ rest)
-given_begins pages sources planned (Rows results) given row comes on has =
-    let here = comes.rows (with_plan on (plan_of results.op)) (stored_with pages sources on (plan_of results.op) has) refl in (here.rest, here.answer)
-given_begins pages sources planned (Distinct distinct) given row comes on has =
-    let here = comes.rows (with_plan on (plan_of distinct.results.op)) (stored_with pages sources on (plan_of distinct.results.op) has) refl in (here.rest, here.answer)
-given_begins pages sources planned (Chained chained) given row comes on has = let here = comes.rows on has in (here.rest, here.answer)
-given_begins pages sources planned (Waiting gathered) given row waits on has =
-    absurd (let long = length-append given (row ∷ []) in let none = ap length waits.0 in omega (arith, long, none))
-given_begins pages sources planned (Giving rows) given row all on has = (rows_left rows, all on has)

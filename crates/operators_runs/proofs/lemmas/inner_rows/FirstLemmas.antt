@@ -7,7 +7,7 @@ use Rattle.btree.specs.image.Pages.{Pages}
 use Rattle.operators_loops.specs.Basis.{AreStored, Basis}
 use Rattle.operators.specs.Left.{plan_of}
 use Rattle.logical_plan_queries.specs.Answers.{IsAnswerOf, PlannedData}
-use Rattle.operators_runs.specs.execution.Given.{HasAsked, HasGiven, rows_left}
+use Rattle.operators_runs.specs.execution.Given.{HasAsked, HasGiven}
 use Rattle.operators_runs.proofs.lemmas.execution.GivenLemmas.{stored_with, with_plan}
 use Rattle.operators_runs.specs.declared.execution.rows.Execution.{Execution}
 use Rattle.operators_runs.specs.declared.execution.rows.Execution.TheVariants.{Rows, Distinct, Chained, Waiting, Giving}
@@ -34,7 +34,7 @@ module _ (pages : Pages) (sources : List SourceData) (on : Basis) (stored : AreS
       record { rest = done.rest; answer = done.answer; some = refl }
   row_begins (Chained chained) row given = let done = given.rows on stored in record { rest = done.rest; answer = done.answer; some = refl }
   row_begins (Waiting gathered) row given = absurd (let none = given.0 in cc)
-  row_begins (Giving rows) row given = record { rest = rows_left rows; answer = given on stored; some = refl }
+  row_begins (Giving rows) row given = record { rest = rows; answer = given on stored; some = refl }
 
   pub none_begins : IsAnswerOf on.w on.db planned [] → BeginsAnswer on planned []
   none_begins answer = record { rest = []; answer = answer; some = refl }

@@ -1,5 +1,5 @@
 -- The payload of a cell, and the columns of a row that are put behind others.
-use Rattle.std.proofs.Common.{◌≡◌, ◌∙◌, ◌⊎◌, inr, ◌+◌, ◌<◌, ℕ, zero, suc, List, [], ◌∷◌, ◌++◌, map, length, take, get_or, slice_get, Option, None, Some, IfOk, MatchResult, Result, Ok, Err, Global, refl, sym, ap, append_assoc, min, set}
+use Rattle.std.proofs.Common.{◌≡◌, ◌∙◌, ◌⊎◌, ◌+◌, ◌<◌, ℕ, zero, suc, List, [], ◌∷◌, ◌++◌, map, length, take, get_or, slice_get, Option, None, Some, IfOk, MatchResult, Result, Ok, Err, Global, refl, sym, ap, append_assoc, min, set}
 use Rattle.std.proofs.lemmas.List.{map_push, take_min, take_more, take_more_set}
 use Rattle.std.proofs.lemmas.Option.{get_or_from_slice_get}
 use Rattle.std.specs.Cow.{cow_slice_items}
@@ -8,9 +8,7 @@ use Rattle.std.specs.declared.borrow.CowSlice.{CowSlice}
 use Rattle.values.specs.Datum.{Datum, null, datum_of}
 use Rattle.values.specs.Row.{Row, Grows}
 use Rattle.values.specs.declared.value.Value.{Value}
-use Rattle.values.specs.declared.fault.Fault.{Fault}
 use Rattle.values.specs.declared.fault.Fault.TheVariants.{Changed, NoMemory, ReadFailed}
-use Rattle.pager.specs.Calls.{IsReadFault}
 use Rattle.btree.specs.image.Cell.{PayloadData}
 use Rattle.btree.specs.image.Chain.{HasBytes}
 use Rattle.btree.specs.image.Pages.{Pages}
@@ -69,8 +67,3 @@ pub payload_found : (pages : Pages) (payload : PayloadData) (bytes : List ℕ) �
     → IsBytesOf pages payload (option_map cow_slice_items found) → MatchResult (ok_or found Changed) (λ f. cow_slice_items f ≡ bytes) (λ e. (e ≡ ReadFailed) ⊎ (e ≡ NoMemory))
 payload_found pages payload bytes has (Some found) is = one_payload pages payload (cow_slice_items found) bytes is has
 payload_found pages payload bytes has None none = absurd (none bytes has)
-
--- want of memory is a fault of reading
-pub only_memory : {T : Type 0} (P : T → Type 0) (result : Result T Fault) → MatchResult result P (λ e. e ≡ NoMemory) → MatchResult result P IsReadFault
-only_memory P (Ok x) gives = gives
-only_memory P (Err e) is = inr is

@@ -6,9 +6,10 @@ use Rattle.shell_sessions.proofs.slot.rows_behind.Goals as goal
 pub returns-in_err-row-clause-rows : goal.returns-in_err-row-clause-rows
 returns-in_err-row-clause-rows g c = λ query given stands.
     let p = err_from_is_err_and c.from_residual.result c.from_residual.ensures.1 in
+    let step = c.in_err-row.ensures.step query (given ++ c.loop-rows.rows.items) (c.loop-rows.invariant.behind query given stands) in
     rw (p.1, p.2)
     (collecting_stops c.args.engine.now c.loop-rows.engine c.next_row.new.self query (given ++ c.loop-rows.rows.items) c.next_row.new.statement c.in_err-row.field-0.0
-    c.loop-rows.invariant.image c.in_err-row.ensures.only (c.in_err-row.ensures.step query (given ++ c.loop-rows.rows.items) (c.loop-rows.invariant.behind query given stands)).rows given)
+    c.loop-rows.invariant.image step.only step.rows given)
 
 pub returns-clause-rows : goal.returns-clause-rows
 returns-clause-rows g c = λ query given stands.

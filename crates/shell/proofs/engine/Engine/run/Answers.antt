@@ -6,8 +6,8 @@ use Rattle.operators_loops.proofs.BasisLemmas.{tables_are_rooted}
 use Rattle.operators_scan.specs.Coming.{IsRooted}
 use Rattle.logical_plan.specs.answers.Sources.{SourceData, sources_of}
 use Rattle.shell.specs.PreparedView.{prepared_data}
-use Rattle.shell.specs.Written.{IsRunOverSome}
-use Rattle.shell.proofs.RunLemmas.{has_run, has_stopped, over_some}
+use Rattle.operators_runs.specs.nested_runs.Writes.{HasPlanOver}
+use Rattle.shell.proofs.RunLemmas.{has_run, has_stopped, plan_over}
 use Rattle.schema_tables.specs.table_copies.Whole.{all_tables}
 use Rattle.schema_tables.specs.TableData.{TableData}
 use Rattle.shell.proofs.engine.Engine.run.Goals as goal
@@ -20,9 +20,9 @@ write_rows-requires-clause-roots g c =
 
 pub write_rows-requires-clause-planned : goal.write_rows-requires-clause-planned
 write_rows-requires-clause-planned g c =
-    let all = ap (λ (ts : List TableData). sources_of ts []) (c.as_slice.ensures.value ∙ c.self.invariant.all_are) in
-    subst (λ (sources : List SourceData). IsRunOverSome sources (prepared_data c.args.prepared.now).planned) (sym all)
-    (over_some c.self.inside.pager.state (checked_data c.self.inside.checked).tables (found_data (checked_data c.self.inside.checked)) (prepared_data c.args.prepared.now) c.self.invariant.ready
+    let all = c.as_slice.ensures.value ∙ c.self.invariant.all_are in
+    subst (λ (ts : List TableData). HasPlanOver ts (prepared_data c.args.prepared.now).settled (prepared_data c.args.prepared.now).planned) (sym all)
+    (plan_over c.self.inside.pager.state (checked_data c.self.inside.checked).tables (found_data (checked_data c.self.inside.checked)) (prepared_data c.args.prepared.now) c.self.invariant.ready
     (rw (← c.self.view_is) at c.requires))
 
 pub returns-in_err-rows-clause-outcome : goal.returns-in_err-rows-clause-outcome

@@ -29,7 +29,7 @@ pub returns-in-Err-clause-replies : goal.returns-in-Err-clause-replies
 returns-in-Err-clause-replies g c = λ at stands.
     subst (λ (s : Slot). Replied (base_of c.args.engine.now) asks at (answers.Fault c.in-Err.fault) (SlotStandsAt c.next_row.new.self s)) (sym c.end-in-Err.ensures)
     (fault_asked c.args.engine.now c.next_row.new.self c.in-Running.statement c.next_row.new.statement c.in-Err.fault at
-    (rw c.in-Err.is at c.next_row.ensures.step) (rw c.in-Err.is at c.next_row.ensures.only)
+    (rw c.in-Err.is at c.next_row.ensures.step)
     (subst (λ (s : Slot). SlotStandsAt c.args.engine.now s at) c.in-Running.is stands))
 
 pub returns-in-Ended-clause-replies : goal.returns-in-Ended-clause-replies
