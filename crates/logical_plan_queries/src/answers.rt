@@ -12,15 +12,14 @@ ghost use Rattle.logical_plan_queries.specs.Served.{IsServed};
 ghost use Rattle.logical_plan_queries.specs.select_plans.Served.{IsServedSelect};
 ghost use Rattle.resolver_bodies.specs.BodyView.{tables_of};
 ghost use Rattle.resolver_terms.specs.SelectView.{key_of, select_of};
-ghost use Rattle.resolver.specs.statement_names.NamedView.{query_data};
+ghost use Rattle.resolver_bodies.specs.NamedView.{query_data};
 
 use crate::compound_plans::arms_of;
 use crate::orders::{in_order, order_over, result_keys};
 use crate::select_plans::base_of;
 use logical_plan::{Answer, Arm, Arms, Order};
 use logical_plan_terms::input_of;
-use resolver::Query;
-use resolver_bodies::{Body, Tables};
+use resolver_bodies::{Body, Query, Tables};
 use resolver_terms::{Key, Select};
 use std::alloc::{AllocError, Global};
 use windows_order::ResultKey;

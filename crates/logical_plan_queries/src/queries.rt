@@ -2,13 +2,12 @@
 ghost use Rattle.std.specs.Prelude.{IfOk, IfSome, MatchOption, ⊤};
 ghost use Rattle.logical_plan_queries.specs.Answers.{IsPlanFor, IsPlannedAsTyped, planned_data};
 ghost use Rattle.logical_plan_queries.specs.Served.{IsServed};
-ghost use Rattle.resolver.specs.statement_names.NamedView.{query_data};
+ghost use Rattle.resolver_bodies.specs.NamedView.{query_data};
 
 use crate::Planned;
 use crate::answers::answer_of;
 use crate::scans::scan_of;
-use resolver::Query;
-use resolver_bodies::Body;
+use resolver_bodies::{Body, Query};
 use std::alloc::{AllocError, Global};
 
 /// The plan of a query of columns of one table alone, the shortest that there is, `None` where it is another. (SELECT)

@@ -11,8 +11,8 @@ use Rattle.semantics_names.specs.Typed.{known_tables, typed_query, with_types}
 use Rattle.resolver_terms.specs.Outcome.{Gives}
 use Rattle.schema_tables.specs.ColumnTypes as schema
 use Rattle.schema_tables.specs.TableData.{TableData}
-use Rattle.resolver.specs.statement_names.NamedView.{named_data, query_data}
-use Rattle.resolver.specs.declared.statement_names.trees.NamedStatement.{NamedStatement}
+use Rattle.resolver_bodies.specs.NamedView.{named_data, query_data}
+use Rattle.resolver_bodies.specs.declared.statements.NamedStatement.{NamedStatement}
 use Rattle.sql_reader_syntax.specs.StatementTree.{StatementTree}
 use Rattle.resolver.specs.Resolved.{tables_of}
 use Rattle.resolver.proofs.KnownLemmas.{same_types}

@@ -1,3 +1,2 @@
-pub mod NamedView
 pub mod WithView
 pub mod Whole

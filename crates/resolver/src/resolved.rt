@@ -4,13 +4,14 @@ ghost use Rattle.semantics.specs.Typed.{IsTyped};
 ghost use Rattle.semantics_names.specs.Typed as naming;
 ghost use Rattle.resolver_terms.specs.Outcome.{Gives};
 ghost use Rattle.schema_tables.specs.ColumnTypes.{column_types};
-ghost use Rattle.resolver.specs.statement_names.NamedView.{named_data, query_data};
+ghost use Rattle.resolver_bodies.specs.NamedView.{named_data, query_data};
 ghost use Rattle.sql_reader_grammar.specs.statement_trees.StatementView.{statement_of};
 ghost use Rattle.resolver.specs.Resolved.{IsNoQueryOver, Resolves, tables_of};
 
 use crate::known::{column_types, known_tables};
 use crate::query_types::check_types;
-use crate::statement_names::{NamedStatement, named_statement};
+use crate::statement_names::named_statement;
+use resolver_bodies::NamedStatement;
 use schema_tables::Table;
 use semantics_names::laws::typed_as_meaning;
 use sql_reader_grammar::Statement;

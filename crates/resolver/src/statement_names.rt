@@ -3,14 +3,11 @@
 //! where the definition has it, unless memory runs out.
 //!
 //! Its modules, in order: `counting` (how many sources a query has), `names` (names that are distinct),
-//! `items` (the items of WITH), `limits` (LIMIT and OFFSET), `trees` (a statement that is resolved) and
-//! `statements`.
+//! `items` (the items of WITH), `limits` (LIMIT and OFFSET) and `statements`.
 mod counting;
 mod items;
 mod limits;
 mod names;
 mod statements;
-mod trees;
 
 pub use statements::named_statement;
-pub use trees::{NamedStatement, Query};

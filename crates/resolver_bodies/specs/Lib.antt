@@ -1,1 +1,2 @@
 pub mod BodyView
+pub mod NamedView

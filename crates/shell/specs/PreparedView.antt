@@ -2,7 +2,7 @@
 use Rattle.std.specs.Prelude.{List, Option, option_map}
 use Rattle.semantics.specs.Query.{QueryData}
 use Rattle.logical_plan_queries.specs.Answers.{PlannedData, planned_data}
-use Rattle.resolver.specs.statement_names.NamedView.{query_data}
+use Rattle.resolver_bodies.specs.NamedView.{query_data}
 use Rattle.sql_reader_syntax.specs.Tree.{Name}
 use Rattle.shell.specs.declared.prepared.Prepared.{Prepared}
 

@@ -21,7 +21,7 @@ use Rattle.logical_plan_queries.specs.Answers.{PlannedData}
 use Rattle.operators_runs.specs.execution.Given.{IsOpenedRun}
 use Rattle.operators_runs.specs.declared.execution.rows.Execution.{Execution}
 use Rattle.operators_scan.specs.scan.Coming.{Asks}
-use Rattle.resolver.specs.statement_names.NamedView.{query_data}
+use Rattle.resolver_bodies.specs.NamedView.{query_data}
 use Rattle.sql_reader.specs.StatementTexts.{IsRefusedStatement}
 use Rattle.sql_reader_syntax.specs.Tree.{Name}
 use Rattle.schema_tables.specs.table_copies.Whole.{all_tables}

@@ -18,7 +18,7 @@ use Rattle.operators_loops.specs.Basis.{AreStored, Basis, IsOperatorFault}
 use Rattle.operators_runs.specs.execution.Given.{HasAhead, HasAsked, HasGiven, IsRowCause, IsRunOver, NeedsNone, steps_left}
 use Rattle.logical_plan.specs.answers.Sources.{SourceData, sources_of}
 use Rattle.logical_plan_queries.specs.Answers.{IsAnswerOf, IsPlanFor, PlannedData}
-use Rattle.resolver.specs.statement_names.NamedView.{query_data}
+use Rattle.resolver_bodies.specs.NamedView.{query_data}
 use Rattle.schema_tables.specs.TableData.{TableData}
 
 -- it permits these rows, whatever is said of tables that are stored

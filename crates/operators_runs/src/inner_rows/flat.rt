@@ -5,10 +5,9 @@ ghost use Rattle.resolver_copies.specs.materialized_bodies.FlatView.{lists_of};
 ghost use Rattle.semantics_rewrites.specs.materialized_queries.Flat.{kept_of};
 ghost use Rattle.semantics_rewrites.specs.materialized_queries.FlatWith.{materialized_with, queries_of};
 ghost use Rattle.semantics_rewrites.specs.materialized_queries.Parts.{plain};
-ghost use Rattle.resolver.specs.statement_names.NamedView.{query_data};
+ghost use Rattle.resolver_bodies.specs.NamedView.{query_data};
 
-use resolver::Query;
-use resolver_bodies::Body;
+use resolver_bodies::{Body, Query};
 use resolver_copies::materialized_body;
 use std::alloc::{AllocError, Global};
 use values::Value;

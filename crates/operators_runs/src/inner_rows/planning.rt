@@ -6,10 +6,10 @@ ghost use Rattle.logical_plan_queries.specs.Answers.{IsPlanFor, IsPlannedOver, p
 ghost use Rattle.logical_plan_queries.specs.Served.{HaveServedForm};
 ghost use Rattle.logical_plan_queries.specs.select_plans.Columns.{HaveColumns};
 ghost use Rattle.logical_plan.specs.answers.Sources.{sources_of};
-ghost use Rattle.resolver.specs.statement_names.NamedView.{query_data};
+ghost use Rattle.resolver_bodies.specs.NamedView.{query_data};
 
 use logical_plan_queries::{Planned, is_over, plan};
-use resolver::Query;
+use resolver_bodies::Query;
 use schema_tables::Table;
 use std::alloc::Global;
 use values::{Fault, Value};

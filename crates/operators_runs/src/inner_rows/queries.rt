@@ -13,7 +13,7 @@ ghost use Rattle.logical_plan_queries.specs.Answers.{IsPlannedOver, planned_data
 ghost use Rattle.operators_scan.specs.scan.Coming.{Asks};
 ghost use Rattle.operators_scan.specs.Coming.{IsRooted};
 ghost use Rattle.logical_plan.specs.answers.Sources.{sources_of};
-ghost use Rattle.resolver.specs.statement_names.NamedView.{query_data};
+ghost use Rattle.resolver_bodies.specs.NamedView.{query_data};
 ghost use Rattle.schema_tables.specs.ColumnTypes.{column_types};
 
 use crate::inner_rows::computing::add_body;
@@ -21,7 +21,8 @@ use crate::inner_rows::inner::InnerRows;
 use crate::inner_rows::planning::plan_over;
 use logical_plan_queries::Planned;
 use pager::{Pager, Source};
-use resolver::{Query, materialized_query};
+use resolver_bodies::Query;
+use resolver_copies::materialized_query;
 use schema_tables::Table;
 use std::alloc::Global;
 use values::{Fault, Value};

@@ -11,13 +11,13 @@ ghost use Rattle.operators_scan.specs.scan.Coming.{Asks};
 ghost use Rattle.operators_scan.specs.Coming.{IsRooted};
 ghost use Rattle.values.specs.Row.{rows_data};
 ghost use Rattle.logical_plan.specs.answers.Sources.{sources_of};
-ghost use Rattle.resolver.specs.statement_names.NamedView.{query_data};
+ghost use Rattle.resolver_bodies.specs.NamedView.{query_data};
 ghost use Rattle.schema_tables.specs.ColumnTypes.{column_types};
 
 use crate::inner_rows::{KeptPlan, kept_plan, planned_rows};
 use operators_scan::Sources;
 use pager::{Pager, Source};
-use resolver::Query;
+use resolver_bodies::Query;
 use schema_tables::Table;
 use std::alloc::Global;
 use values::{Fault, Value};

@@ -19,7 +19,7 @@ use crate::nested_runs::gathered::answer_rows;
 use operators::GatheredRows;
 use operators_scan::Sources;
 use pager::{Pager, Source};
-use resolver::Query;
+use resolver_bodies::Query;
 use schema_tables::Table;
 use std::alloc::Global;
 use values::{Fault, Row};

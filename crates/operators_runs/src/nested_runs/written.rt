@@ -13,7 +13,7 @@ ghost use Rattle.operators_scan.specs.scan.Coming.{Asks};
 ghost use Rattle.operators_scan.specs.Coming.{IsRooted, IsStoredSource};
 ghost use Rattle.logical_plan.specs.answers.Sources.{sources_of};
 ghost use Rattle.logical_plan_queries.specs.Answers.{PlannedData, planned_data, work_of};
-ghost use Rattle.resolver.specs.statement_names.NamedView.{query_data};
+ghost use Rattle.resolver_bodies.specs.NamedView.{query_data};
 ghost use Rattle.schema_tables.specs.ColumnTypes.{column_types};
 ghost use Rattle.values.specs.Fault.{Counts};
 
@@ -22,7 +22,7 @@ use crate::planned::write_answer;
 use logical_plan_queries::Planned;
 use operators_scan::Sources;
 use pager::{Pager, Source};
-use resolver::Query;
+use resolver_bodies::Query;
 use schema_tables::Table;
 use std::alloc::Global;
 use values::{Fault, Sink};

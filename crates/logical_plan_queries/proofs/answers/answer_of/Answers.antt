@@ -1,6 +1,6 @@
 use Rattle.std.proofs.Common.{◌∙◌, List, ap, map, subst}
 use Rattle.logical_plan.specs.answers.Permitted.{AreResults}
-use Rattle.resolver.specs.statement_names.NamedView.{query_data}
+use Rattle.resolver_bodies.specs.NamedView.{query_data}
 use Rattle.resolver_terms.specs.SelectView.{key_of}
 use Rattle.resolver_terms.specs.declared.selects.Key.{Key}
 use Rattle.logical_plan_queries.proofs.JoinedLemmas.{joined_told}

@@ -3,7 +3,7 @@ use Rattle.semantics.specs.Query.{Key}
 use Rattle.logical_plan.specs.answers.Answers.{order_data}
 use Rattle.logical_plan.specs.answers.Permitted.{AreArmsOf, IsOrderOf}
 use Rattle.logical_plan_queries.specs.compound_plans.Arms.{IsArmFor}
-use Rattle.resolver.specs.statement_names.NamedView.{query_data}
+use Rattle.resolver_bodies.specs.NamedView.{query_data}
 use Rattle.logical_plan_queries.proofs.answers.joined_of.Goals as goal
 
 pub returns : goal.returns

@@ -6,7 +6,7 @@ use Rattle.resolver_bodies.specs.declared.bodies.Single.{out-Single}
 use Rattle.semantics.specs.Hits.{order_terms}
 use Rattle.semantics.specs.Query.{compound, select}
 use Rattle.semantics_names.specs.Statement.{operator_of}
-use Rattle.resolver.specs.statement_names.NamedView.{query_data}
+use Rattle.resolver_bodies.specs.NamedView.{query_data}
 use Rattle.resolver_terms.specs.SelectView.{key_of, select_of}
 use Rattle.resolver_terms.specs.declared.selects.Key.{Key}
 use Rattle.logical_plan.specs.answers.Answers.{answer_data, order_data}

@@ -5,7 +5,7 @@ use Rattle.resolver_bodies.specs.declared.bodies.Body.TheFolds.{fold-roll-Body, 
 use Rattle.resolver_bodies.specs.declared.bodies.Body.TheViews.{the_lemmas}
 use Rattle.resolver_bodies.specs.declared.bodies.Single.{out-Single}
 use Rattle.semantics.specs.Query.{select}
-use Rattle.resolver.specs.statement_names.NamedView.{query_data}
+use Rattle.resolver_bodies.specs.NamedView.{query_data}
 use Rattle.resolver_terms.specs.SelectView.{key_of, select_of}
 use Rattle.logical_plan_queries.specs.Answers.{IsPlanFor, IsPlannedAsTyped}
 use Rattle.logical_plan_queries.specs.Made.{IsScan}

@@ -1,7 +1,7 @@
 use Rattle.std.proofs.Common.{map, refl, sym, ap}
 use Rattle.std.proofs.lemmas.Result.{err_from_is_err_and}
 use Rattle.resolver_bodies.specs.BodyView.{body_of}
-use Rattle.resolver.specs.statement_names.NamedView.{named_data}
+use Rattle.resolver_bodies.specs.NamedView.{named_data}
 use Rattle.resolver.proofs.resolved.typed.Goals as goal
 use Rattle.resolver_terms.specs.SelectView.{key_of}
 

@@ -1,7 +1,7 @@
 use Rattle.std.proofs.Common.{map, ap, subst, ◌∙◌}
 use Rattle.resolver_terms.specs.Outcome.{Gives}
 use Rattle.resolver_sources.specs.source_names.GivenView.{known_of}
-use Rattle.resolver.specs.statement_names.NamedView.{named_data}
+use Rattle.resolver_bodies.specs.NamedView.{named_data}
 use Rattle.sql_reader_grammar.specs.statement_trees.StatementView.{statement_of}
 use Rattle.resolver.proofs.ResolvedLemmas.{named_so}
 use Rattle.resolver.proofs.resolved.typed_statement.Goals as goal

@@ -7,7 +7,7 @@ use Rattle.semantics.specs.Typed.{IsTyped}
 use Rattle.logical_plan_queries.specs.Served.{HaveServedForm}
 use Rattle.logical_plan_queries.specs.select_plans.Columns.{HaveColumns}
 use Rattle.logical_plan.specs.answers.Sources.{sources_of}
-use Rattle.resolver.specs.statement_names.NamedView.{query_data}
+use Rattle.resolver_bodies.specs.NamedView.{query_data}
 use Rattle.operators_runs.proofs.lemmas.inner_rows.FlatLemmas.{plan_found}
 use Rattle.operators_runs.proofs.inner_rows.computing.materialized_plan.Goals as goal
 

@@ -8,7 +8,7 @@ use Rattle.logical_plan_queries.specs.Answers.{IsPlanFor, planned_data}
 use Rattle.logical_plan_queries.specs.Served.{HaveServedForm}
 use Rattle.logical_plan_queries.specs.select_plans.Columns.{HaveColumns}
 use Rattle.logical_plan.specs.answers.Sources.{sources_of}
-use Rattle.resolver.specs.statement_names.NamedView.{query_data}
+use Rattle.resolver_bodies.specs.NamedView.{query_data}
 use Rattle.schema_tables.specs.ColumnTypes.{column_types}
 use Rattle.operators_runs.specs.inner_rows.InnerView.{inner_data}
 use Rattle.operators_runs.proofs.lemmas.inner_rows.ComputedLemmas.{cause_whole}

@@ -13,7 +13,7 @@ use Rattle.operators_scan.proofs.lemmas.scan.ComingLemmas.{seen_same}
 use Rattle.operators_scan.specs.Coming.{IsRooted}
 use Rattle.values.specs.Row.{rows_data}
 use Rattle.logical_plan.specs.answers.Sources.{sources_of}
-use Rattle.resolver.specs.statement_names.NamedView.{query_data}
+use Rattle.resolver_bodies.specs.NamedView.{query_data}
 use Rattle.operators_runs.proofs.lemmas.nested_runs.StepLemmas.{rows_of_plan}
 use Rattle.operators_runs.proofs.nested_runs.gathered.answer_rows.Goals as goal
 

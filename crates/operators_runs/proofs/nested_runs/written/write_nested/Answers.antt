@@ -11,7 +11,7 @@ use Rattle.operators_scan.specs.scan.Coming.{Asks}
 use Rattle.operators_scan.proofs.lemmas.scan.ComingLemmas.{seen_same}
 use Rattle.operators_scan.specs.Coming.{IsRooted, IsStoredSource}
 use Rattle.logical_plan.specs.answers.Sources.{sources_of}
-use Rattle.resolver.specs.statement_names.NamedView.{query_data}
+use Rattle.resolver_bodies.specs.NamedView.{query_data}
 use Rattle.operators_runs.proofs.lemmas.nested_runs.NestedLemmas.{stopped_before, stored_behind, wrote_over, WritesOver}
 use Rattle.operators_runs.proofs.nested_runs.written.write_nested.Goals as goal
 

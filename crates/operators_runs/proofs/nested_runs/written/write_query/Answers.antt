@@ -3,7 +3,7 @@ use Rattle.btree.specs.image.Pages.{pages_seen}
 use Rattle.logical_plan_queries.specs.Answers.{PlannedData, planned_data}
 use Rattle.operators_runs.proofs.lemmas.nested_runs.PlannedLemmas.{planned_once, planned_wrote, same_plan}
 use Rattle.operators_runs.specs.nested_runs.Writes.{HasPlanOver}
-use Rattle.resolver.specs.statement_names.NamedView.{query_data}
+use Rattle.resolver_bodies.specs.NamedView.{query_data}
 use Rattle.operators_runs.proofs.nested_runs.written.write_query.Goals as goal
 
 pub write_answer-requires-clause-roots : goal.write_answer-requires-clause-roots

@@ -4,7 +4,7 @@ use Rattle.semantics_names.specs.Statement.{queried}
 use Rattle.resolver_terms.specs.Outcome.{Gives}
 use Rattle.resolver_sources.specs.source_names.GivenView.{queried_of}
 use Rattle.resolver.proofs.lemmas.statement_names.StatementLemmas.{query_refused, query_taken}
-use Rattle.resolver.specs.statement_names.NamedView.{named_data}
+use Rattle.resolver_bodies.specs.NamedView.{named_data}
 use Rattle.resolver.specs.statement_names.WithView.{with_data}
 use Rattle.sql_reader_grammar.specs.statement_trees.StatementView.{statement_of}
 use Rattle.resolver.proofs.statement_names.statements.behind_items.Goals as goal

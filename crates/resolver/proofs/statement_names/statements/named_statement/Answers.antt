@@ -2,7 +2,7 @@ use Rattle.std.proofs.Common.{map, subst, sym}
 use Rattle.resolver_terms.specs.Outcome.{Gives}
 use Rattle.resolver_sources.specs.source_names.GivenView.{known_of}
 use Rattle.resolver.proofs.lemmas.statement_names.LevelLemmas.{named_is}
-use Rattle.resolver.specs.statement_names.NamedView.{named_data}
+use Rattle.resolver_bodies.specs.NamedView.{named_data}
 use Rattle.sql_reader_grammar.specs.statement_trees.StatementView.{statement_of}
 use Rattle.resolver.proofs.statement_names.statements.named_statement.Goals as goal
 

@@ -4,7 +4,7 @@ use Rattle.semantics_names.specs.Statement.{queried}
 use Rattle.resolver_terms.specs.Outcome.{Gives}
 use Rattle.resolver_sources.specs.source_names.GivenView.{known_of}
 use Rattle.resolver.proofs.lemmas.statement_names.StatementLemmas.{items_refused, items_taken, name_twice}
-use Rattle.resolver.specs.statement_names.NamedView.{named_data}
+use Rattle.resolver_bodies.specs.NamedView.{named_data}
 use Rattle.resolver.specs.statement_names.WithView.{with_data}
 use Rattle.sql_reader_grammar.specs.statement_trees.StatementView.{statement_of}
 use Rattle.resolver.proofs.statement_names.statements.named_within.Goals as goal

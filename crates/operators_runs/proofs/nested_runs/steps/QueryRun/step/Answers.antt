@@ -6,7 +6,7 @@ use Rattle.operators_runs.specs.nested_runs.Steps.{HasGivenOf, IsAhead, IsQueryO
 use Rattle.operators_scan.proofs.lemmas.scan.ComingLemmas.{Asks-none}
 use Rattle.operators_runs.specs.declared.nested_runs.steps.QueryRun.{QueryRun}
 use Rattle.logical_plan.specs.answers.Sources.{sources_of}
-use Rattle.resolver.specs.statement_names.NamedView.{query_data}
+use Rattle.resolver_bodies.specs.NamedView.{query_data}
 use Rattle.operators_runs.proofs.nested_runs.steps.QueryRun.step.Goals as goal
 
 pub next_planned-requires-clause-planned : goal.next_planned-requires-clause-planned

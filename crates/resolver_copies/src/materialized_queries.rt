@@ -3,11 +3,11 @@ ghost use Rattle.std.specs.Prelude.{◌≡◌, ◌<◌, ◌+◌, ◌^◌, IfOk, 
 ghost use Rattle.resolver_copies.specs.materialized_bodies.FlatView.{lists_of};
 ghost use Rattle.semantics_rewrites.specs.materialized_queries.Flat.{kept_of};
 ghost use Rattle.semantics_rewrites.specs.materialized_queries.FlatWith.{materialized_with, queries_of};
-ghost use Rattle.resolver.specs.statement_names.NamedView.{query_data};
+ghost use Rattle.resolver_bodies.specs.NamedView.{query_data};
 
-use crate::statement_names::Query;
+use crate::materialized_bodies::{last_answers, materialized_body};
 use expr::Leaves;
-use resolver_copies::{last_answers, materialized_body};
+use resolver_bodies::Query;
 use resolver_terms::order_with;
 use std::alloc::{AllocError, Global};
 use values::Value;

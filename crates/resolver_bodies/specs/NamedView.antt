@@ -3,8 +3,8 @@ use Rattle.std.specs.Prelude.{map, string_bytes}
 use Rattle.resolver_bodies.specs.BodyView.{body_of}
 use Rattle.semantics.specs.Query.{QueryData}
 use Rattle.semantics_names.specs.Statement.{Named}
-use Rattle.resolver.specs.declared.statement_names.trees.NamedStatement.{NamedStatement}
-use Rattle.resolver.specs.declared.statement_names.trees.Query.{Query}
+use Rattle.resolver_bodies.specs.declared.statements.NamedStatement.{NamedStatement}
+use Rattle.resolver_bodies.specs.declared.statements.Query.{Query}
 use Rattle.resolver_terms.specs.SelectView.{key_of}
 
 abbrev pub query_data : Query → QueryData

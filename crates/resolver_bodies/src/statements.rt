@@ -1,6 +1,6 @@
 //! Statements whose names are resolved.
 
-use resolver_bodies::Body;
+use crate::bodies::Body;
 use resolver_terms::Key;
 
 /// A query with its ORDER BY, LIMIT and OFFSET. (SELECT)

@@ -1,11 +1,10 @@
 //! Whole queries over the schema table as one more table.
 ghost use Rattle.std.specs.Prelude.{◌≡◌, IfOk};
 ghost use Rattle.semantics_rewrites.specs.schema_sources.Settled.{settled};
-ghost use Rattle.resolver.specs.statement_names.NamedView.{query_data};
+ghost use Rattle.resolver_bodies.specs.NamedView.{query_data};
 
-use crate::statement_names::Query;
-use resolver_bodies::copy_body;
-use resolver_copies::settle_body;
+use crate::schema_bodies::settle_body;
+use resolver_bodies::{Query, copy_body};
 use resolver_terms::copy_order;
 use std::alloc::{AllocError, Global};
 
