@@ -1,7 +1,9 @@
 -- What is given of a table or of kept rows, is given of what stands at a place.
-use Rattle.std.proofs.Common.{◌≡◌, ◌∙◌, inl, inr, Bool, ℕ, List, MatchResult, Result, Ok, Err, drop, sym, subst}
+use Rattle.std.proofs.Common.{◌≡◌, ◌∙◌, ◌⊎◌, inl, inr, Bool, ℕ, List, IfErr, MatchResult, Result, Ok, Err, arith, drop, refl, sym, subst}
 use Rattle.values.specs.Row.{Row}
 use Rattle.values.specs.declared.fault.Fault.{Fault}
+use Rattle.values.specs.declared.fault.Fault.TheVariants.{NoMemory, Overflow, ReadFailed}
+use Rattle.pager.specs.Calls.{ReadsPages, SameImage, TellsFailedRead}
 use Rattle.pager.specs.PagerState.{PagerState}
 use Rattle.btree.specs.image.Pages.{Pages}
 use Rattle.btree_cursor.specs.declared.cursor.cursor.Cursor.{Cursor}
@@ -49,3 +51,16 @@ module _ (kept : List Row) (local : Bool) (tests : List Term) (columns : List �
       (IsTakeCause tests columns rows before)
   kept_tested (Ok taken) gives = kept_taken taken gives
   kept_tested (Err e) cause = kept_cause e cause
+
+-- a call that asks for no page, and whose faults aren't those of a source
+same : (state : PagerState) → SameImage state state
+same state = record { bytes = refl; steady = refl; header = refl; capacity = refl; asked = omega arith; chained = omega arith }
+
+tells : (e : Fault) (failures : ℕ) → (e ≡ Overflow) ⊎ (e ≡ NoMemory) → TellsFailedRead e failures failures
+tells e failures (inl is) = (λ read none. let other : Overflow ≡ ReadFailed = sym is ∙ read in cc, λ risen. absurd (risen refl))
+tells e failures (inr is) = (λ read none. let other : NoMemory ≡ ReadFailed = sym is ∙ read in cc, λ risen. absurd (risen refl))
+
+pub none_read : {T : Type 0} (state : PagerState) (result : Result T Fault) → IfErr result (λ e. (e ≡ Overflow) ⊎ (e ≡ NoMemory))
+    → ReadsPages result state state
+none_read state (Ok value) only = record { image = same state; failures = refl }
+none_read state (Err e) only = record { image = same state; failures = tells e state.source.failures only }
