@@ -89,11 +89,7 @@ impl Header {
 }
 
 /// What is run for a query that is stepped, before its first row.
-fn run_of(
-    alloc: Global,
-    settled: Query,
-    planned: Option<Planned>,
-) -> Result<QueryRun, AllocError>
+fn run_of(alloc: Global, settled: Query, planned: Option<Planned>) -> Result<QueryRun, AllocError>
     ensures { IfOk result (IsRunOf (query_data settled) (option_map planned_data planned)) }
 {
     match planned {
