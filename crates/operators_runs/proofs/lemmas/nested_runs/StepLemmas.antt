@@ -1,5 +1,5 @@
 -- Rows that are given one by one.
-use Rattle.std.proofs.Common.{◌≡◌, ◌∙◌, inl, inr, refl, ℕ, List, [], ◌∷◌, ◌++◌, Option, None, Some, Result, Ok, Err, MatchResult, sym, ap, append-nil, append_assoc, subst}
+use Rattle.std.proofs.Common.{◌≡◌, ◌∙◌, ◌<◌, OnSome, arith, inl, inr, refl, ℕ, List, [], ◌∷◌, ◌++◌, Option, None, Some, Result, Ok, Err, MatchResult, sym, ap, append-nil, append_assoc, subst}
 use Rattle.std.specs.Global.{Vec}
 use Rattle.values.specs.Row.{Row, rows_data}
 use Rattle.values.specs.declared.fault.Fault.{Fault}
@@ -132,3 +132,8 @@ plan_going (Err fault) running = tt
 pub gathered_going : (found : Option Row) (left : List Row) → GoesOn (Ok found) (Gathered left)
 gathered_going (Some row) left = λ is. cc
 gathered_going None left = tt
+
+-- less is left than was, and so than the most
+pub fewer : (found : Option Row) (now was most : ℕ) → OnSome found (now < was) → was < most → OnSome found (now < most)
+fewer None now was most less within = tt
+fewer (Some row) now was most less within = omega (arith, less, within)

@@ -8,9 +8,9 @@ use Rattle.operators_scan.proofs.lemmas.scan.ComingLemmas.{Asks-none}
 use Rattle.operators_runs.proofs.execution.rows.answer_begun.Goals as goal
 
 pub returns-in_err-execution-clause-rows : goal.returns-in_err-execution-clause-rows
-returns-in_err-execution-clause-rows g c = λ steady on has.
+returns-in_err-execution-clause-rows g c = λ steady.
     let p = err_from_is_err_and c.from_residual.result c.from_residual.ensures.1 in
-    rw (p.1, p.2) (inl (inr refl))
+    rw (p.1, p.2) (λ on has. inl (inr refl))
 
 pub returns-in-Some-clause-rows : goal.returns-in-Some-clause-rows
 returns-in-Some-clause-rows g c = λ steady.
@@ -27,9 +27,9 @@ returns-in-Some-clause-over g c =
     let opened = rw c.in-Some.is at c.in_ok-execution.ensures in opened.over c.args.sources.now c.requires.planned
 
 pub returns-in_err-gathered-clause-rows : goal.returns-in_err-gathered-clause-rows
-returns-in_err-gathered-clause-rows g c = λ steady on has.
+returns-in_err-gathered-clause-rows g c = λ steady.
     let p = err_from_is_err_and c.from_residual-in_err-gathered.result c.from_residual-in_err-gathered.ensures.1 in
-    rw (p.1, p.2) (c.in_err-gathered.ensures.rows steady on has)
+    rw (p.1, p.2) (λ on has. c.in_err-gathered.ensures.rows steady on has)
 
 pub returns-clause-rows : goal.returns-clause-rows
 returns-clause-rows g c = λ steady on has.

@@ -5,9 +5,9 @@ use Rattle.operators_scan.proofs.lemmas.scan.ComingLemmas.{Asks-none}
 use Rattle.operators_runs.proofs.execution.rows.Execution.begin.Goals as goal
 
 pub returns-in_err-execution-in-Columns-clause-rows : goal.returns-in_err-execution-in-Columns-clause-rows
-returns-in_err-execution-in-Columns-clause-rows g c = λ steady on has.
+returns-in_err-execution-in-Columns-clause-rows g c = λ steady.
     let p = err_from_is_err_and c.from_residual.result c.from_residual.ensures.1 in
-    rw (p.1, p.2) (inl (inr refl))
+    rw (p.1, p.2) (λ on has. inl (inr refl))
 
 pub returns-in_ok-execution-in-Columns-clause-rows : goal.returns-in_ok-execution-in-Columns-clause-rows
 returns-in_ok-execution-in-Columns-clause-rows g c = λ steady.

@@ -1,7 +1,7 @@
 use Rattle.std.proofs.Common.{[], inl, subst}
 use Rattle.std.proofs.lemmas.Result.{err_from_is_err_and}
 use Rattle.btree.specs.image.Pages.{pages_seen}
-use Rattle.operators_runs.proofs.lemmas.nested_runs.StepLemmas.{gathered, gathered_asks, gathered_going, giving, plan_asks, plan_going, plan_steps, reads_rows, stopped, waiting_asks}
+use Rattle.operators_runs.proofs.lemmas.nested_runs.StepLemmas.{fewer, gathered, gathered_asks, gathered_going, giving, plan_asks, plan_going, plan_steps, reads_rows, stopped, waiting_asks}
 use Rattle.operators_runs.specs.nested_runs.Steps.{HasGivenOf, IsAhead, IsQueryOver, NeedsNoPage}
 use Rattle.operators_scan.proofs.lemmas.scan.ComingLemmas.{Asks-none}
 use Rattle.operators_runs.specs.declared.nested_runs.steps.QueryRun.{QueryRun}
@@ -37,7 +37,7 @@ returns-in_err-rows-in-Nested-clause-rows g c = λ steady query given typed runs
 
 pub returns-in_err-rows-in-Nested-clause-pages : goal.returns-in_err-rows-in-Nested-clause-pages
 returns-in_err-rows-in-Nested-clause-pages g c = λ steady query given typed runs gave on said ahead is.
-    let p = err_from_is_err_and c.from_residual.result c.from_residual.ensures.1 in rw (p.1, p.2) tt
+    let p = err_from_is_err_and c.from_residual.result c.from_residual.ensures.1 in rw p.1 tt
 
 pub returns-in_ok-rows-in-Nested-clause-rows : goal.returns-in_ok-rows-in-Nested-clause-rows
 returns-in_ok-rows-in-Nested-clause-rows g c = λ steady query given typed runs gave.
@@ -101,3 +101,7 @@ returns-in_err-rows-in-Nested-clause-done g c = λ needs. absurd (subst NeedsNoP
 
 pub returns-in_ok-rows-in-Nested-clause-done : goal.returns-in_ok-rows-in-Nested-clause-done
 returns-in_ok-rows-in-Nested-clause-done g c = λ needs. absurd (subst NeedsNoPage c.in-Nested.is needs)
+
+pub returns-in_ok-rows-in-Nested-clause-left : goal.returns-in_ok-rows-in-Nested-clause-left
+returns-in_ok-rows-in-Nested-clause-left g c =
+    rw c.in-Nested.is (fewer c.next_row-first.result _ _ _ c.next_row-first.ensures.left c.new-left.ensures.few)
