@@ -1,5 +1,5 @@
 -- The pages that a statement which is stepped may still ask for.
-use Rattle.std.proofs.Common.{◌≡◌, IsTrue, ℕ, List, length, Option, Some, None, Result, Ok, Err, refl, sym, subst, arith}
+use Rattle.std.proofs.Common.{Bool, ◌≤◌, ◌≡◌, IsTrue, ℕ, List, length, Option, Some, None, Result, Ok, Err, refl, sym, subst, arith}
 use Rattle.values.specs.Row.{Row}
 use Rattle.values.specs.declared.fault.Fault.{Fault}
 use Rattle.pager.specs.Calls.{SameImage}
