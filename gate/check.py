@@ -37,7 +37,7 @@ MADE = ("out", ".git", "__pycache__")
 PROGRAMS = ("engines", "images", "second_engine", "seleq", "texts")
 # The scripts of compare/ that ask the built program.
 OURS = (
-    *("worked", "conditions", "interrupted", "sessions", "agreement", "catalogs", "searches"),
+    *("worked", "conditions", "interrupted", "sessions", "agreement", "catalogs", "searches", "linked"),
     *("statements", "nested", "joins", "windows", "names"),
 )
 # The kit's command.
@@ -156,6 +156,7 @@ def check_whole(is_all: bool, total: Sum, began: float) -> None:
         for edits in TOP.glob("crates/*/must-fail"):
             shutil.copytree(edits, copy / edits.relative_to(TOP))
         if not ran.status:
+            total.add_one("the library for C", passes(["python3", "-B", "gate/build.py", "--proved", "seleq_c"], copy))
             # The edits begin with nothing that the proofs kept, and need the disk.
             for kept in copy.glob(f"crates/*/{rt.rtlib.KEPT[1]}"):
                 shutil.rmtree(kept)
