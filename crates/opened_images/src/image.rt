@@ -19,11 +19,23 @@ use values::{Fault, ValueRef};
 
 /// An image that is held for another program, with its session and the reply to the last step. One that was refused has no
 /// session, and its reply is the fault for good.
-#[derive(Drop)]
 pub struct OpenImage {
     session: Option<Session<MemSource>>,
     slot: u8,
     reply: Reply,
+}
+
+// Written, and not derived: a crate that drops an image would prove the drop of each type in it again.
+impl Drop for OpenImage {
+    fn drop(self) {
+        let OpenImage {
+            session,
+            slot: _slot,
+            reply,
+        } = self;
+        drop(session);
+        drop(reply);
+    }
 }
 
 impl Model for OpenImage {
