@@ -4,3 +4,4 @@ pub mod RunLemmas
 pub mod LeastLemmas
 pub mod SearchLemmas
 pub mod FirstLemmas
+pub mod MapLemmas

@@ -1,12 +1,11 @@
 -- The steps of the run of equality bounds.
 use Rattle.std.proofs.Common.{◌≡◌, ◌<◌, ℕ, suc, ◌+◌, Bool, List, [], ◌∷◌, ◌++◌, length, drop, get_or, Some, None, sym, ap, ◌∙◌, arith, append_assoc, append-nil}
 use Rattle.std.proofs.Math.Seq.{drop-cons}
-use Rattle.index_choice.specs.declared.conjuncts.Conjunct.{Conjunct}
 use Rattle.index_choice.specs.declared.comparisons.Side.TheVariants.{Equal}
-use Rattle.index_choice.specs.Bounds.{first_bound}
+use Rattle.index_choice.specs.Bounds.{ConjunctData, first_bound}
 use Rattle.index_choice.specs.Paths.{equal_run, run_from}
 
-module _ (known : List Bool) (conjuncts : List Conjunct) (columns run : List ℕ) (i : ℕ) (lt : i < length columns)
+module _ (known : List Bool) (conjuncts : List ConjunctData) (columns run : List ℕ) (i : ℕ) (lt : i < length columns)
     (so-far : equal_run known conjuncts columns ≡ run ++ equal_run known conjuncts (drop i columns)) where
   next : equal_run known conjuncts columns
       ≡ run ++ run_from (first_bound known conjuncts Equal (get_or columns i 0)) (equal_run known conjuncts (drop (suc i) columns))

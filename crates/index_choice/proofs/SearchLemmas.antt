@@ -1,7 +1,9 @@
 -- An entry meets the range of a search exactly where the row's conjuncts are true.
-use Rattle.std.proofs.Common.{◌≡◌, ◌≤◌, ◌+◌, ℕ, Bool, true, false, List, [], ◌∷◌, ◌++◌, length, Option, Some, None, refl, sym, ◌∙◌, arith, get_or}
-use Rattle.std.specs.Prelude.{option_to_list, slice_index_or}
-use Rattle.std.specs.List.{list_all}
+use Rattle.std.proofs.Common.{◌≡◌, ◌≤◌, ◌+◌, ℕ, Bool, true, false, List, [], ◌∷◌, ◌++◌, length, cond, ◌&&◌, map, Option, Some, None, refl, sym, ◌∙◌, arith, get_or}
+use Rattle.std.specs.Prelude.{All, option_to_list, slice_index_or}
+use Rattle.std.specs.List.{filter, list_all}
+use Rattle.std.proofs.lemmas.List.Elements.{All-head, All-tail}
+use Rattle.std.proofs.lemmas.List.Sorted.{IsPermutation-map}
 use Rattle.std.specs.Ordering.{is_eq}
 use Rattle.std.proofs.lemmas.List.Folds.{list_all-append}
 use Rattle.std.proofs.Math.Bool.{and-true}
@@ -10,12 +12,12 @@ use Rattle.expr.specs.Conjuncts.{is_true}
 use Rattle.expr.specs.Meaning.{run}
 use Rattle.expr.specs.Term.{Term}
 use Rattle.btree_cursor.specs.key_ranges.Ranges.{Edge, bounded_columns, holds, is_above, is_below, is_within, from_cut, meets, to_cut}
-use Rattle.btree_cursor.proofs.lemmas.key_ranges.BagLemmas.{search_is_filter}
+use Rattle.btree_cursor.proofs.lemmas.key_ranges.BagLemmas.{IsPermutation-filter}
 use Rattle.btree_cursor.proofs.lemmas.key_ranges.RangeLemmas.{cuts_are_range, null_meets_nothing}
 use Rattle.index_choice.specs.declared.comparisons.Side.{Side}
 use Rattle.index_choice.specs.declared.comparisons.Side.TheVariants.{Equal, Lower, Upper}
 use Rattle.index_choice.specs.ColumnBounds.{says}
-use Rattle.index_choice.specs.Searches.{AreBoundsBy, BeginsWith, IsBoundBy, IsEdgeBy, NullGivesNone, PathIsFilter, are_true, terms_of}
+use Rattle.index_choice.specs.Searches.{AreBoundsBy, BeginsWith, IsBoundBy, IsEdgeBy, NullGivesNone, PathGivesCovered, PathIsFilter, PathServesTests, are_true, found_by, terms_of}
 use Rattle.index_choice.proofs.BoundLemmas.{bound_says_conjunct}
 
 module _ (o : Option Datum) (row : List Datum) where
@@ -91,18 +93,80 @@ pub null_gives_none : NullGivesNone
 null_gives_none o row columns search range entry by begins n =
     sym (meets_true o row range.lower range.upper search.lower search.upper columns range.equal search.equal entry by begins) ∙ null_meets_nothing range entry n
 
-pub path_is_filter : PathIsFilter
-path_is_filter descends o full columns search range rows entries covered entry_of fetch path sound =
+-- the rows of the entries of those that are covered
+module _ (covered chosen : List Datum → Bool) (entry_of fetch : List Datum → List Datum) (within : List Datum → Bool) where
+  kept : (rows : List (List Datum)) → All (λ row. within (entry_of row) ≡ chosen row) rows → All (λ row. fetch (entry_of row) ≡ row) rows
+      → map fetch (filter within (map entry_of (filter covered rows))) ≡ filter (λ row. covered row && chosen row) rows
+  kept [] a c = refl
+  kept (row ∷ rows) a c =
+      by-cover (covered row) (chosen row) refl refl (All-head (λ r. within (entry_of r) ≡ chosen r) row rows a) (All-head (λ r. fetch (entry_of r) ≡ r) row rows c)
+      (kept rows (All-tail (λ r. within (entry_of r) ≡ chosen r) row rows a) (All-tail (λ r. fetch (entry_of r) ≡ r) row rows c))
+    where
+      by-cover : (v h : Bool) → covered row ≡ v → chosen row ≡ h → within (entry_of row) ≡ chosen row → fetch (entry_of row) ≡ row
+          → map fetch (filter within (map entry_of (filter covered rows))) ≡ filter (λ row. covered row && chosen row) rows
+          → map fetch (filter within (map entry_of (cond v (row ∷ filter covered rows) (filter covered rows))))
+          ≡ cond (v && h) (row ∷ filter (λ row. covered row && chosen row) rows) (filter (λ row. covered row && chosen row) rows)
+      by-cover true true e k agree back rest = rw (agree, k, back, rest) refl
+      by-cover true false e k agree back rest = rw (agree, k) rest
+      by-cover false h e k agree back rest = rest
+
+-- a filter after one that keeps all that it keeps
+filter_after : (tests keeps : List Datum → Bool) (rows : List (List Datum)) → All (λ row. tests row ≡ true → keeps row ≡ true) rows
+    → filter tests (filter keeps rows) ≡ filter tests rows
+filter_after tests keeps [] all = refl
+filter_after tests keeps (row ∷ rows) all =
+    by-test (tests row) (keeps row) refl refl (All-head (λ r. tests r ≡ true → keeps r ≡ true) row rows all)
+    (filter_after tests keeps rows (All-tail (λ r. tests r ≡ true → keeps r ≡ true) row rows all))
+  where
+    by-test : (t k : Bool) → tests row ≡ t → keeps row ≡ k → (tests row ≡ true → keeps row ≡ true) → filter tests (filter keeps rows) ≡ filter tests rows
+        → filter tests (cond k (row ∷ filter keeps rows) (filter keeps rows)) ≡ cond t (row ∷ filter tests rows) (filter tests rows)
+    by-test true true e g h rest = rw (e, rest) refl
+    by-test true false e g h rest = cc (h e)
+    by-test false true e g h rest = rw (e, rest) refl
+    by-test false false e g h rest = rest
+
+-- filters that agree
+same_filter : (p q : List Datum → Bool) (rows : List (List Datum)) → All (λ row. p row ≡ q row) rows → filter p rows ≡ filter q rows
+same_filter p q [] all = refl
+same_filter p q (row ∷ rows) all =
+    let here : p row ≡ q row = All-head (λ r. p r ≡ q r) row rows all in
+    let rest = same_filter p q rows (All-tail (λ r. p r ≡ q r) row rows all) in
+    rw (here, rest) refl
+
+pub path_gives_covered : PathGivesCovered
+path_gives_covered descends o full columns search range rows entries covered entry_of fetch path sound =
     let within = is_within descends (from_cut descends range) (to_cut descends range) in
     let chosen : List Datum → Bool = λ row. are_true o (full row) (terms_of search) in
-    search_is_filter rows entries covered chosen entry_of within fetch (record {
-      entries = path.entries;
-      agree = λ k d lt.
-          let row = get_or rows k d in
-          let by = path.bounds k d lt in
-          let begins = path.begins k d lt in
-          cuts_are_range descends range (entry_of row) sound (narrow o (full row) range.lower range.upper search.lower search.upper columns range.equal search.equal (entry_of row) by begins)
-          ∙ meets_true o (full row) range.lower range.upper search.lower search.upper columns range.equal search.equal (entry_of row) by begins;
-      covers = path.covers;
-      back = path.back;
-    })
+    let agree : All (λ row. within (entry_of row) ≡ chosen row) rows = λ k d lt.
+    let row = get_or rows k d in
+    let by = path.bounds k d lt in
+    let begins = path.begins k d lt in
+    cuts_are_range descends range (entry_of row) sound (narrow o (full row) range.lower range.upper search.lower search.upper columns range.equal search.equal (entry_of row) by begins)
+    ∙ meets_true o (full row) range.lower range.upper search.lower search.upper columns range.equal search.equal (entry_of row) by begins in
+    let bag = IsPermutation-map fetch (filter within entries) (filter within (map entry_of (filter covered rows)))
+    (IsPermutation-filter within entries (map entry_of (filter covered rows)) path.entries) in
+    rw (kept covered chosen entry_of fetch within rows agree path.back) at bag
+
+pub path_is_filter : PathIsFilter
+path_is_filter descends o full columns search range rows entries covered entry_of fetch path sound covers =
+    let chosen : List Datum → Bool = λ row. are_true o (full row) (terms_of search) in
+    let bag = path_gives_covered descends o full columns search range rows entries covered entry_of fetch path sound in
+    let same : filter (λ row. covered row && chosen row) rows ≡ filter chosen rows
+    = same_filter (λ row. covered row && chosen row) chosen rows (λ k d lt. and_same (covered (get_or rows k d)) (chosen (get_or rows k d)) (covers k d lt)) in
+    rw same at bag
+  where
+    and_same : (c h : Bool) → (h ≡ true → c ≡ true) → (c && h) ≡ h
+    and_same true h covers = refl
+    and_same false true covers = cc (covers refl)
+    and_same false false covers = refl
+
+pub path_serves_tests : PathServesTests
+path_serves_tests descends o full columns search range rows entries covered entry_of fetch tests path sound own covers =
+    let chosen : List Datum → Bool = λ row. are_true o (full row) (terms_of search) in
+    let tested : List Datum → Bool = λ row. are_true o (full row) tests in
+    let found = found_by descends range fetch entries in
+    let bag = IsPermutation-filter tested found (filter (λ row. covered row && chosen row) rows)
+    (path_gives_covered descends o full columns search range rows entries covered entry_of fetch path sound) in
+    let both : All (λ row. tested row ≡ true → (covered row && chosen row) ≡ true) rows
+    = λ k d lt h. rw (covers k d lt h, own k d lt h) refl in
+    rw (filter_after tested (λ row. covered row && chosen row) rows both) at bag

@@ -1,5 +1,5 @@
 -- Which conjuncts imply a condition of a partial index. (Partial Indexes, "Queries Using Partial Indexes")
-use Rattle.std.specs.Prelude.{◌≡◌, ◌⊎◌, ◌↔◌, ◌<◌, Bool, true, false, ◌||◌, ℕ, nat_eq, length, if◌then◌else◌, List, Option, Some, None}
+use Rattle.std.specs.Prelude.{◌≡◌, ◌⊎◌, ◌↔◌, ◌<◌, Bool, true, false, ◌||◌, ℕ, ◌+◌, nat_eq, length, if◌then◌else◌, List, [], ◌∷◌, ◌++◌, Option, Some, None}
 use Rattle.std.specs.List.{Contains, HoldsAt}
 use Rattle.values.specs.Datum.{Datum, null}
 use Rattle.expr.specs.declared.operations.kinds.Function.TheVariants.{Not}
@@ -7,6 +7,7 @@ use Rattle.expr.specs.Conjuncts.{is_true}
 use Rattle.expr.specs.Meaning.{run}
 use Rattle.expr.specs.Term.{Term, call, compare, is, literal}
 use Rattle.index_choice.specs.ColumnBounds.{column_of}
+use Rattle.semantics_names.specs.Same.{is_same_term}
 
 abbrev pub is_null_literal : Term → Bool
 is_null_literal (literal null) = true
@@ -39,10 +40,26 @@ compares_some (Some c) t = compares c t
 abbrev pub Implies : Term → Term → Type 0
 Implies conjunct condition = (conjunct ≡ condition) ⊎ (compares_some (not_null_column condition) conjunct ≡ true)
 
+-- the same as a test
+abbrev pub implies : Term → Term → Bool
+implies conjunct condition = is_same_term conjunct condition || compares_some (not_null_column condition) conjunct
+
+-- the places, from one on, of those of these conjuncts that imply a condition
+abbrev pub implying_from : ℕ → Term → List Term → List ℕ
+implying_from at condition [] = []
+implying_from at condition (t ∷ ts) = (if implies t condition then at ∷ [] else []) ++ implying_from (at + 1) condition ts
+
+-- those of conjuncts that imply a condition
+abbrev pub implying : List Term → Term → List ℕ
+implying conjuncts condition = implying_from 0 condition conjuncts
+
 -- these are the places of the conjuncts of which each implies a condition
 abbrev pub AreImplying : List Term → Term → List ℕ → Type 0
 AreImplying conjuncts condition places =
     (at : ℕ) → Contains places at ↔ ((at < length conjuncts) × HoldsAt (λ conjunct. Implies conjunct condition) conjuncts at)
+
+abbrev pub ImplyingAreImplying : Type 0
+ImplyingAreImplying = (conjuncts : List Term) (condition : Term) → AreImplying conjuncts condition (implying conjuncts condition)
 
 -- where a conjunct is true on a row, so is a condition that it implies, whatever stands for results out of range, if
 -- anything does

@@ -2,15 +2,13 @@
 use Rattle.std.specs.Prelude.{All, ◌≡◌, ◌<◌, Bool, true, false, take, ◌&&◌, ◌||◌, if◌then◌else◌, ℕ, ◌+◌, nat_eq, nat_lt, List, [], ◌∷◌, ◌++◌, length, option_to_list, Option, Some, None, slice_get}
 use Rattle.std.specs.List.{HoldsAt, list_all, list_any}
 use Rattle.std.specs.Option.{option_and_then}
-use Rattle.index_choice.specs.declared.conjuncts.Conjunct.{Conjunct}
 use Rattle.index_choice.specs.declared.comparisons.Side.{Side}
 use Rattle.index_choice.specs.declared.comparisons.Side.TheVariants.{Equal, Lower, Upper}
-use Rattle.index_choice.specs.declared.sources.Key.{Key}
-use Rattle.index_choice.specs.declared.sources.Source.{Source}
 use Rattle.index_choice.specs.declared.choice.Search.{Search}
 use Rattle.index_choice.specs.declared.choice.Path.{Path}
-use Rattle.index_choice.specs.Bounds.{are_known, first_bound}
+use Rattle.index_choice.specs.Bounds.{ConjunctData, are_known, first_bound}
 use Rattle.index_choice.specs.Costs.{sharing, narrowed, search_cost}
+use Rattle.index_choice.specs.Sources.{KeyData, SourceData}
 
 -- A search of the key at a place of its source's. Its bounds are told by the places of their conjuncts: of equality for
 -- the first columns, and the lower and the upper one of the column behind these.
@@ -42,7 +40,7 @@ abbrev pub run_from : Option ℕ → List ℕ → List ℕ
 run_from None rest = []
 run_from (Some conjunct) rest = conjunct ∷ rest
 
-module _ (known : List Bool) (conjuncts : List Conjunct) where
+module _ (known : List Bool) (conjuncts : List ConjunctData) where
   -- equality bounds of the longest run of columns from the first on
   abbrev pub equal_run : List ℕ → List ℕ
   equal_run [] = []
@@ -52,12 +50,12 @@ module _ (known : List Bool) (conjuncts : List Conjunct) where
   abbrev pub next_bound : Side → List ℕ → ℕ → Option ℕ
   next_bound side columns at = option_and_then (first_bound known conjuncts side) (slice_get columns at)
 
-abbrev pub search_of : List Bool → List Conjunct → ℕ → Key → SearchData
+abbrev pub search_of : List Bool → List ConjunctData → ℕ → KeyData → SearchData
 search_of known conjuncts at key = record {
   key = at;
-  equal = equal_run known conjuncts key.columns.items;
-  lower = next_bound known conjuncts Lower key.columns.items (length (equal_run known conjuncts key.columns.items));
-  upper = next_bound known conjuncts Upper key.columns.items (length (equal_run known conjuncts key.columns.items));
+  equal = equal_run known conjuncts key.columns;
+  lower = next_bound known conjuncts Lower key.columns (length (equal_run known conjuncts key.columns));
+  upper = next_bound known conjuncts Upper key.columns (length (equal_run known conjuncts key.columns));
 }
 
 abbrev pub bound_count : Option ℕ → ℕ
@@ -67,10 +65,10 @@ bound_count (Some conjunct) = 1
 abbrev pub range_bounds : SearchData → ℕ
 range_bounds search = bound_count search.lower + bound_count search.upper
 
-abbrev pub search_rows : Key → SearchData → ℕ
-search_rows key search = narrowed (sharing key.entries key.distinct.items (length search.equal)) (range_bounds search)
+abbrev pub search_rows : KeyData → SearchData → ℕ
+search_rows key search = narrowed (sharing key.entries key.distinct (length search.equal)) (range_bounds search)
 
-abbrev pub path_of : Key → SearchData → PathData
+abbrev pub path_of : KeyData → SearchData → PathData
 path_of key search = record { search = Some search; cost = search_cost key.depth key.fetch (search_rows key search); rows = search_rows key search }
 
 -- ---- the keys that serve
@@ -78,37 +76,37 @@ path_of key search = record { search = Some search; cost = search_cost key.depth
 abbrev pub is_bounded : SearchData → Bool
 is_bounded search = nat_lt 0 (length search.equal + range_bounds search)
 
-abbrev pub usable_one : List Bool → Option Conjunct → Bool
+abbrev pub usable_one : List Bool → Option ConjunctData → Bool
 usable_one usable None = false
-usable_one usable (Some conjunct) = are_known usable conjunct.names.items
+usable_one usable (Some conjunct) = are_known usable conjunct.names
 
 -- the conjunct at a place names usable columns alone
-abbrev pub is_usable : List Bool → List Conjunct → ℕ → Bool
+abbrev pub is_usable : List Bool → List ConjunctData → ℕ → Bool
 is_usable usable conjuncts at = usable_one usable (slice_get conjuncts at)
 
 -- A condition of a partial index is implied by one of these conjuncts. (Partial Indexes, section 3.1)
-abbrev pub is_implied : List Bool → List Conjunct → List ℕ → Bool
+abbrev pub is_implied : List Bool → List ConjunctData → List ℕ → Bool
 is_implied usable conjuncts implying = list_any (is_usable usable conjuncts) implying
 
-abbrev pub serves : List Bool → List Bool → List Conjunct → Key → SearchData → Bool
-serves known usable conjuncts key search = list_all (λ implying. is_implied usable conjuncts implying.items) key.conditions.items && is_bounded search
+abbrev pub serves : List Bool → List Bool → List ConjunctData → KeyData → SearchData → Bool
+serves known usable conjuncts key search = list_all (is_implied usable conjuncts) key.conditions && is_bounded search
 
 -- the search of a key, where it serves
-abbrev pub served : List Bool → List Bool → List Conjunct → ℕ → Key → Option PathData
+abbrev pub served : List Bool → List Bool → List ConjunctData → ℕ → KeyData → Option PathData
 served known usable conjuncts at key =
     if serves known usable conjuncts key (search_of known conjuncts at key) then Some (path_of key (search_of known conjuncts at key)) else None
 
 -- the searches of keys from a place on, in their order
-abbrev pub searches : List Bool → List Bool → List Conjunct → ℕ → List Key → List PathData
+abbrev pub searches : List Bool → List Bool → List ConjunctData → ℕ → List KeyData → List PathData
 searches known usable conjuncts at [] = []
 searches known usable conjuncts at (key ∷ more) = option_to_list (served known usable conjuncts at key) ++ searches known usable conjuncts (at + 1) more
 
-abbrev pub scan_of : Source → PathData
+abbrev pub scan_of : SourceData → PathData
 scan_of source = record { search = None; cost = source.pages; rows = source.rows }
 
 -- the paths of a source by their rank: the scan, and the searches in the order of its keys
-abbrev pub paths_of : List Bool → List Bool → List Conjunct → Source → List PathData
-paths_of known usable conjuncts source = scan_of source ∷ searches known usable conjuncts 0 source.keys.items
+abbrev pub paths_of : List Bool → List Bool → List ConjunctData → SourceData → List PathData
+paths_of known usable conjuncts source = scan_of source ∷ searches known usable conjuncts 0 source.keys
 
 -- a path is taken rather than one of a lower rank: it costs less, or the same and gives fewer rows
 abbrev pub is_taken : PathData → PathData → Bool

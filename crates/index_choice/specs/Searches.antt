@@ -1,5 +1,5 @@
 -- What a search with its values stands for: the rows on which its conjuncts are true.
-use Rattle.std.specs.Prelude.{◌≡◌, Bool, true, false, ℕ, List, [], ◌∷◌, ◌++◌, All, IsPermutation, map, Option, Some, None, option_to_list, slice_index_or, ⊤}
+use Rattle.std.specs.Prelude.{◌≡◌, ◌&&◌, Bool, true, false, ℕ, List, [], ◌∷◌, ◌++◌, All, IsPermutation, map, Option, Some, None, option_to_list, slice_index_or, ⊤}
 use Rattle.std.specs.List.{Contains, filter, list_all}
 use Rattle.values.specs.Datum.{Datum, null}
 use Rattle.expr.specs.Conjuncts.{is_true}
@@ -59,16 +59,38 @@ pub record IsPathOf (o : Option Datum) (full : List Datum → List Datum) (colum
   pub entries : IsPermutation list (map entry_of (filter covered rows))
   pub bounds : All (λ row. AreBoundsBy o (full row) columns range.equal search.equal range.lower range.upper search.lower search.upper) rows
   pub begins : All (λ row. BeginsWith o (full row) columns (entry_of row)) rows
-  pub covers : All (λ row. are_true o (full row) (terms_of search) ≡ true → covered row ≡ true) rows
   pub back : All (λ row. fetch (entry_of row) ≡ row) rows
 
--- it gives exactly the rows on which its conjuncts are true, each as often; and where a bound is NULL there is none
+-- the rows of the entries that a search finds
+abbrev pub found_by : List Bool → Range → (List Datum → List Datum) → List (List Datum) → List (List Datum)
+found_by descends range fetch entries = map fetch (filter (is_within descends (from_cut descends range) (to_cut descends range)) entries)
+
+-- It gives exactly the rows that its key covers on which its conjuncts are true, each as often; and where a bound is NULL there
+-- is none.
+abbrev pub PathGivesCovered : Type 0
+PathGivesCovered = (descends : List Bool) (o : Option Datum) (full : List Datum → List Datum) (columns : List ℕ) (search : SearchTerms) (range : Range)
+    (rows entries : List (List Datum)) (covered : List Datum → Bool) (entry_of fetch : List Datum → List Datum)
+    → IsPathOf o full columns search range rows entries covered entry_of fetch → has_null range ≡ false
+    → IsPermutation (found_by descends range fetch entries) (filter (λ row. covered row && are_true o (full row) (terms_of search)) rows)
+
+-- So where these conjuncts imply that a row is covered, it gives exactly the rows on which they are true.
 abbrev pub PathIsFilter : Type 0
 PathIsFilter = (descends : List Bool) (o : Option Datum) (full : List Datum → List Datum) (columns : List ℕ) (search : SearchTerms) (range : Range)
     (rows entries : List (List Datum)) (covered : List Datum → Bool) (entry_of fetch : List Datum → List Datum)
     → IsPathOf o full columns search range rows entries covered entry_of fetch → has_null range ≡ false
-    → IsPermutation (map fetch (filter (is_within descends (from_cut descends range) (to_cut descends range)) entries))
-    (filter (λ row. are_true o (full row) (terms_of search)) rows)
+    → All (λ row. are_true o (full row) (terms_of search) ≡ true → covered row ≡ true) rows
+    → IsPermutation (found_by descends range fetch entries) (filter (λ row. are_true o (full row) (terms_of search)) rows)
+
+-- A partial index may be served by other conjuncts than those of its search: where all conjuncts of a SELECT that are tested on the
+-- row imply that it is covered, testing them on what the search gives keeps exactly the rows on which they are true. (Partial Indexes,
+-- "Queries Using Partial Indexes")
+abbrev pub PathServesTests : Type 0
+PathServesTests = (descends : List Bool) (o : Option Datum) (full : List Datum → List Datum) (columns : List ℕ) (search : SearchTerms) (range : Range)
+    (rows entries : List (List Datum)) (covered : List Datum → Bool) (entry_of fetch : List Datum → List Datum) (tests : List Term)
+    → IsPathOf o full columns search range rows entries covered entry_of fetch → has_null range ≡ false
+    → All (λ row. are_true o (full row) tests ≡ true → are_true o (full row) (terms_of search) ≡ true) rows
+    → All (λ row. are_true o (full row) tests ≡ true → covered row ≡ true) rows
+    → IsPermutation (filter (λ row. are_true o (full row) tests) (found_by descends range fetch entries)) (filter (λ row. are_true o (full row) tests) rows)
 
 abbrev pub NullGivesNone : Type 0
 NullGivesNone = (o : Option Datum) (row : List Datum) (columns : List ℕ) (search : SearchTerms) (range : Range) (entry : List Datum)

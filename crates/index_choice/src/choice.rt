@@ -1,6 +1,8 @@
 //! The paths of a source, and the least of them.
 ghost use Rattle.std.specs.Prelude.{◌≡◌, ◌<◌, ◌++◌, length, if◌then◌else◌, IfOk, OnOk, map, option_map, option_to_list};
 ghost use Rattle.std.specs.List.{list_all};
+ghost use Rattle.index_choice.specs.Bounds.{conjunct_data};
+ghost use Rattle.index_choice.specs.Sources.{key_data, source_data};
 ghost use Rattle.index_choice.specs.Paths.{IsLeastPath, bound_count, equal_run, is_bounded, is_implied, is_taken, is_usable, least_of, least_path, next_bound, path_data, path_of, paths_of, search_data, search_of, served};
 
 use crate::comparisons::Side;
@@ -9,7 +11,7 @@ use crate::costs::{agreeing, cost_of, let_through};
 use crate::sources::{Key, Source};
 use std::alloc::{AllocError, Global};
 
-/// A search of the key at a place of its source's. Its bounds are told by the places of their conjuncts.
+/// A search of the key at a place of its source's. A bound is named by the place of its conjunct.
 #[derive(Debug, Drop)]
 pub struct Search {
     pub key: usize,
@@ -33,7 +35,7 @@ fn run_of_equal(
     conjuncts: &[Conjunct],
     columns: &[usize],
 ) -> Result<Vec<usize>, AllocError>
-    ensures { IfOk result (λ run. run.items ≡ equal_run known.now conjuncts.now columns.now) }
+    ensures { IfOk result (λ run. run.items ≡ equal_run known.now (map conjunct_data conjuncts.now) columns.now) }
 {
     let mut run = Vec::new(alloc);
     for column in columns {
@@ -45,15 +47,15 @@ fn run_of_equal(
     Ok(run)
 }
 
-/// A bound of the column behind so many.
-fn bound_behind(
+/// A bound of the column after the first ones, `at` of them.
+fn bound_after(
     known: &[bool],
     conjuncts: &[Conjunct],
     side: Side,
     columns: &[usize],
     at: usize,
 ) -> Option<usize>
-    ensures { result ≡ next_bound known.now conjuncts.now side columns.now at }
+    ensures { result ≡ next_bound known.now (map conjunct_data conjuncts.now) side columns.now at }
 {
     match columns.get(at) {
         Some(column) => find_bound(known, conjuncts, side, *column),
@@ -69,11 +71,11 @@ fn search_key(
     at: usize,
     key: &Key,
 ) -> Result<Search, AllocError>
-    ensures { IfOk result (λ found. search_data found ≡ search_of known.now conjuncts.now at key.now) }
+    ensures { IfOk result (λ found. search_data found ≡ search_of known.now (map conjunct_data conjuncts.now) at (key_data key.now)) }
 {
     let equal = run_of_equal(alloc, known, conjuncts, &key.columns)?;
-    let lower = bound_behind(known, conjuncts, Side::Lower, &key.columns, equal.len());
-    let upper = bound_behind(known, conjuncts, Side::Upper, &key.columns, equal.len());
+    let lower = bound_after(known, conjuncts, Side::Lower, &key.columns, equal.len());
+    let upper = bound_after(known, conjuncts, Side::Upper, &key.columns, equal.len());
     Ok(Search {
         key: at,
         equal,
@@ -89,8 +91,9 @@ fn count_bound(bound: Option<usize>) -> usize
 }
 
 /// Whether the conjunct at a place names usable columns alone.
+#[tactic(auto, using(crate::proofs::MapLemmas::get_of_map))]
 fn usable_at(usable: &[bool], conjuncts: &[Conjunct], at: usize) -> bool
-    ensures { result ≡ is_usable usable.now conjuncts.now at }
+    ensures { result ≡ is_usable usable.now (map conjunct_data conjuncts.now) at }
 {
     match conjuncts.get(at) {
         Some(conjunct) => all_known(usable, &conjunct.names),
@@ -100,14 +103,14 @@ fn usable_at(usable: &[bool], conjuncts: &[Conjunct], at: usize) -> bool
 
 /// Whether one of the conjuncts that imply a condition can be used.
 fn any_usable(usable: &[bool], conjuncts: &[Conjunct], implying: &[usize]) -> bool
-    ensures { result ≡ is_implied usable.now conjuncts.now implying.now }
+    ensures { result ≡ is_implied usable.now (map conjunct_data conjuncts.now) implying.now }
 {
     implying.iter().any(|at| usable_at(usable, conjuncts, *at))
 }
 
 /// Whether each condition of a key is implied, so that it has every row that the conjuncts keep.
 fn all_implied(usable: &[bool], conjuncts: &[Conjunct], conditions: &[Vec<usize>]) -> bool
-    ensures { result ≡ list_all (λ implying. is_implied usable.now conjuncts.now implying.items) conditions.now }
+    ensures { result ≡ list_all (λ implying. is_implied usable.now (map conjunct_data conjuncts.now) implying.items) conditions.now }
 {
     conditions
         .iter()
@@ -123,7 +126,7 @@ fn has_bound(search: &Search) -> bool
 
 /// A search with what it is expected to give and to cost.
 fn path_by(key: &Key, found: Search) -> Path
-    ensures { path_data result ≡ path_of key.now (search_data found) }
+    ensures { path_data result ≡ path_of (key_data key.now) (search_data found) }
 {
     let ranges = count_bound(found.lower) + count_bound(found.upper);
     let rows = let_through(
@@ -138,6 +141,7 @@ fn path_by(key: &Key, found: Search) -> Path
 }
 
 /// The search of a key, where it serves.
+#[tactic(auto, using(crate::proofs::MapLemmas::all_implied_of))]
 fn path_of_key(
     alloc: Global,
     known: &[bool],
@@ -146,7 +150,7 @@ fn path_of_key(
     at: usize,
     key: &Key,
 ) -> Result<Option<Path>, AllocError>
-    ensures { IfOk result (λ path. option_map path_data path ≡ served known.now usable.now conjuncts.now at key.now) }
+    ensures { IfOk result (λ path. option_map path_data path ≡ served known.now usable.now (map conjunct_data conjuncts.now) at (key_data key.now)) }
 {
     let search = search_key(alloc, known, conjuncts, at, key)?;
     if all_implied(usable, conjuncts, &key.conditions) && has_bound(&search) {
@@ -175,7 +179,7 @@ pub fn paths(
     conjuncts: &[Conjunct],
     source: &Source,
 ) -> Result<Vec<Path>, AllocError>
-    ensures paths { IfOk result (λ paths. map path_data paths.items ≡ paths_of known.now usable.now conjuncts.now source.now) }
+    ensures paths { IfOk result (λ paths. map path_data paths.items ≡ paths_of known.now usable.now (map conjunct_data conjuncts.now) (source_data source.now)) }
     ensures some { IfOk result (λ paths. 0 < length paths.items) }
 {
     let mut paths = Vec::new(alloc);
@@ -204,7 +208,7 @@ fn better<'a>(path: &'a Path, other: &'a Path) -> &'a Path
     if precedes(other, path) { other } else { path }
 }
 
-/// The least of a path and those behind it.
+/// The least of a path and those after it.
 fn best_of<'a>(first: &'a Path, rest: &'a [Path]) -> &'a Path
     ensures { path_data result.now ≡ least_of (path_data first.entry.now) (map path_data rest.entry.now) }
 {
@@ -225,4 +229,45 @@ pub fn best(paths: &[Path]) -> &Path
         unreachable!()
     };
     best_of(first, rest)
+}
+
+/// A copy of a search.
+fn copy_search(alloc: Global, search: &Search) -> Result<Search, AllocError>
+    ensures { IfOk result (λ copy. search_data copy ≡ search_data search.now) }
+{
+    Ok(Search {
+        key: search.key,
+        equal: Vec::from_slice(alloc, &search.equal)?,
+        lower: search.lower,
+        upper: search.upper,
+    })
+}
+
+/// A copy of a path.
+fn copy_path(alloc: Global, path: &Path) -> Result<Path, AllocError>
+    ensures { IfOk result (λ copy. path_data copy ≡ path_data path.now) }
+{
+    let search = match &path.search {
+        Some(search) => Some(copy_search(alloc, search)?),
+        None => None,
+    };
+    Ok(Path {
+        search,
+        cost: path.cost,
+        rows: path.rows,
+    })
+}
+
+/// The least of the paths of a source. `known` and `usable` are those of `paths`.
+pub fn best_path(
+    alloc: Global,
+    known: &[bool],
+    usable: &[bool],
+    conjuncts: &[Conjunct],
+    source: &Source,
+) -> Result<Path, AllocError>
+    ensures { IfOk result (λ path. path_data path ≡ least_path (paths_of known.now usable.now (map conjunct_data conjuncts.now) (source_data source.now))) }
+{
+    let paths = paths(alloc, known, usable, conjuncts, source)?;
+    copy_path(alloc, best(&paths))
 }

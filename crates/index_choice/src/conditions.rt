@@ -2,11 +2,13 @@
 ghost use Rattle.std.specs.Prelude.{◌≡◌, ◌↔◌, IfOk, IsTrue, map};
 ghost use Rattle.expr.specs.View.{term};
 ghost use Rattle.index_choice.specs.ColumnBounds.{column_of};
-ghost use Rattle.index_choice.specs.Conditions.{AreImplying, Implies, compares, compares_some, is_column, is_null_literal, not_null_column, null_column};
+ghost use Rattle.index_choice.specs.Conditions as spec;
+ghost use Rattle.index_choice.specs.Conditions.{Implies, compares, compares_some, is_column, is_null_literal, not_null_column, null_column};
 
 use crate::comparisons::column_of;
 use expr::{Expr, Function};
 use expr_types::same_tree;
+use semantics_names::laws::same_is_equal;
 use std::alloc::{AllocError, Global};
 use values::Value;
 
@@ -68,8 +70,10 @@ fn compares_not_null(conjunct: &Expr, condition: &Expr) -> bool
 /// Whether a conjunct implies a condition: it is the same tree, or a comparison of a column that isn't NULL by the
 /// condition. (Partial Indexes, "Queries Using Partial Indexes")
 pub fn implies(conjunct: &Expr, condition: &Expr) -> bool
-    ensures { IsTrue result ↔ Implies (term conjunct.now) (term condition.now) }
+    ensures relation { IsTrue result ↔ Implies (term conjunct.now) (term condition.now) }
+    ensures test { result ≡ spec.implies (term conjunct.now) (term condition.now) }
 {
+    same_is_equal();
     same_tree(conjunct, condition) || compares_not_null(conjunct, condition)
 }
 
@@ -79,7 +83,7 @@ pub fn implying(
     conjuncts: &[Expr],
     condition: &Expr,
 ) -> Result<Vec<usize>, AllocError>
-    ensures { IfOk result (λ places. AreImplying (map term conjuncts.now) (term condition.now) places.items) }
+    ensures { IfOk result (λ places. places.items ≡ spec.implying (map term conjuncts.now) (term condition.now)) }
 {
     let mut places = Vec::new(alloc);
     for (at, conjunct) in conjuncts.iter().enumerate() {

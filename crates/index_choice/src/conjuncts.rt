@@ -1,7 +1,7 @@
 //! What a choice of paths sees of a conjunct: numbers alone.
-ghost use Rattle.std.specs.Prelude.{◌≡◌, ◌&&◌, ◌++◌, map, option_map, option_to_list, IfOk, OnOk};
+ghost use Rattle.std.specs.Prelude.{◌≡◌, ◌&&◌, ◌++◌, map, option_map, option_to_list, position, IfOk, OnOk};
 ghost use Rattle.expr.specs.View.{term};
-ghost use Rattle.index_choice.specs.Bounds.{IsConjunctOf, are_known, bound_data, bounds_column, first_bound, is_bound_on, same_side, seen_bound};
+ghost use Rattle.index_choice.specs.Bounds.{are_known, bound_data, conjunct_data, has_bound_on, is_bound_on, same_side, seen_bound, seen_of};
 ghost use Rattle.index_choice.specs.View.{bound_term};
 
 use crate::comparisons::{ColumnBound, Side, bounds};
@@ -47,7 +47,7 @@ pub(crate) fn all_known(known: &[bool], columns: &[usize]) -> bool
 impl Bound {
     /// Whether it bounds a column on a side, by a value of known columns alone.
     fn is_on(&self, known: &[bool], side: Side, column: usize) -> bool
-        ensures { result ≡ is_bound_on known.now side column self.now }
+        ensures { result ≡ is_bound_on known.now side column (bound_data self.now) }
     {
         same_side(self.side, side) && self.column == column && all_known(known, &self.over)
     }
@@ -80,7 +80,7 @@ fn push_bound(
 impl Conjunct {
     /// What is seen of an expression.
     pub fn new(alloc: Global, expr: &Expr) -> Result<Conjunct, AllocError>
-        ensures { IfOk result (λ conjunct. IsConjunctOf (term expr.now) conjunct) }
+        ensures { IfOk result (λ conjunct. conjunct_data conjunct ≡ seen_of (term expr.now)) }
     {
         let mut names = Vec::new(alloc);
         columns(expr, &mut names)?;
@@ -96,7 +96,7 @@ impl Conjunct {
 
     /// Whether it bounds a column on a side, by a value of known columns alone.
     fn bounds_column(&self, known: &[bool], side: Side, column: usize) -> bool
-        ensures { result ≡ bounds_column known.now side column self.now }
+        ensures { result ≡ has_bound_on known.now side column self.now }
     {
         self.bounds
             .iter()
@@ -111,7 +111,7 @@ pub(crate) fn find_bound(
     side: Side,
     column: usize,
 ) -> Option<usize>
-    ensures { result ≡ first_bound known.now conjuncts.now side column }
+    ensures { result ≡ position (has_bound_on known.now side column) conjuncts.now }
 {
     conjuncts
         .iter()

@@ -18,7 +18,7 @@ mod costs;
 pub mod laws;
 mod sources;
 
-pub use choice::{Path, Search, best, paths};
+pub use choice::{Path, Search, best, best_path, paths};
 pub use comparisons::{ColumnBound, Side, bounds};
 pub use conditions::{implies, implying};
 pub use conjuncts::{Bound, Conjunct};

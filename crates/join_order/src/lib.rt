@@ -14,6 +14,6 @@ mod price;
 mod search;
 mod sums;
 
-pub use joined::Joined;
+pub use joined::{Joined, path_after};
 pub use price::{Price, Pricing};
 pub use search::{Order, least_order};

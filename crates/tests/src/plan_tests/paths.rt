@@ -1,7 +1,7 @@
 //! The paths of worked tables, with what they are expected to cost and to give.
 
 use expr::{Comparison, Expr, Function};
-use index_choice::{Conjunct, Key, Path, Source, TreeCounts, best, implying, paths};
+use index_choice::{Conjunct, Key, Path, Source, TreeCounts, best, best_path, implying, paths};
 use std::alloc::{AllocError, Global};
 use std::test::Fail;
 use values::Value;
@@ -134,8 +134,13 @@ fn has_paths(
     let known = [false, false, false, true, true, true];
     let found = paths(alloc, &known, &[true; 6], &seen, source)?;
     let taken = best(&found);
+    let least = best_path(alloc, &known, &[true; 6], &seen, source)?;
     let (cost, rows) = case.paths.get(case.best).copied().unwrap_or((0, 0));
-    Ok(are_costs(&found, case.paths) && taken.cost == cost && taken.rows == rows)
+    Ok(
+        are_costs(&found, case.paths)
+            && (taken.cost, taken.rows) == (cost, rows)
+            && (least.cost, least.rows) == (cost, rows),
+    )
 }
 
 /// The scan is rank 0; `label` is column 1 and `w` column 2.
