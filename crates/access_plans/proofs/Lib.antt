@@ -1,0 +1,3 @@
+pub mod OneLemmas
+pub mod RunLemmas
+pub mod WorkedLemmas

@@ -1,0 +1,9 @@
+pub mod Choice
+pub mod Keyed
+pub mod KeyView
+pub mod Moved
+pub mod Plans
+pub mod PlanView
+pub mod Runs
+pub mod RunView
+pub mod Worked
