@@ -1,6 +1,7 @@
 -- The text of a plan: a line for each source and for what is computed of them. (EXPLAIN QUERY PLAN)
 use Rattle.std.specs.Prelude.{Bool, true, false, ◌-◌, ℕ, suc, if◌then◌else◌, List, [], ◌∷◌, ◌++◌, codes, length, map, Option, Some, None, option_to_list, replicate, slice_get, take}
 use Rattle.std.specs.List.{flat_map}
+use Rattle.access_plans.specs.PlanView.{SelectData}
 use Rattle.access_plans.specs.Plans.{Access, Inner, Opened, Plan, SearchPlanData}
 use Rattle.access_plans.specs.declared.keys.SearchedKey.{SearchedKey}
 use Rattle.access_plans.specs.declared.keys.SearchedKey.TheVariants as k
@@ -102,6 +103,11 @@ joined_by_and [] = []
 joined_by_and (text ∷ []) = text
 joined_by_and (text ∷ more) = text ++ codes " AND " ++ joined_by_and more
 
+-- what comes before a bound after these
+abbrev pub after_and : List ℕ → List ℕ
+after_and [] = []
+after_and (c ∷ text) = (c ∷ text) ++ codes " AND "
+
 abbrev pub bound_text : Name → List ℕ → Option BoundPlace → List (List ℕ)
 bound_text name sign None = []
 bound_text name sign (Some bound) = (name ++ sign) ∷ []
@@ -136,62 +142,66 @@ abbrev pub or_constant : ℕ → Opened → List LineData → List LineData
 or_constant depth Opened.none lines = line depth (codes "CONSTANT ROW") ∷ []
 or_constant depth opened lines = lines
 
-module _ (tables : List TableData) (indexes : List IndexData) (items : List ItemLabels) where
-  abbrev pub index_place : Option IndexData → ℕ → Option ℕ
-  index_place None at = None
-  index_place (Some index) at = slice_get (map (λ column. column.place) index.columns) at
+abbrev pub index_place : Option IndexData → ℕ → Option ℕ
+index_place None at = None
+index_place (Some index) at = slice_get (map (λ column. column.place) index.columns) at
 
-  abbrev pub primary_place : RowKeyData → ℕ → Option ℕ
-  primary_place (RowKeyData.Rowid place) at = None
-  primary_place (RowKeyData.Primary places) at = slice_get places at
+abbrev pub primary_place : RowKeyData → ℕ → Option ℕ
+primary_place (RowKeyData.Rowid place) at = None
+primary_place (RowKeyData.Primary places) at = slice_get places at
 
+abbrev pub index_name : Option IndexData → Name
+index_name None = []
+index_name (Some index) = index.name
+
+module _ (indexes : List IndexData) where
   -- the place in its table of a column of a key
   abbrev pub key_place : RowKeyData → SearchedKey → ℕ → Option ℕ
   key_place key k.Rowid at = rowid_of key
   key_place key k.Primary at = primary_place key at
   key_place key (k.Index index) at = index_place (slice_get indexes index) at
 
-  abbrev pub index_name : Option IndexData → Name
-  index_name None = []
-  index_name (Some index) = index.name
+  abbrev pub key_column : TableData → SearchedKey → ℕ → Name
+  key_column table key at = column_name table.columns (key_place table.key key at)
 
   abbrev pub key_text : SearchedKey → List ℕ
   key_text k.Rowid = codes "INTEGER PRIMARY KEY"
   key_text k.Primary = codes "PRIMARY KEY"
   key_text (k.Index at) = codes "INDEX " ++ index_name (slice_get indexes at)
 
-  abbrev pub name_of : Option TableData → Name
-  name_of None = []
-  name_of (Some table) = table.name
+  -- a search of a table that is shown by this name
+  abbrev pub search_text : TableData → List ℕ → SearchPlanData → List ℕ
+  search_text table name search =
+      codes "SEARCH " ++ name ++ codes " USING " ++ key_text search.key ++ codes " (" ++ bounds_text (key_column table search.key) search ++ codes ")"
 
+  -- the line of one of these tables that is searched, if it is there
+  abbrev pub search_line : Option TableData → Option Name → SearchPlanData → List ℕ → List ℕ
+  search_line None alias search ending = []
+  search_line (Some table) alias search ending = search_text table (named table.name alias) search ++ ending
+
+abbrev pub name_of : Option TableData → Name
+name_of None = []
+name_of (Some table) = table.name
+
+abbrev pub item_name : Option ItemLabels → Name
+item_name None = codes "(subquery)"
+item_name (Some item) = item.name
+
+abbrev pub item_query : Option ItemLabels → List SelectLabels
+item_query None = []
+item_query (Some item) = selects_in item.query
+
+module _ (tables : List TableData) where
   abbrev pub table_name : TableAt → Name
   table_name (t.Table at) = name_of (slice_get tables at)
   table_name t.Schema = codes "sqlite_schema"
 
-  abbrev pub search_text : Option TableData → Option Name → SearchPlanData → List ℕ
-  search_text None alias search = []
-  search_text (Some table) alias search =
-      codes "SEARCH " ++ named table.name alias ++ codes " USING " ++ key_text search.key
-      ++ codes " (" ++ bounds_text (λ at. column_name table.columns (key_place table.key search.key at)) search ++ codes ")"
-
-  -- the line of a search, and its end, if the table is there
-  abbrev pub search_line : Option TableData → Option Name → SearchPlanData → List ℕ → List ℕ
-  search_line None alias search ending = []
-  search_line (Some table) alias search ending = search_text (Some table) alias search ++ ending
-
-  abbrev pub item_name : Option ItemLabels → Name
-  item_name None = codes "(subquery)"
-  item_name (Some item) = item.name
-
+module _ (items : List ItemLabels) where
   -- a query in FROM is called by its alias, or else as the item of WITH that it is
   abbrev pub query_name : Option Label → Option Name → List ℕ
   query_name label (Some alias) = alias
   query_name (Some (Label.item at alias)) None = item_name (slice_get items at)
   query_name _ None = codes "(subquery)"
-
-  abbrev pub item_query : Option ItemLabels → List SelectLabels
-  item_query None = []
-  item_query (Some item) = selects_in item.query
 
   -- the labels of the SELECTs of a query in FROM
   abbrev pub labels_inside : Option Label → List SelectLabels
@@ -199,6 +209,7 @@ module _ (tables : List TableData) (indexes : List IndexData) (items : List Item
   labels_inside (Some (Label.item at alias)) = item_query (slice_get items at)
   labels_inside _ = []
 
+module _ (tables : List TableData) (indexes : List IndexData) (items : List ItemLabels) where
   abbrev mutual
     pub plan_lines : ℕ → Plan → List SelectLabels → List LineData
     plan_lines depth (Plan.select run opened inner clauses) labels =
@@ -217,16 +228,21 @@ module _ (tables : List TableData) (indexes : List IndexData) (items : List Item
 
     pub access_lines : ℕ → JoinKind → Access → Option Label → List LineData
     access_lines depth kind (Access.scan at) label =
-        line depth (codes "SCAN " ++ named (table_name at) (alias_of label) ++ join_text kind) ∷ []
+        line depth (codes "SCAN " ++ named (table_name tables at) (alias_of label) ++ join_text kind) ∷ []
     access_lines depth kind (Access.search at search) label =
-        line depth (search_line (slice_get tables at) (alias_of label) search (join_text kind)) ∷ []
+        line depth (search_line indexes (slice_get tables at) (alias_of label) search (join_text kind)) ∷ []
     access_lines depth kind (Access.materialized plan) label =
-        line depth (codes "MATERIALIZE " ++ query_name label (alias_of label) ++ join_text kind) ∷ plan_lines (suc depth) plan (labels_inside label)
+        line depth (codes "MATERIALIZE " ++ query_name items label (alias_of label) ++ join_text kind) ∷ plan_lines (suc depth) plan (labels_inside items label)
 
     pub inner_lines : ℕ → ℕ → Inner → List QueryLabels → List LineData
     inner_lines depth at Inner.no_more labels = []
     inner_lines depth at (Inner.more plan rest) labels =
         line depth (codes "SUBQUERY") ∷ plan_lines (suc depth) plan (query_at labels at) ++ inner_lines depth (suc at) rest labels
+
+  -- those of one SELECT
+  abbrev pub select_lines : ℕ → SelectData → Option SelectLabels → List LineData
+  select_lines depth s label =
+      or_constant depth s.opened (opened_lines depth s.opened (sources_of label)) ++ inner_lines depth 0 s.inner (inner_of label) ++ clause_lines depth s.clauses
 
   -- a whole statement: ORDER BY and LIMIT come last
   abbrev pub statement_lines : Plan → QueryLabels → Bool → Bool → List LineData

@@ -1,4 +1,12 @@
 //! Sources as texts.
+ghost use Rattle.std.specs.Prelude.{◌≡◌, ◌++◌, IfOk, Some, codes, map, option_map, slice_get, string_bytes};
+ghost use Rattle.access_plans.specs.PlanView.{search_data};
+ghost use Rattle.explain_labels.specs.View.{item_labels_of, label_of};
+ghost use Rattle.explain_plans.specs.Lines as spec;
+ghost use Rattle.explain_plans.specs.Lines.{named};
+ghost use Rattle.explain_plans.specs.Shown.{label_at};
+ghost use Rattle.schema.specs.indexes.IndexView.{index_data};
+ghost use Rattle.semantics_names.specs.Sources.{kind_of};
 
 use crate::searches::search_text;
 use access_plans::{SearchPlan, TableAt};
@@ -17,7 +25,9 @@ pub(crate) struct Shown<'a> {
 }
 
 /// What ends the line of a source right of an outer join.
-fn join_text(join: Join) -> &'static str {
+fn join_text(join: Join) -> &'static str
+    ensures { result.now ≡ spec.join_text (kind_of join) }
+{
     match join {
         Join::Inner => "",
         Join::Left => " LEFT",
@@ -27,7 +37,9 @@ fn join_text(join: Join) -> &'static str {
 }
 
 /// The alias that is written for a source.
-fn alias_of(label: &SourceLabel) -> Option<&str> {
+fn alias_of(label: &SourceLabel) -> Option<&str>
+    ensures { option_map (λ alias. alias.now) result ≡ spec.alias_of (Some (label_of label.entry.now)) }
+{
     match label {
         SourceLabel::Table(alias) | SourceLabel::Item(_, alias) | SourceLabel::Derived(_, alias) =>
             {
@@ -40,11 +52,9 @@ fn alias_of(label: &SourceLabel) -> Option<&str> {
 }
 
 /// The name of a table, as it was declared, and after it the alias that is written.
-fn table_name(
-    alloc: Global,
-    name: &str,
-    label: Option<&SourceLabel>,
-) -> Result<String, AllocError> {
+fn table_name(alloc: Global, name: &str, label: Option<&SourceLabel>) -> Result<String, AllocError>
+    ensures { IfOk result (λ text. string_bytes text ≡ named name.now (spec.alias_of (label_at label))) }
+{
     match label.and_then(|label| alias_of(label)) {
         Some(alias) => format!(in alloc; "{name} AS {alias}"),
         None => String::from_str(alloc, name),
@@ -58,7 +68,9 @@ pub(crate) fn scan_line(
     table: TableAt,
     label: Option<&SourceLabel>,
     join: Join,
-) -> Result<String, AllocError> {
+) -> Result<String, AllocError>
+    ensures { IfOk result (λ text. string_bytes text ≡ codes "SCAN " ++ named (spec.table_name shown.tables.now table) (spec.alias_of (label_at label)) ++ spec.join_text (kind_of join)) }
+{
     let declared = match table {
         TableAt::Schema => "sqlite_schema",
         TableAt::Table(at) => match shown.tables.get(at) {
@@ -79,7 +91,10 @@ pub(crate) fn search_line(
     search: &SearchPlan,
     label: Option<&SourceLabel>,
     join: Join,
-) -> Result<String, AllocError> {
+) -> Result<String, AllocError>
+    ensures { IfOk result (λ text. string_bytes text ≡ spec.search_line (map index_data shown.indexes.now) (slice_get shown.tables.now at) (spec.alias_of (label_at label))
+        (search_data search.now) (spec.join_text (kind_of join))) }
+{
     let Some(table) = shown.tables.get(at) else {
         return Ok(String::new(alloc));
     };
@@ -90,7 +105,9 @@ pub(crate) fn search_line(
 }
 
 /// What a query in FROM is called: by its alias, or else by the item of WITH that it is.
-fn query_name<'a>(shown: Shown<'a>, label: Option<&'a SourceLabel>) -> &'a str {
+fn query_name<'a>(shown: Shown<'a>, label: Option<&'a SourceLabel>) -> &'a str
+    ensures { result.now ≡ spec.query_name (map item_labels_of shown.items.entry.now) (label_at label) (spec.alias_of (label_at label)) }
+{
     let Some(label) = label else {
         return "(subquery)";
     };
@@ -112,7 +129,10 @@ pub(crate) fn materialized_line(
     shown: Shown<'_>,
     label: Option<&SourceLabel>,
     join: Join,
-) -> Result<String, AllocError> {
+) -> Result<String, AllocError>
+    ensures { IfOk result (λ text. string_bytes text ≡ codes "MATERIALIZE " ++ spec.query_name (map item_labels_of shown.items.now) (label_at label) (spec.alias_of (label_at label))
+        ++ spec.join_text (kind_of join)) }
+{
     let name = query_name(shown, label);
     let tail = join_text(join);
     format!(in alloc; "MATERIALIZE {name}{tail}")
