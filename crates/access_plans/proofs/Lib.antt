@@ -1,3 +1,10 @@
 pub mod OneLemmas
 pub mod RunLemmas
 pub mod WorkedLemmas
+pub mod ColumnLemmas
+pub mod KeyLemmas
+pub mod MovedLemmas
+pub mod WindowLemmas
+pub mod TableLemmas
+pub mod OpeningLemmas
+pub mod LeadingLemmas

@@ -32,14 +32,14 @@ Fresh placed q = Contains placed q → ⊥
 
 -- ---- how a source at a place is opened
 
-head_at : (at : ℕ) (kind : JoinKind) (access : Access) (rest : Opened) → access_at (Opened.next at kind access rest) at ≡ Some access
+pub head_at : (at : ℕ) (kind : JoinKind) (access : Access) (rest : Opened) → access_at (Opened.next at kind access rest) at ≡ Some access
 head_at at kind access rest = by-test (nat_eq at at) (eq-eqb at at refl)
   where
     by-test : (t : Bool) → t ≡ true → (if t then Some access else access_at rest at) ≡ Some access
     by-test true e = refl
     by-test false e = cc
 
-tail_at : (at p : ℕ) (kind : JoinKind) (access : Access) (rest : Opened) → (at ≡ p → ⊥) → access_at (Opened.next at kind access rest) p ≡ access_at rest p
+pub tail_at : (at p : ℕ) (kind : JoinKind) (access : Access) (rest : Opened) → (at ≡ p → ⊥) → access_at (Opened.next at kind access rest) p ≡ access_at rest p
 tail_at at p kind access rest differ = by-test (nat_eq at p) refl
   where
     by-test : (t : Bool) → nat_eq at p ≡ t → (if t then Some access else access_at rest p) ≡ access_at rest p
@@ -76,7 +76,7 @@ same_tail at place other p left right a b rest more is also differ e =
 
 -- ---- the leading run is the beginning of the sources
 
-leading_at : (sources : List JoinedData) (at : ℕ) (j : JoinedData) → slice_get (leading sources) at ≡ Some j → slice_get sources at ≡ Some j
+pub leading_at : (sources : List JoinedData) (at : ℕ) (j : JoinedData) → slice_get (leading sources) at ≡ Some j → slice_get sources at ≡ Some j
 leading_at [] at j e = cc
 leading_at (x ∷ xs) at j e = by-kind (is_inner x.kind) (λ n. leading_at xs n j) at e
   where
@@ -85,7 +85,7 @@ leading_at (x ∷ xs) at j e = by-kind (is_inner x.kind) (λ n. leading_at xs n 
     by-kind true again (suc at) e = again at e
     by-kind false again at e = cc
 
-after_at : (sources : List JoinedData) (at : ℕ) (j : JoinedData) → slice_get (after_leading sources) at ≡ Some j → slice_get sources (length (leading sources) + at) ≡ Some j
+pub after_at : (sources : List JoinedData) (at : ℕ) (j : JoinedData) → slice_get (after_leading sources) at ≡ Some j → slice_get sources (length (leading sources) + at) ≡ Some j
 after_at [] at j e = cc
 after_at (x ∷ xs) at j e = by-kind (is_inner x.kind) (after_at xs at j) e
   where
@@ -169,7 +169,7 @@ module _ (c : Counted) (sources : List JoinedData) where
 
 -- ---- SELECTs in one another
 
-pushed_at : (xs : List JoinedData) (x j : JoinedData) (p : ℕ) → slice_get (xs ++ x ∷ []) p ≡ Some j → (slice_get xs p ≡ Some j) ⊎ ((p ≡ length xs) × (x ≡ j))
+pub pushed_at : (xs : List JoinedData) (x j : JoinedData) (p : ℕ) → slice_get (xs ++ x ∷ []) p ≡ Some j → (slice_get xs p ≡ Some j) ⊎ ((p ≡ length xs) × (x ≡ j))
 pushed_at [] x j zero e = inr (refl, cc)
 pushed_at [] x j (suc p) e = cc
 pushed_at (y ∷ ys) x j zero e = inl e

@@ -44,9 +44,11 @@ counted_tables (t ∷ ts) (tree ∷ trees) (key ∷ keys) =
     record { table = t; tree = tree; distinct = key.distinct.items } ∷ counted_tables ts trees keys
 counted_tables ts trees keys = []
 
+abbrev pub counted_index : IndexData → IndexCounts → CountedIndex
+counted_index index counts = record { index = index; tree = counts.tree; distinct = counts.distinct.items }
+
 abbrev pub counted_indexes : List IndexData → List IndexCounts → List CountedIndex
-counted_indexes (index ∷ indexes) (counts ∷ rest) =
-    record { index = index; tree = counts.tree; distinct = counts.distinct.items } ∷ counted_indexes indexes rest
+counted_indexes (index ∷ indexes) (counts ∷ rest) = counted_index index counts ∷ counted_indexes indexes rest
 counted_indexes indexes rest = []
 
 abbrev pub counted : CheckedData → Counted
@@ -69,48 +71,57 @@ pub record KeyedSource : Type 0 where
   pub source : SourceData
   pub keys : List SearchedKey
 
+-- the places of columns of a table in the row of FROM, in which so many others come before them
+abbrev pub in_from : ℕ → List ℕ → List ℕ
+in_from first places = map (λ place. first + place) places
+
+-- the conjuncts of an index's condition there
+abbrev pub conditions_of : ℕ → Option Term → List Term
+conditions_of first None = []
+conditions_of first (Some t) = conjuncts (moved first t)
+
+abbrev pub named_by : Option Term → List ℕ
+named_by None = []
+named_by (Some t) = columns_of t
+
+abbrev pub places_of : IndexData → List ℕ
+places_of index = map (λ column. column.place) index.columns
+
+-- all of these columns are a table's, of so many
+abbrev pub are_own : ℕ → List ℕ → Bool
+are_own width places = list_all (λ place. nat_lt place width) places
+
 -- a table's columns are `width` of the row of FROM, after the first ones
 module _ (first width : ℕ) where
   -- a key over other columns than the table's is none
   abbrev pub where_own : List ℕ → Keyed → List Keyed
-  where_own places key = if list_all (λ place. nat_lt place width) places then key ∷ [] else []
-
-  abbrev pub in_from : List ℕ → List ℕ
-  in_from places = map (λ place. first + place) places
+  where_own places key = if are_own width places then key ∷ [] else []
 
   -- the places in the row of FROM of these columns, if they are the table's
   abbrev pub own_places : List ℕ → Option (List ℕ)
-  own_places places = if list_all (λ place. nat_lt place width) places then Some (in_from places) else None
+  own_places places = if are_own width places then Some (in_from first places) else None
 
   -- the primary key of a table, where it can be searched by one
   abbrev pub primary_of : RowKeyData → TreeCounts → List ℕ → List Keyed
   primary_of (RowKeyData.Rowid None) t distinct = []
   primary_of (RowKeyData.Rowid (Some place)) t distinct = where_own (place ∷ []) (record { key = s.rowid_key (first + place) t; is = k.Rowid })
-  primary_of (RowKeyData.Primary places) t distinct = where_own places (record { key = s.primary_key (in_from places) distinct t; is = k.Primary })
-
-  abbrev pub conditions_of : Option Term → List Term
-  conditions_of None = []
-  conditions_of (Some t) = conjuncts (moved first t)
-
-  abbrev pub named_by : Option Term → List ℕ
-  named_by None = []
-  named_by (Some t) = columns_of t
-
-  abbrev pub places_of : IndexData → List ℕ
-  places_of index = map (λ column. column.place) index.columns
+  primary_of (RowKeyData.Primary places) t distinct = where_own places (record { key = s.primary_key (in_from first places) distinct t; is = k.Primary })
 
   -- an index by its declared columns, with the places of the conjuncts that imply each conjunct of its condition
   abbrev pub index_of : List Term → TreeCounts → ℕ → CountedIndex → List Keyed
   index_of terms t at c = where_own (places_of c.index ++ named_by c.index.condition) (record {
-    key = s.index_key (in_from (places_of c.index)) (map (implying terms) (conditions_of c.index.condition)) c.distinct (counts_of c.tree) t;
+    key = s.index_key (in_from first (places_of c.index)) (map (implying terms) (conditions_of first c.index.condition)) c.distinct (counts_of c.tree) t;
     is = k.Index at;
   })
+
+  -- the index at a place of the catalog, if it is one of this table's
+  abbrev pub table_index : List Term → TableData → TreeCounts → ℕ → CountedIndex → List Keyed
+  table_index terms its t at c = if same_name c.index.table its.name then index_of terms t at c else []
 
   -- those of a table among these, from a place of the catalog on
   abbrev pub index_keys : List Term → TableData → TreeCounts → ℕ → List CountedIndex → List Keyed
   index_keys terms its t at [] = []
-  index_keys terms its t at (c ∷ rest) =
-      (if same_name c.index.table its.name then index_of terms t at c else []) ++ index_keys terms its t (at + 1) rest
+  index_keys terms its t at (c ∷ rest) = table_index terms its t at c ++ index_keys terms its t (at + 1) rest
 
 abbrev pub keyed : ℕ → TreeCounts → List Keyed → KeyedSource
 keyed width t keys = record { source = s.table_source width t (map (λ x. x.key) keys); keys = map (λ x. x.is) keys }

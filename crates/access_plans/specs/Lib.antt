@@ -2,6 +2,7 @@ pub mod Choice
 pub mod Keyed
 pub mod KeyView
 pub mod Moved
+pub mod Opening
 pub mod Plans
 pub mod PlanView
 pub mod Runs

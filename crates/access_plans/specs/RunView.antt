@@ -5,7 +5,7 @@ use Rattle.expr.specs.View.{term}
 use Rattle.access_plans.specs.Choice.{opened_by, seen_sources}
 use Rattle.access_plans.specs.Keyed.{Counted, KeyedSource}
 use Rattle.access_plans.specs.Plans.{Access}
-use Rattle.access_plans.specs.Runs.{leading, run_conjuncts, sources_in}
+use Rattle.access_plans.specs.Runs.{leading, run_conjuncts}
 use Rattle.access_plans.specs.declared.keys.SearchedKey.{SearchedKey}
 use Rattle.access_plans.specs.declared.leading.Run.{Run}
 use Rattle.access_plans.specs.declared.plans.TableAt.{TableAt}
@@ -14,7 +14,7 @@ use Rattle.index_choice.specs.Bounds.{ConjunctData, conjunct_data, seen_of}
 use Rattle.index_choice.specs.Sources.{SourceData, source_data}
 use Rattle.join_order.specs.Joined.{path_of_source, source_price}
 use Rattle.join_order.specs.Orders.{IsLeastOrder}
-use Rattle.resolver_bodies.specs.BodyView.{SingleData}
+use Rattle.resolver_bodies.specs.BodyView.{JoinedData}
 
 pub record RunData : Type 0 where
   pub terms : List Term
@@ -32,18 +32,17 @@ run_data r = record {
   order = r.order.items;
 }
 
--- the sources of a SELECT's run as a choice of paths sees them
-abbrev pub run_sources : Counted → SingleData → List KeyedSource
-run_sources c single =
-    seen_sources c 0 (run_conjuncts (sources_in single.from) single.select.condition) (leading (sources_in single.from))
+-- the sources of a run as a choice of paths sees them
+abbrev pub run_sources : Counted → List JoinedData → Term → List KeyedSource
+run_sources c sources condition = seen_sources c 0 (run_conjuncts sources condition) (leading sources)
 
--- it is the run of this SELECT, in an order of least cost
-pub record IsRunOf (c : Counted) (single : SingleData) (run : RunData) : Type 0 where
-  pub terms : run.terms ≡ run_conjuncts (sources_in single.from) single.select.condition
-  pub seen : run.seen ≡ map seen_of run.terms
-  pub sources : run.sources ≡ map (λ s. s.source) (run_sources c single)
-  pub keys : run.keys ≡ map (λ s. s.keys) (run_sources c single)
-  pub order : IsLeastOrder (source_price run.sources run.seen) (length (leading (sources_in single.from))) run.order
+-- it is the run of a SELECT of these sources with this WHERE, in an order of least cost
+pub record IsRunOf (c : Counted) (sources : List JoinedData) (condition : Term) (run : RunData) : Type 0 where
+  pub terms_are : run.terms ≡ run_conjuncts sources condition
+  pub seen_are : run.seen ≡ map seen_of run.terms
+  pub sources_are : run.sources ≡ map (λ s. s.source) (run_sources c sources condition)
+  pub keys_are : run.keys ≡ map (λ s. s.keys) (run_sources c sources condition)
+  pub least : IsLeastOrder (source_price run.sources run.seen) (length (leading sources)) run.order
 
 -- the table at a place of it, after those that are placed
 abbrev pub access_in : RunData → TableAt → List ℕ → ℕ → Option SourceData → Option (List SearchedKey) → Access

@@ -1,10 +1,12 @@
 //! What a SELECT computes after its FROM.
-ghost use Rattle.std.specs.Prelude.{◌≡◌, ◌↔◌, Contains, IfOk, IsTrue, map, option_map};
+ghost use Rattle.std.specs.Prelude.{◌≡◌, ◌↔◌, Contains, IfOk, IsTrue, length, map, option_map};
 ghost use Rattle.access_plans.specs.Choice as spec;
+ghost use Rattle.access_plans.specs.Choice.{different};
 ghost use Rattle.resolver_terms.specs.SelectView.{call_of, grouping_of, select_of};
 
 use crate::plans::{Clauses, Groups};
 use resolver_terms::{Grouping, Select, WindowCall, WindowFunction, copy_window, same_call};
+use semantics_names::laws::same_is_equal;
 use std::alloc::{AllocError, Global};
 
 /// The groups of a SELECT.
@@ -26,7 +28,10 @@ fn is_among(calls: &[WindowCall], call: &WindowCall) -> bool
 }
 
 /// `row_number()` over each different window of these calls: calls of it are the same exactly where their windows are.
-fn numbered_windows(alloc: Global, calls: &[WindowCall]) -> Result<Vec<WindowCall>, AllocError> {
+fn numbered_windows(alloc: Global, calls: &[WindowCall]) -> Result<Vec<WindowCall>, AllocError>
+    ensures { IfOk result (λ met. length met.items ≡ length (different (map (λ call. call.window) (map call_of calls.now)))) }
+{
+    same_is_equal();
     let mut met = Vec::new(alloc);
     for call in calls {
         let numbered = WindowCall {

@@ -1,16 +1,16 @@
 //! The keys by which a table can be searched. `own` has the places of its columns in the row of FROM, in their order.
-ghost use Rattle.std.specs.Prelude.{◌≡◌, ◌<◌, ℕ, All, IfOk, length, map, nat_lt, option_map, option_to_list};
-ghost use Rattle.std.specs.List.{list_all, range_with_len};
+ghost use Rattle.std.specs.Prelude.{◌≡◌, ◌<◌, ◌+◌, ◌++◌, ℕ, All, IfOk, Some, None, if◌then◌else◌, length, map, nat_lt, option_map, option_to_list, replicate};
+ghost use Rattle.std.specs.List.{range_with_len};
 ghost use Rattle.expr.specs.Columns.{columns_of};
 ghost use Rattle.expr.specs.Conjuncts.{conjuncts};
 ghost use Rattle.expr.specs.View.{term};
 ghost use Rattle.access_plans.specs.Keyed as spec;
-ghost use Rattle.access_plans.specs.Keyed.{conditions_of, index_of, named_by, own_places, places_of, primary_of};
-ghost use Rattle.access_plans.specs.KeyView.{keyed_data};
+ghost use Rattle.access_plans.specs.Keyed.{are_own, conditions_of, counted_index, index_of, named_by, own_places, places_of, primary_of};
+ghost use Rattle.access_plans.specs.KeyView.{keyed_as, keyed_data};
 ghost use Rattle.access_plans.specs.Moved.{moved};
 ghost use Rattle.access_plans.specs.declared.keys.SearchedKey.TheVariants.{Index};
 ghost use Rattle.index_choice.specs.Conditions.{implying as spec_implying};
-ghost use Rattle.index_choice.specs.Sources.{condition_places, key_data};
+ghost use Rattle.index_choice.specs.Sources.{condition_places, key_data, primary_key as primary_data, rowid_key as rowid_data};
 ghost use Rattle.schema.specs.indexes.IndexView.{index_data};
 
 use expr::{Expr, Leaves, columns, conjuncts};
@@ -66,7 +66,10 @@ fn rowid_key(
     own: &[usize],
     place: usize,
     tree: TreeCounts,
-) -> Result<Option<Key>, AllocError> {
+) -> Result<Option<Key>, AllocError>
+    ensures { (first width : ℕ) → own.now ≡ range_with_len first width
+        → IfOk result (λ key. option_map key_data key ≡ (if nat_lt place width then Some (rowid_data (first + place) tree) else None)) }
+{
     match own.get(place) {
         Some(column) => Ok(Some(Key::rowid(alloc, *column, tree)?)),
         None => Ok(None),
@@ -80,13 +83,26 @@ fn primary_places(
     places: &[usize],
     tree: TreeCounts,
     distinct: &[u64],
-) -> Result<Option<Key>, AllocError> {
+) -> Result<Option<Key>, AllocError>
+    ensures { (first width : ℕ) → own.now ≡ range_with_len first width
+        → IfOk result (λ key. option_map key_data key ≡ option_map (λ columns. primary_data columns distinct.now tree) (own_places first width places.now)) }
+{
     match own_places(alloc, own, places)? {
         Some(columns) => {
             let distinct = Vec::from_slice(alloc, distinct)?;
             Ok(Some(Key::primary(alloc, columns, distinct, tree)))
         }
         None => Ok(None),
+    }
+}
+
+/// A key with what it is, if there is one.
+fn with_kind(key: Option<Key>, is: SearchedKey) -> Option<(Key, SearchedKey)>
+    ensures { option_map keyed_data result ≡ option_map (keyed_as is) (option_map key_data key) }
+{
+    match key {
+        Some(key) => Some((key, is)),
+        None => None,
     }
 }
 
@@ -101,17 +117,16 @@ pub(crate) fn primary_key(
 ) -> Result<Option<(Key, SearchedKey)>, AllocError>
     ensures { (first width : ℕ) → own.now ≡ range_with_len first width → IfOk result (λ key. option_to_list (option_map keyed_data key) ≡ primary_of first width table.now.key tree distinct.now) }
 {
-    let (key, is) = match table.key() {
-        RowKey::Rowid(None) => return Ok(None),
-        RowKey::Rowid(Some(place)) => (rowid_key(alloc, own, *place, tree)?, SearchedKey::Rowid),
-        RowKey::Primary(places) => (
-            primary_places(alloc, own, places, tree, distinct)?,
-            SearchedKey::Primary,
-        ),
-    };
-    match key {
-        Some(key) => Ok(Some((key, is))),
-        None => Ok(None),
+    match table.key() {
+        RowKey::Rowid(None) => Ok(None),
+        RowKey::Rowid(Some(place)) => {
+            let key = rowid_key(alloc, own, *place, tree)?;
+            Ok(with_kind(key, SearchedKey::Rowid))
+        }
+        RowKey::Primary(places) => {
+            let key = primary_places(alloc, own, places, tree, distinct)?;
+            Ok(with_kind(key, SearchedKey::Primary))
+        }
     }
 }
 
@@ -128,12 +143,11 @@ fn index_places(alloc: Global, index: &Index) -> Result<Vec<usize>, AllocError>
 
 /// For each place of the row of FROM up to a table's last column the column of the table there. One of another source has the
 /// place after the table's columns.
-fn placed_columns(alloc: Global, own: &[usize]) -> Result<Vec<usize>, AllocError> {
+fn placed_columns(alloc: Global, own: &[usize]) -> Result<Vec<usize>, AllocError>
+    ensures { (first width : ℕ) → own.now ≡ range_with_len first width → 0 < width → IfOk result (λ read. read.items ≡ replicate first width ++ range_with_len 0 width) }
+{
     let before = own.first().copied().unwrap_or(0);
-    let mut read = Vec::new(alloc);
-    for _ in 0..before {
-        read.push(own.len())?;
-    }
+    let mut read = vec![in alloc; own.len(); before]?;
     for at in 0..own.len() {
         read.push(at)?;
     }
@@ -152,6 +166,21 @@ fn moved_conjuncts(alloc: Global, own: &[usize], condition: &Expr) -> Result<Vec
     Ok(all)
 }
 
+/// For each of these conditions the places of the conjuncts that imply it.
+fn implying_each(
+    alloc: Global,
+    terms: &[Expr],
+    wanted: &[Expr],
+) -> Result<Vec<Vec<usize>>, AllocError>
+    ensures { IfOk result (λ conditions. condition_places conditions.items ≡ map (spec_implying (map term terms.now)) (map term wanted.now)) }
+{
+    let mut conditions = Vec::with_capacity(alloc, wanted.len())?;
+    for one in wanted {
+        conditions.push(implying(alloc, terms, one)?)?;
+    }
+    Ok(conditions)
+}
+
 /// For each conjunct of an index's condition the places of the conjuncts that imply it; nothing where it has no condition.
 fn implied_by(
     alloc: Global,
@@ -159,23 +188,21 @@ fn implied_by(
     terms: &[Expr],
     condition: Option<&Expr>,
 ) -> Result<Vec<Vec<usize>>, AllocError>
-    ensures { (first width : ℕ) → own.now ≡ range_with_len first width → All (λ column. column < width) (named_by (option_map (λ t. term t.now) condition))
-        → IfOk result (λ conditions. condition_places conditions.items ≡ map (spec_implying (map term terms.now)) (conditions_of first (option_map (λ t. term t.now) condition))) }
+    ensures { (first width : ℕ) → own.now ≡ range_with_len first width → All (λ column. column < width) (named_by (option_map (λ t. term t.now) condition.entry))
+        → IfOk result (λ conditions. condition_places conditions.items ≡ map (spec_implying (map term terms.now)) (conditions_of first (option_map (λ t. term t.now) condition.entry))) }
 {
-    let mut conditions = Vec::new(alloc);
-    let Some(condition) = condition else {
-        return Ok(conditions);
-    };
-    let wanted = moved_conjuncts(alloc, own, condition)?;
-    for one in &wanted {
-        conditions.push(implying(alloc, terms, one)?)?;
+    match condition {
+        Some(condition) => {
+            let wanted = moved_conjuncts(alloc, own, condition)?;
+            implying_each(alloc, terms, &wanted)
+        }
+        None => Ok(Vec::new(alloc)),
     }
-    Ok(conditions)
 }
 
 /// Whether a condition names none but a table's columns.
 fn is_over(alloc: Global, own: &[usize], condition: Option<&Expr>) -> Result<bool, AllocError>
-    ensures { IfOk result (λ b. b ≡ list_all (λ column. nat_lt column (length own.now)) (named_by (option_map (λ t. term t.now) condition))) }
+    ensures { IfOk result (λ b. b ≡ are_own (length own.now) (named_by (option_map (λ t. term t.now) condition.entry))) }
 {
     let Some(condition) = condition else {
         return Ok(true);
@@ -196,8 +223,7 @@ pub(crate) fn index_key(
     tree: TreeCounts,
 ) -> Result<Option<Key>, AllocError>
     ensures { (first width : ℕ) → own.now ≡ range_with_len first width → IfOk result (λ key. (at : ℕ)
-        → option_to_list (option_map (λ k. record { key = key_data k; is = Index at }) key) ≡ index_of first width (map term terms.now) tree at
-        (record { index = index_data index.now; tree = counts.now.tree; distinct = counts.now.distinct.items })) }
+        → option_to_list (option_map (keyed_as (Index at)) (option_map key_data key)) ≡ index_of first width (map term terms.now) tree at (counted_index (index_data index.now) counts.now)) }
 {
     let places = index_places(alloc, index)?;
     let Some(columns) = own_places(alloc, own, &places)? else {

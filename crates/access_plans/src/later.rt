@@ -10,13 +10,12 @@ ghost use Rattle.resolver_bodies.specs.BodyView.{joined_of};
 use crate::columns::{columns_of, push_columns};
 use crate::leading::seen_of;
 use crate::plans::{Access, TableAt};
-use crate::runs::own_conjuncts;
+use crate::runs::{is_kept_right, own_conjuncts};
 use crate::searches::access_by;
 use crate::tables::keyed_source;
 use index_choice::best_path;
 use integrity::Checked;
 use resolver_bodies::Joined;
-use sql_reader_syntax::Join;
 use std::alloc::{AllocError, Global};
 
 /// How a table is opened after these sources: by the least of its paths by the conjuncts of its own condition.
@@ -51,8 +50,8 @@ pub(crate) fn later_table(
 ) -> Result<Access, AllocError>
     ensures { IfOk result (λ access. access_data access ≡ later_access (counted (checked_data checked.now)) (width_of (map joined_of before.now)) table (joined_of joined.now)) }
 {
-    match joined.join {
-        Join::Right | Join::Full => Ok(Access::Scan(table)),
-        Join::Inner | Join::Left => searched(alloc, checked, joined, table, before),
+    if is_kept_right(joined) {
+        return Ok(Access::Scan(table));
     }
+    searched(alloc, checked, joined, table, before)
 }

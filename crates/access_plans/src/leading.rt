@@ -7,6 +7,7 @@ ghost use Rattle.access_plans.specs.KeyView.{keyed_source_data};
 ghost use Rattle.access_plans.specs.PlanView.{access_data};
 ghost use Rattle.access_plans.specs.RunView as spec;
 ghost use Rattle.access_plans.specs.RunView.{IsRunOf, run_data};
+ghost use Rattle.access_plans.specs.Runs.{sources_in};
 ghost use Rattle.index_choice.specs.Bounds.{conjunct_data, seen_of};
 ghost use Rattle.index_choice.specs.Sources.{source_data};
 ghost use Rattle.integrity.specs.CheckedView.{checked_data};
@@ -87,7 +88,7 @@ fn split(
 impl Run {
     /// The leading run of a SELECT, in the order that costs least. (The SQLite Query Optimizer Overview, "Joins")
     pub(crate) fn of(alloc: Global, checked: &Checked, single: &Single) -> Result<Run, AllocError>
-        ensures { IfOk result (λ run. IsRunOf (counted (checked_data checked.now)) (single_of single.now) (run_data run)) }
+        ensures { IfOk result (λ run. IsRunOf (counted (checked_data checked.now)) (sources_in (single_of single.now).from) (single_of single.now).select.condition (run_data run)) }
     {
         let terms = run_conjuncts(alloc, single)?;
         let all = keyed_sources(alloc, checked, leading(&single.tables.sources), &terms)?;

@@ -1,12 +1,13 @@
 //! The leading run of a FROM, which is its sources before the first outer join, and the conjuncts by which the paths of
 //! sources are chosen.
-ghost use Rattle.std.specs.Prelude.{◌≡◌, ◌≤◌, ◌++◌, IfOk, OnOk, length, map};
+ghost use Rattle.std.specs.Prelude.{◌≡◌, ◌≤◌, ◌++◌, IfOk, OnOk, length, map, not, position};
 ghost use Rattle.std.specs.List.{filter, list_any};
 ghost use Rattle.expr.specs.View.{term};
 ghost use Rattle.access_plans.specs.Runs as spec;
-ghost use Rattle.access_plans.specs.Runs.{names_within, sources_in, written_conjuncts};
+ghost use Rattle.access_plans.specs.Runs.{is_inner, names_within, sources_in, written_conjuncts};
 ghost use Rattle.resolver_bodies.specs.BodyView.{joined_of, single_of};
 ghost use Rattle.semantics.specs.Joins.{pads_left};
+ghost use Rattle.semantics_names.specs.Sources.{kind_of};
 
 use crate::columns::columns_of;
 use expr::{Expr, columns, conjuncts, copy};
@@ -15,25 +16,56 @@ use resolver_bodies::{Joined, Single};
 use sql_reader_syntax::Join;
 use std::alloc::{AllocError, Global};
 
+/// Whether a join keeps unmatched rows.
+fn is_outer(join: Join) -> bool
+    ensures { result ≡ not (is_inner (kind_of join)) }
+{
+    !matches!(join, Join::Inner)
+}
+
+/// Whether a source is joined so.
+fn is_outer_joined(joined: &Joined) -> bool
+    ensures { result ≡ not (is_inner (joined_of joined.now).kind) }
+{
+    is_outer(joined.join)
+}
+
+/// The place of the first source that is.
+fn first_outer(sources: &[Joined]) -> Option<usize>
+    ensures { result ≡ position (λ j. not (is_inner (joined_of j).kind)) sources.now }
+{
+    sources.iter().position(|joined| is_outer_joined(joined))
+}
+
 /// The sources before the first outer join.
+#[tactic(auto, using(crate::proofs::RunLemmas::leading_is, crate::proofs::RunLemmas::leading_within))]
 pub(crate) fn leading(sources: &[Joined]) -> &[Joined]
     ensures first { map joined_of result.now ≡ spec.leading (map joined_of sources.entry.now) }
     ensures within { length result.now ≤ length sources.entry.now }
 {
-    let end = sources
-        .iter()
-        .position(|joined| !matches!(joined.join, Join::Inner))
-        .unwrap_or(sources.len());
+    let end = first_outer(sources).unwrap_or(sources.len());
     &sources[..end]
 }
 
 /// Whether a join keeps the unmatched rows of its right side, which no condition of WHERE may be tested before.
-fn pads_any_left(sources: &[Joined]) -> bool
+fn keeps_right(join: Join) -> bool
+    ensures { result ≡ pads_left (kind_of join) }
+{
+    matches!(join, Join::Right | Join::Full)
+}
+
+/// Whether a source is joined so.
+pub(crate) fn is_kept_right(joined: &Joined) -> bool
+    ensures { result ≡ pads_left (joined_of joined.now).kind }
+{
+    keeps_right(joined.join)
+}
+
+/// Whether one of these is.
+fn any_kept_right(sources: &[Joined]) -> bool
     ensures { result ≡ list_any (λ j. pads_left j.kind) (map joined_of sources.now) }
 {
-    sources
-        .iter()
-        .any(|joined| matches!(joined.join, Join::Right | Join::Full))
+    sources.iter().any(|joined| is_kept_right(joined))
 }
 
 /// Adds the conjuncts of a condition; there are none where none is written.
@@ -76,7 +108,7 @@ fn where_conjuncts(alloc: Global, single: &Single) -> Result<Vec<Expr>, AllocErr
 {
     let mut all = Vec::new(alloc);
     let sources = single.tables.sources.as_slice();
-    if pads_any_left(sources) {
+    if any_kept_right(sources) {
         return Ok(all);
     }
     push_written(alloc, &single.select.condition, &mut all)?;
@@ -89,8 +121,9 @@ fn where_conjuncts(alloc: Global, single: &Single) -> Result<Vec<Expr>, AllocErr
 pub(crate) fn run_conjuncts(alloc: Global, single: &Single) -> Result<Vec<Expr>, AllocError>
     ensures { IfOk result (λ all. map term all.items ≡ spec.run_conjuncts (sources_in (single_of single.now).from) (single_of single.now).select.condition) }
 {
+    let run = leading(&single.tables.sources);
     let mut all = Vec::new(alloc);
-    for joined in leading(&single.tables.sources) {
+    for joined in run {
         push_written(alloc, &joined.condition, &mut all)?;
     }
     let mut tests = where_conjuncts(alloc, single)?;

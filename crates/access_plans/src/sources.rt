@@ -1,12 +1,16 @@
 //! The sources of one SELECT, where those that are materialized have their plans.
-ghost use Rattle.std.specs.Prelude.{IfOk, map, option_map};
-ghost use Rattle.std.specs.List.{AllZip};
-ghost use Rattle.access_plans.specs.Choice.{AreMaterialized, AreOpened, IsDerivedBy};
-ghost use Rattle.access_plans.specs.Keyed.{counted};
-ghost use Rattle.access_plans.specs.PlanView.{opened_of, plan_data, source_data};
-ghost use Rattle.access_plans.specs.Runs.{sources_in};
+ghost use Rattle.std.specs.Prelude.{◌≡◌, ◌≢◌, ℕ, IfOk, OnOk, map, option_map, slice_get};
+ghost use Rattle.expr.specs.Term.{Term};
+ghost use Rattle.access_plans.specs.Choice.{AreMaterialized, AreOpened, IsDerivedBy, later_access as access_of_later};
+ghost use Rattle.access_plans.specs.Keyed.{Counted, counted};
+ghost use Rattle.access_plans.specs.Opening as spec;
+ghost use Rattle.access_plans.specs.Opening.{AreDerivedAfter, AreDerivedBy, IsAccessTo, OpensLater, OpensRun, plan_at};
+ghost use Rattle.access_plans.specs.Plans.{Access as AccessData};
+ghost use Rattle.access_plans.specs.PlanView.{access_data, opened_of, plan_data, source_data};
+ghost use Rattle.access_plans.specs.Runs.{sources_in, width_of};
+ghost use Rattle.access_plans.specs.RunView.{IsRunOf, access_after, run_data};
 ghost use Rattle.integrity.specs.CheckedView.{checked_data};
-ghost use Rattle.resolver_bodies.specs.BodyView.{single_of};
+ghost use Rattle.resolver_bodies.specs.BodyView.{joined_of, single_of, source_of};
 
 use crate::later::later_table;
 use crate::leading::Run;
@@ -17,7 +21,9 @@ use resolver_bodies::{Joined, Single, Source};
 use std::alloc::{AllocError, Global};
 
 /// The table that a source is, if it is no query.
-fn table_of(source: &Source) -> TableAt {
+fn table_of(source: &Source) -> TableAt
+    ensures { result ≡ spec.table_of (source_of source.now) }
+{
     match source {
         Source::Table(at, _) => TableAt::Table(*at),
         Source::Schema | Source::Derived(_) => TableAt::Schema,
@@ -25,7 +31,10 @@ fn table_of(source: &Source) -> TableAt {
 }
 
 /// Takes the plan of the source at a place, if it is materialized.
-fn take_plan(plans: &mut [Option<BodyPlan>], place: usize) -> Option<BodyPlan> {
+fn take_plan(plans: &mut [Option<BodyPlan>], place: usize) -> Option<BodyPlan>
+    ensures taken { option_map plan_data result ≡ plan_at (map (option_map plan_data) plans.old) place }
+    ensures left { (other : ℕ) → other ≢ place → slice_get (map (option_map plan_data) plans.new) other ≡ slice_get (map (option_map plan_data) plans.old) other }
+{
     match plans.get_mut(place) {
         Some(plan) => plan.take(),
         None => None,
@@ -33,8 +42,28 @@ fn take_plan(plans: &mut [Option<BodyPlan>], place: usize) -> Option<BodyPlan> {
 }
 
 /// How a materialized source is opened.
-fn materialized(alloc: Global, plan: BodyPlan) -> Result<Access, AllocError> {
+fn materialized(alloc: Global, plan: BodyPlan) -> Result<Access, AllocError>
+    ensures { IfOk result (λ access. access_data access ≡ AccessData.materialized (plan_data plan)) }
+{
     Ok(Access::Materialized(Box::new(alloc, plan)?))
+}
+
+/// How a source of the run is opened after those that are placed: by its plan, if it is a query.
+fn run_access(
+    alloc: Global,
+    run: &Run,
+    joined: &Joined,
+    plan: Option<BodyPlan>,
+    placed: &[usize],
+    place: usize,
+) -> Result<Access, AllocError>
+    ensures { (c : Counted) → IsDerivedBy c (joined_of joined.now).source (option_map plan_data plan)
+        → IfOk result (λ access. IsAccessTo c (joined_of joined.now).source (λ table. access_after (run_data run.now) table placed.now place) (access_data access)) }
+{
+    match plan {
+        Some(plan) => materialized(alloc, plan),
+        None => run.access_after(alloc, table_of(&joined.source), placed, place),
+    }
 }
 
 /// Adds the sources of the leading run, in the order of least cost.
@@ -44,22 +73,40 @@ fn push_run(
     run: &Run,
     inner: &mut [Option<BodyPlan>],
     plans: &mut Vec<SourcePlan>,
-) -> Result<(), AllocError> {
+) -> Result<(), AllocError>
+    ensures { (c : Counted) (condition : Term) → IsRunOf c (map joined_of sources.now) condition (run_data run.now) → AreDerivedBy c (map joined_of sources.now) (map (option_map plan_data) inner.old)
+        → OnOk result (OpensRun c (map joined_of sources.now) condition (run_data run.now).order (map (option_map plan_data) inner.old) (map (option_map plan_data) inner.new) (map source_data plans.old.items) (map source_data plans.new.items)) }
+{
     for (at, place) in run.order.iter().enumerate() {
         let Some(joined) = sources.get(*place) else {
             return Ok(());
         };
-        let access = match take_plan(inner, *place) {
-            Some(plan) => materialized(alloc, plan)?,
-            None => run.access_after(alloc, table_of(&joined.source), &run.order[..at], *place)?,
-        };
+        let plan = take_plan(inner, *place);
         plans.push(SourcePlan {
             place: *place,
             join: joined.join,
-            access,
+            access: run_access(alloc, run, joined, plan, &run.order[..at], *place)?,
         })?;
     }
     Ok(())
+}
+
+/// How a source after the run, and after these, is opened: by its plan, if it is a query.
+fn later_access(
+    alloc: Global,
+    checked: &Checked,
+    joined: &Joined,
+    plan: Option<BodyPlan>,
+    before: &[Joined],
+) -> Result<Access, AllocError>
+    ensures { IsDerivedBy (counted (checked_data checked.now)) (joined_of joined.now).source (option_map plan_data plan)
+        → IfOk result (λ access. IsAccessTo (counted (checked_data checked.now)) (joined_of joined.now).source
+        (λ table. access_of_later (counted (checked_data checked.now)) (width_of (map joined_of before.now)) table (joined_of joined.now)) (access_data access)) }
+{
+    match plan {
+        Some(plan) => materialized(alloc, plan),
+        None => later_table(alloc, checked, joined, table_of(&joined.source), before),
+    }
 }
 
 /// Adds the sources after the leading run, in their order.
@@ -69,20 +116,17 @@ fn push_later(
     sources: &[Joined],
     inner: &mut [Option<BodyPlan>],
     plans: &mut Vec<SourcePlan>,
-) -> Result<(), AllocError> {
+) -> Result<(), AllocError>
+    ensures { AreDerivedAfter (counted (checked_data checked.now)) (map joined_of sources.now) (map (option_map plan_data) inner.old)
+        → OnOk result (OpensLater (counted (checked_data checked.now)) (map joined_of sources.now) (map source_data plans.old.items) (map source_data plans.new.items)) }
+{
     for place in leading(sources).len()..sources.len() {
         let joined = &sources[place];
-        let access = match take_plan(inner, place) {
-            Some(plan) => materialized(alloc, plan)?,
-            None => {
-                let table = table_of(&joined.source);
-                later_table(alloc, checked, joined, table, &sources[..place])?
-            }
-        };
+        let plan = take_plan(inner, place);
         plans.push(SourcePlan {
             place,
             join: joined.join,
-            access,
+            access: later_access(alloc, checked, joined, plan, &sources[..place])?,
         })?;
     }
     Ok(())
@@ -96,7 +140,7 @@ pub(crate) fn source_plans(
     single: &Single,
     inner: Vec<Option<BodyPlan>>,
 ) -> Result<Vec<SourcePlan>, AllocError>
-    requires { AllZip (λ j plan. IsDerivedBy (counted (checked_data checked.now)) j.source plan) (sources_in (single_of single.now).from) (map (option_map plan_data) inner.items) }
+    requires { AreDerivedBy (counted (checked_data checked.now)) (sources_in (single_of single.now).from) (map (option_map plan_data) inner.items) }
     ensures opened { IfOk result (λ plans. AreOpened (counted (checked_data checked.now)) (sources_in (single_of single.now).from) (single_of single.now).select.condition (opened_of (map source_data plans.items))) }
     ensures materialized { IfOk result (λ plans. AreMaterialized (counted (checked_data checked.now)) (single_of single.now).from (opened_of (map source_data plans.items))) }
 {

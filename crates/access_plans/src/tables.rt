@@ -1,19 +1,22 @@
 //! Sources as a choice of paths sees them.
-ghost use Rattle.std.specs.Prelude.{◌≡◌, ℕ, [], IfOk, length, map, slice_get};
+ghost use Rattle.std.specs.Prelude.{◌≡◌, ◌++◌, ℕ, List, [], IfOk, OnOk, length, map, option_map, option_to_list, slice_get};
 ghost use Rattle.std.specs.List.{range_with_len};
 ghost use Rattle.expr.specs.View.{term};
-ghost use Rattle.access_plans.specs.Keyed.{counted, counts_of, keyed, materialized_source, seen_source, table_at};
-ghost use Rattle.access_plans.specs.KeyView.{keyed_source_data, values_of};
+ghost use Rattle.access_plans.specs.Keyed.{Keyed, counted, counted_index, counts_of, index_keys, keyed, materialized_source, primary_of, seen_source, table_at, table_index};
+ghost use Rattle.access_plans.specs.KeyView.{AreKeys, keyed_as, keyed_source_data};
+ghost use Rattle.index_choice.specs.Sources.{key_data};
 ghost use Rattle.integrity.specs.CheckedView.{checked_data};
 ghost use Rattle.resolver_bodies.specs.BodyView.{source_of};
+ghost use Rattle.schema.specs.indexes.IndexView.{index_data};
 ghost use Rattle.semantics.specs.Query.{source_width};
 
 use crate::columns::source_width;
 use crate::keys::{SearchedKey, counts_of, index_key, primary_key};
 use expr::Expr;
 use index_choice::{Key, Source as PathSource, TreeCounts};
-use integrity::Checked;
+use integrity::{Checked, IndexCounts};
 use resolver_bodies::Source;
+use schema::Index;
 use schema_keys::is_same_name;
 use schema_tables::Table;
 use std::alloc::{AllocError, Global};
@@ -34,13 +37,37 @@ struct Keys {
 
 impl Keys {
     /// Adds a key, where there is one.
-    fn push(&mut self, key: Option<Key>, is: SearchedKey) -> Result<(), AllocError> {
+    fn push(&mut self, key: Option<Key>, is: SearchedKey) -> Result<(), AllocError>
+        ensures { (all : List Keyed) → AreKeys self.old all → OnOk result (AreKeys self.new (all ++ option_to_list (option_map (keyed_as is) (option_map key_data key)))) }
+    {
         if let Some(key) = key {
             self.keys.push(key)?;
             self.are.push(is)?;
         }
         Ok(())
     }
+}
+
+/// Adds an index as a key, if it is one of this table's.
+fn push_index(
+    alloc: Global,
+    table: &Table,
+    own: &[usize],
+    terms: &[Expr],
+    tree: TreeCounts,
+    at: usize,
+    index: &Index,
+    counts: &IndexCounts,
+    keys: &mut Keys,
+) -> Result<(), AllocError>
+    ensures { (first width : ℕ) (all : List Keyed) → own.now ≡ range_with_len first width → AreKeys keys.old all
+        → OnOk result (AreKeys keys.new (all ++ table_index first width (map term terms.now) table.now tree at (counted_index (index_data index.now) counts.now))) }
+{
+    if is_same_name(index.table(), table.name()) {
+        let key = index_key(alloc, own, terms, index, counts, tree)?;
+        keys.push(key, SearchedKey::Index(at))?;
+    }
+    Ok(())
 }
 
 /// Adds the indexes of a table, in the order of the schema's rows.
@@ -52,42 +79,39 @@ fn push_indexes(
     terms: &[Expr],
     tree: TreeCounts,
     keys: &mut Keys,
-) -> Result<(), AllocError> {
-    let counted = checked.indexes().iter().zip(checked.index_counts());
-    for (at, (index, counts)) in counted.enumerate() {
-        if is_same_name(index.table(), table.name()) {
-            let key = index_key(alloc, own, terms, index, counts, tree)?;
-            keys.push(key, SearchedKey::Index(at))?;
-        }
+) -> Result<(), AllocError>
+    ensures { (first width : ℕ) (all : List Keyed) → own.now ≡ range_with_len first width → AreKeys keys.old all
+        → OnOk result (AreKeys keys.new (all ++ index_keys first width (map term terms.now) table.now tree 0 (counted (checked_data checked.now)).indexes)) }
+{
+    let counted = checked.index_counts();
+    for (at, index) in checked.indexes().iter().enumerate() {
+        let Some(counts) = counted.get(at) else {
+            return Ok(());
+        };
+        push_index(alloc, table, own, terms, tree, at, index, counts, keys)?;
     }
     Ok(())
 }
 
-/// How many different values the first columns of a table's PRIMARY KEY have.
-fn key_values(checked: &Checked, at: usize) -> &[u64]
-    ensures { result.now ≡ values_of (slice_get (checked_data checked.now).key_counts at) }
-{
-    match checked.key_counts().get(at) {
-        Some(counts) => counts.distinct.as_slice(),
-        None => &[],
-    }
-}
-
-/// The keys of a table: the primary key, then its indexes.
+/// The keys of a table: the primary key, then its indexes. `distinct` has how many different values the first columns of its
+/// PRIMARY KEY have.
 fn table_keys(
     alloc: Global,
     checked: &Checked,
-    at: usize,
     table: &Table,
     own: &[usize],
     terms: &[Expr],
     tree: TreeCounts,
-) -> Result<Keys, AllocError> {
+    distinct: &[u64],
+) -> Result<Keys, AllocError>
+    ensures { (first width : ℕ) → own.now ≡ range_with_len first width
+        → IfOk result (λ keys. AreKeys keys (primary_of first width table.now.key tree distinct.now ++ index_keys first width (map term terms.now) table.now tree 0 (counted (checked_data checked.now)).indexes)) }
+{
     let mut keys = Keys {
         keys: Vec::new(alloc),
         are: Vec::new(alloc),
     };
-    if let Some((key, is)) = primary_key(alloc, own, table, tree, key_values(checked, at))? {
+    if let Some((key, is)) = primary_key(alloc, own, table, tree, distinct)? {
         keys.push(Some(key), is)?;
     }
     push_indexes(alloc, checked, table, own, terms, tree, &mut keys)?;
@@ -115,11 +139,15 @@ fn table_source(
     ensures { (first : ℕ) → own.now ≡ range_with_len first (length own.now) → IfOk result (λ found. keyed_source_data found
         ≡ table_at (counted (checked_data checked.now)) first (map term terms.now) (length own.now) (slice_get (counted (checked_data checked.now)).tables at)) }
 {
-    let (Some(table), Some(tree)) = (checked.tables().get(at), checked.trees().get(at)) else {
+    let (Some(table), Some(tree), Some(key)) = (
+        checked.tables().get(at),
+        checked.trees().get(at),
+        checked.key_counts().get(at),
+    ) else {
         return Ok(materialized(alloc, own.len()));
     };
     let tree = counts_of(*tree);
-    let Keys { keys, are } = table_keys(alloc, checked, at, table, own, terms, tree)?;
+    let Keys { keys, are } = table_keys(alloc, checked, table, own, terms, tree, &key.distinct)?;
     Ok(KeyedSource {
         source: PathSource::table(own.len(), tree, keys),
         keys: are,
