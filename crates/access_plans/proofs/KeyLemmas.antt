@@ -91,8 +91,8 @@ all_placed first width places found at end so_far =
     let found_is : in_from first places ≡ found = so_far.placed ∙ ap (λ (ps : List ℕ). found ++ in_from first ps) none ∙ append-nil found in
     ap Some (sym found_is) ∙ sym (ap (λ b. if b then Some (in_from first places) else None) own)
 
-pub none_so_far : (first width : ℕ) (places : List ℕ) → ArePlaced first width places [] 0
-none_so_far first width places = record { own = refl; placed = refl }
+pub none_so_far : (first width : ℕ) (places found : List ℕ) → found ≡ [] → ArePlaced first width places found 0
+none_so_far first width places found none = record { own = refl; placed = sym (ap (λ (xs : List ℕ). xs ++ in_from first places) none) }
 
 -- the same of all columns at once
 pub own_none : (first width : ℕ) (places : List ℕ) → None ≡ own_places first width places → are_own width places ≡ false

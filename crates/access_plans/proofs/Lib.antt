@@ -8,3 +8,4 @@ pub mod WindowLemmas
 pub mod TableLemmas
 pub mod OpeningLemmas
 pub mod LeadingLemmas
+pub mod SourceLemmas

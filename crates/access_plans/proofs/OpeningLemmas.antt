@@ -127,7 +127,7 @@ all_opened c sources condition run inner left after whole is first later =
 
 -- ---- each query in FROM
 
-parts_are : (js : List JoinedData) → leading js ++ after_leading js ≡ js
+pub parts_are : (js : List JoinedData) → leading js ++ after_leading js ≡ js
 parts_are [] = refl
 parts_are (j ∷ js) = by_kind (is_inner j.kind) (parts_are js)
   where
@@ -135,7 +135,7 @@ parts_are (j ∷ js) = by_kind (is_inner j.kind) (parts_are js)
     by_kind true again = ap (λ (xs : List JoinedData). j ∷ xs) again
     by_kind false again = refl
 
-got_within : {A : Type 0} (xs : List A) (p : ℕ) (x : A) → slice_get xs p ≡ Some x → p < length xs
+pub got_within : {A : Type 0} (xs : List A) (p : ℕ) (x : A) → slice_get xs p ≡ Some x → p < length xs
 got_within [] p x e = absurd cc
 got_within (y ∷ ys) zero x e = omega arith
 got_within (y ∷ ys) (suc p) x e = let rest = got_within ys p x e in omega (arith, rest)

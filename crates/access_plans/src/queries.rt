@@ -77,10 +77,11 @@ fn inner_plans(
 fn select_plan(alloc: Global, checked: &Checked, single: &Single) -> Result<SelectPlan, AllocError>
     ensures { IfOk result (λ plan. IsSelectPlan (counted (checked_data checked.now)) (single_of single.now) (select_data plan)) }
 {
-    let derived = derived_plans(alloc, checked, &single.tables.sources)?;
-    let inner = inner_plans(alloc, checked, &single.tables.inner)?;
+    let sources = single.tables.sources.as_slice();
+    let derived = derived_plans(alloc, checked, sources)?;
+    let inner = inner_plans(alloc, checked, single.tables.inner.as_slice())?;
     Ok(SelectPlan {
-        run: leading(&single.tables.sources).len(),
+        run: leading(sources).len(),
         sources: source_plans(alloc, checked, single, derived)?,
         inner,
         clauses: clauses_of(alloc, &single.select)?,

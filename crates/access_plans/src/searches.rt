@@ -49,7 +49,10 @@ fn equalities(
     ensures { IfOk result (λ found. found.items ≡ spec.equalities (map term terms.now) columns.now equal.now) }
 {
     let mut found = Vec::with_capacity(alloc, equal.len())?;
-    for (column, at) in columns.iter().zip(equal) {
+    for (place, at) in equal.iter().enumerate() {
+        let Some(column) = columns.get(place) else {
+            return Ok(found);
+        };
         found.push(bound_place(terms, Side::Equal, *column, *at))?;
     }
     Ok(found)

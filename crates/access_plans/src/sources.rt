@@ -77,15 +77,17 @@ fn push_run(
     ensures { (c : Counted) (condition : Term) → IsRunOf c (map joined_of sources.now) condition (run_data run.now) → AreDerivedBy c (map joined_of sources.now) (map (option_map plan_data) inner.old)
         → OnOk result (OpensRun c (map joined_of sources.now) condition (run_data run.now).order (map (option_map plan_data) inner.old) (map (option_map plan_data) inner.new) (map source_data plans.old.items) (map source_data plans.new.items)) }
 {
-    for (at, place) in run.order.iter().enumerate() {
+    let order = run.order.as_slice();
+    for (at, place) in order.iter().enumerate() {
         let Some(joined) = sources.get(*place) else {
             return Ok(());
         };
         let plan = take_plan(inner, *place);
+        let access = run_access(alloc, run, joined, plan, &order[..at], *place)?;
         plans.push(SourcePlan {
             place: *place,
             join: joined.join,
-            access: run_access(alloc, run, joined, plan, &run.order[..at], *place)?,
+            access,
         })?;
     }
     Ok(())
@@ -123,10 +125,11 @@ fn push_later(
     for place in leading(sources).len()..sources.len() {
         let joined = &sources[place];
         let plan = take_plan(inner, place);
+        let access = later_access(alloc, checked, joined, plan, &sources[..place])?;
         plans.push(SourcePlan {
             place,
             join: joined.join,
-            access: later_access(alloc, checked, joined, plan, &sources[..place])?,
+            access,
         })?;
     }
     Ok(())

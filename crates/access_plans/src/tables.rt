@@ -83,8 +83,9 @@ fn push_indexes(
     ensures { (first width : ℕ) (all : List Keyed) → own.now ≡ range_with_len first width → AreKeys keys.old all
         → OnOk result (AreKeys keys.new (all ++ index_keys first width (map term terms.now) table.now tree 0 (counted (checked_data checked.now)).indexes)) }
 {
+    let indexes = checked.indexes();
     let counted = checked.index_counts();
-    for (at, index) in checked.indexes().iter().enumerate() {
+    for (at, index) in indexes.iter().enumerate() {
         let Some(counts) = counted.get(at) else {
             return Ok(());
         };
