@@ -3,8 +3,9 @@ use Rattle.std.proofs.Common.{◌≡◌, ◌∙◌, ◌+◌, ◌<◌, ◌≤◌,
 use Rattle.std.specs.List.{range_with_len}
 use Rattle.std.proofs.lemmas.List.{drop_all, drop_more, length-append}
 use Rattle.std.proofs.lemmas.List.FromFn.{length-range_with_len}
+use Rattle.std.proofs.lemmas.List.Sums.{sum_by-cons}
 use Rattle.access_plans.specs.Runs.{width_of}
-use Rattle.resolver_bodies.specs.BodyView.{joined_of}
+use Rattle.resolver_bodies.specs.BodyView.{JoinedData, joined_of}
 use Rattle.resolver_bodies.specs.declared.bodies.Joined.{Joined}
 use Rattle.semantics.specs.Query.{source_width}
 
@@ -43,12 +44,16 @@ columns_more columns pushed width left rest whole is more all step =
       omega (arith, all, step, long),
     )
 
+pub columns_first : (columns pushed : List ℕ) (width : ℕ) → columns ≡ range_with_len 0 (length columns) → pushed ≡ columns ++ range_with_len (length columns) width
+    → pushed ≡ range_with_len 0 (length pushed)
+columns_first columns pushed width is more = (columns_more columns pushed width (width + 0) 0 (length columns + (width + 0)) is more refl refl).0
+
 -- the columns of sources are those of the first one and of the others
 pub width_next : (sources : List Joined) (i : ℕ) (j : Joined) → i < length sources → j ≡ get_or sources i j
     → width_of (map joined_of (drop i sources)) ≡ source_width (joined_of j).source + width_of (map joined_of (drop (i + 1) sources))
 width_next sources i j within is =
-    ap (λ (js : List Joined). width_of (map joined_of js)) (drop_more sources i j within)
-    ∙ ap (λ (x : Joined). source_width (joined_of x).source + width_of (map joined_of (drop (i + 1) sources))) (sym is)
+    ap (λ (js : List Joined). width_of (map joined_of js)) (drop_more sources i j within ∙ ap (λ (x : Joined). x ∷ drop (i + 1) sources) (sym is))
+    ∙ sum_by-cons (λ (x : JoinedData). source_width x.source) (joined_of j) (map joined_of (drop (i + 1) sources))
 
 pub columns_all : (columns : List ℕ) (sources : List Joined) (i : ℕ) → length sources ≤ i → columns ≡ range_with_len 0 (length columns)
     → length columns + width_of (map joined_of (drop i sources)) ≡ width_of (map joined_of sources) → columns ≡ range_with_len 0 (width_of (map joined_of sources))

@@ -59,6 +59,13 @@ seen_more c terms run all added columns pushed at j found so_far within is first
           ∙ ap (λ (xs : List KeyedData). xs ++ seen_sources c (length pushed) terms (map joined_of rest)) (sym (ap (map keyed_source_data) last ∙ map-append keyed_source_data all (found ∷ [])));
     }
 
+pub none_seen : (c : Counted) (terms : List Term) (run : List Joined) (all : List KeyedSource) (columns : List ℕ) → all ≡ [] → columns ≡ [] → AreSeen c terms run all columns 0
+none_seen c terms run all columns none first =
+    record {
+      columns_are = first ∙ ap (λ (xs : List ℕ). range_with_len 0 (length xs)) (sym first);
+      whole = (λ i. map keyed_source_data (sym none i) ++ seen_sources c (length (sym first i)) terms (map joined_of run));
+    }
+
 pub all_seen : (c : Counted) (terms : List Term) (run : List Joined) (all : List KeyedSource) (columns : List ℕ) (at : ℕ) → AreSeen c terms run all columns at → length run ≤ at
     → map keyed_source_data all ≡ seen_sources c 0 terms (map joined_of run)
 all_seen c terms run all columns at so_far end =
@@ -117,13 +124,14 @@ opened_in_run c sources condition run placed at j access is here by =
     let so : (it : TableAt) → access_after run it placed at ≡ opened_by terms it found.0.source.keys found.0.keys path.search = λ it.
     (λ i. access_in run it placed at (source_is i) (keys_are i))
     ∙ (λ i. opened_by (is.terms_are i) it found.0.source.keys found.0.keys (path_of_source (is.sources_are i) (conjuncts i) placed at found.0.source).search) in
-    rw (here, found.1) (refl, by_source j.source by so)
+    subst (λ (o : Option JoinedData). IsOpenedAfter c terms all placed at j.kind access o (slice_get all at)) (sym here)
+    (subst (λ (o : Option KeyedData). IsOpenedAfter c terms all placed at j.kind access (Some j) o) (sym found.1) (refl, by_source j.source terms found.0 path by so))
   where
-    by_source : (source : Source) {terms : List Term} {seen : KeyedData} {path : PathData} → IsAccessTo c source (λ it. access_after run it placed at) access
+    by_source : (source : Source) (terms : List Term) (seen : KeyedData) (path : PathData) → IsAccessTo c source (λ it. access_after run it placed at) access
         → ((it : TableAt) → access_after run it placed at ≡ opened_by terms it seen.source.keys seen.keys path.search) → IsOpenedBy source terms seen path access
-    by_source (table n width) by so = by ∙ so (tables.Table n)
-    by_source schema by so = by ∙ so tables.Schema
-    by_source (derived body) by so = tt
+    by_source (table n width) terms seen path by so = by ∙ so (tables.Table n)
+    by_source schema terms seen path by so = by ∙ so tables.Schema
+    by_source (derived body) terms seen path by so = tt
 
 -- a later source is
 pub opened_later : (c : Counted) (first : ℕ) (j : JoinedData) (access : Access) → IsAccessTo c j.source (λ it. later_access c first it j) access

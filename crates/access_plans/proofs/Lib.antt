@@ -9,3 +9,4 @@ pub mod TableLemmas
 pub mod OpeningLemmas
 pub mod LeadingLemmas
 pub mod SourceLemmas
+pub mod QueryLemmas

@@ -112,6 +112,6 @@ placed_at first width at within =
 -- by these places a condition over a table's columns is the one that is moved
 pub moved_is : (first width : ℕ) (t : Term) (read : List ℕ) → All (λ c. c < width) (columns_of t)
     → (0 < width → read ≡ replicate first width ++ range_with_len 0 width) → with_leaves (place_in read) unanswered unanswered t ≡ moved first t
-moved_is first width t read within is =
+moved_is first width t read within own =
     same_term (place_in read) (λ c. first + c) t
-    (agree_below (place_in read) (λ c. first + c) width (λ c low. ap (λ (cs : List ℕ). place_in cs c) (is (omega (arith, low))) ∙ placed_at first width c low) (columns_of t) within)
+    (agree_below (place_in read) (λ c. first + c) width (λ c low. ap (λ (cs : List ℕ). place_in cs c) (own (omega (arith, low))) ∙ placed_at first width c low) (columns_of t) within)

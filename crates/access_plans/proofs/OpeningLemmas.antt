@@ -8,6 +8,7 @@ use Rattle.std.proofs.lemmas.List.{length-append, map-append}
 use Rattle.std.proofs.lemmas.List.Elements.{Contains-append_left, Contains-append_right}
 use Rattle.std.proofs.lemmas.List.FromFn.{get_or-range_with_len, length-range_with_len}
 use Rattle.std.proofs.lemmas.List.Sorted.{Contains-permutation, IsPermutation-sym}
+use Rattle.std.proofs.lemmas.List.Sums.{sum_by-cons}
 use Rattle.expr.specs.Term.{Term}
 use Rattle.access_plans.specs.Choice.{AreInner, AreLater, AreMaterialized, AreOpened, AreOpenedIn, IsDerivedBy, IsInnerPlan, IsMaterializedBy, IsOpenedAfter, IsOpenedBy, by_search, later_access, later_path, opened_by, seen_sources}
 use Rattle.access_plans.specs.Keyed.{Counted, KeyedSource, seen_source}
@@ -89,7 +90,8 @@ later_pushed c first at [] [] j s so_far is kind by =
 later_pushed c first at [] (x ∷ xs) j s so_far is kind by = absurd cc
 later_pushed c first at (i ∷ is) [] j s so_far place kind by = absurd so_far
 later_pushed c first at (i ∷ is) (x ∷ xs) j s so_far place kind by =
-    let there : first + width_of (i ∷ is) ≡ (first + source_width i.source) + width_of is = omega arith in (
+    let cons : width_of (i ∷ is) ≡ source_width i.source + width_of is = sum_by-cons (λ (x : JoinedData). source_width x.source) i is in
+    let there : first + width_of (i ∷ is) ≡ (first + source_width i.source) + width_of is = omega (arith, cons) in (
       so_far.0,
       so_far.1,
       so_far.2,

@@ -5,7 +5,7 @@ use Rattle.std.specs.List.{filter, flat_map, list_any, position, position_or_len
 use Rattle.std.proofs.lemmas.Bool.{eqb-true, ltb-false}
 use Rattle.std.proofs.lemmas.List.{drop_all, drop_more}
 use Rattle.std.proofs.lemmas.List.Elements.{filter-append}
-use Rattle.std.proofs.lemmas.List.Sums.{prefix_len-le}
+use Rattle.std.proofs.lemmas.List.Sums.{prefix_len-le-length}
 use Rattle.expr.specs.Conjuncts.{conjuncts}
 use Rattle.expr.specs.Term.{Term, literal}
 use Rattle.expr.specs.View.{term}
@@ -66,10 +66,10 @@ module _ {A : Type 0} (p : A → Bool) where
       by_test true short = refl
       by_test false long =
           let past : length xs ≤ position_or_len p xs = ltb-false (position_or_len p xs) (length xs) long in
-          omega (arith, past, prefix_len-le (λ x. not (p x)) xs)
+          omega (arith, past, prefix_len-le-length (λ x. not (p x)) xs)
 
   pub first_within : (xs : List A) → position_or_len p xs ≤ length xs
-  first_within xs = prefix_len-le (λ x. not (p x)) xs
+  first_within xs = prefix_len-le-length (λ x. not (p x)) xs
 
 abbrev outer : Joined → Bool
 outer j = not (is_inner (joined_of j).kind)

@@ -4,6 +4,7 @@ use Rattle.std.specs.Prelude.{◌⊎◌, All, Contains, if◌then◌else◌, sli
 use Rattle.std.specs.Option.{option_and_then}
 use Rattle.std.proofs.lemmas.List.{length-append, length-take-le, take_all, take_more}
 use Rattle.std.proofs.lemmas.List.Elements.{All-contains, Contains-append_left, Contains-push}
+use Rattle.std.proofs.lemmas.List.Sums.{sum_by-append}
 use Rattle.expr.specs.Term.{Term}
 use Rattle.access_plans.specs.Choice.{AreLater, IsDerivedBy, IsOpenedBy, later_access, later_path}
 use Rattle.access_plans.specs.Keyed.{Counted, seen_source}
@@ -129,8 +130,7 @@ take_got (y ∷ ys) zero x e = let same : y ≡ x = cc in ap (λ (z : JoinedData
 take_got (y ∷ ys) (suc k) x e = ap (λ (zs : List JoinedData). y ∷ zs) (take_got ys k x e)
 
 width_joined : (xs ys : List JoinedData) → width_of (xs ++ ys) ≡ width_of xs + width_of ys
-width_joined [] ys = omega arith
-width_joined (x ∷ xs) ys = let rest = width_joined xs ys in omega (arith, rest)
+width_joined xs ys = sum_by-append (λ (x : JoinedData). source_width x.source) xs ys
 
 take_joined : (xs ys : List JoinedData) (k : ℕ) → take (length xs + k) (xs ++ ys) ≡ xs ++ take k ys
 take_joined [] ys k = let zero_less : 0 + k ≡ k = omega arith in ap (λ (n : ℕ). take n ys) zero_less

@@ -52,6 +52,12 @@ pub record AreKeysWith (keys : Keys) (rest all : List Keyed) : Type 0 where
 pub no_keys_left : (keys : Keys) (all : List Keyed) → AreKeysWith keys [] all → AreKeys keys all
 no_keys_left keys all so_far = subst (AreKeys keys) (sym (append-nil so_far.so_far) ∙ so_far.whole) so_far.are
 
+pub keys_at_first : (keys : Keys) (rest all : List Keyed) → AreKeys keys all → AreKeysWith keys rest (all ++ rest)
+keys_at_first keys rest all are = record { so_far = all; are = are; whole = refl }
+
+pub keys_at_next : (keys pushed : Keys) (one rest all : List Keyed) (so_far : AreKeysWith keys (one ++ rest) all) → AreKeys pushed (so_far.so_far ++ one) → AreKeysWith pushed rest all
+keys_at_next keys pushed one rest all so_far are = record { so_far = so_far.so_far ++ one; are = are; whole = append_assoc so_far.so_far one rest ∙ so_far.whole }
+
 module _ (first width : ℕ) (terms : List Term) (table : TableData) (tree : TreeCounts) where
   abbrev keys_from : ℕ → List Index → List IndexCounts → List Keyed
   keys_from at indexes counts = index_keys first width terms table tree at (counted_indexes (map index_data indexes) counts)
@@ -79,9 +85,9 @@ module _ (first width : ℕ) (terms : List Term) (table : TableData) (tree : Tre
 
 pub table_seen : (c : Counted) (first width : ℕ) (terms : List Term) (t : CountedTable) (keys : Keys)
     → AreKeys keys (primary_of first width t.table.key (counts_of t.tree) t.distinct ++ index_keys first width terms t.table (counts_of t.tree) 0 c.indexes)
-    → record { source = table_source width (counts_of t.tree) (map key_data keys.keys.items); keys = keys.are.items } ≡ table_at c first terms width (Some t)
+    → table_at c first terms width (Some t) ≡ record { source = table_source width (counts_of t.tree) (map key_data keys.keys.items); keys = keys.are.items }
 table_seen c first width terms t keys are =
-    (λ i. record { source = table_source width (counts_of t.tree) (are.keys_are i); keys = are.kinds_are i })
+    λ i. record { source = table_source width (counts_of t.tree) (sym are.keys_are i); keys = sym are.kinds_are i }
 
 pub counted_at : (tables : List TableData) (trees : List WalkedCounts) (keys : List KeyCounts) (at : ℕ) (table : TableData) (tree : WalkedCounts) (key : KeyCounts)
     → slice_get tables at ≡ Some table → slice_get trees at ≡ Some tree → slice_get keys at ≡ Some key
