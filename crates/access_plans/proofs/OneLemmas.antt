@@ -91,7 +91,8 @@ after_at (x ∷ xs) at j e = by-kind (is_inner x.kind) (after_at xs at j) e
   where
     by-kind : (t : Bool) → (slice_get (after_leading xs) at ≡ Some j → slice_get xs (length (leading xs) + at) ≡ Some j) → slice_get (if t then after_leading xs else x ∷ xs) at ≡ Some j
         → slice_get (x ∷ xs) (length (if t then x ∷ leading xs else []) + at) ≡ Some j
-    by-kind true again e = again e
+    by-kind true again e =
+        let more : suc (length (leading xs)) + at ≡ suc (length (leading xs) + at) = omega arith in subst (λ (n : ℕ). slice_get (x ∷ xs) n ≡ Some j) (sym more) (again e)
     by-kind false again e = let same : at ≡ 0 + at = omega arith in subst (λ (n : ℕ). slice_get (x ∷ xs) n ≡ Some j) same e
 
 module _ (c : Counted) (sources : List JoinedData) where

@@ -63,7 +63,7 @@ pub(crate) fn is_kept_right(joined: &Joined) -> bool
 
 /// Whether one of these is.
 fn any_kept_right(sources: &[Joined]) -> bool
-    ensures { result ≡ list_any (λ j. pads_left j.kind) (map joined_of sources.now) }
+    ensures { result ≡ list_any (λ j. pads_left (joined_of j).kind) sources.now }
 {
     sources.iter().any(|joined| is_kept_right(joined))
 }
