@@ -8,7 +8,7 @@ ghost use Rattle.access_plans.specs.Keyed as spec;
 ghost use Rattle.access_plans.specs.Keyed.{are_own, conditions_of, counted_index, index_of, named_by, own_places, places_of, primary_of};
 ghost use Rattle.access_plans.specs.KeyView.{keyed_as, keyed_data};
 ghost use Rattle.access_plans.specs.Moved.{moved};
-ghost use Rattle.access_plans.specs.declared.keys.SearchedKey.TheVariants.{Index};
+ghost use Rattle.access_plans.specs.declared.keys.SearchedKey.TheVariants as kinds;
 ghost use Rattle.index_choice.specs.Conditions.{implying as spec_implying};
 ghost use Rattle.index_choice.specs.Sources.{condition_places, key_data, primary_key as primary_data, rowid_key as rowid_data};
 ghost use Rattle.schema.specs.indexes.IndexView.{index_data};
@@ -223,7 +223,7 @@ pub(crate) fn index_key(
     tree: TreeCounts,
 ) -> Result<Option<Key>, AllocError>
     ensures { (first width : ℕ) → own.now ≡ range_with_len first width → IfOk result (λ key. (at : ℕ)
-        → option_to_list (option_map (keyed_as (Index at)) (option_map key_data key)) ≡ index_of first width (map term terms.now) tree at (counted_index (index_data index.now) counts.now)) }
+        → option_to_list (option_map (keyed_as (kinds.Index at)) (option_map key_data key)) ≡ index_of first width (map term terms.now) tree at (counted_index (index_data index.now) counts.now)) }
 {
     let places = index_places(alloc, index)?;
     let Some(columns) = own_places(alloc, own, &places)? else {
