@@ -10,3 +10,4 @@ pub mod OpeningLemmas
 pub mod LeadingLemmas
 pub mod SourceLemmas
 pub mod QueryLemmas
+pub mod SearchLemmas

@@ -2,7 +2,7 @@
 -- (The SQLite Query Optimizer Overview, "Joins")
 use Rattle.std.specs.Prelude.{◌≡◌, ⊤, ℕ, suc, ◌+◌, nat_eq, not, Bool, true, false, ◌&&◌, if◌then◌else◌, List, [], ◌∷◌, ◌++◌, length, map, replicate, Option, Some, None, slice_get}
 use Rattle.std.specs.List.{filter}
-use Rattle.expr.specs.Term.{Term, compare}
+use Rattle.expr.specs.Term.{Term}
 use Rattle.access_plans.specs.Keyed.{Counted, KeyedSource, seen_source}
 use Rattle.access_plans.specs.Plans.{Access, Inner, Opened, Plan, SearchPlanData, access_at, and_then}
 use Rattle.access_plans.specs.Runs.{after_leading, leading, run_conjuncts, sources_in, width_of, written_conjuncts}
@@ -16,7 +16,7 @@ use Rattle.access_plans.specs.declared.plans.Operand.TheVariants as o
 use Rattle.access_plans.specs.declared.plans.TableAt.{TableAt}
 use Rattle.access_plans.specs.declared.plans.TableAt.TheVariants as tables
 use Rattle.index_choice.specs.Bounds.{same_side, seen_of}
-use Rattle.index_choice.specs.ColumnBounds.{BoundTerm, column_bound}
+use Rattle.index_choice.specs.ColumnBounds.{BoundTerm, left_bound}
 use Rattle.index_choice.specs.Paths.{PathData, SearchData, least_path, paths_of, scan_of}
 use Rattle.index_choice.specs.Sources.{KeyData, SourceData}
 use Rattle.index_choice.specs.declared.comparisons.Side.{Side}
@@ -36,8 +36,8 @@ is_bound side column (Some bound) = same_side bound.side side && nat_eq bound.co
 
 -- the operand of a conjunct that is the column which it bounds
 abbrev pub operand_of : Side → ℕ → Option Term → Operand
-operand_of side column (Some (compare op a b)) = if is_bound side column (column_bound op a b) then o.Left else o.Right
-operand_of side column t = o.Right
+operand_of side column (Some t) = if is_bound side column (left_bound t) then o.Left else o.Right
+operand_of side column None = o.Right
 
 abbrev pub bound_place : List Term → Side → ℕ → ℕ → BoundPlace
 bound_place terms side column at = record { conjunct = at; column = operand_of side column (slice_get terms at) }

@@ -11,7 +11,7 @@ ghost use Rattle.index_choice.specs.View.{bound_term};
 use crate::keys::SearchedKey;
 use crate::plans::{Access, BoundPlace, Operand, SearchPlan, TableAt};
 use expr::Expr;
-use index_choice::{ColumnBound, Key, Path, Search, Side, bounds};
+use index_choice::{ColumnBound, Key, Path, Search, Side, bounds, same_side};
 use std::alloc::{AllocError, Global};
 
 /// Whether a bound is one of this column on this side.
@@ -19,7 +19,7 @@ fn is_on(bound: Option<ColumnBound<'_>>, side: Side, column: usize) -> bool
     ensures { result ≡ is_bound side column (option_map bound_term bound.entry) }
 {
     match bound {
-        Some(bound) => bound.side == side && bound.column == column,
+        Some(bound) => same_side(bound.side, side) && bound.column == column,
         None => false,
     }
 }
