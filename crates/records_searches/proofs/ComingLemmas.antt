@@ -1,0 +1,136 @@
+-- The first of the entries that are to come of a search, and those after it.
+use Rattle.std.proofs.Common.{◌≡◌, ◌∙◌, ◌+◌, ◌≤◌, ℕ, ℤ, Bool, true, false, List, [], ◌∷◌, drop, Option, None, Some, refl, sym, ap, subst, arith}
+use Rattle.std.specs.List.{AllZip}
+use Rattle.values.specs.Datum.{Datum, int}
+use Rattle.btree.specs.declared.image.kind.TreeKind.{TreeKind}
+use Rattle.btree.specs.declared.image.kind.Level.TheVariants.{Leaf}
+use Rattle.btree.specs.image.Broken.{HasRowid}
+use Rattle.btree.specs.image.Cell.{CellData}
+use Rattle.btree.specs.image.Pages.{Pages}
+use Rattle.btree.specs.image.Tree.{IsEntryAt, IsRowAt, Place}
+use Rattle.btree.proofs.KindLemmas.{one_entry}
+use Rattle.btree.proofs.lemmas.image.RowidLemmas.{one_rowid}
+use Rattle.btree_cursor.specs.declared.cursor.cursor.Cursor.{Cursor}
+use Rattle.btree_cursor.specs.declared.cursor.found.Found.{Found}
+use Rattle.btree_cursor.specs.cursor.Listing.{IsAt, IsEntry}
+use Rattle.btree_cursor.specs.index_entries.Entries.{HasRecord}
+use Rattle.btree_cursor.specs.key_ranges.Ranges.{Range}
+use Rattle.schema_tables.specs.TableData.{RowKeyData, TableData}
+use Rattle.records_tables.specs.Tables.{IsAnyRow, StoresAnyRow, kind_of}
+use Rattle.records_searches.specs.Coming.{AreToCome, GivesCell, GivesFound, HoldsRowOf, run_of}
+use Rattle.records_searches.specs.Entries.{EntryData, HasRecordAt, IsEntryIn, IsRowEntry, IsTableEntry, SearchedData, kind_in, of_table}
+use Rattle.records_searches.specs.Meets.{GivesBytes, meets_range}
+use Rattle.records_searches.proofs.BudgetLemmas.{at_moved}
+use Rattle.records_searches.proofs.RunLemmas.{while_stops, while_takes}
+
+-- a cell is that of the first entry where a cursor stands
+pub record IsFirstIn (searched : SearchedData) (pages : Pages) (cell : CellData) (all : List EntryData) : Type 0 where
+  pub place : Place
+  pub entry : EntryData
+  pub more : List EntryData
+  pub all_are : all ≡ entry ∷ more
+  pub is : IsEntryIn searched pages place entry
+  pub at : IsEntryAt pages (kind_in searched) place cell
+
+first_of : (searched : SearchedData) (pages : Pages) (cell : CellData) (places : List Place) (all : List EntryData) → AllZip (IsEntryIn searched pages) places all
+    → IsEntry pages (kind_in searched) places (Some cell) → IsFirstIn searched pages cell all
+first_of searched pages cell [] all zip here = absurd (let e : Some cell ≡ None = here in cc)
+first_of searched pages cell (place ∷ places) [] zip here = absurd zip
+first_of searched pages cell (place ∷ places) (entry ∷ more) zip here =
+    record { place = place; entry = entry; more = more; all_are = refl; is = zip.0; at = here }
+
+none_of : (searched : SearchedData) (pages : Pages) (places : List Place) (all : List EntryData) → AllZip (IsEntryIn searched pages) places all
+    → IsEntry pages (kind_in searched) places None → all ≡ []
+none_of searched pages [] [] zip here = refl
+none_of searched pages [] (entry ∷ all) zip here = absurd zip
+none_of searched pages (place ∷ places) all zip here = absurd here
+
+abbrev test : Range → EntryData → Bool
+test range entry = meets_range range entry.values
+
+module _ (searched : SearchedData) (pages : Pages) (levels : ℕ) (range : Range) (cursor : Cursor) (entries : List EntryData) (t : AreToCome searched pages levels range cursor entries) where
+  pub come_first : (cell : CellData) → IsEntry pages (kind_in searched) t.places (Some cell) → IsFirstIn searched pages cell t.all
+  come_first cell here = first_of searched pages cell t.places t.all t.each here
+
+  -- there is none
+  pub come_none : IsEntry pages (kind_in searched) t.places None → entries ≡ []
+  come_none here = t.are ∙ ap (run_of range) (none_of searched pages t.places t.all t.each here)
+
+  module _ (cell : CellData) (here : IsEntry pages (kind_in searched) t.places (Some cell)) where
+    abbrev first : IsFirstIn searched pages cell t.all
+    first = come_first cell here
+
+    -- it doesn't meet the range
+    pub come_out : meets_range range first.entry.values ≡ false → entries ≡ []
+    come_out out = t.are ∙ ap (run_of range) first.all_are ∙ while_stops (test range) first.entry first.more out
+
+    -- it does
+    pub come_in : meets_range range first.entry.values ≡ true → entries ≡ first.entry ∷ run_of range first.more
+    come_in met = t.are ∙ ap (run_of range) first.all_are ∙ while_takes (test range) first.entry first.more met
+
+-- ---- the step to the next
+
+later_of : (range : Range) (first : EntryData) (later all : List EntryData) → first ∷ later ≡ run_of range all
+    → (head : EntryData) × (more : List EntryData) × (all ≡ head ∷ more) × (later ≡ run_of range more)
+later_of range first later [] are = absurd (let e : first ∷ later ≡ [] = are in cc)
+later_of range first later (x ∷ xs) are = by-test (meets_range range x.values) refl
+  where
+    by-test : (answer : Bool) → meets_range range x.values ≡ answer
+        → (head : EntryData) × (more : List EntryData) × (x ∷ xs ≡ head ∷ more) × (later ≡ run_of range more)
+    by-test true met = let e : first ∷ later ≡ x ∷ run_of range xs = are ∙ while_takes (test range) x xs met in (x, xs, refl, (let rest : later ≡ run_of range xs = cc in rest))
+    by-test false out = absurd (let e : first ∷ later ≡ [] = are ∙ while_stops (test range) x xs out in cc)
+
+dropped : (searched : SearchedData) (pages : Pages) (places : List Place) (head : EntryData) (more : List EntryData) → AllZip (IsEntryIn searched pages) places (head ∷ more)
+    → AllZip (IsEntryIn searched pages) (drop 1 places) more
+dropped searched pages [] head more zip = absurd zip
+dropped searched pages (place ∷ places) head more zip = zip.1
+
+module _ (searched : SearchedData) (pages : Pages) (levels : ℕ) (range : Range) (old : Cursor) (first : EntryData) (later : List EntryData)
+    (t : AreToCome searched pages levels range old (first ∷ later)) where
+  -- the cursor at a count of asked pages
+  pub at_count : (asked : ℕ) → IsAt pages (kind_in searched) levels old t.places asked (asked + t.budget)
+  at_count asked = at_moved pages (kind_in searched) levels old t.places t.asked t.budget asked (asked + t.budget) (omega arith) t.at
+
+  pub come_later : (new : Cursor) (asked budget : ℕ) → IsAt pages (kind_in searched) levels new (drop 1 t.places) asked budget
+      → AreToCome searched pages levels range new later
+  come_later new asked budget at =
+      let rest = later_of range first later t.all t.are in
+      record {
+        places = drop 1 t.places;
+        all = rest.1;
+        asked = asked;
+        budget = budget;
+        at = at;
+        each = dropped searched pages t.places rest.0 rest.1 (subst (λ (l : List EntryData). AllZip (IsEntryIn searched pages) t.places l) rest.2 t.each);
+        are = rest.3;
+      }
+
+-- ---- a row of a table
+
+stores_by : (key : RowKeyData) (pages : Pages) (table : TableData) (place : Place) (entry : EntryData) → IsTableEntry key pages table place entry
+    → StoresAnyRow pages table place entry.row
+stores_by (RowKeyData.Rowid at) pages table place entry is = is.stores
+stores_by (RowKeyData.Primary ats) pages table place entry is = is.stores
+
+-- the cell at a place is the row that is stored there
+pub row_at : (pages : Pages) (table : TableData) (place : Place) (entry : EntryData) (cell : CellData) → IsEntryIn (of_table table) pages place entry
+    → IsEntryAt pages (kind_of table.key) place cell → IsAnyRow pages table cell entry.row
+row_at pages table place entry cell is at =
+    let stores = stores_by table.key pages table place entry is in
+    subst (λ (c : CellData). IsAnyRow pages table c entry.row) (one_entry pages (kind_of table.key) place stores.cell cell stores.at at) stores.is
+
+-- the rowid that a cell has is that by which its row is compared
+pub rowid_met : (pages : Pages) (table : TableData) (range : Range) (place : Place) (entry : EntryData) (cell : CellData) (rowid : ℤ) → IsRowEntry pages table place entry
+    → IsRowAt pages place cell → cell.rowid ≡ Some rowid → meets_range range (int rowid ∷ []) ≡ meets_range range entry.values
+rowid_met pages table range place entry cell rowid is at has =
+    let same = one_rowid pages Leaf place.page place.index rowid is.rowid (cell, at.is, has) is.has in
+    ap (λ (k : ℤ). meets_range range (int k ∷ [])) same ∙ ap (meets_range range) (sym is.values_are)
+
+pub no_rowid : (pages : Pages) (place : Place) (cell : CellData) → IsRowAt pages place cell → cell.rowid ≡ None → ⊥
+no_rowid pages place cell at none = let has : cell.rowid ≡ Some at.is.rowid = at.is.has_rowid in cc
+
+-- the cell at a place has the record that stands there
+pub record_at : (pages : Pages) (place : Place) (cell : CellData) (values : List Datum) → HasRecordAt pages place values
+    → IsEntryAt pages TreeKind.Index place cell → HasRecord pages cell values
+record_at pages place cell values has at =
+    subst (λ (c : CellData). HasRecord pages c values) (one_entry pages TreeKind.Index place has.cell cell has.at at) has.has

@@ -1,0 +1,12 @@
+pub mod ZipLemmas
+pub mod RunLemmas
+pub mod CutLemmas
+pub mod MeetsLemmas
+pub mod ValueLemmas
+pub mod BudgetLemmas
+pub mod LandingLemmas
+pub mod ComingLemmas
+pub mod FetchLemmas
+pub mod FinderLemmas
+pub mod StoredLemmas
+pub mod WorkLemmas

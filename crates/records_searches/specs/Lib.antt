@@ -1,0 +1,9 @@
+pub mod RangeView
+pub mod Meets
+pub mod RowCuts
+pub mod Sought
+pub mod Entries
+pub mod Finders
+pub mod Coming
+pub mod Work
+pub mod Examples
