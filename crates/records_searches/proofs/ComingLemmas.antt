@@ -1,11 +1,20 @@
 -- The first of the entries that are to come of a search, and those after it.
-use Rattle.std.proofs.Common.{◌≡◌, ◌∙◌, ◌+◌, ◌≤◌, ℕ, ℤ, Bool, true, false, List, [], ◌∷◌, drop, Option, None, Some, refl, sym, ap, subst, arith}
+use Rattle.std.proofs.Common.{◌≡◌, ◌∙◌, ◌+◌, ◌≤◌, ℕ, ℤ, Bool, true, false, List, [], ◌∷◌, drop, Option, None, Some, MatchResult, Result, Ok, Err, Global, is_some, refl, sym, ap, subst, arith}
 use Rattle.std.specs.List.{AllZip}
+use Rattle.std.specs.Cow.{cow_slice_items}
+use Rattle.std.specs.Option.{ok_or, option_map}
+use Rattle.std.specs.declared.borrow.CowSlice.{CowSlice}
 use Rattle.values.specs.Datum.{Datum, int}
-use Rattle.btree.specs.declared.image.kind.TreeKind.{TreeKind}
+use Rattle.btree.specs.declared.image.kind.TreeKind.TheVariants as kind
 use Rattle.btree.specs.declared.image.kind.Level.TheVariants.{Leaf}
 use Rattle.btree.specs.image.Broken.{HasRowid}
+use Rattle.values.specs.declared.fault.Fault.{Fault}
+use Rattle.values.specs.declared.fault.Fault.TheVariants.{Changed}
+use Rattle.pager.specs.Calls.{IsReadFault}
+use Rattle.records.specs.Record.{IsRecord}
 use Rattle.btree.specs.image.Cell.{CellData}
+use Rattle.btree.specs.Calls.{IsBytesOf}
+use Rattle.btree.specs.image.Chain.{HasBytes}
 use Rattle.btree.specs.image.Pages.{Pages}
 use Rattle.btree.specs.image.Tree.{IsEntryAt, IsRowAt, Place}
 use Rattle.btree.proofs.KindLemmas.{one_entry}
@@ -15,15 +24,17 @@ use Rattle.btree_cursor.specs.declared.cursor.found.Found.{Found}
 use Rattle.btree_cursor.specs.cursor.Listing.{IsAt, IsEntry}
 use Rattle.btree_cursor.specs.index_entries.Entries.{HasRecord}
 use Rattle.btree_cursor.specs.key_ranges.Ranges.{Range}
+use Rattle.btree_cursor.proofs.lemmas.index_entries.EntryLemmas.{has_chain, record_read}
 use Rattle.schema_tables.specs.TableData.{RowKeyData, TableData}
 use Rattle.records_tables.specs.Tables.{IsAnyRow, StoresAnyRow, kind_of}
-use Rattle.records_searches.specs.Coming.{AreToCome, GivesCell, GivesFound, HoldsRowOf, run_of}
-use Rattle.records_searches.specs.Entries.{EntryData, HasRecordAt, IsEntryIn, IsRowEntry, IsTableEntry, SearchedData, kind_in, of_table}
+use Rattle.records_searches.specs.Coming.{AreToCome, GivesCell, GivesFound, HoldsRowOf, LeadsToIf, run_of}
+use Rattle.records_searches.specs.Entries.{EntryData, HasRecordAt, IsEntryIn, IsRowEntry, IsTableEntry, SearchedData, kind_in, of_index, of_table}
+use Rattle.records_searches.specs.declared.finders.RowIndex.{RowIndex}
 use Rattle.records_searches.specs.Meets.{GivesBytes, meets_range}
 use Rattle.records_searches.proofs.BudgetLemmas.{at_moved}
 use Rattle.records_searches.proofs.RunLemmas.{while_stops, while_takes}
 
--- a cell is that of the first entry where a cursor stands
+-- a cell is that of the entry at a cursor's position
 pub record IsFirstIn (searched : SearchedData) (pages : Pages) (cell : CellData) (all : List EntryData) : Type 0 where
   pub place : Place
   pub entry : EntryData
@@ -129,8 +140,55 @@ rowid_met pages table range place entry cell rowid is at has =
 pub no_rowid : (pages : Pages) (place : Place) (cell : CellData) → IsRowAt pages place cell → cell.rowid ≡ None → ⊥
 no_rowid pages place cell at none = let has : cell.rowid ≡ Some at.is.rowid = at.is.has_rowid in cc
 
--- the cell at a place has the record that stands there
+-- the cell at a place has the record that is there
 pub record_at : (pages : Pages) (place : Place) (cell : CellData) (values : List Datum) → HasRecordAt pages place values
-    → IsEntryAt pages TreeKind.Index place cell → HasRecord pages cell values
+    → IsEntryAt pages kind.Index place cell → HasRecord pages cell values
 record_at pages place cell values has at =
-    subst (λ (c : CellData). HasRecord pages c values) (one_entry pages TreeKind.Index place has.cell cell has.at at) has.has
+    subst (λ (c : CellData). HasRecord pages c values) (one_entry pages kind.Index place has.cell cell has.at at) has.has
+
+-- ---- the payload of an entry
+
+-- the bytes that are read of a payload are a record of the values that it has
+pub payload_record : (pages : Pages) (cell : CellData) (values : List Datum) → HasRecord pages cell values → (found : List ℕ) → HasBytes pages cell.payload found
+    → IsRecord found values
+payload_record pages cell values has found whole = record_read pages cell values found found has whole refl
+
+-- whether they meet a range
+pub bytes_in : (range : Range) (values : List Datum) (bytes : List ℕ) (met : Bool) → IsRecord bytes values → met ≡ meets_range range values → met ≡ true
+    → GivesBytes range values (Some bytes)
+bytes_in range values bytes met is same meets = (sym same ∙ meets, is)
+
+pub bytes_out : (range : Range) (values : List Datum) (met : Bool) → met ≡ meets_range range values → met ≡ false → GivesBytes range values None
+bytes_out range values met same out = sym same ∙ out
+
+-- a payload that is read, where nothing fails
+pub payload_found : (pages : Pages) (cell : CellData) (values : List Datum) → HasRecord pages cell values → (found : Option (CowSlice ℕ Global))
+    → IsBytesOf pages cell.payload (option_map cow_slice_items found) → MatchResult (ok_or found Changed) (λ f. IsRecord (cow_slice_items f) values) IsReadFault
+payload_found pages cell values has (Some found) whole = payload_record pages cell values has (cow_slice_items found) whole
+payload_found pages cell values has None none = absurd (has_chain pages cell values has none)
+
+-- bytes were given exactly where the record meets a range
+pub met_by : (range : Range) (values : List Datum) (found : Option (List ℕ)) → GivesBytes range values found → is_some found ≡ meets_range range values
+met_by range values None out = sym out
+met_by range values (Some bytes) gives = sym gives.0
+
+-- ---- the row of an entry
+
+module _ (table : TableData) (index : RowIndex) (pages : Pages) (levels : ℕ) (range : Range) (cursor : Cursor) (entries : List EntryData)
+    (t : AreToCome (of_index table index) pages levels range cursor entries) (cell : CellData) (here : IsEntry pages kind.Index t.places (Some cell)) where
+  abbrev pub entry_here : IsFirstIn (of_index table index) pages cell t.all
+  entry_here = come_first (of_index table index) pages levels range cursor entries t cell here
+
+  pub entry_record : HasRecord pages cell entry_here.entry.values
+  entry_record = record_at pages entry_here.place cell entry_here.entry.values entry_here.is.has entry_here.at
+
+  found_is : (found : Option Found) → LeadsToIf range pages table entry_here.entry.values entry_here.entry.row found → GivesFound pages table entries found
+  found_is None out = come_out (of_index table index) pages levels range cursor entries t cell here out
+  found_is (Some found) gives =
+      (entry_here.entry, run_of range entry_here.more, come_in (of_index table index) pages levels range cursor entries t cell here gives.0, gives.1)
+
+  pub row_given : (result : Result (Option Found) Fault)
+      → MatchResult result (λ found. LeadsToIf range pages table entry_here.entry.values entry_here.entry.row found) IsReadFault
+      → MatchResult result (λ found. GivesFound pages table entries found) IsReadFault
+  row_given (Ok found) gives = found_is found gives
+  row_given (Err e) gives = gives

@@ -84,7 +84,7 @@ module _ (pages : Pages) (table : TableData) (row : Row) where
 
 -- ---- a field that is read
 
--- a reader that has passed so many fields of a record has the others to come
+-- a reader that has passed the first fields of a record has the others to come
 pub found_if : (bytes : List ℕ) (at : ℕ) (unread next : Unread) (result : Option ValueRef)
     → ((values : List Datum) → IsRecord bytes values → AreUnread unread (drop at values))
     → IfSome result (λ value. (first : Datum) (others : List Datum) → AreUnread unread (first ∷ others) ↔ ((first ≡ datum_of_ref value) × AreUnread next others))

@@ -11,7 +11,7 @@ places_push f numbers places more n at are is pushed =
 suc_next : (a b : ℕ) → suc a + b ≡ suc (a + b)
 suc_next a b = omega arith
 
--- a number that stands in the front, or else behind it
+-- a number that is in the front, or else after it
 pub place_first : (xs ys : List ℕ) (n : ℕ) → place_of xs n < length xs → place_of xs n ≡ place_of (xs ++ ys) n
 place_first [] ys n within = absurd (omega (arith, within))
 place_first (x ∷ xs) ys n within = by_test (nat_eq x n) refl (λ other. place_first xs ys n (later other))

@@ -131,7 +131,7 @@ known : (t : Bool) (test : Ordering → Bool) (o p : Ordering) → Some o ≡ co
 known true test o p e = absurd (let f : Some o ≡ None = e in cc)
 known false test o p e = ap test (sym (some_same o p e))
 
--- what a comparison of two values tells of them, where none is NULL
+-- a comparison of two values, none of which is NULL
 pub holds_by : (test : Ordering → Bool) (value other : Datum) (o : Ordering) → Some o ≡ compared value other → holds test value other ≡ test o
 holds_by test value other o is = known (is_null value || is_null other) test o (datum_cmp value other) is
 

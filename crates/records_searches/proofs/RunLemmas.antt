@@ -64,33 +64,37 @@ within_not false b met is_in is = cc
 
 -- ---- of entries with these values
 
+-- an entry comes before a range, or doesn't
+abbrev pub Answers : {X : Type 0} → (X → List Datum) → List Bool → Range → Bool → X → Type 0
+Answers values descends range answer x = is_before descends (from_cut descends range) (values x) ≡ answer
+
 module _ {X : Type 0} (values : X → List Datum) (descends : List Bool) (range : Range) (sound : has_null range ≡ false) where
-  abbrev pub IsWide : X → Type 0
+  abbrev IsWide : X → Type 0
   IsWide x = width range ≤ length (values x)
 
-  abbrev pub Answers : Bool → X → Type 0
-  Answers answer x = is_before descends (from_cut descends range) (values x) ≡ answer
+  abbrev IsSo : Bool → X → Type 0
+  IsSo answer x = Answers values descends range answer x
 
   abbrev met : X → Bool
   met x = meets_range range (values x)
 
-  is_met : (x : X) → IsWide x → Answers false x → is_before descends (to_cut descends range) (values x) ≡ met x
+  is_met : (x : X) → IsWide x → IsSo false x → is_before descends (to_cut descends range) (values x) ≡ met x
   is_met x wide out =
       within_if (is_before descends (from_cut descends range) (values x)) (is_before descends (to_cut descends range) (values x)) (met x) out
       (cuts_are_range descends range (values x) sound wide)
 
-  is_unmet : (x : X) → IsWide x → Answers true x → met x ≡ false
+  is_unmet : (x : X) → IsWide x → IsSo true x → met x ≡ false
   is_unmet x wide is_in =
       within_not (is_before descends (from_cut descends range) (values x)) (is_before descends (to_cut descends range) (values x)) (met x) is_in
       (cuts_are_range descends range (values x) sound wide)
 
   none_later : (x : X) (xs : List X) → list_all (λ y. is_lt (key_cmp descends (values x) y)) (map values xs) ≡ true
-      → is_before descends (to_cut descends range) (values x) ≡ false → All IsWide xs → All (Answers false) xs → filter met xs ≡ []
+      → is_before descends (to_cut descends range) (values x) ≡ false → All IsWide xs → All (IsSo false) xs → filter met xs ≡ []
   none_later x [] up out wide answers = refl
   none_later x (y ∷ ys) up out wide answers =
-      filter_drops met y ys (sym (is_met y (All-head IsWide y ys wide) (All-head (Answers false) y ys answers)) ∙ late (is_before descends (to_cut descends range) (values y)) refl)
+      filter_drops met y ys (sym (is_met y (All-head IsWide y ys wide) (All-head (IsSo false) y ys answers)) ∙ late (is_before descends (to_cut descends range) (values y)) refl)
       ∙ none_later x ys (and_right (is_lt (key_cmp descends (values x) (values y))) (list_all (λ z. is_lt (key_cmp descends (values x) z)) (map values ys)) up) out
-      (All-tail IsWide y ys wide) (All-tail (Answers false) y ys answers)
+      (All-tail IsWide y ys wide) (All-tail (IsSo false) y ys answers)
     where
       late : (answer : Bool) → is_before descends (to_cut descends range) (values y) ≡ answer → is_before descends (to_cut descends range) (values y) ≡ false
       late false is = is
@@ -101,25 +105,25 @@ module _ {X : Type 0} (values : X → List Datum) (descends : List Bool) (range 
           before_too descends (to_cut descends range).key (values x) (values y) (to_cut descends range).behind less is in
           cc
 
-  fails : (xs : List X) → Ascend descends (map values xs) → All IsWide xs → All (Answers false) xs → FailsOn met xs
+  fails : (xs : List X) → Ascend descends (map values xs) → All IsWide xs → All (IsSo false) xs → FailsOn met xs
   fails [] up wide answers = tt
   fails (x ∷ xs) up wide answers = (
-    λ out. none_later x xs up.0 (is_met x (All-head IsWide x xs wide) (All-head (Answers false) x xs answers) ∙ out) (All-tail IsWide x xs wide)
-        (All-tail (Answers false) x xs answers),
-    fails xs up.1 (All-tail IsWide x xs wide) (All-tail (Answers false) x xs answers),
+    λ out. none_later x xs up.0 (is_met x (All-head IsWide x xs wide) (All-head (IsSo false) x xs answers) ∙ out) (All-tail IsWide x xs wide)
+        (All-tail (IsSo false) x xs answers),
+    fails xs up.1 (All-tail IsWide x xs wide) (All-tail (IsSo false) x xs answers),
   )
 
   -- those that meet the range are the run from where those that come before it end
-  pub run_after : (front rest : List X) → Ascend descends (map values (front ++ rest)) → All IsWide front → All IsWide rest → All (Answers true) front
-      → All (Answers false) rest → filter met (front ++ rest) ≡ take_while met rest
+  pub run_after : (front rest : List X) → Ascend descends (map values (front ++ rest)) → All IsWide front → All IsWide rest → All (IsSo true) front
+      → All (IsSo false) rest → filter met (front ++ rest) ≡ take_while met rest
   run_after [] rest up front_wide wide before after = one_run met rest (fails rest up wide after)
   run_after (x ∷ front) rest up front_wide wide before after =
-      filter_drops met x (front ++ rest) (is_unmet x (All-head IsWide x front front_wide) (All-head (Answers true) x front before))
-      ∙ run_after front rest up.1 (All-tail IsWide x front front_wide) wide (All-tail (Answers true) x front before) after
+      filter_drops met x (front ++ rest) (is_unmet x (All-head IsWide x front front_wide) (All-head (IsSo true) x front before))
+      ∙ run_after front rest up.1 (All-tail IsWide x front front_wide) wide (All-tail (IsSo true) x front before) after
 
   -- and none does where all come before it
-  pub none_met : (xs : List X) → All IsWide xs → All (Answers true) xs → filter met xs ≡ []
+  pub none_met : (xs : List X) → All IsWide xs → All (IsSo true) xs → filter met xs ≡ []
   none_met [] wide before = refl
   none_met (x ∷ xs) wide before =
-      filter_drops met x xs (is_unmet x (All-head IsWide x xs wide) (All-head (Answers true) x xs before))
-      ∙ none_met xs (All-tail IsWide x xs wide) (All-tail (Answers true) x xs before)
+      filter_drops met x xs (is_unmet x (All-head IsWide x xs wide) (All-head (IsSo true) x xs before))
+      ∙ none_met xs (All-tail IsWide x xs wide) (All-tail (IsSo true) x xs before)

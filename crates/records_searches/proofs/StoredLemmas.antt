@@ -33,7 +33,7 @@ one_place pages places ascend x y rowid in_x in_y has_x has_y =
     (λ (less : i.0 < j.0). absurd (never_less rowid (ascend i.0 j.0 x y rowid rowid less i.1 j.1 has_x has_y)))
     (λ (most : j.0 ≤ i.0). ⊎_elim
     (λ (same : j.0 ≡ i.0). let e : Some x ≡ Some y = sym i.1 ∙ ap (λ (k : ℕ). slice_get places k) (sym same) ∙ j.1 in cc)
-    (λ (other : j.0 ≡ i.0 → ⊥). let less : j.0 < i.0 = grind arith in absurd (never_less rowid (ascend j.0 i.0 y x rowid rowid less j.1 i.1 has_y has_x)))
+    (λ (other : j.0 ≡ i.0 → ⊥). let less : j.0 < i.0 = omega arith in absurd (never_less rowid (ascend j.0 i.0 y x rowid rowid less j.1 i.1 has_y has_x)))
     (cases_eq j.0 i.0))
     (cases_lt i.0 j.0)
 

@@ -44,7 +44,7 @@ values_append row (x ∷ xs) ys = ap (λ (l : List Datum). slice_index_or row x 
 same_number : (x y : ℕ) → nat_eq x y ≡ true → x ≡ y
 same_number x y e = grind arith
 
--- a column stands where its place is
+-- a column is at its place
 at_place : (row : Row) (columns : List ℕ) (column : ℕ) → has_number columns column ≡ true
     → slice_index_or (values_at row columns) (place_of columns column) null ≡ slice_index_or row column null
 at_place row [] column has = let e : false ≡ true = has in cc

@@ -5,7 +5,7 @@ use Rattle.std.specs.List.{AllZip}
 use Rattle.std.proofs.lemmas.List.Elements.{All-cons, All-head, All-nil, All-tail}
 
 module _ {A B : Type 0} (R : A → B → Type 0) where
-  -- what stands beside the front of a list and beside the rest of it
+  -- the parts beside the front of a list and beside the rest of it
   pub record AreParts (front rest : List A) (ys : List B) : Type 0 where
     pub first : List B
     pub later : List B
@@ -43,7 +43,7 @@ pub zip_maps : {A B C : Type 0} (f : A → C) (g : B → C) (xs : List A) (ys : 
 zip_maps f g [] [] same = tt
 zip_maps f g [] (y ∷ ys) same = absurd (let e : [] ≡ g y ∷ map g ys = same in cc)
 zip_maps f g (x ∷ xs) [] same = absurd (let e : f x ∷ map f xs ≡ [] = same in cc)
-zip_maps {A} {B} {C} f g (x ∷ xs) (y ∷ ys) same =
+zip_maps f g (x ∷ xs) (y ∷ ys) same =
     let e : f x ∷ map f xs ≡ g y ∷ map g ys = same in
     let first : f x ≡ g y = cc in
     let rest : map f xs ≡ map g ys = cc in

@@ -1,6 +1,7 @@
 -- The entries that a search still has to give. (The SQLite Query Optimizer Overview, "WHERE Clause Analysis")
-use Rattle.std.specs.Prelude.{◌≡◌, ◌⊎◌, ℕ, List, [], ◌∷◌, Option, None, Some}
+use Rattle.std.specs.Prelude.{◌≡◌, ◌⊎◌, ℕ, true, false, List, [], ◌∷◌, Option, None, Some}
 use Rattle.std.specs.List.{AllZip}
+use Rattle.values.specs.Datum.{Datum}
 use Rattle.values.specs.Row.{Row}
 use Rattle.values.specs.declared.fault.Fault.{Fault}
 use Rattle.values.specs.declared.fault.Fault.TheVariants.{Changed}
@@ -27,8 +28,8 @@ IsSearchFault fault = IsReadFault fault ⊎ (fault ≡ Changed)
 abbrev pub run_of : Range → List EntryData → List EntryData
 run_of range entries = take_while (λ entry. meets_range range entry.values) entries
 
--- These entries are to come of a search whose cursor stands in a tree with so many levels below its root: they stand where the cursor
--- stands and after it, up to the first that doesn't meet the range.
+-- These entries are to come of a search of a tree with this number of levels below its root: the one at the cursor's position and those
+-- after it, up to the first that doesn't meet the range.
 pub record AreToCome (searched : SearchedData) (pages : Pages) (levels : ℕ) (range : Range) (cursor : Cursor) (entries : List EntryData) : Type 0 where
   pub places : List Place
   pub all : List EntryData
@@ -53,6 +54,11 @@ GivesCell pages table entries (Some cell) =
 pub record HoldsRowOf (pages : Pages) (table : TableData) (found : Found) (row : Row) : Type 0 where
   pub is_in : IsFoundIn pages (kind_of table.key) table.root found
   pub stores : StoresAnyRow pages table (place_found found) row
+
+-- an entry with these values leads to a row: it is found where the entry meets a range
+abbrev pub LeadsToIf : Range → Pages → TableData → List Datum → Row → Option Found → Type 0
+LeadsToIf range pages table values row None = meets_range range values ≡ false
+LeadsToIf range pages table values row (Some found) = (meets_range range values ≡ true) × HoldsRowOf pages table found row
 
 -- the same of a cell that was looked up
 abbrev pub GivesFound : Pages → TableData → List EntryData → Option Found → Type 0

@@ -68,7 +68,7 @@ abbrev pub IsTableEntry : RowKeyData → Pages → TableData → Place → Entry
 IsTableEntry (RowKeyData.Rowid at) pages table place entry = IsRowEntry pages table place entry
 IsTableEntry (RowKeyData.Primary ats) pages table place entry = IsKeyEntry pages table place entry
 
--- The tree of a table with rowids, which has so many levels below its root, has these entries from left to right, in order.
+-- The tree of a table with rowids, which has this number of levels below its root, has these entries from left to right, in order.
 pub record HoldsRowEntries (pages : Pages) (table : TableData) (levels : ℕ) (entries : List EntryData) : Type 0 where
   pub searchable : IsSearchable pages levels table.root
   pub each : AllZip (IsRowEntry pages table) (places_under pages Table levels table.root) entries
@@ -125,7 +125,7 @@ pub record IsIndexEntry (pages : Pages) (table : TableData) (index : RowIndex) (
   pub has : HasRecordAt pages place entry.values
   pub leads : LeadsTo pages table index.finder entry.values entry.row
 
--- The tree of an index of a table, which has so many levels below its root, has these entries from left to right, in order.
+-- The tree of an index of a table, which has this number of levels below its root, has these entries from left to right, in order.
 pub record HoldsIndexEntries (pages : Pages) (table : TableData) (index : RowIndex) (levels : ℕ) (entries : List EntryData) : Type 0 where
   pub values : Place → List Datum
   pub searchable : IsSearchableIndex pages index.descends.items values levels index.root
@@ -153,7 +153,7 @@ abbrev pub IsEntryIn : SearchedData → Pages → Place → EntryData → Type 0
 IsEntryIn (of_table table) pages place entry = IsTableEntry table.key pages table place entry
 IsEntryIn (of_index table index) pages place entry = IsIndexEntry pages table index place entry
 
--- its tree has so many levels below its root, and these entries from left to right
+-- its tree has this number of levels below its root, and these entries from left to right
 abbrev pub HoldsEntries : SearchedData → Pages → ℕ → List EntryData → Type 0
 HoldsEntries (of_table table) pages levels entries = HoldsTableEntries table.key pages table levels entries
 HoldsEntries (of_index table index) pages levels entries = HoldsIndexEntries pages table index levels entries

@@ -9,7 +9,7 @@ use Rattle.records_searches.specs.Entries.{values_at}
 use Rattle.records_searches.specs.declared.finders.RowFinder.{RowFinder}
 use Rattle.records_searches.specs.declared.finders.RowFinder.TheVariants as by
 
--- An entry has the values of the index's columns, and behind them the rowid; or, of a table without rowids, the values of the other
+-- An entry has the values of the index's columns, and after them the rowid; or, of a table without rowids, the values of the other
 -- columns of the PRIMARY KEY.
 abbrev pub rowid_entry : List ℕ → ℤ → Row → Row
 rowid_entry columns rowid row = values_at row columns ++ int rowid ∷ []

@@ -14,7 +14,7 @@ use Rattle.btree_cursor.specs.key_ranges.Ranges.{Range, from_cut, is_before}
 use Rattle.records_searches.specs.declared.row_cuts.RowCut.{RowCut}
 use Rattle.records_searches.specs.declared.row_cuts.RowCut.TheVariants.{At, Last}
 
--- these cells are to come of a cursor, once so many pages were asked for; without a cursor none are
+-- these cells are to come of a cursor, when this number of pages was asked for; without a cursor none are
 abbrev pub IsCursorAt : Pages → TreeKind → ℕ → Option Cursor → List Place → ℕ → Type 0
 IsCursorAt pages kind levels None places asked = places ≡ []
 IsCursorAt pages kind levels (Some cursor) places asked = (budget : ℕ) × IsAt pages kind levels cursor places asked budget

@@ -3,14 +3,14 @@ use Rattle.std.specs.Prelude.{ℕ, suc, ◌+◌, ◌*◌, ◌≤◌, Option, Som
 use Rattle.pager.specs.PagerState.{PagerState}
 use Rattle.records_searches.specs.declared.depths.SearchDepths.{SearchDepths}
 
--- A search of a tree with so many levels below its root was opened and has given so many rows, each of which took at most so many pages
--- of its table's tree.
+-- A search of a tree with this number of levels below its root was opened and has given m rows, each of which took at most `fetch`
+-- pages of its table's tree.
 pub data HasSearched (levels fetch : ℕ) (start : PagerState) : ℕ → PagerState → Type 0 where
   opened : (now : PagerState) → now.asked ≤ start.asked + (2 * levels + 1) → HasSearched levels fetch start 0 now
   gave : {m : ℕ} {old : PagerState} (fetched now : PagerState) → HasSearched levels fetch start m old
       → fetched.asked ≤ old.asked + fetch → now.asked ≤ fetched.asked + levels → HasSearched levels fetch start (suc m) now
 
--- the levels of pages of a tree that has so many below its root
+-- the levels of pages of a tree that has this number below its root
 abbrev pub depth_of : ℕ → ℕ
 depth_of levels = levels + 1
 

@@ -1,7 +1,7 @@
-//! The cell at which a search stands.
-ghost use Rattle.std.specs.Prelude.{◌≡◌, ℕ, IfErr, IfNone, IfSome, List, MatchResult, None, option_map};
+//! The cell at a search's position.
+ghost use Rattle.std.specs.Prelude.{◌≡◌, ℕ, ℤ, [], ◌∷◌, IfErr, IfNone, IfSome, List, MatchResult, None, Ok, Some, option_map};
 ghost use Rattle.std.specs.Cow.{cow_slice_items};
-ghost use Rattle.values.specs.Datum.{Datum};
+ghost use Rattle.values.specs.Datum.{Datum, int};
 ghost use Rattle.pager.specs.Calls.{IsReadFault, ReadsChainPages};
 ghost use Rattle.records.specs.Record.{IsRecord};
 ghost use Rattle.btree.specs.declared.image.kind.TreeKind.{TreeKind};
@@ -27,7 +27,7 @@ use std::alloc::Global;
 use std::borrow::CowSlice;
 use values::Fault;
 
-/// The cell at which a cursor stands, if there is one. Its fault is `Changed`, where the page has no cell there.
+/// The cell at a cursor's position, if there is one. Its fault is `Changed`, where the page has no cell there.
 pub(crate) fn cell_at(cursor: &Cursor) -> Result<Option<Cell<'_>>, Fault>
     ensures entry { (pages : Pages) (kind : TreeKind) (levels : ℕ) (places : List Place) (asked budget : ℕ)
         → IsAt pages kind levels cursor.now places asked budget
@@ -49,6 +49,21 @@ fn record_meets(bounds: &KeyRange<'_>, bytes: &[u8]) -> Option<bool>
     entry_meets(bounds, &mut entry)
 }
 
+/// The payload of a cell. Its faults are `ReadFailed`, `NoMemory`, and `Changed` where its overflow pages are no chain.
+fn payload_of<'p, S: Source>(
+    alloc: Global,
+    pager: &mut Pager<S>,
+    cell: &Cell<'p>,
+) -> Result<CowSlice<'p, u8>, Fault>
+    ensures bytes { WhereSteady pager.old.state (λ pages. (values : List Datum) → HasRecord pages (cell_data cell.now) values
+        → MatchResult result (λ found. IsRecord (cow_slice_items found) values) IsReadFault) }
+    ensures only { IfErr result IsSearchFault }
+    ensures local { cell.now.payload.overflow ≡ None → pager.new.state ≡ pager.old.state }
+    ensures reads { ReadsChainPages result pager.old.state pager.new.state }
+{
+    payload(alloc, pager, cell)?.ok_or(Fault::Changed)
+}
+
 /// The bytes of an entry's payload, where its record meets a range. Its faults are `ReadFailed`, `NoMemory`, and `Changed`
 /// where the payload is no record.
 pub(crate) fn bytes_in_range<'p, S: Source>(
@@ -63,13 +78,43 @@ pub(crate) fn bytes_in_range<'p, S: Source>(
     ensures local { cell.now.payload.overflow ≡ None → pager.new.state ≡ pager.old.state }
     ensures reads { ReadsChainPages result pager.old.state pager.new.state }
 {
-    let Some(bytes) = payload(alloc, pager, cell)? else {
+    let bytes = payload_of(alloc, pager, cell)?;
+    let Some(met) = record_meets(bounds, bytes.as_slice()) else {
         return Err(Fault::Changed);
     };
-    match record_meets(bounds, bytes.as_slice()) {
-        Some(true) => Ok(Some(bytes)),
-        Some(false) => Ok(None),
+    if met {
+        return Ok(Some(bytes));
+    }
+    Ok(None)
+}
+
+/// Whether the rowid of a row, which it has, meets a range. Its fault is `Changed` where there is none.
+fn rowid_in_range(rowid: Option<i64>, bounds: &KeyRange<'_>) -> Result<bool, Fault>
+    ensures met { (number : ℤ) → rowid ≡ Some number → result ≡ Ok (meets_range (range bounds.now) (int number ∷ [])) }
+    ensures only { IfErr result (λ e. e ≡ Fault.Changed) }
+{
+    match rowid {
+        Some(rowid) => Ok(rowid_meets(bounds, rowid)),
         None => Err(Fault::Changed),
+    }
+}
+
+/// Whether the record of an entry meets a range. Its faults are those of `bytes_in_range`.
+fn record_in_range<S: Source>(
+    alloc: Global,
+    pager: &mut Pager<S>,
+    cell: &Cell<'_>,
+    bounds: &KeyRange<'_>,
+) -> Result<bool, Fault>
+    ensures met { WhereSteady pager.old.state (λ pages. (values : List Datum) → HasRecord pages (cell_data cell.now) values
+        → MatchResult result (λ met. met ≡ meets_range (range bounds.now) values) IsReadFault) }
+    ensures only { IfErr result IsSearchFault }
+    ensures local { cell.now.payload.overflow ≡ None → pager.new.state ≡ pager.old.state }
+    ensures reads { ReadsChainPages result pager.old.state pager.new.state }
+{
+    match bytes_in_range(alloc, pager, cell, bounds)? {
+        Some(_) => Ok(true),
+        None => Ok(false),
     }
 }
 
@@ -90,15 +135,7 @@ pub(crate) fn row_is_in_range<S: Source>(
     ensures reads { ReadsChainPages result pager.old.state pager.new.state }
 {
     match table.key() {
-        RowKey::Rowid(_) => {
-            let Some(rowid) = cell.rowid else {
-                return Err(Fault::Changed);
-            };
-            Ok(rowid_meets(bounds, rowid))
-        }
-        RowKey::Primary(_) => {
-            let bytes = bytes_in_range(alloc, pager, cell, bounds)?;
-            Ok(bytes.is_some())
-        }
+        RowKey::Rowid(_) => rowid_in_range(cell.rowid, bounds),
+        RowKey::Primary(_) => record_in_range(alloc, pager, cell, bounds),
     }
 }

@@ -12,7 +12,7 @@ pub struct SearchDepths {
 }
 
 impl SearchDepths {
-    /// Those of a tree that has so many levels of pages below its root, and of the tree of its table, where an entry leads to a
+    /// Those of a tree with this number of levels of pages below its root, and of the tree of its table, where an entry leads to a
     /// row there.
     pub fn of(levels: u32, table_levels: Option<u32>) -> SearchDepths
         ensures { result ≡ depths_of levels table_levels }

@@ -27,7 +27,7 @@ pub struct RowIndex {
     pub finder: RowFinder,
 }
 
-/// Where a number stands first in a list, or the list's length where it doesn't.
+/// The first position of a number in a list, or the list's length where it doesn't.
 fn place_of(numbers: &[usize], number: usize) -> usize
     ensures { result ≡ spec.place_of numbers.now number }
 {

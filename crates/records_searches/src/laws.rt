@@ -57,7 +57,7 @@ pub fn entry_has_key()
         → values_at (key_entry columns others row) (map (place_of (columns ++ others)) key) ≡ values_at row key }
 {}
 
-/// A search that gives so many rows asks for at most `d * (2 + m)` pages of the tree that it goes through, which has d levels, and
+/// A search that gives m rows asks for at most `d * (2 + m)` pages of the tree that it goes through, which has d levels, and
 /// for each row that an entry leads to at most for as many as its table's tree has levels.
 pub fn search_asks_for_few()
     ensures { (start now : PagerState) (levels fetch m : ℕ) → HasSearched levels fetch start m now

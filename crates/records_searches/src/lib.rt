@@ -8,7 +8,7 @@
 //! The modules, in the order in which data passes them: `ranges` (the values of the bounds, whose memory is
 //! kept from one opening to the next), `meets` (whether an entry meets a range), `row_cuts` (a position among
 //! the rows of a table), `seeks` (a cursor at the first that doesn't come before a range), `finders` (how an
-//! entry leads to its row), `fetches` (the row that it leads to), `cells` (the cell at which a search stands),
+//! entry leads to its row), `fetches` (the row that it leads to), `cells` (the cell at a search's position),
 //! `search` (the rows or entries that meet a range, one by one), `depths` (the levels of pages that a search
 //! goes through, as the choice of a path counts them) and `laws`.
 #![tactic(auto)]

@@ -20,6 +20,7 @@ pub(crate) enum RowCut {
 impl RowCut {
     /// The position that a key of one column is: a value that rows have to have, or an end of their range. NULL comes before
     /// each rowid, a text or a blob after it. (Datatypes In SQLite, "Sort Order")
+    #[tactic(auto, using(crate::proofs::CutLemmas::at_least))]
     pub(crate) fn new(equal: &[Value], end: End<'_>) -> RowCut
         ensures { (rowid : ℤ) → IsRowid rowid → length (behind_values (map datum_of equal.now) (cut end.entry)).key ≤ 1
             → is_before [] (behind_values (map datum_of equal.now) (cut end.entry)) (int rowid ∷ []) ≡ row_comes_before result rowid }

@@ -1,16 +1,19 @@
 //! The rows of a table, or the entries of an index, that meet a range, one by one.
 ghost use Rattle.std.specs.Prelude.{◌≡◌, ◌*◌, ◌+◌, ◌≤◌, ◌<◌, ◌∷◌, ℕ, false, true, IfErr, IfNone, IfOk, IfSome, List, MatchResult, None, Ok, option_map};
+ghost use Rattle.values.specs.Datum.{Datum};
+ghost use Rattle.values.specs.Row.{Row};
 ghost use Rattle.pager.specs.Calls.{IsReadFault, ReadsChainPages, ReadsPages, ReadsTreePages};
 ghost use Rattle.btree.specs.image.Pages.{WhereSteady};
 ghost use Rattle.btree.specs.Views.{cell_data};
 ghost use Rattle.btree_cursor.specs.cursor.Found.{AsksOneWay};
+ghost use Rattle.btree_cursor.specs.index_entries.Entries.{HasRecord};
 ghost use Rattle.btree_cursor.specs.cursor.Left.{steps_left};
 ghost use Rattle.btree_cursor.specs.cursor.Search.{IsUnchainedIndex};
 ghost use Rattle.btree_cursor.specs.key_ranges.Ranges.{Range, has_null};
 ghost use Rattle.btree_cursor.specs.key_ranges.View.{range as key_range};
 ghost use Rattle.schema_tables.specs.TableData.{TableData};
-ghost use Rattle.records_searches.specs.Coming.{AreOpened, AreToCome, GivesCell, GivesFound, IsSearchFault};
-ghost use Rattle.records_searches.specs.Entries.{AreWide, EntryData, HoldsEntries, SearchedData, entries_in, kind_by, of_index, of_table};
+ghost use Rattle.records_searches.specs.Coming.{AreOpened, AreToCome, GivesCell, GivesFound, IsSearchFault, LeadsToIf};
+ghost use Rattle.records_searches.specs.Entries.{AreWide, EntryData, HoldsEntries, LeadsTo, SearchedData, entries_in, kind_by, of_index, of_table};
 
 use crate::cells::{bytes_in_range, cell_at, row_is_in_range};
 use crate::fetches::row_of_entry;
@@ -99,7 +102,7 @@ pub fn first_of_index<S: Source>(
     Ok(Some(entry))
 }
 
-/// The cell of the row at which a search of a table stands, where it meets the range; none where it doesn't, or there is none.
+/// The cell of the row at the position of a search of a table, where it meets the range; none where it doesn't, or there is none.
 /// Its faults are `ReadFailed`, `NoMemory`, and `Changed`, which no table gives that is stored as it was checked.
 pub fn table_row<'c, S: Source>(
     alloc: Global,
@@ -124,7 +127,32 @@ pub fn table_row<'c, S: Source>(
     Ok(Some(cell))
 }
 
-/// The row to which the entry leads at which a search of an index stands, where it meets the range; none where it doesn't, or
+/// The row to which the entry of an index in a cell leads, where it meets the range.
+fn entry_row<S: Source>(
+    alloc: Global,
+    pager: &mut Pager<S>,
+    cell: &Cell<'_>,
+    table: &Table,
+    index: &RowIndex,
+    range: &RangeValues,
+    key: &mut Vec<Value>,
+) -> Result<Option<Found>, Fault>
+    ensures row { WhereSteady pager.old.state (λ pages. (values : List Datum) (row : Row) → HasRecord pages (cell_data cell.now) values
+        → LeadsTo pages table.now index.now.finder values row
+        → MatchResult result (λ found. LeadsToIf range.now pages table.now values row found) IsReadFault) }
+    ensures only { IfErr result IsSearchFault }
+    ensures asks { AsksOneWay pager.old.state pager.new.state (kind_by index.now.finder) table.now.root }
+    ensures end { IfOk result (λ found. IfNone found (pager.new.state.asked ≡ pager.old.state.asked)) }
+    ensures reads { ReadsPages result pager.old.state pager.new.state }
+{
+    let Some(bytes) = bytes_in_range(alloc, pager, cell, &range.key_range())? else {
+        return Ok(None);
+    };
+    let found = row_of_entry(alloc, pager, table, &index.finder, bytes.as_slice(), key)?;
+    Ok(Some(found))
+}
+
+/// The row to which the entry at the position of a search of an index leads, where it meets the range; none where it doesn't, or
 /// there is none. `key` is memory for the row's PRIMARY KEY. Its faults are `ReadFailed`, `NoMemory`, and `Changed`, which no
 /// index gives that is stored as it was checked.
 pub fn index_row<S: Source>(
@@ -147,11 +175,7 @@ pub fn index_row<S: Source>(
     let Some(cell) = cell_at(cursor)? else {
         return Ok(None);
     };
-    let Some(bytes) = bytes_in_range(alloc, pager, &cell, &range.key_range())? else {
-        return Ok(None);
-    };
-    let found = row_of_entry(alloc, pager, table, &index.finder, bytes.as_slice(), key)?;
-    Ok(Some(found))
+    entry_row(alloc, pager, &cell, table, index, range, key)
 }
 
 /// Goes on from a row or an entry that a search has given to the next, which may not meet the range; past the last the cursor
