@@ -1,0 +1,92 @@
+//! What a line asks for.
+use anyhow::{Context, Result, anyhow};
+use records_searches::{BoundKind, RangeShape, RangeValues};
+use std::alloc::Global;
+use values::Value;
+
+/// The bounds of a search, as they are written.
+#[derive(Drop)]
+pub struct Search {
+    pub tree: String,
+    pub range: RangeValues,
+}
+
+/// A value by a letter and what follows it: `n` for NULL, `i` and a number, `t` and a text.
+fn value_of(alloc: Global, part: &str) -> Result<Value> {
+    if let Some(number) = part.strip_prefix("i") {
+        return Ok(Value::Int(number.parse().context("no number")?));
+    }
+    if let Some(text) = part.strip_prefix("t") {
+        return Ok(Value::Text(String::from_str(alloc, text)?));
+    }
+    Ok(Value::Null)
+}
+
+/// The bounds of a line, one by one.
+#[derive(Drop)]
+struct Parts {
+    equal: Vec<Value>,
+    lower: Option<(BoundKind, Value)>,
+    upper: Option<(BoundKind, Value)>,
+}
+
+impl Parts {
+    /// Takes one more bound: a sign and a value.
+    fn put(&mut self, sign: &str, value: Value) -> Result<()> {
+        match sign {
+            "=" => self.equal.push(value)?,
+            ">" => self.lower = Some((BoundKind::Strict, value)),
+            ">=" => self.lower = Some((BoundKind::Inclusive, value)),
+            "<" => self.upper = Some((BoundKind::Strict, value)),
+            "<=" => self.upper = Some((BoundKind::Inclusive, value)),
+            _ => return Err(anyhow!("no sign")),
+        }
+        Ok(())
+    }
+
+    /// Which bounds there are.
+    fn shape(&self) -> RangeShape {
+        RangeShape {
+            equal: self.equal.len(),
+            lower: self.lower.as_ref().map(|bound| bound.0),
+            upper: self.upper.as_ref().map(|bound| bound.0),
+        }
+    }
+
+    /// The range that they make.
+    fn range(&self, alloc: Global) -> Result<RangeValues> {
+        let mut range = RangeValues::new(alloc, self.shape())?;
+        for (at, value) in self.equal.iter().enumerate() {
+            if at < range.key_range().equal.len() {
+                range.set_equal(alloc, at, value.as_ref())?;
+            }
+        }
+        if let Some((_, value)) = &self.lower {
+            range.set_lower(alloc, value.as_ref())?;
+        }
+        if let Some((_, value)) = &self.upper {
+            range.set_upper(alloc, value.as_ref())?;
+        }
+        Ok(range)
+    }
+}
+
+/// What a line asks for: the name of a tree, and after tabs a sign and a value for each bound.
+pub fn search_of(alloc: Global, line: &str) -> Result<Search> {
+    let mut words = line.split('\t');
+    let tree = String::from_str(alloc, words.next().context("no tree")?)?;
+    let mut parts = Parts {
+        equal: Vec::new(alloc),
+        lower: None,
+        upper: None,
+    };
+    while let Some(sign) = words.next() {
+        let word = words.next().context("no value")?;
+        let value = value_of(alloc, word)?;
+        parts.put(sign, value)?;
+    }
+    Ok(Search {
+        tree,
+        range: parts.range(alloc)?,
+    })
+}
