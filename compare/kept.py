@@ -1,6 +1,6 @@
 #!/usr/bin/env python3
 """The images that lie beside the programs for tests, written byte by byte: a shop with indexes, a table without rowids, and rows that
-are older than columns; an index of three pages.
+are older than columns; an index of three pages; tables with indexes of three levels.
 
     kept.py     writes them again
 """
@@ -27,6 +27,19 @@ OLD = "CREATE TABLE old(id INTEGER PRIMARY KEY, name TEXT NOT NULL, qty INT, tag
 OLD_ROWS = [(None, "bolt", 40), (None, "nut", None), (None, "cap", 7), (None, "nut", 7, "x"), (None, "cap", 1, None)]
 OLD_ENTRIES = [(None, 5), ("none", 1), ("none", 2), ("none", 3), ("x", 4)]
 
+# Tables whose trees have several levels where a page has five rows or entries, and an interior one four children.
+SEARCHED = """
+    CREATE TABLE item(id INTEGER PRIMARY KEY, name TEXT NOT NULL, qty INT, mark BLOB, code INT UNIQUE) STRICT;
+    WITH n(i) AS (SELECT 0 UNION ALL SELECT i + 1 FROM n WHERE i < 58)
+    INSERT INTO item SELECT 3 * i - 60, substr('boltnutscapsrodspins', i % 5 * 4 + 1, 4), iif(i % 9 = 4, NULL, i * 37 % 23 - 5), iif(i % 4, NULL, x'00ff'),
+    iif(i % 10 = 9, NULL, 100 - i) FROM n;
+    CREATE INDEX by_qty ON item(qty); CREATE INDEX by_qty_down ON item(qty DESC, name); CREATE INDEX some ON item(name) WHERE qty > 10;
+    CREATE TABLE part(maker TEXT NOT NULL, number INT NOT NULL, name TEXT, code INT, PRIMARY KEY (number, maker)) STRICT, WITHOUT ROWID;
+    WITH n(i) AS (SELECT 0 UNION ALL SELECT i + 1 FROM n WHERE i < 55)
+    INSERT INTO part SELECT substr('acmebrixcorp', i % 3 * 4 + 1, 4), i / 3, iif(i % 6 = 5, NULL, substr('geartrimwash', i / 4 % 3 * 4 + 1, 4)),
+    iif(i % 8 = 7, NULL, 2 * i) FROM n;
+    CREATE INDEX by_name ON part(name DESC); CREATE UNIQUE INDEX by_code ON part(code); CREATE INDEX by_maker ON part(maker, name)"""
+
 
 def entries_of(connection: sqlite3.Connection, table: str, index: str) -> list[bytes]:
     """The entries of an index in its order, as records; of a table without rowids those of its primary key are its rows."""
@@ -34,7 +47,9 @@ def entries_of(connection: sqlite3.Connection, table: str, index: str) -> list[b
     columns = connection.execute(select, (index,)).fetchall()
     names = ", ".join(name for name, _ in columns)
     order = ", ".join(f"{name} DESC" if descends else name for name, descends in columns)
-    return [record(row) for row in connection.execute(f"SELECT {names} FROM {table} ORDER BY {order}")]
+    sql = connection.execute("SELECT coalesce(max(sql), '') FROM sqlite_schema WHERE name = ?", (index,)).fetchone()[0]
+    condition = sql.partition(" WHERE ")[2] or "1"
+    return [record(row) for row in connection.execute(f"SELECT {names} FROM {table} WHERE {condition} ORDER BY {order}")]
 
 
 def rows_of(connection: sqlite3.Connection, table: str) -> list[tuple[int, bytes]]:
@@ -52,9 +67,9 @@ def primary_key_of(connection: sqlite3.Connection, table: str) -> str | None:
     return found and found[0]
 
 
-def write_tables(writer: Writer, text: str) -> None:
-    """Writes the tables and indexes that a text makes, each tree on one page."""
-    connection, shape = sqlite3.connect(":memory:"), {"leaf": 1000, "fan": 1000}
+def write_tables(writer: Writer, text: str, leaf: int = 1000, fan: int = 1000) -> None:
+    """Writes the tables and indexes that a text makes, at most so many rows or entries on a leaf and children under a page."""
+    connection, shape = sqlite3.connect(":memory:"), {"leaf": leaf, "fan": fan}
     connection.executescript(text)
     objects = "SELECT type, name, tbl_name, sql FROM sqlite_schema ORDER BY rowid"
     for kind, name, table, sql in connection.execute(objects).fetchall():
@@ -86,9 +101,17 @@ def three_pages() -> bytes:
     return bytes(writer.image())
 
 
+def searched() -> bytes:
+    """The tables and indexes of `searched_rows`."""
+    writer = Writer(1024)
+    write_tables(writer, SEARCHED, leaf=5, fan=4)
+    return bytes(writer.image(3))
+
+
 def kept() -> dict[Path, bytes]:
     """The files that are written here, each with its bytes."""
     return {
+        CRATES / "searched_rows" / "data" / "worked.db": searched(),
         CRATES / "stepped_statements" / "data" / "shop.db": stepped(),
         CRATES / "table_rows" / "data" / "index.db": three_pages(),
     }

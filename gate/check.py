@@ -37,6 +37,7 @@ MADE = ("out", ".git", "__pycache__")
 PROGRAMS = {
     "catalog_lines": [],
     "further_runs": ["data/rows.db", "data/chains.db"],
+    "searched_rows": ["data/worked.db"],
     "seleq": ["data/shop.db", "SELECT name FROM item"],
     "stepped_statements": ["data/shop.db"],
     "table_counts": ["data/shop.db"],
@@ -45,7 +46,7 @@ PROGRAMS = {
 }
 # The scripts of compare/ that ask the built program.
 OURS = (
-    *("worked", "conditions", "interrupted", "sessions", "catalogs", "searches"),
+    *("worked", "conditions", "interrupted", "sessions", "catalogs", "searches", "ranges"),
     *("statements", "nested", "joins", "windows", "names"),
 )
 # The kit's command.

@@ -1,5 +1,6 @@
 -- The first of the entries that are to come of a search, and those after it.
-use Rattle.std.proofs.Common.{◌≡◌, ◌∙◌, ◌+◌, ◌≤◌, ℕ, ℤ, Bool, true, false, List, [], ◌∷◌, drop, Option, None, Some, MatchResult, Result, Ok, Err, Global, is_some, refl, sym, ap, subst, arith}
+use Rattle.std.proofs.Common.{◌≡◌, ◌∙◌, ◌+◌, ◌<◌, ◌≤◌, ℕ, ℤ, Bool, true, false, List, [], ◌∷◌, drop, Option, None, Some, MatchResult, Result, Ok, Err, Global, is_some, refl, sym, ap, subst, arith}
+use Rattle.std.specs.Prelude.{IfOk, IfSome}
 use Rattle.std.specs.List.{AllZip}
 use Rattle.std.specs.Cow.{cow_slice_items}
 use Rattle.std.specs.Option.{ok_or, option_map}
@@ -12,6 +13,8 @@ use Rattle.values.specs.declared.fault.Fault.{Fault}
 use Rattle.values.specs.declared.fault.Fault.TheVariants.{Changed}
 use Rattle.pager.specs.Calls.{IsReadFault}
 use Rattle.records.specs.Record.{IsRecord}
+use Rattle.btree.specs.declared.cell.Cell.{Cell}
+use Rattle.btree.specs.Views.{cell_data}
 use Rattle.btree.specs.image.Cell.{CellData}
 use Rattle.btree.specs.Calls.{IsBytesOf}
 use Rattle.btree.specs.image.Chain.{HasBytes}
@@ -21,6 +24,8 @@ use Rattle.btree.proofs.KindLemmas.{one_entry}
 use Rattle.btree.proofs.lemmas.image.RowidLemmas.{one_rowid}
 use Rattle.btree_cursor.specs.declared.cursor.cursor.Cursor.{Cursor}
 use Rattle.btree_cursor.specs.declared.cursor.found.Found.{Found}
+use Rattle.btree_cursor.specs.cursor.Calls.{GivesEntry}
+use Rattle.btree_cursor.specs.cursor.Left.{steps_left}
 use Rattle.btree_cursor.specs.cursor.Listing.{IsAt, IsEntry}
 use Rattle.btree_cursor.specs.index_entries.Entries.{HasRecord}
 use Rattle.btree_cursor.specs.key_ranges.Ranges.{Range}
@@ -55,6 +60,17 @@ none_of : (searched : SearchedData) (pages : Pages) (places : List Place) (all :
 none_of searched pages [] [] zip here = refl
 none_of searched pages [] (entry ∷ all) zip here = absurd zip
 none_of searched pages (place ∷ places) all zip here = absurd here
+
+-- where a cursor gives a cell, it has a step to go
+pub more_if : (cursor : Cursor) (found : Option Cell) → GivesEntry cursor (option_map cell_data found) → IfSome found (λ cell. 0 < steps_left cursor)
+more_if cursor None gives = tt
+more_if cursor (Some cell) gives = gives.0
+
+-- what holds anyhow holds where something is found
+pub more_anyhow : {T F : Type 0} (result : Result (Option T) F) {P : Type 0} → P → IfOk result (λ found. IfSome found (λ it. P))
+more_anyhow (Ok None) p = tt
+more_anyhow (Ok (Some x)) p = p
+more_anyhow (Err e) p = tt
 
 abbrev test : Range → EntryData → Bool
 test range entry = meets_range range entry.values

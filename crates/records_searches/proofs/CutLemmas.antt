@@ -1,5 +1,5 @@
 -- A position among the rows of a table, as a key of one column is.
-use Rattle.std.proofs.Common.{◌≡◌, ◌∙◌, ◌≤◌, ◌+◌, ℕ, ℤ, negsuc, ◌<ℤ◌, Bool, true, false, List, [], ◌∷◌, ◌++◌, length, map, Option, None, Some, refl, sym, ap, subst, arith, length-append}
+use Rattle.std.proofs.Common.{◌≡◌, ◌∙◌, ◌≤◌, ◌+◌, ℕ, ℤ, negsuc, ◌<ℤ◌, Bool, true, false, List, [], ◌∷◌, ◌++◌, get_or, length, map, Option, None, Some, refl, sym, ap, subst, arith, length-append}
 use Rattle.std.specs.Ordering.{MatchOrdering, int_cmp, ordering_reverse, ordering_then}
 use Rattle.std.specs.declared.cmp.Ordering.{Ordering}
 use Rattle.std.specs.declared.cmp.Ordering.TheVariants.{Less, Equal, Greater}
@@ -7,6 +7,7 @@ use Rattle.std.proofs.lemmas.Cmp.{int_cmp_total, int_ranked}
 use Rattle.std.proofs.lemmas.Int.{ints}
 use Rattle.values.specs.Datum.{Datum, datum_of, null, int, text, blob}
 use Rattle.values.specs.Order.{datum_cmp}
+use Rattle.values.specs.declared.value.Value.{Value}
 use Rattle.btree.specs.image.Search.{comes_before, row_before}
 use Rattle.records_searches.specs.RowCuts.{IsRowid}
 use Rattle.btree_cursor.specs.key_ranges.Ranges.{Cut, Edge, Range, behind_values, bounded_columns, direction, first_cut, from_cut, is_before, key_cmp, stands_before, width}
@@ -56,15 +57,47 @@ pub at_blob : (behind : Bool) (bytes : List ℕ) (rowid : ℤ) → is_before [] 
 at_blob true bytes rowid = one_value true (blob bytes) rowid
 at_blob false bytes rowid = one_value false (blob bytes) rowid
 
--- a cut whose key has one column at most: its only value, where it has one
-pub only_value : (equal rest : List Datum) (first : Datum) → equal ≡ first ∷ rest → (tail : List Datum) → length (equal ++ tail) ≤ 1 → equal ++ tail ≡ first ∷ []
-only_value equal rest first is tail short =
-    let e : equal ++ tail ≡ first ∷ (rest ++ tail) = ap (λ (l : List Datum). l ++ tail) is in
-    e ∙ ap (λ (l : List Datum). first ∷ l) (none (rest ++ tail) (subst (λ (l : List Datum). length l ≤ 1) e short))
-  where
-    none : (l : List Datum) → length (first ∷ l) ≤ 1 → l ≡ []
-    none [] h = refl
-    none (x ∷ l) h = absurd (omega (arith, h))
+-- a cut without a key is before all entries, or after them
+pub at_edge : (behind : Bool) (rowid : ℤ) → is_before [] (record { key = []; behind = behind }) (int rowid ∷ []) ≡ behind
+at_edge true rowid = refl
+at_edge false rowid = refl
+
+-- ---- a key of values that are to be equal, and what comes after these
+
+nothing : (l : List Datum) (value : Datum) → length (value ∷ l) ≤ 1 → l ≡ []
+nothing [] value short = refl
+nothing (x ∷ l) value short = absurd (omega (arith, short))
+
+module _ (behind answer : Bool) (rowid : ℤ) (tail : List Datum) where
+  abbrev IsAnswer : List Datum → Type 0
+  IsAnswer key = is_before [] (record { key = key; behind = behind }) (int rowid ∷ []) ≡ answer
+
+  -- where the key has one column at most, the first value alone
+  pub first_alone : (values : List Value) (value : Value) → 1 ≤ length values → value ≡ get_or values 0 value → length (map datum_of values ++ tail) ≤ 1
+      → IsAnswer (datum_of value ∷ []) → IsAnswer (map datum_of values ++ tail)
+  first_alone [] value some is short alone = absurd (omega (arith, some))
+  first_alone (first ∷ values) value some is short alone =
+      let same : datum_of value ≡ datum_of first = ap datum_of is in
+      let back : [] ≡ map datum_of values ++ tail = sym (nothing (map datum_of values ++ tail) (datum_of first) short) in
+      subst IsAnswer (λ i. same i ∷ back i) alone
+
+  -- where there is none, what comes after them
+  pub tail_alone : (values : List Value) → length values ≡ 0 → IsAnswer tail → IsAnswer (map datum_of values ++ tail)
+  tail_alone [] none alone = alone
+  tail_alone (first ∷ values) none alone = absurd (omega (arith, none))
+
+-- the first of the values
+pub first_value : (values : List Value) (value : Value) (rowid : ℤ) (others : List Datum) → 1 ≤ length values → value ≡ get_or values 0 value
+    → map datum_of values ≡ int rowid ∷ others → datum_of value ≡ int rowid
+first_value [] value rowid others some is are = absurd (omega (arith, some))
+first_value (first ∷ values) value rowid others some is are =
+    let e : datum_of first ∷ map datum_of values ≡ int rowid ∷ others = are in
+    let same : datum_of first ≡ int rowid = cc in
+    ap datum_of is ∙ same
+
+pub no_value : (values : List Value) (rowid : ℤ) (others : List Datum) → length values ≡ 0 → map datum_of values ≡ int rowid ∷ others → ⊥
+no_value [] rowid others none are = let e : [] ≡ int rowid ∷ others = are in cc
+no_value (first ∷ values) rowid others none are = omega (arith, none)
 
 -- ---- no cut looks at more columns than its range
 

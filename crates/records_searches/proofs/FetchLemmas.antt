@@ -3,8 +3,8 @@ use Rattle.std.proofs.Common.{◌≡◌, ◌∙◌, ◌+◌, ◌<◌, ◌≤◌,
 use Rattle.std.specs.Prelude.{◌↔◌, All, IfNone, IfSome, find, slice_index_or}
 use Rattle.std.proofs.lemmas.List.{map_push, take_more, take_all}
 use Rattle.std.proofs.lemmas.List.Elements.{All-get_or}
-use Rattle.std.proofs.lemmas.Option.{get_or_from_slice_get}
-use Rattle.values.specs.Datum.{Datum, datum_of, datum_of_ref, int, null}
+use Rattle.std.proofs.lemmas.Option.{get_or_from_slice_get, slice_get_past}
+use Rattle.values.specs.Datum.{Datum, blob, datum_of, datum_of_ref, int, null, text}
 use Rattle.values.specs.Row.{Row}
 use Rattle.values.specs.declared.value.Value.{Value}
 use Rattle.values.specs.declared.value.ValueRef.{ValueRef}
@@ -100,6 +100,22 @@ pub none_if : (bytes : List ℕ) (at : ℕ) (unread : Unread) (result : Option V
     → IfNone result ((values : List Datum) → IsRecord bytes values → length values ≤ at)
 none_if bytes at unread None passed none = λ values is. unread_none values unread at (passed values is) none
 none_if bytes at unread (Some value) passed none = tt
+
+-- a place past the last has no value, and one has no number that has another value
+pub past_none : (values : List Datum) (at : ℕ) (value : Datum) → length values ≤ at → slice_get values at ≡ Some value → ⊥
+past_none values at value past is = let e : None ≡ Some value = sym (slice_get_past values at past) ∙ is in cc
+
+abbrev pub IsNoNumber : Datum → Type 0
+IsNoNumber null = Unit {0}
+IsNoNumber (int number) = ⊥
+IsNoNumber (text bytes) = Unit {0}
+IsNoNumber (blob bytes) = Unit {0}
+
+pub not_number : (found : Option Datum) (value : Datum) (number : ℤ) → IsNoNumber value → found ≡ Some value → found ≡ Some (int number) → ⊥
+not_number found null number no is other = let e : Some null ≡ Some (int number) = sym is ∙ other in cc
+not_number found (int n) number no is other = no
+not_number found (text bytes) number no is other = let e : Some (text bytes) ≡ Some (int number) = sym is ∙ other in cc
+not_number found (blob bytes) number no is other = let e : Some (blob bytes) ≡ Some (int number) = sym is ∙ other in cc
 
 some_number : (a b : ℤ) → Some (int a) ≡ Some (int b) → a ≡ b
 some_number a b e = cc

@@ -34,3 +34,11 @@ place_after (x ∷ xs) ys n past = by_test (nat_eq x n) refl (λ other. place_af
         → place_of (x ∷ xs) n + place_of ys n ≡ place_of (x ∷ (xs ++ ys)) n
     by_test true here on = absurd (let w : length (x ∷ xs) ≤ zero = rw here at past in omega (arith, w))
     by_test false other on = rw other (suc_next (place_of xs n) (place_of ys n) ∙ ap suc (on other))
+
+pub place_most : (xs : List ℕ) (n : ℕ) → place_of xs n ≤ length xs
+place_most [] n = omega arith
+place_most (x ∷ xs) n = by_test (nat_eq x n) refl (place_most xs n)
+  where
+    by_test : (b : Bool) → nat_eq x n ≡ b → place_of xs n ≤ length xs → place_of (x ∷ xs) n ≤ length (x ∷ xs)
+    by_test true here on = rw here (omega arith)
+    by_test false other on = rw other (omega (arith, on))

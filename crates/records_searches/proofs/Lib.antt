@@ -10,3 +10,4 @@ pub mod FetchLemmas
 pub mod FinderLemmas
 pub mod StoredLemmas
 pub mod WorkLemmas
+pub mod DirectLemmas

@@ -158,3 +158,28 @@ below_equal false = refl
 pub below_greater : (strict : Bool) → below strict Greater ≡ false
 below_greater true = refl
 below_greater false = refl
+
+-- ---- a key of one value
+
+module _ (lower upper : Option Edge) (key : Datum) where
+  pub alone_free : (values : List Value) → length values ≡ 0 → (is_above lower key && is_below upper key) ≡ meets (map datum_of values) lower upper (key ∷ [])
+  alone_free [] long = refl
+  alone_free (first ∷ others) long = absurd (omega (arith, long))
+
+  pub alone_equal : (values : List Value) (value : Value) → length values ≡ 1 → value ≡ get_or values 0 value
+      → (meets (datum_of value ∷ []) None None (key ∷ []) && (is_above lower null && is_below upper null)) ≡ meets (map datum_of values) lower upper (key ∷ [])
+  alone_equal [] value long is = absurd (omega (arith, long))
+  alone_equal (first ∷ []) value long is =
+      ap (λ (v : Value). meets (datum_of v ∷ []) None None (key ∷ []) && (is_above lower null && is_below upper null)) is
+      ∙ sym (next_value (datum_of first) [] lower upper (key ∷ []))
+  alone_equal (first ∷ (second ∷ others)) value long is = absurd (omega (arith, long))
+
+  -- no key of one value has several
+  pub alone_wide : (values : List Value) → 2 ≤ length values → false ≡ meets (map datum_of values) lower upper (key ∷ [])
+  alone_wide [] long = absurd (omega (arith, long))
+  alone_wide (first ∷ []) long = absurd (omega (arith, long))
+  alone_wide (first ∷ (second ∷ others)) long = none_of (holds is_eq key (datum_of first))
+    where
+      none_of : (a : Bool) → false ≡ (a && false)
+      none_of true = refl
+      none_of false = refl

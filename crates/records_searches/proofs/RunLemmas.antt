@@ -16,7 +16,7 @@ use Rattle.records_searches.specs.Meets.{meets_range}
 -- ---- of any test
 
 module _ {X : Type 0} (test : X → Bool) where
-  filter_drops : (x : X) (xs : List X) → test x ≡ false → filter test (x ∷ xs) ≡ filter test xs
+  pub filter_drops : (x : X) (xs : List X) → test x ≡ false → filter test (x ∷ xs) ≡ filter test xs
   filter_drops x xs out = rw out refl
 
   filter_takes : (x : X) (xs : List X) → test x ≡ true → filter test (x ∷ xs) ≡ x ∷ filter test xs

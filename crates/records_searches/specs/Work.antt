@@ -1,6 +1,9 @@
 -- How many pages a search asks for. (Database File Format, section 1.6 "B-tree Pages")
-use Rattle.std.specs.Prelude.{ℕ, suc, ◌+◌, ◌*◌, ◌≤◌, Option, Some, None}
+use Rattle.std.specs.Prelude.{◌≢◌, ℕ, suc, ◌+◌, ◌*◌, ◌≤◌, List, [], Option, Some, None}
 use Rattle.pager.specs.PagerState.{PagerState}
+use Rattle.btree_cursor.specs.key_ranges.Ranges.{Range}
+use Rattle.schema_tables.specs.TableData.{RowKeyData}
+use Rattle.records_searches.specs.Entries.{EntryData, entries_in}
 use Rattle.records_searches.specs.declared.depths.SearchDepths.{SearchDepths}
 
 -- A search of a tree with this number of levels below its root was opened and has given m rows, each of which took at most `fetch`
@@ -22,3 +25,14 @@ fetch_of (Some levels) = depth_of levels
 -- of the tree that is searched, and of the table's
 abbrev pub depths_of : ℕ → Option ℕ → SearchDepths
 depths_of levels table_levels = record { depth = depth_of levels; fetch = fetch_of table_levels }
+
+-- a value is sought itself, and some entry has it
+pub record IsForOneKey (range : Range) (entries : List EntryData) : Type 0 where
+  pub sought : range.equal ≢ []
+  pub there : entries_in range entries ≢ []
+
+-- A search of a table goes straight down to its first row: of one without rowids always, and of one with rowids where the row with the
+-- rowid that is sought is there, so that no page is left behind which ends before it.
+abbrev pub GoesStraight : RowKeyData → Range → List EntryData → Type 0
+GoesStraight (RowKeyData.Rowid at) range entries = IsForOneKey range entries
+GoesStraight (RowKeyData.Primary ats) range entries = Unit {0}

@@ -1,5 +1,5 @@
 //! The cell at a search's position.
-ghost use Rattle.std.specs.Prelude.{◌≡◌, ℕ, ℤ, [], ◌∷◌, IfErr, IfNone, IfSome, List, MatchResult, None, Ok, Some, option_map};
+ghost use Rattle.std.specs.Prelude.{◌≡◌, ◌<◌, ℕ, ℤ, [], ◌∷◌, IfErr, IfNone, IfOk, IfSome, List, MatchResult, None, Ok, Some, option_map};
 ghost use Rattle.std.specs.Cow.{cow_slice_items};
 ghost use Rattle.values.specs.Datum.{Datum, int};
 ghost use Rattle.pager.specs.Calls.{IsReadFault, ReadsChainPages};
@@ -8,6 +8,7 @@ ghost use Rattle.btree.specs.declared.image.kind.TreeKind.{TreeKind};
 ghost use Rattle.btree.specs.image.Pages.{Pages, WhereSteady};
 ghost use Rattle.btree.specs.image.Tree.{IsEntryAt, Place};
 ghost use Rattle.btree.specs.Views.{cell_data};
+ghost use Rattle.btree_cursor.specs.cursor.Left.{steps_left};
 ghost use Rattle.btree_cursor.specs.cursor.Listing.{IsAt, IsEntry};
 ghost use Rattle.btree_cursor.specs.index_entries.Entries.{HasRecord};
 ghost use Rattle.btree_cursor.specs.key_ranges.View.{range};
@@ -32,6 +33,7 @@ pub(crate) fn cell_at(cursor: &Cursor) -> Result<Option<Cell<'_>>, Fault>
     ensures entry { (pages : Pages) (kind : TreeKind) (levels : ℕ) (places : List Place) (asked budget : ℕ)
         → IsAt pages kind levels cursor.now places asked budget
         → MatchResult result (λ found. IsEntry pages kind places (option_map cell_data found)) (λ e. ⊥) }
+    ensures more { IfOk result (λ found. IfSome found (λ cell. 0 < steps_left cursor.now)) }
     ensures only { IfErr result (λ e. e ≡ Fault.Changed) }
 {
     let Ok(found) = cursor.entry() else {

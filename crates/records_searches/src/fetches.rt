@@ -38,7 +38,8 @@ fn int_at(bytes: &[u8], at: usize) -> Option<i64>
     ensures found { IfSome result (λ number. (values : List Datum) → IsRecord bytes.now values → slice_get values at ≡ Some (int number)) }
     ensures none { IfNone result ((values : List Datum) (number : ℤ) → IsRecord bytes.now values → slice_get values at ≢ Some (int number)) }
 {
-    match field_at(bytes, at)? {
+    let value = field_at(bytes, at)?;
+    match value {
         ValueRef::Int(number) => Some(number),
         ValueRef::Null => None,
         ValueRef::Text(_) => None,
@@ -73,12 +74,7 @@ fn row_by_rowid<S: Source>(
 
 /// Puts the fields of an entry at these places over the values of an earlier one, in their order. Its faults are `NoMemory`,
 /// and `Changed` where the entry has no such fields.
-fn put_key(
-    alloc: Global,
-    bytes: &[u8],
-    places: &[usize],
-    key: &mut Vec<Value>,
-) -> Result<(), Fault>
+fn put_key(alloc: Global, bytes: &[u8], places: &[usize], key: &mut Vec<Value>) -> Result<(), Fault>
     ensures key { (values : List Datum) → IsRecord bytes.now values → All (λ at. at < length values) places.now
         → MatchResult result (λ _. map datum_of key.new.items ≡ values_at values places.now) (λ e. e ≡ Fault.NoMemory) }
     ensures only { IfErr result (λ e. (e ≡ Fault.NoMemory) ⊎ (e ≡ Fault.Changed)) }
@@ -136,15 +132,9 @@ pub(crate) fn row_of_entry<S: Source>(
     ensures asks { AsksOneWay pager.old.state pager.new.state (kind_by finder.now) table.now.root }
     ensures reads { ReadsPages result pager.old.state pager.new.state }
 {
+    let root = table.root();
     match finder {
-        RowFinder::Rowid(at) => row_by_rowid(pager, table.root(), *at, bytes),
-        RowFinder::Key(places) => row_by_key(
-            alloc,
-            pager,
-            table.root(),
-            places.as_slice(),
-            bytes,
-            key,
-        ),
+        RowFinder::Rowid(at) => row_by_rowid(pager, root, *at, bytes),
+        RowFinder::Key(places) => row_by_key(alloc, pager, root, places.as_slice(), bytes, key),
     }
 }

@@ -91,7 +91,7 @@ fn is_unbounded(lower: Option<Bound<'_>>, upper: Option<Bound<'_>>) -> bool
 {
     match (lower, upper) {
         (None, None) => true,
-        _ => false,
+        [_, _, ..] => false,
     }
 }
 
@@ -138,12 +138,11 @@ pub(crate) fn rowid_meets(bounds: &KeyRange<'_>, rowid: i64) -> bool
     ensures { result ≡ meets_range (range bounds.now) (int rowid ∷ []) }
 {
     let value = ValueRef::Int(rowid);
-    match bounds.equal.first() {
-        None => is_between(bounds.lower, bounds.upper, value),
-        Some(key) => {
-            bounds.equal.len() == 1
-                && is_equal(value, key.as_ref())
-                && is_between(bounds.lower, bounds.upper, ValueRef::Null)
+    match bounds.equal {
+        [] => is_between(bounds.lower, bounds.upper, value),
+        [key] => {
+            is_equal(value, key.as_ref()) && is_between(bounds.lower, bounds.upper, ValueRef::Null)
         }
+        [_, _, ..] => false,
     }
 }

@@ -14,6 +14,7 @@ ghost use Rattle.btree_cursor.specs.key_ranges.View.{range as key_range};
 ghost use Rattle.schema_tables.specs.TableData.{TableData};
 ghost use Rattle.records_searches.specs.Coming.{AreOpened, AreToCome, GivesCell, GivesFound, IsSearchFault, LeadsToIf};
 ghost use Rattle.records_searches.specs.Entries.{AreWide, EntryData, HoldsEntries, LeadsTo, SearchedData, entries_in, kind_by, of_index, of_table};
+ghost use Rattle.records_searches.specs.Work.{GoesStraight, depth_of};
 
 use crate::cells::{bytes_in_range, cell_at, row_is_in_range};
 use crate::fetches::row_of_entry;
@@ -53,6 +54,9 @@ pub fn first_of_table<S: Source>(
         → AreWide range.now entries
         → MatchResult result (λ cursor. AreOpened (of_table table.now) pages levels range.now cursor (entries_in range.now entries)
         × (pager.new.state.asked ≤ pager.old.state.asked + (2 * levels + 1))) IsReadFault) }
+    ensures direct { WhereSteady pager.old.state (λ pages. (levels : ℕ) (entries : List EntryData) → HoldsEntries (of_table table.now) pages levels entries
+        → AreWide range.now entries → GoesStraight table.now.key range.now entries
+        → IfOk result (λ cursor. pager.new.state.asked ≤ pager.old.state.asked + depth_of levels)) }
     ensures null { has_null range.now ≡ true → (result ≡ Ok None) × (pager.new.state ≡ pager.old.state) }
     ensures only { IfErr result IsSearchFault }
     ensures reads { ReadsPages result pager.old.state pager.new.state }
@@ -92,13 +96,7 @@ pub fn first_of_index<S: Source>(
     let Some(bounds) = bounds_of(range) else {
         return Ok(None);
     };
-    let entry = entry_in_range(
-        alloc,
-        pager,
-        index.root,
-        index.descends.as_slice(),
-        &bounds,
-    )?;
+    let entry = entry_in_range(alloc, pager, index.root, index.descends.as_slice(), &bounds)?;
     Ok(Some(entry))
 }
 
@@ -114,6 +112,7 @@ pub fn table_row<'c, S: Source>(
     ensures rows { WhereSteady pager.old.state (λ pages. (levels : ℕ) (entries : List EntryData)
         → AreToCome (of_table table.now) pages levels range.now cursor.now entries
         → MatchResult result (λ cell. GivesCell pages table.now entries (option_map cell_data cell)) IsReadFault) }
+    ensures more { IfOk result (λ found. IfSome found (λ cell. 0 < steps_left cursor.now)) }
     ensures only { IfErr result IsSearchFault }
     ensures reads { ReadsChainPages result pager.old.state pager.new.state }
 {
@@ -167,6 +166,7 @@ pub fn index_row<S: Source>(
     ensures rows { WhereSteady pager.old.state (λ pages. (levels : ℕ) (entries : List EntryData)
         → AreToCome (of_index table.now index.now) pages levels range.now cursor.now entries
         → MatchResult result (λ found. GivesFound pages table.now entries found) IsReadFault) }
+    ensures more { IfOk result (λ found. IfSome found (λ it. 0 < steps_left cursor.now)) }
     ensures only { IfErr result IsSearchFault }
     ensures asks { AsksOneWay pager.old.state pager.new.state (kind_by index.now.finder) table.now.root }
     ensures end { IfOk result (λ found. IfNone found (pager.new.state.asked ≡ pager.old.state.asked)) }

@@ -1,16 +1,17 @@
 //! A cursor at the first row or entry that doesn't come before a range.
-ghost use Rattle.std.specs.Prelude.{◌≡◌, ◌*◌, ◌+◌, ◌≤◌, ℕ, false, IfErr, List, MatchResult, Option};
+ghost use Rattle.std.specs.Prelude.{◌≡◌, ◌*◌, ◌+◌, ◌≤◌, ℕ, ℤ, false, IfErr, IfOk, List, MatchResult, Option};
 ghost use Rattle.values.specs.Datum.{Datum};
 ghost use Rattle.pager.specs.Calls.{IsReadFault, ReadsPages, ReadsTreePages};
 ghost use Rattle.btree.specs.image.Pages.{WhereSteady};
 ghost use Rattle.btree.specs.image.Tree.{Place};
-ghost use Rattle.btree_cursor.specs.cursor.Search.{IsSearchable, IsSearchableIndex, IsUnchainedIndex};
+ghost use Rattle.btree_cursor.specs.cursor.Search.{HasRowWith, IsSearchable, IsSearchableIndex, IsUnchainedIndex};
 ghost use Rattle.btree_cursor.specs.key_ranges.Ranges.{has_null};
 ghost use Rattle.btree_cursor.specs.key_ranges.View.{range};
 ghost use Rattle.schema_tables.specs.TableData.{RowKeyData, TableData};
 ghost use Rattle.records_searches.specs.Coming.{AreOpened, IsSearchFault};
 ghost use Rattle.records_searches.specs.Entries.{AreWide, EntryData, HoldsRowEntries, entries_in, of_table};
 ghost use Rattle.records_searches.specs.Sought.{IsEntryLanding, IsRowLanding};
+ghost use Rattle.records_searches.specs.Work.{IsForOneKey};
 
 use crate::row_cuts::RowCut;
 use btree_cursor::key_ranges::KeyRange;
@@ -43,6 +44,8 @@ fn row_after<S: Source>(
     ensures lands { WhereSteady pager.old.state (λ pages. (levels : ℕ) → IsSearchable pages levels root
         → MatchResult result (λ cursor. IsRowLanding cut pages levels root cursor pager.new.state.asked
         × (pager.new.state.asked ≤ pager.old.state.asked + (2 * levels + 1))) IsReadFault) }
+    ensures direct { WhereSteady pager.old.state (λ pages. (levels : ℕ) (rowid : ℤ) → IsSearchable pages levels root → cut ≡ RowCut.At rowid false
+        → HasRowWith pages levels root rowid → IfOk result (λ cursor. pager.new.state.asked ≤ pager.old.state.asked + (levels + 1))) }
     ensures reads { ReadsTreePages result pager.old.state pager.new.state }
 {
     match cut {
@@ -66,6 +69,9 @@ pub(crate) fn row_in_range<S: Source>(
         → AreWide (range bounds.now) entries
         → MatchResult result (λ cursor. AreOpened (of_table table) pages levels (range bounds.now) cursor (entries_in (range bounds.now) entries)
         × (pager.new.state.asked ≤ pager.old.state.asked + (2 * levels + 1))) IsReadFault) }
+    ensures direct { WhereSteady pager.old.state (λ pages. (table : TableData) (levels : ℕ) (entries : List EntryData)
+        → table.root ≡ root → HoldsRowEntries pages table levels entries → AreWide (range bounds.now) entries → IsForOneKey (range bounds.now) entries
+        → IfOk result (λ cursor. pager.new.state.asked ≤ pager.old.state.asked + (levels + 1))) }
     ensures only { IfErr result IsSearchFault }
     ensures reads { ReadsTreePages result pager.old.state pager.new.state }
 {

@@ -11,13 +11,16 @@ pub struct Search {
     pub range: RangeValues,
 }
 
-/// A value by a letter and what follows it: `n` for NULL, `i` and a number, `t` and a text.
+/// A value by a letter and what follows it: `n` for NULL, `i` and a number, `t` and a text, `b` and the bytes of a blob.
 fn value_of(alloc: Global, part: &str) -> Result<Value> {
     if let Some(number) = part.strip_prefix("i") {
         return Ok(Value::Int(number.parse().context("no number")?));
     }
     if let Some(text) = part.strip_prefix("t") {
         return Ok(Value::Text(String::from_str(alloc, text)?));
+    }
+    if let Some(bytes) = part.strip_prefix("b") {
+        return Ok(Value::Blob(Vec::from_slice(alloc, bytes.as_bytes())?));
     }
     Ok(Value::Null)
 }
@@ -80,10 +83,15 @@ pub fn search_of(alloc: Global, line: &str) -> Result<Search> {
         lower: None,
         upper: None,
     };
-    while let Some(sign) = words.next() {
-        let word = words.next().context("no value")?;
-        let value = value_of(alloc, word)?;
-        parts.put(sign, value)?;
+    let mut sign = None;
+    for word in words {
+        match sign.take() {
+            None => sign = Some(word),
+            Some(sign) => parts.put(sign, value_of(alloc, word)?)?,
+        }
+    }
+    if sign.is_some() {
+        return Err(anyhow!("no value"));
     }
     Ok(Search {
         tree,

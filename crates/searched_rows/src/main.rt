@@ -1,17 +1,13 @@
-//! Prints the rows that searches of a worked image give, so that they can be compared with what SQLite answers.
+//! Prints the rows that searches of an image give, and how many pages they asked for, so that they can be compared with what SQLite
+//! answers.
 //!
-//! `searched_rows IMAGE ITEM BY_QTY PART BY_NAME` has the roots of the trees of these, which were declared so:
+//! `searched_rows IMAGE [PAGES]` answers the searches on standard input, one in a line: the name of a table, which is searched by its
+//! rowids or its PRIMARY KEY, or that of an index, and after tabs the sign and the value of each bound. A sign is `=`, `>`, `>=`, `<`
+//! or `<=`; a value is `n` for NULL, `i` and a number, `t` and a text, or `b` and the bytes of a blob. For each search it prints a line
+//! for each row, in the order of the tree, and then one with two numbers of pages: those that the opening asked for, and those
+//! that the rows did, both without the pages of overflow chains. The cache keeps PAGES pages, one if the word is left out.
 //!
-//!     CREATE TABLE item(id INTEGER PRIMARY KEY, name TEXT NOT NULL, qty INT) STRICT;
-//!     CREATE INDEX by_qty ON item(qty DESC, name);
-//!     CREATE TABLE part(maker TEXT NOT NULL, number INT NOT NULL, name TEXT,
-//!         PRIMARY KEY(number, maker)) STRICT, WITHOUT ROWID;
-//!     CREATE INDEX by_name ON part(name);
-//!
-//! Each line of standard input is a search: the name of a tree, and after tabs the signs and values of its bounds, as
-//! `=`, `>`, `>=`, `<` or `<=`. A value is `n` for NULL, `i` and a number, or `t` and a text.
-//!
-//! The modules: `bounds` (what a line asks for), `trees` (the worked tables and indexes) and `rows` (what a search gives).
+//! The modules: `bounds` (what a line asks for), `trees` (the tables and indexes of the image) and `rows` (what a search gives).
 #![tactic(auto)]
 
 mod bounds;
@@ -20,46 +16,53 @@ mod trees;
 
 use anyhow::{Context, Result};
 use bounds::search_of;
+use integrity::{Checked, check};
 use pager::{FileSource, Pager, Source};
 use rows::write_search;
 use std::env;
 use std::num::NonZeroUsize;
-use trees::Trees;
+use trees::tree_named;
 use values::{Gathered, Sink, WriteSink};
 
-/// Writes the rows of each search that standard input asks for.
+/// Writes what each search that standard input asks for gives.
 fn search_all<S: Source, O: Sink>(
     rt: &HostRuntime,
     pager: &mut Pager<S>,
-    trees: &Trees,
+    checked: &Checked,
     out: &mut O,
 ) -> Result<()> {
     let alloc = rt.alloc();
     for line in rt.lines(alloc) {
         let line = line?;
         let search = search_of(alloc, line.as_str())?;
-        write_search(alloc, pager, trees, &search, out)?;
+        let tree = tree_named(alloc, checked, search.tree.as_str())?;
+        write_search(alloc, pager, &tree, &search.range, out)?;
     }
     Ok(())
+}
+
+/// How many pages the cache keeps, as a word says.
+fn capacity(word: Option<String>) -> Result<NonZeroUsize> {
+    let Some(word) = word else {
+        return Ok(NonZeroUsize::MIN);
+    };
+    let pages: usize = word.as_str().parse().context("no number of pages")?;
+    NonZeroUsize::new(pages).context("no pages")
 }
 
 fn run<O: Sink>(rt: &HostRuntime, out: &mut O) -> Result<()> {
     let alloc = rt.alloc();
     let mut words = env::args(rt)?;
     let path = words.nth(1).context("no image")?;
-    let mut roots = Vec::new(alloc);
-    for word in words {
-        let root: u32 = word.as_str().parse().context("no number")?;
-        roots.push(root)?;
-    }
-    let trees = Trees::new(alloc, roots.as_slice())?;
+    let capacity = capacity(words.next())?;
     let source = FileSource::open(rt, path.as_str())?;
-    let mut pager = match Pager::open(alloc, source, NonZeroUsize::MIN) {
+    let mut pager = match Pager::open(alloc, source, capacity) {
         Ok(pager) => pager,
         Err((fault, _)) => return Err(fault.into()),
     };
+    let checked = check(alloc, &mut pager)?;
     let mut gathered = Gathered::new(alloc, out)?;
-    let written = search_all(rt, &mut pager, &trees, &mut gathered);
+    let written = search_all(rt, &mut pager, &checked, &mut gathered);
     let (_, handed_on) = gathered.finish();
     written?;
     handed_on?;

@@ -1,8 +1,6 @@
 //! What a search gives.
-use crate::bounds::Search;
-use crate::trees::Trees;
-use anyhow::{Result, anyhow};
-use btree::Cell;
+use crate::trees::Tree;
+use btree::{Cell, payload};
 use pager::{Pager, Source};
 use records_searches::{
     RangeValues, RowIndex, first_of_index, first_of_table, index_row, next_entry, table_row,
@@ -10,17 +8,21 @@ use records_searches::{
 use records_tables::ValueReader;
 use schema_tables::Table;
 use std::alloc::Global;
-use values::{Fault, Sink, write_all};
+use values::{Fault, Sink, ValueRef, write_all};
 
-/// Writes the columns of a row, as literals with commas between them.
-fn write_row<O: Sink>(table: &Table, cell: &Cell<'_>, out: &mut O) -> Result<(), Fault> {
-    if cell.payload.overflow.is_some() {
-        return Err(Fault::NotYet);
-    }
-    let Some(mut reader) = ValueReader::new(table, cell.rowid, cell.payload.local) else {
+/// Writes the columns of the row in a cell, as literals with commas between them.
+fn write_row<S: Source, O: Sink>(
+    alloc: Global,
+    pager: &mut Pager<S>,
+    table: &Table,
+    cell: &Cell<'_>,
+    out: &mut O,
+) -> Result<(), Fault> {
+    let bytes = payload(alloc, pager, cell)?.ok_or(Fault::Changed)?;
+    let Some(mut reader) = ValueReader::new(table, cell.rowid, bytes.as_slice()) else {
         return Err(Fault::Changed);
     };
-    for column in 0..3 {
+    for column in 0..table.columns().len() {
         if column > 0 {
             write_all(out, b",")?;
         }
@@ -30,25 +32,32 @@ fn write_row<O: Sink>(table: &Table, cell: &Cell<'_>, out: &mut O) -> Result<(),
     write_all(out, b"\n")
 }
 
-/// Writes the rows that a search of a table gives.
+/// A number of pages, as it is written.
+fn pages(count: u64) -> ValueRef<'static> {
+    ValueRef::Int(i64::try_from(count).unwrap_or(i64::MAX))
+}
+
+/// Writes the rows that a search of a table gives; how many pages had been asked for when it was opened.
 fn write_table<S: Source, O: Sink>(
     alloc: Global,
     pager: &mut Pager<S>,
     table: &Table,
     range: &RangeValues,
     out: &mut O,
-) -> Result<(), Fault> {
-    let Some(mut cursor) = first_of_table(alloc, pager, table, range)? else {
-        return Ok(());
+) -> Result<u64, Fault> {
+    let cursor = first_of_table(alloc, pager, table, range)?;
+    let opened = pager.asked();
+    let Some(mut cursor) = cursor else {
+        return Ok(opened);
     };
     while let Some(cell) = table_row(alloc, pager, &cursor, table, range)? {
-        write_row(table, &cell, out)?;
+        write_row(alloc, pager, table, &cell, out)?;
         next_entry(&mut cursor, pager)?;
     }
-    Ok(())
+    Ok(opened)
 }
 
-/// Writes the rows to which the entries lead that a search of an index gives.
+/// Writes the rows to which the entries lead that a search of an index gives; how many pages had been asked for when it was opened.
 fn write_index<S: Source, O: Sink>(
     alloc: Global,
     pager: &mut Pager<S>,
@@ -56,34 +65,36 @@ fn write_index<S: Source, O: Sink>(
     index: &RowIndex,
     range: &RangeValues,
     out: &mut O,
-) -> Result<(), Fault> {
-    let Some(mut cursor) = first_of_index(alloc, pager, index, range)? else {
-        return Ok(());
+) -> Result<u64, Fault> {
+    let cursor = first_of_index(alloc, pager, index, range)?;
+    let opened = pager.asked();
+    let Some(mut cursor) = cursor else {
+        return Ok(opened);
     };
     let mut key = Vec::new(alloc);
     while let Some(found) = index_row(alloc, pager, &cursor, table, index, range, &mut key)? {
-        write_row(table, &found.cell(), out)?;
+        write_row(alloc, pager, table, &found.cell(), out)?;
         next_entry(&mut cursor, pager)?;
     }
-    Ok(())
+    Ok(opened)
 }
 
-/// Writes a line for each row that a search gives, in the order of its tree, and an empty one after them.
+/// Writes a line for each row that a search gives, in the order of its tree, and one with the pages that its opening and its rows asked
+/// for.
 pub fn write_search<S: Source, O: Sink>(
     alloc: Global,
     pager: &mut Pager<S>,
-    trees: &Trees,
-    search: &Search,
+    tree: &Tree<'_>,
+    range: &RangeValues,
     out: &mut O,
-) -> Result<()> {
-    let range = &search.range;
-    match search.tree.as_str() {
-        "item" => write_table(alloc, pager, &trees.item, range, out)?,
-        "part" => write_table(alloc, pager, &trees.part, range, out)?,
-        "by_qty" => write_index(alloc, pager, &trees.item, &trees.by_qty, range, out)?,
-        "by_name" => write_index(alloc, pager, &trees.part, &trees.by_name, range, out)?,
-        _ => return Err(anyhow!("no such tree")),
-    }
-    write_all(out, b"\n")?;
-    Ok(())
+) -> Result<(), Fault> {
+    let before = pager.asked();
+    let opened = match tree {
+        Tree::Own(table) => write_table(alloc, pager, table, range, out)?,
+        Tree::Of(table, index) => write_index(alloc, pager, table, index, range, out)?,
+    };
+    pages(opened.saturating_sub(before)).write_literal(out)?;
+    write_all(out, b" ")?;
+    pages(pager.asked().saturating_sub(opened)).write_literal(out)?;
+    write_all(out, b" pages\n")
 }

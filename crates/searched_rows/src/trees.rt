@@ -1,66 +1,63 @@
-//! The worked tables and indexes.
-use anyhow::{Context, Result};
+//! The tables and indexes of an image, as they are searched.
+use anyhow::{Result, anyhow};
+use integrity::Checked;
 use records_searches::{RowFinder, RowIndex};
-use schema_tables::{Column, Missing, RowKey, Table};
-use std::alloc::{AllocError, Global};
-use values::Ty;
+use schema::Index;
+use schema_tables::Table;
+use sql_reader_grammar::KeyOrder;
+use std::alloc::Global;
 
-/// The tables and indexes that are searched.
+/// The most columns that an index is searched with.
+const MOST_COLUMNS: usize = 1000;
+
+/// What is searched: a table's own tree, or an index of a table.
 #[derive(Drop)]
-pub struct Trees {
-    pub item: Table,
-    pub by_qty: RowIndex,
-    pub part: Table,
-    pub by_name: RowIndex,
+pub enum Tree<'c> {
+    Own(&'c Table),
+    Of(&'c Table, RowIndex),
 }
 
-/// A column that no row lacks.
-fn column(alloc: Global, name: &str, ty: Ty) -> Result<Column, AllocError> {
-    let name = String::from_str(alloc, name)?;
-    Ok(Column::new(name, ty, false, Missing::Refused))
-}
-
-/// `item(id INTEGER PRIMARY KEY, name, qty)`.
-fn item(alloc: Global, root: u32) -> Result<Table, AllocError> {
-    let id = column(alloc, "id", Ty::Int)?;
-    let name = column(alloc, "name", Ty::Text)?;
-    let qty = column(alloc, "qty", Ty::Int)?;
-    let columns = Vec::from_array(alloc, [id, name, qty])?;
-    let name = String::from_str(alloc, "item")?;
-    Ok(Table::new(name, root, columns, RowKey::Rowid(Some(0))))
-}
-
-/// `part(maker, number, name, PRIMARY KEY(number, maker))`, without rowids.
-fn part(alloc: Global, root: u32) -> Result<Table, AllocError> {
-    let maker = column(alloc, "maker", Ty::Text)?;
-    let number = column(alloc, "number", Ty::Int)?;
-    let name = column(alloc, "name", Ty::Text)?;
-    let columns = Vec::from_array(alloc, [maker, number, name])?;
-    let key = Vec::from_array(alloc, [1, 0])?;
-    let name = String::from_str(alloc, "part")?;
-    Ok(Table::new(name, root, columns, RowKey::Primary(key)))
-}
-
-impl Trees {
-    /// Those with these roots.
-    pub fn new(alloc: Global, roots: &[u32]) -> Result<Trees> {
-        let item = item(alloc, *roots.first().context("no root of item")?)?;
-        let part = part(alloc, *roots.get(2).context("no root of part")?)?;
-        let by_qty = RowIndex {
-            root: *roots.get(1).context("no root of by_qty")?,
-            descends: Vec::from_array(alloc, [true])?,
-            finder: RowFinder::of(alloc, &item, &[2, 1], &[])?,
-        };
-        let by_name = RowIndex {
-            root: *roots.get(3).context("no root of by_name")?,
-            descends: Vec::new(alloc),
-            finder: RowFinder::of(alloc, &part, &[2], &[1, 0])?,
-        };
-        Ok(Trees {
-            item,
-            by_qty,
-            part,
-            by_name,
-        })
+/// An index of a table, as the rows of this are searched by it.
+fn row_index(alloc: Global, table: &Table, index: &Index) -> Result<RowIndex> {
+    let (mut columns, mut descends) = (Vec::new(alloc), Vec::new(alloc));
+    for column in index.columns() {
+        columns.push(column.place())?;
+        descends.push(matches!(column.order(), KeyOrder::Descending))?;
     }
+    let others = index.others();
+    if columns.len() > MOST_COLUMNS || others.len() > MOST_COLUMNS {
+        return Err(anyhow!("too many columns"));
+    }
+    let finder = RowFinder::of(alloc, table, columns.as_slice(), others)?;
+    Ok(RowIndex {
+        root: index.root(),
+        descends,
+        finder,
+    })
+}
+
+/// The table of an image that has this name, if there is one.
+fn table_named<'c>(checked: &'c Checked, name: &str) -> Option<&'c Table> {
+    for table in checked.tables() {
+        if table.name() == name {
+            return Some(table);
+        }
+    }
+    None
+}
+
+/// The table or the index of an image that has this name.
+pub fn tree_named<'c>(alloc: Global, checked: &'c Checked, name: &str) -> Result<Tree<'c>> {
+    if let Some(table) = table_named(checked, name) {
+        return Ok(Tree::Own(table));
+    }
+    for index in checked.indexes() {
+        if index.name() != name {
+            continue;
+        }
+        if let Some(table) = table_named(checked, index.table()) {
+            return Ok(Tree::Of(table, row_index(alloc, table, index)?));
+        }
+    }
+    Err(anyhow!("no such tree"))
 }

@@ -4,7 +4,9 @@ use Rattle.btree.specs.image.Pages.{pages_seen}
 use Rattle.btree_cursor.specs.cursor.Search.{IsSearchableIndex}
 use Rattle.btree_cursor.specs.key_ranges.Ranges.{Range, has_null}
 use Rattle.btree_cursor.specs.key_ranges.View.{range as key_range}
+use Rattle.schema_tables.specs.TableData.{RowKeyData}
 use Rattle.records_searches.specs.Sought.{IsEntryLanding}
+use Rattle.records_searches.specs.Work.{GoesStraight}
 use Rattle.records_searches.proofs.LandingLemmas.{key_landing, none_in, table_entries}
 use Rattle.records_searches.proofs.search.first_of_table.Goals as goal
 
@@ -44,3 +46,21 @@ returns-in_ok-cursor-in-Primary-clause-rows g c =
           (subst (λ (n : ℕ). IsEntryLanding _ [] has.values levels n (key_range c.in-Some.bounds) c.in_ok-cursor-in-Primary.cursor _) c.root-root.ensures lands.0),
       omega (arith, most),
     ))
+
+pub returns-in-Rowid-clause-direct : goal.returns-in-Rowid-clause-direct
+returns-in-Rowid-clause-direct g c =
+    let e = c.in-Some.ensures.found in
+    let key = sym (rw c.in-Rowid.is at c.key.ensures.same) in
+    rw (← e.0)
+    (λ steady levels entries holds wide straight.
+    c.row_in_range.ensures.direct steady c.args.table.now levels entries (sym c.root-root.ensures)
+    (table_entries _ (pages_seen c.args.pager.now.state) c.args.table.now levels entries key holds) wide
+    (subst (λ (k : RowKeyData). GoesStraight k (key_range c.in-Some.bounds) entries) key straight))
+
+pub returns-in_ok-cursor-in-Primary-clause-direct : goal.returns-in_ok-cursor-in-Primary-clause-direct
+returns-in_ok-cursor-in-Primary-clause-direct g c = λ steady levels entries holds wide straight.
+    let key = sym (rw c.in-Primary.is at c.key.ensures.same) in
+    let has = table_entries _ (pages_seen c.args.pager.now.state) c.args.table.now levels entries key holds in
+    let lands = c.in_ok-cursor-in-Primary.ensures.lands steady levels has.values
+    (subst (λ (n : ℕ). IsSearchableIndex _ [] has.values levels n) (sym c.root-root.ensures) has.searchable) in
+    lands.1

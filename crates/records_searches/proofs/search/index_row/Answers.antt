@@ -1,7 +1,7 @@
 use Rattle.btree.specs.Views.{cell_data}
 use Rattle.btree.specs.image.Pages.{pages_seen}
 use Rattle.records_searches.specs.Entries.{of_index}
-use Rattle.records_searches.proofs.ComingLemmas.{come_none, entry_here, entry_record, row_given}
+use Rattle.records_searches.proofs.ComingLemmas.{come_none, entry_here, entry_record, more_anyhow, row_given}
 use Rattle.records_searches.proofs.search.index_row.Goals as goal
 
 pub returns-in_err-cell-clause-rows : goal.returns-in_err-cell-clause-rows
@@ -23,3 +23,6 @@ returns-clause-rows g c = λ steady levels entries t.
     row_given table index pages levels c.args.range.now c.args.cursor.now entries t cell here c.entry_row.result
     (c.entry_row.ensures.row steady first.entry.values first.entry.row
     (entry_record table index pages levels c.args.range.now c.args.cursor.now entries t cell here) first.is.leads)
+
+pub returns-clause-more : goal.returns-clause-more
+returns-clause-more g c = let more = rw c.in-Some.is at c.in_ok-cell.ensures.more in more_anyhow c.entry_row.result more

@@ -41,3 +41,6 @@ returns-clause-rows g c = λ steady levels entries t.
       come_in (of_table c.args.table.now) _ levels c.args.range.now c.args.cursor.now entries t (cell_data c.in-Some.cell) here (sym met ∙ meets),
       row_at _ c.args.table.now first.place first.entry (cell_data c.in-Some.cell) first.is first.at,
     )
+
+pub returns-clause-more : goal.returns-clause-more
+returns-clause-more g c = rw c.in-Some.is at c.in_ok-cell.ensures.more

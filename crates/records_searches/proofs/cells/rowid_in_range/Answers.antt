@@ -1,0 +1,5 @@
+use Rattle.std.proofs.Common.{◌≡◌, ◌∷◌, [], None, Some, Ok, sym, ◌∙◌, ap}
+use Rattle.records_searches.proofs.cells.rowid_in_range.Goals as goal
+
+pub returns-in-None-clause-met : goal.returns-in-None-clause-met
+returns-in-None-clause-met c = λ number is. absurd (let e : None ≡ Some number = sym c.in-None.is ∙ is in cc)
