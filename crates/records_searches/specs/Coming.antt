@@ -1,5 +1,5 @@
 -- The entries that a search still has to give. (The SQLite Query Optimizer Overview, "WHERE Clause Analysis")
-use Rattle.std.specs.Prelude.{◌≡◌, ◌⊎◌, ℕ, true, false, List, [], ◌∷◌, Option, None, Some}
+use Rattle.std.specs.Prelude.{◌≡◌, ◌⊎◌, ℕ, Bool, true, false, List, [], ◌∷◌, Option, None, Some}
 use Rattle.std.specs.List.{AllZip}
 use Rattle.values.specs.Datum.{Datum}
 use Rattle.values.specs.Row.{Row}
@@ -38,6 +38,11 @@ pub record AreToCome (searched : SearchedData) (pages : Pages) (levels : ℕ) (r
   pub at : IsAt pages (kind_in searched) levels cursor places asked budget
   pub each : AllZip (IsEntryIn searched pages) places all
   pub are : entries ≡ run_of range all
+
+-- a cursor that was put at a cell, or wasn't
+abbrev pub opened : Bool → Cursor → Option Cursor
+opened true cursor = Some cursor
+opened false cursor = None
 
 -- the same where no cursor was opened, since nothing can meet the range
 abbrev pub AreOpened : SearchedData → Pages → ℕ → Range → Option Cursor → List EntryData → Type 0

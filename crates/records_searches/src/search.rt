@@ -12,7 +12,7 @@ ghost use Rattle.btree_cursor.specs.cursor.Search.{IsUnchainedIndex};
 ghost use Rattle.btree_cursor.specs.key_ranges.Ranges.{Range, has_null};
 ghost use Rattle.btree_cursor.specs.key_ranges.View.{range as key_range};
 ghost use Rattle.schema_tables.specs.TableData.{TableData};
-ghost use Rattle.records_searches.specs.Coming.{AreOpened, AreToCome, GivesCell, GivesFound, IsSearchFault, LeadsToIf};
+ghost use Rattle.records_searches.specs.Coming.{AreOpened, AreToCome, GivesCell, GivesFound, IsSearchFault, LeadsToIf, opened};
 ghost use Rattle.records_searches.specs.Entries.{AreWide, EntryData, HoldsEntries, LeadsTo, SearchedData, entries_in, kind_by, of_index, of_table};
 ghost use Rattle.records_searches.specs.Work.{GoesStraight, depth_of};
 
@@ -41,63 +41,65 @@ fn bounds_of(range: &RangeValues) -> Option<KeyRange<'_>>
     Some(bounds)
 }
 
-/// A cursor at the first row of a table that meets a range of its rowids or of its PRIMARY KEY, or after which those that
-/// do would stand; none where none can, since a bound is NULL or all rows come before the range. Its faults are `ReadFailed`,
+/// Puts a cursor at the first row of a table that meets a range of its rowids or of its PRIMARY KEY, or after which those that
+/// do would stand; `false` where none can, since a bound is NULL or all rows come before the range. Its faults are `ReadFailed`,
 /// `NoMemory`, and `Changed`, which no table gives that is stored as it was checked.
 pub fn first_of_table<S: Source>(
     alloc: Global,
     pager: &mut Pager<S>,
     table: &Table,
     range: &RangeValues,
-) -> Result<Option<Cursor>, Fault>
+    cursor: &mut Cursor,
+) -> Result<bool, Fault>
     ensures rows { WhereSteady pager.old.state (λ pages. (levels : ℕ) (entries : List EntryData) → HoldsEntries (of_table table.now) pages levels entries
         → AreWide range.now entries
-        → MatchResult result (λ cursor. AreOpened (of_table table.now) pages levels range.now cursor (entries_in range.now entries)
+        → MatchResult result (λ is_open. AreOpened (of_table table.now) pages levels range.now (opened is_open cursor.new) (entries_in range.now entries)
         × (pager.new.state.asked ≤ pager.old.state.asked + (2 * levels + 1))) IsReadFault) }
     ensures direct { WhereSteady pager.old.state (λ pages. (levels : ℕ) (entries : List EntryData) → HoldsEntries (of_table table.now) pages levels entries
         → AreWide range.now entries → GoesStraight table.now.key range.now entries
-        → IfOk result (λ cursor. pager.new.state.asked ≤ pager.old.state.asked + depth_of levels)) }
-    ensures null { has_null range.now ≡ true → (result ≡ Ok None) × (pager.new.state ≡ pager.old.state) }
+        → IfOk result (λ is_open. pager.new.state.asked ≤ pager.old.state.asked + depth_of levels)) }
+    ensures null { has_null range.now ≡ true → (result ≡ Ok false) × (pager.new.state ≡ pager.old.state) }
     ensures only { IfErr result IsSearchFault }
     ensures reads { ReadsPages result pager.old.state pager.new.state }
 {
     let Some(bounds) = bounds_of(range) else {
-        return Ok(None);
+        return Ok(false);
     };
     let root = table.root();
     match table.key() {
-        RowKey::Rowid(_) => row_in_range(alloc, pager, root, &bounds),
+        RowKey::Rowid(_) => row_in_range(pager, root, &bounds, cursor),
         RowKey::Primary(_) => {
-            let cursor = entry_in_range(alloc, pager, root, &[], &bounds)?;
-            Ok(Some(cursor))
+            entry_in_range(alloc, pager, root, &[], &bounds, cursor)?;
+            Ok(true)
         }
     }
 }
 
-/// A cursor at the first entry of an index that meets a range, or after which those that do would stand; none where none can,
-/// since a bound is NULL. Its faults are `ReadFailed`, `NoMemory`, and `Changed`, which no index gives that is stored as it
+/// Puts a cursor at the first entry of an index that meets a range, or after which those that do would stand; `false` where none
+/// can, since a bound is NULL. Its faults are `ReadFailed`, `NoMemory`, and `Changed`, which no index gives that is stored as it
 /// was checked.
 pub fn first_of_index<S: Source>(
     alloc: Global,
     pager: &mut Pager<S>,
     index: &RowIndex,
     range: &RangeValues,
-) -> Result<Option<Cursor>, Fault>
+    cursor: &mut Cursor,
+) -> Result<bool, Fault>
     ensures rows { WhereSteady pager.old.state (λ pages. (table : TableData) (levels : ℕ) (entries : List EntryData)
         → HoldsEntries (of_index table index.now) pages levels entries → AreWide range.now entries
-        → MatchResult result (λ cursor. AreOpened (of_index table index.now) pages levels range.now cursor (entries_in range.now entries)
+        → MatchResult result (λ is_open. AreOpened (of_index table index.now) pages levels range.now (opened is_open cursor.new) (entries_in range.now entries)
         × (pager.new.state.asked ≤ pager.old.state.asked + (levels + 1))) IsReadFault) }
-    ensures null { has_null range.now ≡ true → (result ≡ Ok None) × (pager.new.state ≡ pager.old.state) }
+    ensures null { has_null range.now ≡ true → (result ≡ Ok false) × (pager.new.state ≡ pager.old.state) }
     ensures only { IfErr result IsSearchFault }
     ensures unchained { WhereSteady pager.old.state (λ pages. IsUnchainedIndex pages index.now.root
         → pager.new.state.chained ≡ pager.old.state.chained) }
     ensures reads { ReadsPages result pager.old.state pager.new.state }
 {
     let Some(bounds) = bounds_of(range) else {
-        return Ok(None);
+        return Ok(false);
     };
-    let entry = entry_in_range(alloc, pager, index.root, index.descends.as_slice(), &bounds)?;
-    Ok(Some(entry))
+    entry_in_range(alloc, pager, index.root, index.descends.as_slice(), &bounds, cursor)?;
+    Ok(true)
 }
 
 /// The cell of the row at the position of a search of a table, where it meets the range; none where it doesn't, or there is none.

@@ -1,4 +1,4 @@
-//! A cursor at the first row or entry that doesn't come before a range.
+//! A cursor is put at the first row or entry that doesn't come before a range.
 ghost use Rattle.std.specs.Prelude.{◌≡◌, ◌*◌, ◌+◌, ◌≤◌, ℕ, ℤ, false, IfErr, IfOk, List, MatchResult, Option};
 ghost use Rattle.values.specs.Datum.{Datum};
 ghost use Rattle.pager.specs.Calls.{IsReadFault, ReadsPages, ReadsTreePages};
@@ -8,7 +8,7 @@ ghost use Rattle.btree_cursor.specs.cursor.Search.{HasRowWith, IsSearchable, IsS
 ghost use Rattle.btree_cursor.specs.key_ranges.Ranges.{has_null};
 ghost use Rattle.btree_cursor.specs.key_ranges.View.{range};
 ghost use Rattle.schema_tables.specs.TableData.{RowKeyData, TableData};
-ghost use Rattle.records_searches.specs.Coming.{AreOpened, IsSearchFault};
+ghost use Rattle.records_searches.specs.Coming.{AreOpened, IsSearchFault, opened};
 ghost use Rattle.records_searches.specs.Entries.{AreWide, EntryData, HoldsRowEntries, entries_in, of_table};
 ghost use Rattle.records_searches.specs.Sought.{IsEntryLanding, IsRowLanding};
 ghost use Rattle.records_searches.specs.Work.{IsForOneKey};
@@ -33,66 +33,67 @@ pub(crate) fn search_fault(fault: Fault) -> Fault
     }
 }
 
-/// A cursor at the first row of a table that doesn't come before a position; none where all of them do. Its faults are those
-/// of `Cursor::seek_row`.
+/// Puts a cursor at the first row of a table that doesn't come before a position; `false` where all of them do. Its faults are
+/// those of `Cursor::go_to_row`.
 fn row_after<S: Source>(
-    alloc: Global,
     pager: &mut Pager<S>,
     root: u32,
     cut: RowCut,
-) -> Result<Option<Cursor>, Fault>
+    cursor: &mut Cursor,
+) -> Result<bool, Fault>
     ensures lands { WhereSteady pager.old.state (λ pages. (levels : ℕ) → IsSearchable pages levels root
-        → MatchResult result (λ cursor. IsRowLanding cut pages levels root cursor pager.new.state.asked
+        → MatchResult result (λ is_open. IsRowLanding cut pages levels root (opened is_open cursor.new) pager.new.state.asked
         × (pager.new.state.asked ≤ pager.old.state.asked + (2 * levels + 1))) IsReadFault) }
     ensures direct { WhereSteady pager.old.state (λ pages. (levels : ℕ) (rowid : ℤ) → IsSearchable pages levels root → cut ≡ RowCut.At rowid false
-        → HasRowWith pages levels root rowid → IfOk result (λ cursor. pager.new.state.asked ≤ pager.old.state.asked + (levels + 1))) }
+        → HasRowWith pages levels root rowid → IfOk result (λ is_open. pager.new.state.asked ≤ pager.old.state.asked + (levels + 1))) }
     ensures reads { ReadsTreePages result pager.old.state pager.new.state }
 {
     match cut {
         RowCut::At(rowid, behind) => {
-            let cursor = Cursor::seek_row(alloc, pager, root, rowid, behind)?;
-            Ok(Some(cursor))
+            cursor.go_to_row(pager, root, rowid, behind)?;
+            Ok(true)
         }
-        RowCut::Last => Ok(None),
+        RowCut::Last => Ok(false),
     }
 }
 
-/// A cursor at the first row of a table that doesn't come before a range of rowids; none where all of them do.
+/// Puts a cursor at the first row of a table that doesn't come before a range of rowids; `false` where all of them do.
 pub(crate) fn row_in_range<S: Source>(
-    alloc: Global,
     pager: &mut Pager<S>,
     root: u32,
     bounds: &KeyRange<'_>,
-) -> Result<Option<Cursor>, Fault>
+    cursor: &mut Cursor,
+) -> Result<bool, Fault>
     ensures rows { WhereSteady pager.old.state (λ pages. (table : TableData) (at : Option ℕ) (levels : ℕ) (entries : List EntryData)
         → table.root ≡ root → table.key ≡ RowKeyData.Rowid at → has_null (range bounds.now) ≡ false → HoldsRowEntries pages table levels entries
         → AreWide (range bounds.now) entries
-        → MatchResult result (λ cursor. AreOpened (of_table table) pages levels (range bounds.now) cursor (entries_in (range bounds.now) entries)
+        → MatchResult result (λ is_open. AreOpened (of_table table) pages levels (range bounds.now) (opened is_open cursor.new) (entries_in (range bounds.now) entries)
         × (pager.new.state.asked ≤ pager.old.state.asked + (2 * levels + 1))) IsReadFault) }
     ensures direct { WhereSteady pager.old.state (λ pages. (table : TableData) (levels : ℕ) (entries : List EntryData)
         → table.root ≡ root → HoldsRowEntries pages table levels entries → AreWide (range bounds.now) entries → IsForOneKey (range bounds.now) entries
-        → IfOk result (λ cursor. pager.new.state.asked ≤ pager.old.state.asked + (levels + 1))) }
+        → IfOk result (λ is_open. pager.new.state.asked ≤ pager.old.state.asked + (levels + 1))) }
     ensures only { IfErr result IsSearchFault }
     ensures reads { ReadsTreePages result pager.old.state pager.new.state }
 {
     let cut = RowCut::new(bounds.equal, bounds.start(&[]));
-    match row_after(alloc, pager, root, cut) {
-        Ok(cursor) => Ok(cursor),
+    match row_after(pager, root, cut, cursor) {
+        Ok(is_open) => Ok(is_open),
         Err(fault) => Err(search_fault(fault)),
     }
 }
 
-/// A cursor at the first entry of a tree, whose columns descend or don't, that doesn't come before a range.
+/// Puts a cursor at the first entry of a tree, whose columns descend or don't, that doesn't come before a range.
 pub(crate) fn entry_in_range<S: Source>(
     alloc: Global,
     pager: &mut Pager<S>,
     root: u32,
     descends: &[bool],
     bounds: &KeyRange<'_>,
-) -> Result<Cursor, Fault>
+    cursor: &mut Cursor,
+) -> Result<(), Fault>
     ensures lands { WhereSteady pager.old.state (λ pages. (levels : ℕ) (values : Place → List Datum)
         → IsSearchableIndex pages descends.now values levels root
-        → MatchResult result (λ cursor. IsEntryLanding pages descends.now values levels root (range bounds.now) cursor pager.new.state.asked
+        → MatchResult result (λ _. IsEntryLanding pages descends.now values levels root (range bounds.now) cursor.new pager.new.state.asked
         × (pager.new.state.asked ≤ pager.old.state.asked + (levels + 1))) IsReadFault) }
     ensures only { IfErr result IsSearchFault }
     ensures unchained { WhereSteady pager.old.state (λ pages. IsUnchainedIndex pages root
@@ -104,8 +105,8 @@ pub(crate) fn entry_in_range<S: Source>(
         equal: bounds.equal,
         end: bounds.start(descends),
     };
-    match Cursor::seek_entry(alloc, pager, root, &key) {
-        Ok(cursor) => Ok(cursor),
+    match cursor.go_to_entry(alloc, pager, root, &key) {
+        Ok(()) => Ok(()),
         Err(fault) => Err(search_fault(fault)),
     }
 }

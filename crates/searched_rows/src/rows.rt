@@ -1,6 +1,7 @@
 //! What a search gives.
 use crate::trees::Tree;
 use btree::{Cell, payload};
+use btree_cursor::Cursor;
 use pager::{Pager, Source};
 use records_searches::{
     RangeValues, RowIndex, first_of_index, first_of_table, index_row, next_entry, table_row,
@@ -45,11 +46,12 @@ fn write_table<S: Source, O: Sink>(
     range: &RangeValues,
     out: &mut O,
 ) -> Result<u64, Fault> {
-    let cursor = first_of_table(alloc, pager, table, range)?;
+    let mut cursor = Cursor::ended(alloc);
+    let is_open = first_of_table(alloc, pager, table, range, &mut cursor)?;
     let opened = pager.asked();
-    let Some(mut cursor) = cursor else {
+    if !is_open {
         return Ok(opened);
-    };
+    }
     while let Some(cell) = table_row(alloc, pager, &cursor, table, range)? {
         write_row(alloc, pager, table, &cell, out)?;
         next_entry(&mut cursor, pager)?;
@@ -66,11 +68,12 @@ fn write_index<S: Source, O: Sink>(
     range: &RangeValues,
     out: &mut O,
 ) -> Result<u64, Fault> {
-    let cursor = first_of_index(alloc, pager, index, range)?;
+    let mut cursor = Cursor::ended(alloc);
+    let is_open = first_of_index(alloc, pager, index, range, &mut cursor)?;
     let opened = pager.asked();
-    let Some(mut cursor) = cursor else {
+    if !is_open {
         return Ok(opened);
-    };
+    }
     let mut key = Vec::new(alloc);
     while let Some(found) = index_row(alloc, pager, &cursor, table, index, range, &mut key)? {
         write_row(alloc, pager, table, &found.cell(), out)?;

@@ -552,8 +552,88 @@ impl Cursor {
         })
     }
 
-    /// A cursor at the first row of a table that doesn't come before the key: the first with this rowid or a greater one
-    /// or, where what is behind is sought, the first with a greater one. Its faults are those of `first`.
+    /// A cursor without a tree, which has ended: `go_to_row` and `go_to_entry` put it at a cell. It takes no memory until then.
+    pub fn ended(alloc: Global) -> Cursor
+        ensures { IsEnded result }
+    {
+        Cursor {
+            root: 0,
+            kind: TreeKind::Table,
+            frames: Vec::new(alloc),
+            here: None,
+            usable: 0,
+            most: 0,
+        }
+    }
+
+    /// Goes to the first row of a table that doesn't come before the key: the first with this rowid or a greater one or, where
+    /// what is behind is sought, the first with a greater one. The memory is used again in which the cursor held pages. After
+    /// a fault it has ended. Its faults are those of `first`.
+    pub fn go_to_row<S: Source>(
+        &mut self,
+        pager: &mut Pager<S>,
+        root: u32,
+        rowid: i64,
+        behind: bool,
+    ) -> Result<(), Fault>
+        ensures outcome { MatchResult result (λ _. IsRowSought pager.old.state pager.new.state root behind rowid self.new)
+            (IsSeekFault pager.old.state root) }
+        ensures ended { IfErr result (λ e. IsEnded self.new) }
+        ensures outside { ¬ IsNumber (pages_seen pager.old.state) root → result ≡ Err (Fault.BadPage root) }
+        ensures reads { ReadsTreePages result pager.old.state pager.new.state }
+    {
+        self.here = None;
+        self.frames.clear();
+        let header = pager.header();
+        if root < 1 || root > header.pages {
+            return Err(Fault::BadPage(root));
+        }
+        self.usable = header.usable as usize;
+        self.most = header.image_size();
+        self.root = root;
+        self.kind = TreeKind::Table;
+        let leaf = seek_leaf(root, &mut self.frames, pager, behind, rowid)?;
+        let here = settle(root, TreeKind::Table, &mut self.frames, pager, leaf)?;
+        self.here = Some(here);
+        Ok(())
+    }
+
+    /// Goes to the first entry of an index that doesn't come before what is sought. The memory is used again in which the cursor
+    /// held pages. After a fault it has ended. Its faults are those of `first`, and `BadChain`, `BadRecord`, `FloatValue` and
+    /// `BadText` of an entry that it has to compare. No page of an overflow chain is asked for where no entry of the index
+    /// has one.
+    pub fn go_to_entry<S: Source>(
+        &mut self,
+        alloc: Global,
+        pager: &mut Pager<S>,
+        root: u32,
+        key: &IndexKey<'_>,
+    ) -> Result<(), Fault>
+        ensures outcome { MatchResult result (λ _. IsEntrySought pager.old.state pager.new.state root key.now self.new)
+            (IsEntrySeekFault pager.old.state root key.now.descends.now) }
+        ensures ended { IfErr result (λ e. IsEnded self.new) }
+        ensures outside { ¬ IsNumber (pages_seen pager.old.state) root → result ≡ Err (Fault.BadPage root) }
+        ensures unchained { WhereSteady pager.old.state (λ pages. IsUnchainedIndex pages root
+            → pager.new.state.chained ≡ pager.old.state.chained) }
+        ensures reads { ReadsPages result pager.old.state pager.new.state }
+    {
+        self.here = None;
+        self.frames.clear();
+        let header = pager.header();
+        if root < 1 || root > header.pages {
+            return Err(Fault::BadPage(root));
+        }
+        self.usable = header.usable as usize;
+        self.most = header.image_size();
+        self.root = root;
+        self.kind = TreeKind::Index;
+        let leaf = seek_index_leaf(alloc, root, &mut self.frames, pager, key)?;
+        let here = settle(root, TreeKind::Index, &mut self.frames, pager, leaf)?;
+        self.here = Some(here);
+        Ok(())
+    }
+
+    /// A cursor at the row to which `go_to_row` goes, with its faults.
     pub fn seek_row<S: Source>(
         alloc: Global,
         pager: &mut Pager<S>,
@@ -565,28 +645,14 @@ impl Cursor {
         ensures outside { ¬ IsNumber (pages_seen pager.old.state) root → result ≡ Err (Fault.BadPage root) }
         ensures reads { ReadsTreePages result pager.old.state pager.new.state }
     {
-        let header = pager.header();
-        if root < 1 || root > header.pages {
-            return Err(Fault::BadPage(root));
+        let mut cursor = Cursor::ended(alloc);
+        match cursor.go_to_row(pager, root, rowid, behind) {
+            Ok(()) => Ok(cursor),
+            Err(fault) => Err(fault),
         }
-        let usable = header.usable as usize;
-        let most = header.image_size();
-        let mut frames = Vec::new(alloc);
-        let leaf = seek_leaf(root, &mut frames, pager, behind, rowid)?;
-        let here = settle(root, TreeKind::Table, &mut frames, pager, leaf)?;
-        Ok(Cursor {
-            root,
-            kind: TreeKind::Table,
-            frames,
-            here: Some(here),
-            usable,
-            most,
-        })
     }
 
-    /// A cursor at the first entry of an index that doesn't come before what is sought. Its faults are those of `first`, and
-    /// `BadChain`, `BadRecord`, `FloatValue` and `BadText` of an entry that it has to compare. No page of an overflow chain
-    /// is asked for where no entry of the index has one.
+    /// A cursor at the entry to which `go_to_entry` goes, with its faults.
     pub fn seek_entry<S: Source>(
         alloc: Global,
         pager: &mut Pager<S>,
@@ -600,23 +666,11 @@ impl Cursor {
             → pager.new.state.chained ≡ pager.old.state.chained) }
         ensures reads { ReadsPages result pager.old.state pager.new.state }
     {
-        let header = pager.header();
-        if root < 1 || root > header.pages {
-            return Err(Fault::BadPage(root));
+        let mut cursor = Cursor::ended(alloc);
+        match cursor.go_to_entry(alloc, pager, root, key) {
+            Ok(()) => Ok(cursor),
+            Err(fault) => Err(fault),
         }
-        let usable = header.usable as usize;
-        let most = header.image_size();
-        let mut frames = Vec::new(alloc);
-        let leaf = seek_index_leaf(alloc, root, &mut frames, pager, key)?;
-        let here = settle(root, TreeKind::Index, &mut frames, pager, leaf)?;
-        Ok(Cursor {
-            root,
-            kind: TreeKind::Index,
-            frames,
-            here: Some(here),
-            usable,
-            most,
-        })
     }
 
     /// Goes on to the next cell of the leaf that the cursor stands on; `false` where there is none, and where it stands on

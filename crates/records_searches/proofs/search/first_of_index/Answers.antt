@@ -8,10 +8,10 @@ use Rattle.records_searches.proofs.search.first_of_index.Goals as goal
 pub returns-in_default-clause-rows : goal.returns-in_default-clause-rows
 returns-in_default-clause-rows g c = λ steady table levels entries holds wide. (none_in c.args.range.now entries c.in_default.ensures.none, omega arith)
 
-pub returns-in_err-entry-clause-rows : goal.returns-in_err-entry-clause-rows
-returns-in_err-entry-clause-rows g c = λ steady table levels entries holds wide.
+pub returns-in_err-entry_in_range-clause-rows : goal.returns-in_err-entry_in_range-clause-rows
+returns-in_err-entry_in_range-clause-rows g c = λ steady table levels entries holds wide.
     let p = err_from_is_err_and c.from_residual.result c.from_residual.ensures.1 in
-    rw (p.1, p.2) (c.in_err-entry.ensures.lands steady levels holds.values holds.searchable)
+    rw (p.1, p.2) (c.in_err-entry_in_range.ensures.lands steady levels holds.values holds.searchable)
 
 pub returns-clause-rows : goal.returns-clause-rows
 returns-clause-rows g c =
@@ -19,5 +19,5 @@ returns-clause-rows g c =
     let null : has_null (key_range c.in-Some.bounds) ≡ false = subst (λ (r : Range). has_null r ≡ false) (sym e.0) e.1 in
     rw (← e.0)
     (λ steady table levels entries holds wide.
-    let lands = c.in_ok-entry.ensures.lands steady levels holds.values holds.searchable in
-    (index_landing _ table c.args.index.now levels (key_range c.in-Some.bounds) null entries holds wide c.in_ok-entry.entry _ lands.0, lands.1))
+    let lands = c.in_ok-entry_in_range.ensures.lands steady levels holds.values holds.searchable in
+    (index_landing _ table c.args.index.now levels (key_range c.in-Some.bounds) null entries holds wide c.entry_in_range.new.cursor _ lands.0, lands.1))

@@ -23,27 +23,27 @@ returns-in-Rowid-clause-rows g c =
     c.row_in_range.ensures.rows steady c.args.table.now _ levels entries (sym c.root-root.ensures) key null
     (table_entries _ (pages_seen c.args.pager.now.state) c.args.table.now levels entries key holds) wide)
 
-pub returns-in_err-cursor-in-Primary-clause-rows : goal.returns-in_err-cursor-in-Primary-clause-rows
-returns-in_err-cursor-in-Primary-clause-rows g c = λ steady levels entries holds wide.
+pub returns-in_err-entry_in_range-in-Primary-clause-rows : goal.returns-in_err-entry_in_range-in-Primary-clause-rows
+returns-in_err-entry_in_range-in-Primary-clause-rows g c = λ steady levels entries holds wide.
     let p = err_from_is_err_and c.from_residual.result c.from_residual.ensures.1 in
     let key = sym (rw c.in-Primary.is at c.key.ensures.same) in
     let has = table_entries _ (pages_seen c.args.pager.now.state) c.args.table.now levels entries key holds in
     rw (p.1, p.2)
-    (c.in_err-cursor-in-Primary.ensures.lands steady levels has.values (subst (λ (n : ℕ). IsSearchableIndex _ [] has.values levels n) (sym c.root-root.ensures) has.searchable))
+    (c.in_err-entry_in_range-in-Primary.ensures.lands steady levels has.values (subst (λ (n : ℕ). IsSearchableIndex _ [] has.values levels n) (sym c.root-root.ensures) has.searchable))
 
-pub returns-in_ok-cursor-in-Primary-clause-rows : goal.returns-in_ok-cursor-in-Primary-clause-rows
-returns-in_ok-cursor-in-Primary-clause-rows g c =
+pub returns-in_ok-entry_in_range-in-Primary-clause-rows : goal.returns-in_ok-entry_in_range-in-Primary-clause-rows
+returns-in_ok-entry_in_range-in-Primary-clause-rows g c =
     let e = c.in-Some.ensures.found in
     let null : has_null (key_range c.in-Some.bounds) ≡ false = subst (λ (r : Range). has_null r ≡ false) (sym e.0) e.1 in
     let key = sym (rw c.in-Primary.is at c.key.ensures.same) in
     rw (← e.0)
     (λ steady levels entries holds wide.
     let has = table_entries _ (pages_seen c.args.pager.now.state) c.args.table.now levels entries key holds in
-    let lands = c.in_ok-cursor-in-Primary.ensures.lands steady levels has.values
+    let lands = c.in_ok-entry_in_range-in-Primary.ensures.lands steady levels has.values
     (subst (λ (n : ℕ). IsSearchableIndex _ [] has.values levels n) (sym c.root-root.ensures) has.searchable) in
     let most = lands.1 in (
-      key_landing _ c.args.table.now levels (key_range c.in-Some.bounds) null _ key entries has wide c.in_ok-cursor-in-Primary.cursor _
-          (subst (λ (n : ℕ). IsEntryLanding _ [] has.values levels n (key_range c.in-Some.bounds) c.in_ok-cursor-in-Primary.cursor _) c.root-root.ensures lands.0),
+      key_landing _ c.args.table.now levels (key_range c.in-Some.bounds) null _ key entries has wide c.entry_in_range.new.cursor _
+          (subst (λ (n : ℕ). IsEntryLanding _ [] has.values levels n (key_range c.in-Some.bounds) c.entry_in_range.new.cursor _) c.root-root.ensures lands.0),
       omega (arith, most),
     ))
 
@@ -57,10 +57,10 @@ returns-in-Rowid-clause-direct g c =
     (table_entries _ (pages_seen c.args.pager.now.state) c.args.table.now levels entries key holds) wide
     (subst (λ (k : RowKeyData). GoesStraight k (key_range c.in-Some.bounds) entries) key straight))
 
-pub returns-in_ok-cursor-in-Primary-clause-direct : goal.returns-in_ok-cursor-in-Primary-clause-direct
-returns-in_ok-cursor-in-Primary-clause-direct g c = λ steady levels entries holds wide straight.
+pub returns-in_ok-entry_in_range-in-Primary-clause-direct : goal.returns-in_ok-entry_in_range-in-Primary-clause-direct
+returns-in_ok-entry_in_range-in-Primary-clause-direct g c = λ steady levels entries holds wide straight.
     let key = sym (rw c.in-Primary.is at c.key.ensures.same) in
     let has = table_entries _ (pages_seen c.args.pager.now.state) c.args.table.now levels entries key holds in
-    let lands = c.in_ok-cursor-in-Primary.ensures.lands steady levels has.values
+    let lands = c.in_ok-entry_in_range-in-Primary.ensures.lands steady levels has.values
     (subst (λ (n : ℕ). IsSearchableIndex _ [] has.values levels n) (sym c.root-root.ensures) has.searchable) in
     lands.1

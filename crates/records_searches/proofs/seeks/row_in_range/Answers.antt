@@ -3,6 +3,7 @@ use Rattle.values.specs.Datum.{int}
 use Rattle.btree_cursor.specs.cursor.Search.{HasRowWith, IsSearchable}
 use Rattle.btree_cursor.specs.key_ranges.Ranges.{Cut, is_before}
 use Rattle.btree_cursor.specs.key_ranges.View.{range}
+use Rattle.records_searches.specs.Coming.{opened}
 use Rattle.records_searches.specs.RowCuts.{IsRowid, row_comes_before}
 use Rattle.records_searches.specs.Sought.{IsRowLanding}
 use Rattle.records_searches.specs.declared.row_cuts.RowCut.TheVariants.{At}
@@ -16,8 +17,8 @@ returns-in-Ok-clause-rows g c = λ steady table at levels entries root_is key_is
     subst (λ (k : Cut). (rowid : ℤ) → IsRowid rowid → length k.key ≤ 1 → is_before [] k (int rowid ∷ []) ≡ row_comes_before c.new-cut.result rowid)
     c.start.ensures c.new-cut.ensures.before in
     let lands = c.in-Ok.ensures.lands steady levels (subst (λ (n : ℕ). IsSearchable _ levels n) root_is holds.searchable) in (
-      row_landing _ table levels (range c.args.bounds.now) null at key_is entries holds wide c.new-cut.result law c.in-Ok.cursor _
-          (subst (λ (n : ℕ). IsRowLanding c.new-cut.result _ levels n c.in-Ok.cursor _) (sym root_is) lands.0),
+      row_landing _ table levels (range c.args.bounds.now) null at key_is entries holds wide c.new-cut.result law (opened c.in-Ok.is_open c.row_after.new.cursor) _
+          (subst (λ (n : ℕ). IsRowLanding c.new-cut.result _ levels n (opened c.in-Ok.is_open c.row_after.new.cursor) _) (sym root_is) lands.0),
       lands.1,
     )
 

@@ -14,7 +14,7 @@ use Rattle.btree_cursor.specs.cursor.Rest.{IsInLeaf, IsStanding}
 use Rattle.btree_cursor.specs.cursor.Way.{HasReached}
 use Rattle.btree_cursor.proofs.lemmas.cursor.EntrySeekLemmas.{read_fault, way_fault}
 use Rattle.btree_cursor.proofs.lemmas.cursor.RestLemmas.{left_length}
-use Rattle.btree_cursor.proofs.cursor.cursor.Cursor.seek_entry.Goals as goal
+use Rattle.btree_cursor.proofs.cursor.cursor.Cursor.go_to_entry.Goals as goal
 
 pub returns-then-root-lt1-clause-outcome : goal.returns-then-root-lt1-clause-outcome
 returns-then-root-lt1-clause-outcome g c =

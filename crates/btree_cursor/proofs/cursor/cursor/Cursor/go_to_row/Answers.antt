@@ -13,7 +13,7 @@ use Rattle.btree_cursor.specs.cursor.Rest.{IsInLeaf, IsStanding}
 use Rattle.btree_cursor.specs.cursor.Search.{HasRowWith}
 use Rattle.btree_cursor.specs.cursor.Way.{HasReached}
 use Rattle.btree_cursor.proofs.lemmas.cursor.RestLemmas.{left_length, standing_long}
-use Rattle.btree_cursor.proofs.cursor.cursor.Cursor.seek_row.Goals as goal
+use Rattle.btree_cursor.proofs.cursor.cursor.Cursor.go_to_row.Goals as goal
 
 pub returns-then-root-lt1-clause-outcome : goal.returns-then-root-lt1-clause-outcome
 returns-then-root-lt1-clause-outcome g c =
