@@ -1,4 +1,5 @@
 pub mod CellLemmas
+pub mod PayloadLemmas
 pub mod PageLemmas
 pub mod SeenLemmas
 pub mod ChainLemmas

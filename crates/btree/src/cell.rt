@@ -1,6 +1,7 @@
 //! Cells, and the part of a payload that is stored in its cell.
 ghost use Rattle.std.specs.Prelude.{◌≡◌, ◌<◌, ◌≤◌, ℕ, pos, IfNone, IfSome};
 ghost use Rattle.btree.specs.image.Cell.{CellData, FitsIn, PayloadData, IsIndexCell, IsPayload, IsTableCell, local_size, most_local};
+ghost use Rattle.btree.specs.Payloads.{HasPayload};
 ghost use Rattle.btree.specs.Views.{cell_data, payload_data};
 
 use crate::image::TreeKind;
@@ -84,28 +85,54 @@ fn read_chained(kind: TreeKind, usable: u64, size: u64, bytes: &[u8]) -> Option<
     })
 }
 
-/// The payload of this size with which the bytes begin; `None` where they end before its local part does.
-#[inline(always)]
-fn read_payload(kind: TreeKind, usable: u64, size: u64, bytes: &[u8]) -> Option<Payload<'_>>
+/// The cell that has a payload of this size with overflow pages, with which the bytes begin; `None` where they end before its
+/// local part does.
+#[inline(never)]
+fn chained_cell(
+    rowid: Option<i64>,
+    kind: TreeKind,
+    usable: u64,
+    size: u64,
+    bytes: &[u8],
+) -> Option<Cell<'_>>
     requires low { 480 ≤ usable }
     requires high { usable ≤ 65536 }
-    ensures found { IfSome result (λ payload. IsPayload kind usable bytes.now (payload_data payload)) }
-    ensures size { IfSome result (λ payload. payload.size ≡ size) }
+    requires long { most_local kind usable < size }
+    ensures found { IfSome result (HasPayload rowid kind usable size bytes.now) }
+    ensures none { IfNone result ((payload : PayloadData) → payload.size ≡ size → ¬ IsPayload kind usable bytes.now payload) }
+{
+    let payload = read_chained(kind, usable, size, bytes)?;
+    Some(Cell { rowid, payload })
+}
+
+/// The cell that has a payload of this size, with which the bytes begin; `None` where they end before its local part does.
+#[inline(always)]
+fn cell_with(
+    rowid: Option<i64>,
+    kind: TreeKind,
+    usable: u64,
+    size: u64,
+    bytes: &[u8],
+) -> Option<Cell<'_>>
+    requires low { 480 ≤ usable }
+    requires high { usable ≤ 65536 }
+    ensures found { IfSome result (HasPayload rowid kind usable size bytes.now) }
     ensures none { IfNone result ((payload : PayloadData) → payload.size ≡ size → ¬ IsPayload kind usable bytes.now payload) }
 {
     if size > most_local_of(kind, usable) {
-        return read_chained(kind, usable, size, bytes);
+        return chained_cell(rowid, kind, usable, size, bytes);
     }
     let whole = size as usize;
     if whole > bytes.len() {
         return None;
     }
     let (local, _) = bytes.split_at(whole);
-    Some(Payload {
+    let payload = Payload {
         size,
         local,
         overflow: None,
-    })
+    };
+    Some(Cell { rowid, payload })
 }
 
 /// The size of a payload, which is none where it is negative or more than the image has bytes.
@@ -132,15 +159,12 @@ pub(crate) fn table_cell(usable: u64, most: u64, bytes: &[u8]) -> Option<Cell<'_
     let rest = &bytes[size_length..];
     let (rowid, rowid_length) = varint(rest)?;
     let size = size_of(size, most)?;
-    let payload = read_payload(TreeKind::Table, usable, size, &rest[rowid_length..])?;
-    Some(Cell {
-        rowid: Some(rowid),
-        payload,
-    })
+    let rest = &rest[rowid_length..];
+    cell_with(Some(rowid), TreeKind::Table, usable, size, rest)
 }
 
 /// The cell of an index with which the bytes begin, with a payload of at most `most` bytes.
-#[inline]
+#[inline(always)]
 pub(crate) fn index_cell(usable: u64, most: u64, bytes: &[u8]) -> Option<Cell<'_>>
     requires low { 480 ≤ usable }
     requires high { usable ≤ 65536 }
@@ -149,9 +173,6 @@ pub(crate) fn index_cell(usable: u64, most: u64, bytes: &[u8]) -> Option<Cell<'_
 {
     let (size, size_length) = varint(bytes)?;
     let size = size_of(size, most)?;
-    let payload = read_payload(TreeKind::Index, usable, size, &bytes[size_length..])?;
-    Some(Cell {
-        rowid: None,
-        payload,
-    })
+    let rest = &bytes[size_length..];
+    cell_with(None, TreeKind::Index, usable, size, rest)
 }

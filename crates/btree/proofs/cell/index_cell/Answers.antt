@@ -1,6 +1,7 @@
 use Rattle.std.proofs.Common.{◌≡◌, w64, SFits, rules, sym, ◌∙◌}
 use Rattle.std.proofs.lemmas.Int.{to_z-of_z}
-use Rattle.btree.proofs.CellLemmas.{IfNone-always, no_index_size, no_index_payload, index_found}
+use Rattle.btree.proofs.CellLemmas.{IfNone-always, IfNone-weaker, no_index_size, no_index_payload}
+use Rattle.btree.proofs.PayloadLemmas.{IfSome-weaker, index_cell_found}
 use Rattle.btree.proofs.cell.index_cell.Goals as goal
 
 pub returns-in_err-size-2-clause-none : goal.returns-in_err-size-2-clause-none
@@ -8,14 +9,14 @@ returns-in_err-size-2-clause-none c =
     let f : SFits w64 c.in_ok-size.size = search rules in
     IfNone-always _ (no_index_size _ _ _ _ _ c.in_ok-size.ensures.only (rw (to_z-of_z w64 c.in_ok-size.size f) at c.in_err-size-2.ensures.none))
 
-pub returns-in_err-payload-clause-none : goal.returns-in_err-payload-clause-none
-returns-in_err-payload-clause-none c =
+pub returns-clause-none : goal.returns-clause-none
+returns-clause-none c =
     let f : SFits w64 c.in_ok-size.size = search rules in
     let size : c.in_ok-size.size ≡ _ = sym (to_z-of_z w64 c.in_ok-size.size f) ∙ c.in_ok-size-2.ensures.found.0 in
-    IfNone-always _ (no_index_payload _ _ _ _ _ c.in_ok-size.ensures.only _ size c.in_err-payload.ensures.none)
+    IfNone-weaker _ (no_index_payload _ _ _ _ _ c.in_ok-size.ensures.only _ size) c.cell_with.ensures.none
 
 pub returns-clause-found : goal.returns-clause-found
 returns-clause-found c =
     let f : SFits w64 c.in_ok-size.size = search rules in
     let size : c.in_ok-size.size ≡ _ = sym (to_z-of_z w64 c.in_ok-size.size f) ∙ c.in_ok-size-2.ensures.found.0 in
-    index_found _ _ _ _ _ c.in_ok-size.ensures.only _ size _ c.in_ok-size.ensures.found c.in_ok-payload.ensures.size c.in_ok-size-2.ensures.found.1 c.in_ok-payload.ensures.found
+    IfSome-weaker _ (index_cell_found _ _ _ _ _ c.in_ok-size.ensures.only c.in_ok-size.ensures.found _ size c.in_ok-size-2.ensures.found.1) c.cell_with.ensures.found
