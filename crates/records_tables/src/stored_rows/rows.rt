@@ -208,7 +208,10 @@ pub fn payload_of<'p, S: Source>(
     ensures only { IfErr result IsRowFault }
     ensures reads { ReadsChainPages result pager.old.state pager.new.state }
 {
-    payload(alloc, pager, cell)?.ok_or(Fault::BadChain(n))
+    match payload(alloc, pager, cell)? {
+        Some(bytes) => Ok(bytes),
+        None => Err(Fault::BadChain(n)),
+    }
 }
 
 /// The row of a table that the bytes of a payload are, which a cell of page `n` has.
