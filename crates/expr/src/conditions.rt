@@ -6,7 +6,7 @@ ghost use Rattle.expr.specs.operations.Operations.{truth};
 ghost use Rattle.expr.specs.View.{term};
 ghost use Rattle.expr.specs.Conjuncts.{conjuncts, keeps};
 
-use crate::numbers::numbers_compare;
+use crate::numbers::{number_among, numbers_compare};
 use crate::operations::{Comparison, truth};
 use crate::{Expr, copy, eval};
 use std::alloc::{AllocError, Global};
@@ -45,6 +45,9 @@ pub fn is_true(alloc: Global, condition: &Expr, row: &[Value]) -> Result<bool, F
 {
     if let Some(holds) = numbers_compare(condition, row) {
         return Ok(holds);
+    }
+    if let Some(found) = number_among(condition, row) {
+        return Ok(found.unwrap_or(false));
     }
     let value = eval(alloc, condition, row)?;
     Ok(truth(&value) == Some(true))

@@ -41,3 +41,16 @@ pub(crate) fn numbers_compare(e: &Expr, row: &[Value]) -> Option<bool>
     let y = number(b, row)?;
     Some(integers_compare(*op, x, y))
 }
+
+/// Whether such an expression equals one of a set of values on a row, which is unknown where one of them is NULL; `None` says
+/// nothing of the condition.
+#[inline(always)]
+pub(crate) fn number_among(e: &Expr, row: &[Value]) -> Option<Option<bool>>
+    ensures { IfSome result (λ found. value_on row.now e.now ≡ Some (condition found)) }
+{
+    let Expr::Member(x, set) = e else {
+        return None;
+    };
+    let number = number(x, row)?;
+    Some(set.any_equal_number(number))
+}

@@ -1,5 +1,5 @@
 //! The whole numbers among some values.
-ghost use Rattle.std.specs.Prelude.{◌≡◌, IfOk, List, map};
+ghost use Rattle.std.specs.Prelude.{◌≡◌, false, IfOk, IsFalse, List, map};
 ghost use Rattle.std.specs.List.{filter_map};
 ghost use Rattle.values.specs.Datum.{Datum, datum_of, int};
 ghost use Rattle.expr.specs.value_sets.Numbers.{AreNumbersOf, number_in};
@@ -30,10 +30,30 @@ pub(crate) fn numbers_of(alloc: Global, values: &[Value]) -> Result<Vec<i64>, Al
     Ok(numbers)
 }
 
+/// Whether a number is within the least and the greatest of these; most numbers that are searched aren't.
+#[inline(always)]
+fn spans(numbers: &[i64], number: i64) -> bool
+    ensures { IsFalse result → (values : List Datum) → AreNumbersOf values numbers.now → is_among (int number) values ≡ false }
+{
+    if numbers.is_empty() {
+        return false;
+    }
+    if number < numbers[0] {
+        return false;
+    }
+    if numbers[numbers.len() - 1] < number {
+        return false;
+    }
+    true
+}
+
 /// Whether a number is one of the values whose numbers these are.
 #[inline(always)]
 pub(crate) fn has_number(numbers: &[i64], number: i64) -> bool
     ensures { (values : List Datum) → AreNumbersOf values numbers.now → result ≡ is_among (int number) values }
 {
+    if !spans(numbers, number) {
+        return false;
+    }
     numbers.binary_search(&number).is_ok()
 }

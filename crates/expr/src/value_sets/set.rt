@@ -1,7 +1,7 @@
 //! Values that are asked whether one of them equals another.
-ghost use Rattle.std.specs.Prelude.{◌≡◌, ◌≢◌, ◌↔◌, IfOk, IsTrue, map};
+ghost use Rattle.std.specs.Prelude.{◌≡◌, ◌≢◌, ◌↔◌, false, IfOk, IsTrue, map};
 ghost use Rattle.std.specs.List.{list_any};
-ghost use Rattle.values.specs.Datum.{datum_of, null};
+ghost use Rattle.values.specs.Datum.{Datum, datum_of, int, null};
 ghost use Rattle.expr.specs.operations.Operations.{any_equal, is_null};
 ghost use Rattle.expr.specs.value_sets.Order.{is_among};
 
@@ -123,6 +123,25 @@ impl ValueSet {
         }
     }
 
+    /// Whether a value that is not NULL equals one of the set, of which it is known whether it is one.
+    #[inline(always)]
+    fn any_equal_where(&self, is_one: bool) -> Option<bool>
+        ensures { (x : Datum) → is_null x ≡ false → is_one ≡ is_among x self.now → result ≡ any_equal x self.now }
+    {
+        if is_one {
+            return Some(true);
+        }
+        if self.has_null { None } else { Some(false) }
+    }
+
+    /// The same as `any_equal` of a number.
+    #[inline(always)]
+    pub(crate) fn any_equal_number(&self, number: i64) -> Option<bool>
+        ensures { result ≡ any_equal (int number) self.now }
+    {
+        self.any_equal_where(has_number(self.numbers.as_slice(), number))
+    }
+
     /// Whether a value equals one of the set: true where one is the same, and else unknown where one of them or the value is NULL;
     /// but of no values none is equal.
     pub fn any_equal(&self, value: &Value) -> Option<bool>
@@ -134,9 +153,6 @@ impl ValueSet {
         if is_null(value) {
             return None;
         }
-        if self.has(value) {
-            return Some(true);
-        }
-        if self.has_null { None } else { Some(false) }
+        self.any_equal_where(self.has(value))
     }
 }

@@ -1,11 +1,12 @@
 -- A number that is searched among the numbers of some values.
-use Rattle.std.proofs.Common.{◌≡◌, ◌∙◌, ◌+◌, ◌++◌, ◌<◌, ◌≤◌, ◌⊎◌, false, ℕ, ℤ, Bool, None, append-nil, map, take, Ordering, Less, Equal, Greater, List, [], ◌∷◌, Ok, Err, Result, get_or, is_eq, length, refl, sym, ap, inl, inr, arith, ◌||◌, pos}
+use Rattle.std.proofs.Common.{◌≡◌, ◌∙◌, ◌+◌, ◌-◌, ◌++◌, ◌<◌, ◌<ℤ◌, ◌≤◌, ◌⊎◌, false, ℕ, ℤ, Bool, None, append-nil, map, take, Ordering, Less, Equal, Greater, is_lt, List, [], ◌∷◌, Ok, Err, Result, get_or, is_eq, length, refl, sym, ap, inl, inr, arith, ◌||◌, pos}
 use Rattle.std.proofs.lemmas.Bool.{cases_lt}
-use Rattle.std.proofs.lemmas.Cmp.{int_cmp_total}
+use Rattle.std.proofs.lemmas.Cmp.{int_cmp_total, int_ranked}
+use Rattle.std.proofs.lemmas.Int.{ints}
 use Rattle.std.proofs.lemmas.List.{map-append, take_more}
 use Rattle.std.proofs.lemmas.List.Elements.{All-from_get_or, filter_map-append}
 use Rattle.std.proofs.lemmas.List.Folds.{list_any_at, list_any_none}
-use Rattle.std.proofs.lemmas.List.Sorted.{list_any-IsPermutation, searchable_from_sorted}
+use Rattle.std.proofs.lemmas.List.Sorted.{list_any-IsPermutation, ranks_by, searchable_from_sorted, sorted_far}
 use Rattle.std.specs.List.{cons_option, filter_map, list_any}
 use Rattle.std.specs.List.Sorted.{IsBinarySearchResult, IsPartitionPoint, IsSearchInRange}
 use Rattle.std.specs.Ordering.{int_cmp, ordering_reverse}
@@ -59,7 +60,52 @@ among_numbers n (blob s ∷ values) = among_numbers n values
 turned : (n m : ℤ) (o : Ordering) → int_cmp m n ≡ o → is_eq (int_cmp n m) ≡ is_eq (ordering_reverse o)
 turned n m o e = ap is_eq (int_cmp_total.antisymm n m ∙ ap ordering_reverse e)
 
+-- what is less than a number is none of those that are no less, and what is greater none of those that are no greater
+below_cases : (n least m : ℤ) (r s : Ordering) → r ≡ int_cmp m least → s ≡ int_cmp n m → n <ℤ least → is_lt r ≡ false → is_eq s ≡ false
+below_cases n least m r Less to_least to_n less h = refl
+below_cases n least m r Greater to_least to_n less h = refl
+below_cases n least m Less Equal to_least to_n less h = h
+below_cases n least m Equal Equal to_least to_n less h =
+    let same : m ≡ least = int_ranked m least Equal to_least in
+    let it : n ≡ m = int_ranked n m Equal to_n in
+    absurd (omega (arith, ints))
+below_cases n least m Greater Equal to_least to_n less h =
+    let more : least <ℤ m = int_ranked m least Greater to_least in
+    let it : n ≡ m = int_ranked n m Equal to_n in
+    absurd (omega (arith, ints))
+
+above_cases : (n greatest m : ℤ) (r s : Ordering) → r ≡ int_cmp greatest m → s ≡ int_cmp n m → greatest <ℤ n → is_lt r ≡ false → is_eq s ≡ false
+above_cases n greatest m r Less to_greatest to_n more h = refl
+above_cases n greatest m r Greater to_greatest to_n more h = refl
+above_cases n greatest m Less Equal to_greatest to_n more h = h
+above_cases n greatest m Equal Equal to_greatest to_n more h =
+    let same : greatest ≡ m = int_ranked greatest m Equal to_greatest in
+    let it : n ≡ m = int_ranked n m Equal to_n in
+    absurd (omega (arith, ints))
+above_cases n greatest m Greater Equal to_greatest to_n more h =
+    let less : m <ℤ greatest = int_ranked greatest m Greater to_greatest in
+    let it : n ≡ m = int_ranked n m Equal to_n in
+    absurd (omega (arith, ints))
+
 module _ (values : List Datum) (numbers : List ℤ) (n : ℤ) (are : AreNumbersOf values numbers) where
+  far : (i j : ℕ) → i ≤ j → j < length numbers → is_lt (int_cmp (get_or numbers j (pos 0)) (get_or numbers i (pos 0))) ≡ false
+  far i j most inside = sorted_far (λ a b. is_lt (int_cmp a b)) (ranks_by int_cmp_total (λ (m : ℤ). m)) numbers are.ascends i j (pos 0) most inside
+
+  -- a number that none of them is equals none of the values
+  none_among : ((at : ℕ) → at < length numbers → is_eq (int_cmp n (get_or numbers at (pos 0))) ≡ false) → is_among (int n) values ≡ false
+  none_among none =
+      sym (among_numbers n values) ∙ list_any-IsPermutation (λ m. is_eq (int_cmp n m)) (filter_map number_in values) numbers are.same
+      ∙ list_any_none (λ m. is_eq (int_cmp n m)) numbers (All-from_get_or (λ m. is_eq (int_cmp n m) ≡ false) numbers (pos 0) none)
+
+  pub below_all : n <ℤ get_or numbers 0 (pos 0) → is_among (int n) values ≡ false
+  below_all less = none_among (λ at inside. below_cases n (get_or numbers 0 (pos 0)) (get_or numbers at (pos 0)) _ _ refl refl less (far 0 at (omega arith) inside))
+
+  pub above_all : 0 < length numbers → get_or numbers (length numbers - 1) (pos 0) <ℤ n → is_among (int n) values ≡ false
+  above_all some more = none_among (λ at inside. above_cases n (get_or numbers (length numbers - 1) (pos 0)) (get_or numbers at (pos 0)) _ _ refl refl more (far at (length numbers - 1) (omega arith) (omega arith)))
+
+  pub among_none : length numbers ≡ 0 → is_among (int n) values ≡ false
+  among_none none = none_among (λ at inside. absurd (omega arith))
+
   side : (cut : ℕ) → IsPartitionPoint (λ m. int_cmp m n ≡ Less) (λ m. int_cmp m n ≡ Greater) numbers cut
       → (at : ℕ) → at < length numbers → (at < cut) ⊎ (cut ≤ at) → is_eq (int_cmp n (get_or numbers at (pos 0))) ≡ false
   side cut parts at inside (inl before) = turned n (get_or numbers at (pos 0)) Less (parts.0 at (pos 0) (omega arith) before)
