@@ -1,6 +1,7 @@
 pub mod ListLemmas
 pub mod VarintLemmas
 pub mod FieldLemmas
+pub mod NumberLemmas
 pub mod HeaderLemmas
 pub mod BodyLemmas
 pub mod RecordLemmas

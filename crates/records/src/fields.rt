@@ -1,11 +1,11 @@
 //! The fields of a record, read one after the other.
-ghost use Rattle.std.specs.Prelude.{◌≡◌, ◌<◌, ◌≤◌, ◌↔◌, [], ◌∷◌, drop, length, IfNone, IfSome, IsFalse, IsTrue, List};
-ghost use Rattle.values.specs.Datum.{Datum, datum_of_ref};
+ghost use Rattle.std.specs.Prelude.{◌≡◌, ◌<◌, ◌≤◌, ◌↔◌, ℕ, ℤ, [], ◌∷◌, drop, length, IfNone, IfSome, IsFalse, IsTrue, List};
+ghost use Rattle.values.specs.Datum.{Datum, datum_of_ref, int, text};
 ghost use Rattle.records.specs.Fields.{AreUnread};
 ghost use Rattle.records.specs.Record.{IsRecord};
 
 use crate::reading::split_header;
-use crate::serials::{first_field, len_of};
+use crate::serials::{after_number, after_text, first_field, len_of};
 use crate::varints::varint;
 use std::marker::Model;
 use values::ValueRef;
@@ -63,6 +63,40 @@ impl<'p> FieldReader<'p> {
         self.spelt = &self.spelt[size..];
         self.bodies = rest;
         Some(value)
+    }
+
+    /// Goes past the next field, where it is a whole number. `false` says nothing of the field, and the reader stays then.
+    #[inline(always)]
+    pub fn pass_number(&mut self) -> bool
+        ensures past { IsTrue result → (number : ℤ) × ((others : List Datum) → AreUnread self.new others → AreUnread self.old (int number ∷ others)) }
+        ensures stays { IsFalse result → self.new ≡ self.old }
+    {
+        let Some((serial, size)) = varint(self.spelt) else {
+            return false;
+        };
+        let Some(bodies) = after_number(serial, self.bodies) else {
+            return false;
+        };
+        self.spelt = &self.spelt[size..];
+        self.bodies = bodies;
+        true
+    }
+
+    /// The same of a text.
+    #[inline(always)]
+    pub fn pass_text(&mut self) -> bool
+        ensures past { IsTrue result → (letters : List ℕ) × ((others : List Datum) → AreUnread self.new others → AreUnread self.old (text letters ∷ others)) }
+        ensures stays { IsFalse result → self.new ≡ self.old }
+    {
+        let Some((serial, size)) = varint(self.spelt) else {
+            return false;
+        };
+        let Some(bodies) = after_text(serial, self.bodies) else {
+            return false;
+        };
+        self.spelt = &self.spelt[size..];
+        self.bodies = bodies;
+        true
     }
 
     /// Goes past one field without a look at its value. The answer is `false` where there is none; the reader stays then.

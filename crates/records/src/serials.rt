@@ -1,7 +1,8 @@
 //! Serial types: how long a field's body is, and the value that it encodes. (Database File Format, section
 //! 2.1)
-ghost use Rattle.std.specs.Prelude.{◌≡◌, ◌≤ℤ◌, pos, IfOk, IfErr};
-ghost use Rattle.values.specs.Datum.{datum_of_ref};
+ghost use Rattle.std.specs.Prelude.{◌≡◌, ◌≤ℤ◌, ℕ, ℤ, List, pos, IfOk, IfErr, IfSome, IsTrue};
+ghost use Rattle.values.specs.Datum.{datum_of_ref, int, text};
+ghost use Rattle.records.specs.NumberTypes.{IsNumberType};
 ghost use Rattle.records.specs.Serial.{body_len, BeginsField, BreaksFront};
 
 use crate::fault::RecordFault;
@@ -81,5 +82,42 @@ pub(crate) fn first_field(serial: i64, bytes: &[u8]) -> Result<(ValueRef<'_>, &[
         9 => Ok((ValueRef::Int(1), bytes)),
         12.. => first_string(serial, bytes),
         ..=-1 | 10 | 11 => Err(RecordFault::Bad),
+    }
+}
+
+/// Whether this is a type of whole numbers.
+#[inline(always)]
+fn is_number_type(serial: i64) -> bool
+    ensures { IsTrue result → IsNumberType serial }
+{
+    1 <= serial && serial <= 9 && serial != 7
+}
+
+/// The bytes after the body of a whole number of this type, which is at their front; `None` says nothing of the type.
+#[inline(always)]
+pub(crate) fn after_number(serial: i64, bytes: &[u8]) -> Option<&[u8]>
+    ensures { IfSome result (λ rest. (number : ℤ) × BeginsField serial bytes.now (int number) rest.now) }
+{
+    if !is_number_type(serial) {
+        return None;
+    }
+    let len = len_of(serial);
+    if bytes.len() < len {
+        return None;
+    }
+    Some(&bytes[len..])
+}
+
+/// The bytes after the body of a text of this type, which is at their front; `None` says nothing of the type.
+#[inline(always)]
+pub(crate) fn after_text(serial: i64, bytes: &[u8]) -> Option<&[u8]>
+    ensures { IfSome result (λ rest. (letters : List ℕ) × BeginsField serial bytes.now (text letters) rest.now) }
+{
+    if serial < 13 {
+        return None;
+    }
+    match first_string(serial, bytes) {
+        Ok((ValueRef::Text(_), rest)) => Some(rest),
+        _ => None,
     }
 }
