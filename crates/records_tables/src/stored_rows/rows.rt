@@ -1,5 +1,5 @@
 //! A record as a row of its table.
-ghost use Rattle.std.specs.Prelude.{◌≡◌, ◌⊎◌, ◌<◌, ◌≤◌, ◌↔◌, ℕ, IfErr, IfNone, IfOk, IfSome, IsTrue, List, OnOk, Some, length, map, slice_get};
+ghost use Rattle.std.specs.Prelude.{◌≡◌, ◌⊎◌, ◌<◌, ◌≤◌, ◌↔◌, ◌∷◌, ℕ, ℤ, IfErr, IfNone, IfOk, IfSome, IsFalse, IsTrue, List, OnOk, Option, Some, length, map, slice_get};
 ghost use Rattle.std.specs.Cow.{cow_slice_items};
 ghost use Rattle.values.specs.Datum.{Datum, datum_of_ref};
 ghost use Rattle.btree.specs.declared.image.kind.TreeKind.TheVariants as kind;
@@ -13,6 +13,7 @@ ghost use Rattle.records_tables.specs.stored_rows.Keys.{HasCells};
 ghost use Rattle.records_tables.specs.stored_rows.Links.{IsRowTwice, MarksRows};
 ghost use Rattle.records_tables.specs.stored_rows.Reading.{value_in};
 ghost use Rattle.records_tables.specs.stored_rows.RowFaults.{AreRowsIn, IsCellFault, IsLeafFault, IsRecordFault, IsRowFault, fault_of};
+ghost use Rattle.records.specs.Fields.{AreUnread};
 ghost use Rattle.records.specs.Record.{IsBadWhere};
 ghost use Rattle.schema_tables.specs.TableData.{IsPlaceIn, MissingData};
 ghost use Rattle.records_tables.specs.stored_rows.Stored.{Fits, FitsColumn, IsNoRow, IsRowOf, IsRowRecord, filled_values, older_values, row_from};
@@ -208,7 +209,10 @@ pub fn payload_of<'p, S: Source>(
     ensures only { IfErr result IsRowFault }
     ensures reads { ReadsChainPages result pager.old.state pager.new.state }
 {
-    payload(alloc, pager, cell)?.ok_or(Fault::BadChain(n))
+    match payload(alloc, pager, cell)? {
+        Some(bytes) => Ok(bytes),
+        None => Err(Fault::BadChain(n)),
+    }
 }
 
 /// The row of a table that the bytes of a payload are, which a cell of page `n` has.
@@ -244,6 +248,58 @@ fn value_in<'p>(
     }
 }
 
+/// Whether what stands in a column is what the record has there, whatever the rowid is. `false` says nothing of it.
+#[inline(always)]
+fn is_stored(key: Option<usize>, column: usize) -> bool
+    ensures { IsTrue result → (rowid : Option ℤ) (stored : Datum) → value_in key rowid column stored ≡ stored }
+{
+    match key {
+        Some(key) => key != column,
+        None => true,
+    }
+}
+
+/// Goes past the next field of a record, which stands in this column of a row, where it is a number or a text and so is what
+/// the column may have. `false` says nothing of the field, and the reader stays then.
+#[inline(always)]
+fn passes(fields: &mut FieldReader<'_>, key: Option<usize>, at: usize, column: &Column) -> bool
+    ensures past { IsTrue result → (stored : Datum) × ((rowid : Option ℤ) → FitsColumn column.now (value_in key rowid at stored))
+        × ((others : List Datum) → AreUnread fields.new others → AreUnread fields.old (stored ∷ others)) }
+    ensures stays { IsFalse result → fields.new ≡ fields.old }
+{
+    if !is_stored(key, at) {
+        return false;
+    }
+    match column.ty() {
+        Ty::Int => fields.pass_number(),
+        Ty::Text => fields.pass_text(),
+        Ty::Null | Ty::Blob => false,
+    }
+}
+
+/// Goes past the next field of a record, which stands in this column of a row, and tells whether the row's value there is one
+/// of the column. After `false` the reader is anywhere.
+#[inline(always)]
+fn next_fits(
+    fields: &mut FieldReader<'_>,
+    key: Option<usize>,
+    rowid: Option<i64>,
+    at: usize,
+    column: &Column,
+) -> bool
+    ensures { IsTrue result → (stored : Datum) × FitsColumn column.now (value_in key rowid at stored)
+        × ((others : List Datum) → AreUnread fields.new others → AreUnread fields.old (stored ∷ others)) }
+{
+    // Most fields are passed by their type alone.
+    if passes(fields, key, at, column) {
+        return true;
+    }
+    let Some(stored) = fields.read() else {
+        return false;
+    };
+    fits_column(column, value_in(key, rowid, at, stored))
+}
+
 /// Whether a payload is the record of a row of a table, whose values are of its columns. `false` says nothing of it.
 pub(crate) fn is_row(table: &Table, rowid: Option<i64>, payload: &[u8]) -> bool
     ensures { IsTrue result → (row : List Datum) × IsRowRecord table.now rowid payload.now row × Fits table.now row }
@@ -253,10 +309,7 @@ pub(crate) fn is_row(table: &Table, rowid: Option<i64>, payload: &[u8]) -> bool
     };
     let key = table.rowid();
     for (i, column) in table.columns().iter().enumerate() {
-        let Some(stored) = fields.read() else {
-            return false;
-        };
-        if !fits_column(column, value_in(key, rowid, i, stored)) {
+        if !next_fits(&mut fields, key, rowid, i, column) {
             return false;
         }
     }

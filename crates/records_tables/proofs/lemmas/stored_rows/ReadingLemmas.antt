@@ -127,6 +127,11 @@ not_passed reading row unread column count place few is =
 
 -- ---- a row that is read whole
 
+-- in any column but that of the rowid a row has what is stored there
+pub stored_other : (key column : ℕ) (rowid : Option ℤ) (stored : Datum) → key ≢ column → value_in (Some key) rowid column stored ≡ stored
+stored_other key column None stored other = refl
+stored_other key column (Some rowid) stored other = grind (arith, nat_tests, other)
+
 set_at : (values : List Datum) (key column : ℕ) (rowid : ℤ) (stored : Datum) → slice_get values column ≡ Some stored
     → slice_get (slice_set values key (int rowid)) column ≡ Some (value_in (Some key) (Some rowid) column stored)
 set_at values key column rowid stored here =
@@ -175,14 +180,14 @@ module _ (table : TableData) (rowid : Option ℤ) (payload : List ℕ) where
 
   pub one_more : (old new : Unread) (count : ℕ) (column : ColumnData) (stored : Datum) → FirstFit table rowid payload old count
       → slice_get table.columns count ≡ Some column
-      → ((first : Datum) (others : List Datum) → AreUnread old (first ∷ others) ↔ ((first ≡ stored) × AreUnread new others))
+      → ((others : List Datum) → AreUnread new others → AreUnread old (stored ∷ others))
       → FitsColumn column (value_in (rowid_of table.key) rowid count stored) → FirstFit table rowid payload new (count + 1)
   one_more old new count column stored so_far here read now = record {
     values = so_far.values ++ stored ∷ [];
     long = long_push so_far.values _ stored count so_far.long refl;
     found = λ rest unread.
         subst (λ (l : List Datum). IsRecord payload l) (sym (append_assoc so_far.values (stored ∷ []) rest))
-        (so_far.found (stored ∷ rest) ((read stored rest).1 (refl, unread)));
+        (so_far.found (stored ∷ rest) (read rest unread));
     fit = each_push (FitsAt table rowid) so_far.values _ stored count so_far.long refl
         (λ other there. subst (λ (c : ColumnData). FitsColumn c (value_in (rowid_of table.key) rowid count stored)) (some_is column other (sym here ∙ there)) now) so_far.fit;
   }

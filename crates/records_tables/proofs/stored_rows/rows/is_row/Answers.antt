@@ -10,9 +10,10 @@ pub loop-i-preserved : goal.loop-i-preserved
 loop-i-preserved c =
     let within : c.loop-i.i < length c.args.table.now.columns = search rules in
     let here = get_at c.args.table.now.columns c.loop-i.i c.column-item.result within (search rules) in
-    one_more c.args.table.now c.args.rowid c.args.payload.now _ c.read.new.self c.loop-i.i c.column-item.result _ c.loop-i.invariant here
-    c.in-Some-read.ensures.found
-    (rw (← c.rowid-key.ensures.same, ← c.value_in.ensures) (c.if-not-fits_column.ensures.0 refl))
+    let next = c.if-not-next_fits.ensures refl in
+    one_more c.args.table.now c.args.rowid c.args.payload.now _ c.next_fits.new.fields c.loop-i.i c.column-item.result next.0 c.loop-i.invariant here
+    next.2
+    (rw (← c.rowid-key.ensures.same) next.1)
 
 pub returns : goal.returns
 returns c = λ done.
