@@ -68,7 +68,7 @@ def primary_key_of(connection: sqlite3.Connection, table: str) -> str | None:
 
 
 def write_tables(writer: Writer, text: str, leaf: int = 1000, fan: int = 1000) -> None:
-    """Writes the tables and indexes that a text makes, at most so many rows or entries on a leaf and children under a page."""
+    """Writes the tables and indexes that a text makes, at most this many rows or entries on a leaf and children under a page."""
     connection, shape = sqlite3.connect(":memory:"), {"leaf": leaf, "fan": fan}
     connection.executescript(text)
     objects = "SELECT type, name, tbl_name, sql FROM sqlite_schema ORDER BY rowid"

@@ -52,7 +52,7 @@ impl GatheredRows {
     }
 }
 
-/// A copy of a row, with room for so many more values.
+/// A copy of a row, with room for this many more values.
 pub(crate) fn row_copy(alloc: Global, row: &[Value], more: usize) -> Result<Vec<Value>, AllocError>
     ensures { IfOk result (λ copied. map datum_of copied.items ≡ map datum_of row.now) }
 {

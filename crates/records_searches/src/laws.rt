@@ -50,7 +50,7 @@ pub fn entry_has_rowid()
     ensures { (columns : List ℕ) (rowid : ℤ) (row : Row) → slice_get (rowid_entry columns rowid row) (length columns) ≡ Some (int rowid) }
 {}
 
-/// An entry of an index of a table without rowids has the values of the PRIMARY KEY where its columns stand. (Database File Format,
+/// An entry of an index of a table without rowids has the values of the PRIMARY KEY where its columns are. (Database File Format,
 /// section 2.4 "Suppression of redundant columns in WITHOUT ROWID secondary indexes")
 pub fn entry_has_key()
     ensures { (columns others key : List ℕ) (row : Row) → All (λ column. has_number (columns ++ others) column ≡ true) key

@@ -63,7 +63,7 @@ steps_ahead sources (Nested query) = 2 ^ 64
 steps_ahead sources (Gathered left) = length left
 steps_ahead sources Ended = 0
 
--- so many pages may still be asked for: those of its plan; those of the whole query as long as no query in it is computed, and then none
+-- how many pages may still be asked for: those of its plan; those of the whole query as long as no query in it is computed, and then none
 abbrev pub IsAhead : Pages → List TableData → Basis → QueryData → QueryRun → ℕ → Type 0
 IsAhead pages tables on query (Planned running) ahead = HasAhead pages (sources_of tables []) on running ahead
 IsAhead pages tables on query (Nested waits) ahead = ahead ≡ body_work on.w on.db on.sizes query.body
@@ -96,7 +96,7 @@ EndsBy (Ok None) run = run ≡ Ended
 EndsBy (Err fault) run = run ≡ Ended
 
 -- What a call that reads rows leaves and answers: the image stays, a fault is an operator's, or that of what has ended, and a failed read
--- is told as one.
+-- is reported as one.
 pub record ReadsRowsOrEnded (run : QueryRun) (result : Result (Option Row) Fault) (old new : PagerState) : Type 0 where
   pub image : SameImage old new
   pub failures : TellsFailedReads result old.source.failures new.source.failures
