@@ -49,6 +49,11 @@ bound_at op (Some c) value = bound_by op c value
 abbrev pub column_bound : Comparison → Term → Term → Option BoundTerm
 column_bound op left value = bound_at op (column_of left) value
 
+-- the bound that a comparison says of its left side
+abbrev pub left_bound : Term → Option BoundTerm
+left_bound (compare op a b) = column_bound op a b
+left_bound t = None
+
 -- a comparison bounds either side that is a column by the other side
 abbrev pub bounds_of : Term → List BoundTerm
 bounds_of (compare op a b) = option_to_list (column_bound op a b) ++ option_to_list (column_bound (turned op) b a)

@@ -1,7 +1,7 @@
 //! The bounds on columns that an expression states.
 ghost use Rattle.std.specs.Prelude.{◌≡◌, ◌++◌, option_map, option_to_list};
 ghost use Rattle.expr.specs.View.{term};
-ghost use Rattle.index_choice.specs.ColumnBounds.{bounds_of, column_bound, column_of, turned};
+ghost use Rattle.index_choice.specs.ColumnBounds.{bounds_of, column_bound, column_of, left_bound, turned};
 ghost use Rattle.index_choice.specs.View.{bound_term};
 
 use expr::{Comparison, Expr};
@@ -69,10 +69,11 @@ fn column_bound<'e>(op: Comparison, left: &Expr, value: &'e Expr) -> Option<Colu
     })
 }
 
-/// The bounds that an expression says: a comparison bounds either side that is a column by the other side. (The SQLite
-/// Query Optimizer Overview, "WHERE Clause Analysis")
+/// The bounds that an expression says, of its left and of its right side: a comparison bounds either side that is a column by
+/// the other side. (The SQLite Query Optimizer Overview, "WHERE Clause Analysis")
 pub fn bounds(expr: &Expr) -> (Option<ColumnBound<'_>>, Option<ColumnBound<'_>>)
-    ensures { option_to_list (option_map bound_term result.0) ++ option_to_list (option_map bound_term result.1) ≡ bounds_of (term expr.entry.now) }
+    ensures left { option_map bound_term result.0 ≡ left_bound (term expr.entry.now) }
+    ensures all { option_to_list (option_map bound_term result.0) ++ option_to_list (option_map bound_term result.1) ≡ bounds_of (term expr.entry.now) }
 {
     match expr {
         Expr::Compare(op, a, b) => (column_bound(*op, a, b), column_bound(turned(*op), b, a)),

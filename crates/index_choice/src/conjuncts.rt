@@ -25,7 +25,7 @@ pub struct Conjunct {
 }
 
 /// Whether two sides are one.
-fn same_side(a: Side, b: Side) -> bool
+pub fn same_side(a: Side, b: Side) -> bool
     ensures { result ≡ same_side a b }
 {
     match a {

@@ -21,5 +21,5 @@ mod sources;
 pub use choice::{Path, Search, best, best_path, paths};
 pub use comparisons::{ColumnBound, Side, bounds};
 pub use conditions::{implies, implying};
-pub use conjuncts::{Bound, Conjunct};
+pub use conjuncts::{Bound, Conjunct, same_side};
 pub use sources::{Key, Source, TreeCounts};

@@ -1,8 +1,8 @@
 //! Rows that were gathered, and which of them are still to be given.
-ghost use Rattle.std.specs.Prelude.{◌≡◌, ◌<◌, ◌^◌, IfOk, IsTrue, length, map};
+ghost use Rattle.std.specs.Prelude.{◌≡◌, ◌<◌, ◌^◌, IfOk, IsTrue, OnSome, length, map};
 ghost use Rattle.values.specs.Datum.{datum_of};
 ghost use Rattle.values.specs.Row.{rows_data};
-ghost use Rattle.operators.specs.Left.{GivesFirst};
+ghost use Rattle.operators.specs.Left.{GivesFirst, TakesFirstOut};
 
 use std::alloc::{AllocError, Global};
 use std::marker::Model;
@@ -37,12 +37,20 @@ impl GatheredRows {
         }
     }
 
+    /// Takes the next row out, or reports that there is none.
+    pub fn take(&mut self) -> Option<Vec<Value>>
+        ensures rows { TakesFirstOut result self.old self.new }
+        ensures left { OnSome result (length self.new < length self.old) }
+    {
+        self.rows.next()
+    }
+
     /// Puts the next row into `row`, or reports that there is none.
     pub fn next(&mut self, row: &mut Vec<Value>) -> bool
         ensures rows { GivesFirst result self.old self.new (map datum_of row.new.items) }
         ensures left { IsTrue result → length self.new < length self.old }
     {
-        match self.rows.next() {
+        match self.take() {
             Some(next) => {
                 *row = next;
                 true

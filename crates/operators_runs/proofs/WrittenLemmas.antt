@@ -1,5 +1,5 @@
 -- Rows of a plan that is run, written one after another.
-use Rattle.std.proofs.Common.{◌≡◌, ◌∙◌, ◌+◌, ◌-◌, ◌^◌, inl, inr, min, arith, Bool, true, ℕ, List, [], ◌∷◌, ◌++◌, length, OnOk, Result, Ok, Err, refl, sym, ap, append_assoc, subst}
+use Rattle.std.proofs.Common.{◌≡◌, ◌∙◌, ◌+◌, ◌-◌, ◌^◌, inl, inr, min, arith, Bool, true, ℕ, List, [], ◌∷◌, ◌++◌, length, OnOk, IfErr, IfOk, MatchResult, Result, Ok, Err, refl, sym, ap, append-nil, append_assoc, subst}
 use Rattle.std.proofs.lemmas.Grind.{common_steps}
 use Rattle.std.specs.Io.KnownBytes.{Appends}
 use Rattle.values.specs.Row.{Row}
@@ -26,7 +26,7 @@ use Rattle.operators_runs.specs.declared.execution.rows.Execution.TheVariants.{R
 use Rattle.operators_runs.proofs.lemmas.execution.GivenLemmas.{stored_with, with_plan}
 use Rattle.operators_runs.proofs.lemmas.inner_rows.AddingLemmas.{at_first}
 use Rattle.operators_runs.proofs.AnswerLemmas.{some_answer}
-use Rattle.operators_runs.proofs.PrintedLemmas.{not_operators, nothing_printed, rows_text-push}
+use Rattle.operators_runs.proofs.PrintedLemmas.{not_operators, nothing_printed, rows_text-append, rows_text-push}
 
 -- what stops a plan stops its run
 run_cause : (on : Basis) (planned : PlannedData) (e : Fault) → IsRowCause on planned e → IsRunCause on planned e
@@ -183,7 +183,84 @@ module _ (start now : PagerState) (sources : List SourceData) (first execution :
         call steady planned s.given (s.come steady planned begun) on has);
   }
 
--- ---- behind what was asked for before the first row
+-- ---- rows that were gathered
+
+-- What the loop keeps: of all these rows some are written, and these are left.
+pub record Lines (all left : List Row) (n : ℕ) (old new : SinkFacts) : Type 0 where
+  pub given : List Row
+  pub whole : given ++ left ≡ all
+  pub failures : new.failures ≡ old.failures
+  pub written : Appends old.written new.written (rows_text given)
+  pub counted : n ≡ min (length given) (2 ^ 64 - 1)
+
+pub Lines-start : (all : List Row) (n : ℕ) (old : SinkFacts) → n ≡ 0 → Lines all all n old old
+Lines-start all n old none = record {
+  given = [];
+  whole = refl;
+  failures = refl;
+  written = Appends-none old.written;
+  counted = omega (arith, none);
+}
+
+module _ (all left : List Row) (n : ℕ) (old mid : SinkFacts) (s : Lines all left n old mid) where
+  module _ (row : Row) (later : List Row) (new : SinkFacts) (first : left ≡ row ∷ later) where
+    pub Lines-next : (n' : ℕ) → Writes {T = Unit {0}} (row_text row) (Ok tt) mid new → n' ≡ min (n + 1) (2 ^ 64 - 1) → Lines all later n' old new
+    Lines-next n' wrote is = record {
+      given = s.given ++ (row ∷ []);
+      whole = append_assoc s.given (row ∷ []) later ∙ ap (λ rest. s.given ++ rest) (sym first) ∙ s.whole;
+      failures = wrote.failures ∙ s.failures;
+      written = rw (rows_text-push s.given row) (Appends-then _ _ _ _ _ s.written wrote.written);
+      counted = let long = s.counted in grind (arith, common_steps);
+    }
+
+    -- a failed write of the row
+    pub Lines-cut : (e : Fault) → Writes {T = Unit {0}} (row_text row) (Err e) mid new → Writes {T = ℕ} (rows_text all) (Err e) old new
+    Lines-cut e wrote = record {
+      written = record {
+        done = rows_text s.given ++ wrote.written.done;
+        rest = wrote.written.rest ++ rows_text later;
+        whole =
+            sym (append_assoc (rows_text s.given ++ wrote.written.done) wrote.written.rest (rows_text later))
+            ∙ ap (λ t. t ++ rows_text later)
+            (append_assoc (rows_text s.given) wrote.written.done wrote.written.rest ∙ ap (λ t. rows_text s.given ++ t) wrote.written.whole)
+            ∙ append_assoc (rows_text s.given) (row_text row) (rows_text later)
+            ∙ sym (rows_text-append s.given (row ∷ later))
+            ∙ ap (λ rest. rows_text (s.given ++ rest)) (sym first)
+            ∙ ap rows_text s.whole;
+        written = Appends-then _ _ _ (rows_text s.given) wrote.written.done s.written wrote.written.written;
+      };
+      failures = λ is same. wrote.failures is (same ∙ sym s.failures);
+    }
+
+  module _ (none : left ≡ []) where
+    all_given : s.given ≡ all
+    all_given = sym (append-nil s.given) ∙ ap (λ rest. s.given ++ rest) (sym none) ∙ s.whole
+
+    pub Lines-done : Writes {T = ℕ} (rows_text all) (Ok n) old mid
+    Lines-done = record { written = rw (← all_given) s.written; failures = s.failures }
+
+    pub Lines-counted : n ≡ min (length all) (2 ^ 64 - 1)
+    Lines-counted = rw (← all_given) s.counted
+
+module _ (start : PagerState) (sources : List SourceData) (planned : PlannedData) (rows : List Row)
+    (answers : WhereSteady start (λ pages. (on : Basis) → AreStored pages sources on → IsAnswerOf on.w on.db planned rows)) where
+  -- what writes all rows of an answer writes an answer
+  pub gathered_written : (result : Result ℕ Fault) (old new : SinkFacts) → Writes (rows_text rows) result old new
+      → IfErr result (λ e. e ≡ WriteFailed) → IfOk result (λ n. n ≡ min (length rows) (2 ^ 64 - 1))
+      → WhereSteady start (λ pages. MatchResult result (WritesAnswer pages sources planned old new) (WritesBeginning pages sources planned old new))
+  gathered_written (Ok n) old new wrote only counted = λ steady. record {
+    given = rows;
+    answer = answers steady;
+    prints = record { written = wrote.written; counted_is = counted };
+  }
+  gathered_written (Err e) old new wrote is counted = λ steady. record {
+    given = rows;
+    begins = λ on has. ([], subst (IsAnswerOf on.w on.db planned) (sym (append-nil rows)) (answers steady on has));
+    prints = record { cut = λ _. wrote.written; whole = λ other. absurd (other is) };
+    cause = λ on has. inl (inr is);
+  }
+
+-- ---- after what was asked for before the first row
 
 -- what was asked for then and behind it is within what is ahead
 pub asked_behind : (local : Bool) (start mid now : PagerState) (most left : ℕ) (result : Result ℕ Fault) → Asks local start most mid left

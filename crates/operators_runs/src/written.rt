@@ -1,6 +1,8 @@
 //! The rows of a plan, written as lines.
-ghost use Rattle.std.specs.Prelude.{[], ℕ, All, IfErr, MatchResult, OnOk};
+ghost use Rattle.std.specs.Prelude.{◌≡◌, ◌-◌, ◌^◌, [], ℕ, All, IfErr, IfOk, MatchResult, OnOk, length, min};
 ghost use Rattle.values.specs.Fault.{Counts};
+ghost use Rattle.values.specs.Sink.{Writes};
+ghost use Rattle.explain.specs.Text.{rows_text};
 ghost use Rattle.pager.specs.Calls.{ReadsPages};
 ghost use Rattle.operators_scan.specs.Coming.{IsRooted};
 ghost use Rattle.btree.specs.image.Pages.{WhereSteady};
@@ -14,6 +16,7 @@ ghost use Rattle.operators_runs.specs.execution.Given.{HasAhead, HasGiven, IsRun
 use crate::execution::Execution;
 use explain::values_text;
 use logical_plan_queries::Planned;
+use operators::GatheredRows;
 use operators_scan::Sources;
 use pager::{Pager, Source};
 use std::alloc::Global;
@@ -48,6 +51,21 @@ fn write_each<S: Source, W: Sink>(
     Ok(count)
 }
 
+/// Writes rows that were gathered as lines, each of which is dropped as soon as it is written, while its memory is still at hand: rows
+/// in order lie far apart. It counts them; its one fault is `WriteFailed`, after a beginning of the rows' text.
+fn write_gathered<W: Sink>(rows: &mut GatheredRows, out: &mut W) -> Result<u64, Fault>
+    ensures counted { IfOk result (λ n. n ≡ min (length rows.old) (2 ^ 64 - 1)) }
+    ensures only { IfErr result (λ e. e ≡ Fault.WriteFailed) }
+    ensures writes { Writes (rows_text rows.old) result (W.facts out.old) (W.facts out.new) }
+{
+    let mut written = 0u64;
+    'lines: while let Some(row) = rows.take() {
+        values_text(row.as_slice(), out)?;
+        written = written.saturating_add(1);
+    }
+    Ok(written)
+}
+
 /// Writes the rows of a plan as lines, as they are computed where they come one by one, and counts them. Its faults are those of a
 /// run.
 pub(crate) fn write_rows_of<S: Source, W: Sink>(
@@ -68,6 +86,8 @@ pub(crate) fn write_rows_of<S: Source, W: Sink>(
     ensures reads { ReadsPages result pager.old.state pager.new.state }
     ensures writes { Counts Fault.WriteFailed result (W.facts out.old).failures (W.facts out.new).failures }
 {
-    let mut execution = Execution::begin(alloc, pager, sources, planned)?;
-    write_each(alloc, pager, sources, &mut execution, out)
+    match Execution::begin(alloc, pager, sources, planned)? {
+        Execution::Giving(mut rows) => write_gathered(&mut rows, out),
+        mut execution => write_each(alloc, pager, sources, &mut execution, out),
+    }
 }

@@ -67,15 +67,14 @@ fn next_planned<S: Source>(
 }
 
 /// The first of the rows that are still to be given, or none.
-fn next_row(alloc: Global, left: &mut GatheredRows) -> Option<Row>
+fn next_row(left: &mut GatheredRows) -> Option<Row>
     ensures rows { TakesFirst result left.old left.new }
     ensures left { OnSome result (length left.new < length left.old) }
 {
-    let mut values = Vec::new(alloc);
-    if !left.next(&mut values) {
-        return None;
+    match left.take() {
+        Some(values) => Some(Row::from(values)),
+        None => None,
     }
-    Some(Row::from(values))
 }
 
 impl QueryRun {
@@ -108,11 +107,11 @@ impl QueryRun {
             QueryRun::Nested(query) => {
                 let rows = answer_rows(alloc, pager, tables, query)?;
                 let mut left = GatheredRows::new(rows);
-                let first = next_row(alloc, &mut left);
+                let first = next_row(&mut left);
                 *self = QueryRun::Gathered(left);
                 Ok(first)
             }
-            QueryRun::Gathered(left) => Ok(next_row(alloc, left)),
+            QueryRun::Gathered(left) => Ok(next_row(left)),
             QueryRun::Ended => Err(Fault::Finished),
         }
     }
