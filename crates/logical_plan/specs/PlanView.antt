@@ -1,7 +1,7 @@
 -- A plan, without the memory that it lies in.
 use Rattle.std.specs.Prelude.{map}
 use Rattle.expr.specs.View.{term}
-use Rattle.windows_terms.specs.row_groups.GroupView.{group_terms_data}
+use Rattle.windows_groups.specs.row_groups.GroupView.{group_terms_data}
 use Rattle.logical_plan.specs.declared.plan.OuterTable.{OuterTable}
 use Rattle.logical_plan.specs.declared.plan.Nested.{Nested}
 use Rattle.logical_plan.specs.declared.plan.Plan.{Plan}

@@ -5,7 +5,7 @@
 use crate::Plan;
 use expr::Expr;
 use sql_reader_syntax::CompoundOperator;
-use windows_order::ResultKey;
+use windows_groups::ResultKey;
 
 /// What one SELECT computes of the rows of a plan. (SELECT)
 #[derive(Drop)]

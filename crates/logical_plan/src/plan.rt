@@ -2,7 +2,7 @@
 
 use expr::Expr;
 use resolver_terms::WindowCall;
-use windows_terms::GroupTerms;
+use windows_groups::GroupTerms;
 
 /// A table that is read behind the rows before it. (SELECT, "Determination of input data")
 #[derive(Drop)]

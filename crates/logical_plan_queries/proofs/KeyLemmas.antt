@@ -8,8 +8,8 @@ use Rattle.semantics.specs.Hits.{key_terms, order_terms}
 use Rattle.semantics.specs.Query as query
 use Rattle.resolver_terms.specs.SelectView.{direction_of, key_of}
 use Rattle.resolver_terms.specs.declared.selects.Key.{Key}
-use Rattle.windows_order.specs.Keys.{result_key}
-use Rattle.windows_order.specs.declared.order.ResultKey.{ResultKey}
+use Rattle.windows_groups.specs.Keys.{result_key}
+use Rattle.windows_groups.specs.declared.order.ResultKey.{ResultKey}
 use Rattle.logical_plan_terms.specs.Over.{IsOver}
 use Rattle.logical_plan_queries.specs.Made.{IsOrderOver, KeyStandsOver}
 use Rattle.logical_plan_queries.specs.Places.{IsPlacedOver}

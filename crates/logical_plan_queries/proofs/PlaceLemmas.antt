@@ -13,8 +13,8 @@ use Rattle.semantics.specs.Sequence.{value_at}
 use Rattle.semantics.specs.Valuation.{term_values}
 use Rattle.semantics.proofs.GroupLemmas.{map-map}
 use Rattle.resolver_terms.specs.SelectView.{direction_of}
-use Rattle.windows_order.specs.Keys.{directions, key_values, result_key}
-use Rattle.windows_order.specs.declared.order.ResultKey.{ResultKey}
+use Rattle.windows_groups.specs.Keys.{directions, key_values, result_key}
+use Rattle.windows_groups.specs.declared.order.ResultKey.{ResultKey}
 use Rattle.logical_plan.specs.answers.Permitted.{ArePlacesOf}
 use Rattle.logical_plan_queries.specs.Places.{IsPlaceOf}
 

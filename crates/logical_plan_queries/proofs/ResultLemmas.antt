@@ -3,8 +3,8 @@ use Rattle.std.proofs.Common.{◌≡◌, ◌∙◌, ◌+◌, ◌<◌, Contains, 
 use Rattle.std.proofs.lemmas.List.{get_or-map, length-map, map-append, map_push, take_more}
 use Rattle.std.proofs.lemmas.List.Elements.{All-contains, All-push, Contains-get_or}
 use Rattle.logical_plan.specs.answers.Permitted.{AreResults, IsResultColumn}
-use Rattle.windows_order.specs.Keys.{result_key}
-use Rattle.windows_order.specs.declared.order.ResultKey.{ResultKey}
+use Rattle.windows_groups.specs.Keys.{result_key}
+use Rattle.windows_groups.specs.declared.order.ResultKey.{ResultKey}
 use Rattle.semantics.specs.Query as query
 use Rattle.resolver_terms.specs.declared.selects.Key.{Key}
 use Rattle.resolver_terms.specs.SelectView.{key_of}

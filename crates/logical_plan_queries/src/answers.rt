@@ -1,7 +1,7 @@
 //! What a query answers.
 ghost use Rattle.std.specs.Prelude.{◌≡◌, IfOk, MatchOption, false, map, option_map};
 ghost use Rattle.semantics.specs.Hits.{order_terms};
-ghost use Rattle.windows_order.specs.Keys.{result_key};
+ghost use Rattle.windows_groups.specs.Keys.{result_key};
 ghost use Rattle.logical_plan.specs.answers.Answers.{answer_data, order_data};
 ghost use Rattle.logical_plan.specs.answers.Arms.{arm_data, arms_data};
 ghost use Rattle.logical_plan.specs.answers.Permitted.{AreResults};
@@ -22,7 +22,7 @@ use logical_plan_terms::input_of;
 use resolver_bodies::{Body, Query, Tables};
 use resolver_terms::{Key, Select};
 use std::alloc::{AllocError, Global};
-use windows_order::ResultKey;
+use windows_groups::ResultKey;
 
 /// SELECTs in this order, with the query's LIMIT and OFFSET.
 fn answer_over(query: &Query, arms: Arms, order: Option<Order>) -> Answer

@@ -4,7 +4,7 @@ ghost use Rattle.expr.specs.View.{term};
 ghost use Rattle.semantics.specs.Hits.{key_terms, order_terms};
 ghost use Rattle.semantics.specs.Query as query;
 ghost use Rattle.resolver_terms.specs.SelectView.{direction_of, key_of, key_term_of};
-ghost use Rattle.windows_order.specs.Keys.{result_key};
+ghost use Rattle.windows_groups.specs.Keys.{result_key};
 ghost use Rattle.logical_plan.specs.answers.Answers.{order_data};
 ghost use Rattle.logical_plan.specs.answers.Permitted.{AreResults, IsOrderOf, IsResultColumn};
 ghost use Rattle.logical_plan_terms.specs.Over.{IsOver};
@@ -16,7 +16,7 @@ use logical_plan::Order;
 use logical_plan_terms::expr_over;
 use resolver_terms::{Key, KeyTerm};
 use std::alloc::{AllocError, Global};
-use windows_order::ResultKey;
+use windows_groups::ResultKey;
 
 /// The result column that a term of ORDER BY is, if it is one.
 fn result_at(by: &KeyTerm) -> Option<usize>

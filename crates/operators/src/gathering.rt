@@ -2,14 +2,14 @@
 ghost use Rattle.std.specs.Prelude.{◌≡◌, ◌⊎◌, ◌-◌, ◌<◌, IfErr, IfOk, IsTrue, List, MatchResult, map};
 ghost use Rattle.values.specs.Datum.{datum_of};
 ghost use Rattle.values.specs.Row.{Row};
-ghost use Rattle.windows_terms.specs.row_groups.GroupView.{GroupTermsData};
-ghost use Rattle.windows_terms.specs.row_groups.Kept.{count_of};
+ghost use Rattle.windows_groups.specs.row_groups.GroupView.{GroupTermsData};
+ghost use Rattle.windows_groups.specs.row_groups.Kept.{count_of};
 ghost use Rattle.operators_loops.specs.Basis.{IsCause, Basis};
 ghost use Rattle.operators.specs.Left.{GivesGroup, IsGivingLeft};
 
 use std::alloc::Global;
 use values::{Fault, Value};
-use windows_terms::Groups;
+use windows_groups::Groups;
 
 /// Whether the rows below were gathered, and how many of their groups were given.
 #[derive(Drop)]

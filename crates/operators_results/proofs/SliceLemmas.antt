@@ -1,6 +1,6 @@
 -- LIMIT and OFFSET, row by row.
 use Rattle.std.proofs.Common.{◌≡◌, ◌-◌, ◌<◌, ℕ, zero, suc, List, [], ◌∷◌, drop, take, Option, Some, None, refl, ap, arith}
-use Rattle.windows_order.specs.Firsts.{at_most}
+use Rattle.windows_groups.specs.Firsts.{at_most}
 use Rattle.operators_results.specs.declared.limits.LimitOffset.{LimitOffset}
 use Rattle.operators_results.specs.Slices.{sliced}
 

@@ -9,8 +9,8 @@ use Rattle.semantics.specs.Query.{Window, WindowCall}
 use Rattle.semantics.specs.Sequence.{value_at}
 use Rattle.semantics.specs.Valuation.{Valuation}
 use Rattle.semantics.specs.Windows.{call_value, numbered, row_at}
-use Rattle.windows_order.specs.declared.window_order.sorting.Entry.{Entry}
-use Rattle.windows_order.specs.window_order.Entries.{rows_of}
+use Rattle.windows_groups.specs.declared.window_order.sorting.Entry.{Entry}
+use Rattle.windows_groups.specs.window_order.Entries.{rows_of}
 use Rattle.windows.specs.window_entries.Tags.{tags_of}
 use Rattle.windows.specs.window_partitions.Partition.{ArePartitions, IsPartition, part_at}
 use Rattle.windows.proofs.lemmas.window_partitions.AlikeLemmas.{rows-of_tags}

@@ -13,8 +13,8 @@ use Rattle.semantics.specs.Sequence.{value_at}
 use Rattle.semantics.specs.Valuation.{term_values}
 use Rattle.semantics.specs.Windows.{sequence, sort_values}
 use Rattle.resolver_terms.specs.SelectView.{call_of, function_of, sort_of, window_of}
-use Rattle.windows_order.specs.declared.window_order.sorting.Entry.{Entry}
-use Rattle.windows_order.specs.window_order.Entries.{keys_of, rows_of}
+use Rattle.windows_groups.specs.declared.window_order.sorting.Entry.{Entry}
+use Rattle.windows_groups.specs.window_order.Entries.{keys_of, rows_of}
 use Rattle.windows.specs.window_entries.Tags.{tags_of}
 use Rattle.windows.specs.window_partitions.Tagged.{AreAlike, terms_of}
 use Rattle.windows.proofs.lemmas.window_partitions.AlikeLemmas.{sort_values-as_terms}

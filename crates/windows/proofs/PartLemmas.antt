@@ -9,8 +9,8 @@ use Rattle.expr.specs.Meaning.{eval}
 use Rattle.semantics.specs.Hits.{CallLeaves}
 use Rattle.semantics.specs.Query.{WindowCall}
 use Rattle.semantics.specs.Windows.{numbered, places, sequence, window_result}
-use Rattle.windows_order.specs.declared.window_order.sorting.Entry.{Entry}
-use Rattle.windows_order.specs.window_order.Entries.{rows_of}
+use Rattle.windows_groups.specs.declared.window_order.sorting.Entry.{Entry}
+use Rattle.windows_groups.specs.window_order.Entries.{rows_of}
 use Rattle.windows.specs.window_entries.Tags.{tags_of}
 use Rattle.windows.specs.window_partitions.Partition.{IsPartition}
 use Rattle.windows.specs.window_partitions.Tagged.{AreAlike, rows_of_tags}

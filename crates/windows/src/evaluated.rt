@@ -5,7 +5,7 @@ ghost use Rattle.values.specs.Row.{Row};
 ghost use Rattle.expr.specs.Meaning.{Overflows, eval};
 ghost use Rattle.semantics.specs.Hits.{CallLeaves, call_terms};
 ghost use Rattle.semantics.specs.Sequence.{value_at};
-ghost use Rattle.windows_order.specs.window_order.Entries.{rows_of};
+ghost use Rattle.windows_groups.specs.window_order.Entries.{rows_of};
 ghost use Rattle.windows.specs.window_entries.Tags.{tags_of};
 ghost use Rattle.windows.specs.window_partitions.Partition.{ArePartitions, part_at};
 ghost use Rattle.windows.specs.Wanted.{IsReachedBy, column_of, wanted};

@@ -6,7 +6,7 @@ ghost use Rattle.expr.specs.Meaning.{Overflows, eval};
 ghost use Rattle.semantics.specs.Hits.{CallLeaves, call_terms, function_terms};
 ghost use Rattle.semantics.specs.Windows.{directions, places, sort_values, window_result};
 ghost use Rattle.resolver_terms.specs.SelectView.{call_of, direction_of, function_of, sort_of, window_of};
-ghost use Rattle.windows_order.specs.window_order.Entries.{IsInWindowOrder, keys_of, rows_of};
+ghost use Rattle.windows_groups.specs.window_order.Entries.{IsInWindowOrder, keys_of, rows_of};
 ghost use Rattle.windows.specs.window_entries.Tags.{tags_of};
 ghost use Rattle.windows.specs.window_partitions.Partition.{IsPartition};
 ghost use Rattle.windows.specs.window_results.Put.{AreWanted, PutsEach};
@@ -18,7 +18,7 @@ use resolver_terms::{SortTerm, WindowCall};
 use sql_reader_syntax::Direction;
 use std::alloc::{AllocError, Global};
 use values::{Fault, Value};
-use windows_order::{Entry, Sequence, peer_groups};
+use windows_groups::{Entry, Sequence, peer_groups};
 
 /// How the terms of ORDER BY sort. (SELECT, "The ORDER BY clause")
 fn directions_of(alloc: Global, order: &[SortTerm]) -> Result<Vec<Direction>, AllocError>

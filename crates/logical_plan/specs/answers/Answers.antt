@@ -7,7 +7,7 @@ use Rattle.expr.specs.Meaning.{eval}
 use Rattle.semantics.specs.Answer.{Ascends, limited, skipped}
 use Rattle.semantics.specs.Body.{Output, key_value}
 use Rattle.semantics.specs.Query.{Key}
-use Rattle.windows_order.specs.Keys.{result_key}
+use Rattle.windows_groups.specs.Keys.{result_key}
 use Rattle.logical_plan.specs.answers.Arms.{ArmsData, arms_data, rows_of_arms}
 use Rattle.logical_plan.specs.declared.answers.Answer.{Answer}
 use Rattle.logical_plan.specs.declared.answers.Order.{Order}

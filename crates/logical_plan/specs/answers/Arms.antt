@@ -12,7 +12,7 @@ use Rattle.semantics.specs.Valuation.{term_values}
 use Rattle.semantics_names.specs.Statement.{operator_of}
 use Rattle.logical_plan.specs.Plan.{Hits, PlanData, ReachesOverflow, rows_of, work}
 use Rattle.logical_plan.specs.PlanView.{plan_data}
-use Rattle.windows_order.specs.distinct_rows.Firsts.{firsts}
+use Rattle.windows_groups.specs.distinct_rows.Firsts.{firsts}
 use Rattle.logical_plan.specs.answers.Joined.{joined_rows}
 use Rattle.logical_plan.specs.declared.answers.Arm.{Arm}
 use Rattle.logical_plan.specs.declared.answers.Arms.{Arms}

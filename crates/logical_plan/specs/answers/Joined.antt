@@ -4,7 +4,7 @@ use Rattle.std.specs.List.{list_any}
 use Rattle.values.specs.Row.{Row}
 use Rattle.semantics.specs.Query.{Operator, union, union_all, intersect, except}
 use Rattle.semantics.specs.Times.{combined, same_row}
-use Rattle.windows_order.specs.distinct_rows.Firsts.{firsts}
+use Rattle.windows_groups.specs.distinct_rows.Firsts.{firsts}
 
 -- whether a list has a row; NULLs count as equal
 abbrev pub has_row : List Row → Row → Bool

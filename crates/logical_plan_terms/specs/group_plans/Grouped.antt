@@ -5,7 +5,7 @@ use Rattle.expr.specs.Term.{Term}
 use Rattle.semantics.specs.Query.{Aggregate, Grouping}
 use Rattle.logical_plan_terms.specs.Over.{IsOver, StandsOver}
 use Rattle.logical_plan.specs.Plan.{PlanData, grouped, kept}
-use Rattle.windows_terms.specs.row_groups.GroupView.{GroupTermsData}
+use Rattle.windows_groups.specs.row_groups.GroupView.{GroupTermsData}
 
 -- the places of the values of a group's row
 abbrev pub group_columns : Grouping → List ℕ

@@ -11,7 +11,7 @@ use crate::{expr_over, exprs_over};
 use logical_plan::Plan;
 use resolver_terms::{Aggregate, Grouping};
 use std::alloc::{AllocError, Global};
-use windows_terms::GroupTerms;
+use windows_groups::GroupTerms;
 
 /// The places of the values of a group's row, of which there are so many.
 pub fn columns_of_groups(alloc: Global, width: usize) -> Result<Vec<usize>, AllocError>

@@ -1,5 +1,5 @@
 -- Rows of which each is given once. (SELECT, "Removal of duplicate rows (DISTINCT processing)")
-pub use Rattle.windows_order.specs.distinct_rows.Firsts.{firsts, unmet}
+pub use Rattle.windows_groups.specs.distinct_rows.Firsts.{firsts, unmet}
 use Rattle.std.specs.Prelude.{List, IsPermutation}
 use Rattle.values.specs.Row.{Row}
 use Rattle.semantics.specs.Times.{once}

@@ -26,7 +26,7 @@ use pager::{Pager, Source};
 use sql_reader_syntax::CompoundOperator;
 use std::alloc::Global;
 use values::{Fault, Row, Value};
-use windows_order::rows_of;
+use windows_groups::rows_of;
 
 /// Puts the rows of one SELECT behind others.
 pub(crate) fn push_arm<S: Source>(

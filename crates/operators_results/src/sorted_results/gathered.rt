@@ -18,7 +18,7 @@ use operators_scan::Sources;
 use pager::{Pager, Source};
 use std::alloc::{AllocError, Global};
 use values::{Fault, Value};
-use windows_order::rows_looked_at;
+use windows_groups::rows_looked_at;
 
 /// Of the rows that a slice leaves, all values but the hidden ones at the end.
 fn shown_rows(

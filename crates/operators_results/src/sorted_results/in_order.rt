@@ -8,8 +8,8 @@ ghost use Rattle.logical_plan.specs.PlanView.{plan_data};
 ghost use Rattle.logical_plan.specs.answers.Sources.{IsPlanOf};
 ghost use Rattle.operators_scan.specs.scan.Coming.{Asks};
 ghost use Rattle.operators_loops.specs.Basis.{AreStored, Basis, ReadsRows};
-ghost use Rattle.windows_order.specs.Firsts.{BeginsAll};
-ghost use Rattle.windows_order.specs.Keys.{comes_before};
+ghost use Rattle.windows_groups.specs.Firsts.{BeginsAll};
+ghost use Rattle.windows_groups.specs.Keys.{comes_before};
 ghost use Rattle.logical_plan.specs.answers.Arms.{ArePlannedOver, arm_data, arm_rows, arms_data, rows_of_arms, work_of_arms};
 ghost use Rattle.operators_results.specs.compound_results.Chains.{AreAll};
 ghost use Rattle.operators_results.specs.compound_results.Compounds.{IsArmCause, IsArmsCause};
@@ -22,7 +22,7 @@ use operators_scan::Sources;
 use pager::{Pager, Source};
 use std::alloc::Global;
 use values::{Fault, Value};
-use windows_order::{DistinctInOrder, FirstInOrder, ResultKey, sort_rows};
+use windows_groups::{DistinctInOrder, FirstInOrder, ResultKey, sort_rows};
 
 /// The rows of SELECTs that UNION ALL joins in order, of which as many as are looked for are kept while they come.
 fn arms_in_order<S: Source>(

@@ -12,8 +12,8 @@ ghost use Rattle.operators.specs.Left.{plan_of};
 ghost use Rattle.operators_results.specs.Coming.{IsComing, IsResultCause};
 ghost use Rattle.operators_results.specs.compound_results.Compounds.{IsArmsCause};
 ghost use Rattle.operators_results.specs.compound_results.InTurn.{AreComing, arms_of};
-ghost use Rattle.windows_order.specs.FirstView.{FewAreKept, KeepsFirst};
-ghost use Rattle.windows_order.specs.distinct_rows.OnceView.{FewAreKeptOnce, KeepsOnce};
+ghost use Rattle.windows_groups.specs.FirstView.{FewAreKept, KeepsFirst};
+ghost use Rattle.windows_groups.specs.distinct_rows.OnceView.{FewAreKeptOnce, KeepsOnce};
 
 use crate::Results;
 use crate::compound_results::ArmsInTurn;
@@ -21,7 +21,7 @@ use operators_scan::Sources;
 use pager::{Pager, Source};
 use std::alloc::Global;
 use values::Fault;
-use windows_order::{DistinctInOrder, FirstInOrder, ResultKey};
+use windows_groups::{DistinctInOrder, FirstInOrder, ResultKey};
 
 /// The rows that are still to come of SELECTs, of which the first in order are kept.
 pub(crate) fn push_arms<S: Source>(

@@ -2,8 +2,8 @@
 use Rattle.std.specs.Prelude.{◌≡◌, ◌<◌, ℕ, All, List, length, map, slice_index, Option, Some}
 use Rattle.values.specs.Datum.{Datum}
 use Rattle.semantics.specs.Sequence.{value_at}
-use Rattle.windows_order.specs.declared.window_order.placed.Sequence.{Sequence}
-use Rattle.windows_order.specs.declared.window_order.sorting.Entry.{Entry}
+use Rattle.windows_groups.specs.declared.window_order.placed.Sequence.{Sequence}
+use Rattle.windows_groups.specs.declared.window_order.sorting.Entry.{Entry}
 
 -- the number of each row of a sequence among those that are given
 abbrev pub numbers_in : Sequence → List ℕ

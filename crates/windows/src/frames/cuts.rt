@@ -4,13 +4,13 @@ ghost use Rattle.semantics.specs.Windows.{edge_key, peer_group, row_at};
 ghost use Rattle.semantics.specs.Sequence.{keys_cmp};
 ghost use Rattle.semantics.specs.Query as query;
 ghost use Rattle.semantics_names.specs.Places.{unit_of};
-ghost use Rattle.windows_order.specs.window_order.Placed.{keys_in, ways_in};
+ghost use Rattle.windows_groups.specs.window_order.Placed.{keys_in, ways_in};
 ghost use Rattle.windows.specs.frames.Cuts.{CutsPlaces, IsSpan, ahead, is_end};
 
 use crate::frames::edges::compare_to_edge;
 use sql_reader_syntax::FrameUnit;
 use std::cmp::Ordering;
-use windows_order::Sequence;
+use windows_groups::Sequence;
 
 /// Which edge of a frame: places ahead of its start are out of the frame, places up to its end are in it.
 #[derive(Clone, Copy, Debug)]

@@ -11,7 +11,7 @@ use resolver_terms::Edge;
 use sql_reader_syntax::Direction;
 use std::cmp::Ordering;
 use values::Value;
-use windows_order::{compare_by, compare_keys_from};
+use windows_groups::{compare_by, compare_keys_from};
 
 /// How far an edge stands from the current row, and nothing where it is unbounded.
 pub(crate) fn distance(edge: Edge) -> Option<i128>

@@ -2,12 +2,12 @@
 ghost use Rattle.std.specs.Prelude.{◌<◌, ◌≤◌, ◌==◌, length};
 ghost use Rattle.semantics.specs.Windows.{are_peers, excludes};
 ghost use Rattle.semantics_names.specs.Places.{exclusion_of};
-ghost use Rattle.windows_order.specs.window_order.Placed.{keys_in, ways_in};
+ghost use Rattle.windows_groups.specs.window_order.Placed.{keys_in, ways_in};
 ghost use Rattle.windows.specs.frames.Ranges.{IsTaken, IsRangeOf};
 
 use crate::frames::cuts::group_cut;
 use sql_reader_syntax::Exclusion;
-use windows_order::Sequence;
+use windows_groups::Sequence;
 
 /// What is taken out of a frame: the places `first..middle` and `after..past`.
 #[derive(Clone, Copy, Debug)]

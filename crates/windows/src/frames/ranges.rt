@@ -4,7 +4,7 @@ ghost use Rattle.semantics.specs.Windows.{after_edge, before_edge, in_frame, unl
 ghost use Rattle.semantics.specs.Windows as windows;
 ghost use Rattle.semantics_names.specs.Places.{unit_of};
 ghost use Rattle.resolver_terms.specs.SelectView.{edge_of, frame_of};
-ghost use Rattle.windows_order.specs.window_order.Placed.{keys_in, ways_in};
+ghost use Rattle.windows_groups.specs.window_order.Placed.{keys_in, ways_in};
 ghost use Rattle.windows.specs.frames.Cuts.{CutsPlaces};
 ghost use Rattle.windows.specs.frames.Ranges.{IsUnion};
 
@@ -13,7 +13,7 @@ use crate::frames::edges::distance;
 use crate::frames::excluded::gap_of;
 use resolver_terms::{Edge, Frame};
 use sql_reader_syntax::FrameUnit;
-use windows_order::Sequence;
+use windows_groups::Sequence;
 
 /// Up to three ranges of places, one behind the other: `start..from`, `middle..after` and `to..end`. What EXCLUDE takes
 /// out of a frame lies between them.

@@ -8,13 +8,13 @@ ghost use Rattle.semantics.specs.Valuation.{term_values};
 ghost use Rattle.windows.specs.window_entries.Tags.{tags_of};
 ghost use Rattle.resolver_terms.specs.SelectView.{sort_of};
 ghost use Rattle.windows.specs.window_partitions.Tagged.{terms_of};
-ghost use Rattle.windows_order.specs.window_order.Entries.{keys_of, rows_of};
+ghost use Rattle.windows_groups.specs.window_order.Entries.{keys_of, rows_of};
 
 use expr::{Expr, eval};
 use resolver_terms::SortTerm;
 use std::alloc::Global;
 use values::{Fault, Value};
-use windows_order::Entry;
+use windows_groups::Entry;
 
 /// The values of terms on a row. Its faults are `Overflow` and `NoMemory`.
 fn values_on(alloc: Global, terms: &[Expr], row: &[Value]) -> Result<Vec<Value>, Fault>

@@ -7,7 +7,7 @@ ghost use Rattle.expr.specs.View.{term};
 ghost use Rattle.semantics.specs.Valuation.{term_values};
 ghost use Rattle.semantics.specs.Windows as windows;
 ghost use Rattle.resolver_terms.specs.SelectView.{direction_of, sort_of};
-ghost use Rattle.windows_order.specs.window_order.Entries.{IsInWindowOrder, keys_of, rows_of};
+ghost use Rattle.windows_groups.specs.window_order.Entries.{IsInWindowOrder, keys_of, rows_of};
 ghost use Rattle.windows.specs.window_entries.Tags.{tags_of};
 ghost use Rattle.windows.specs.window_partitions.Tagged.{AreAlike, tagged, terms_of};
 
@@ -17,7 +17,7 @@ use resolver_terms::SortTerm;
 use sql_reader_syntax::Direction;
 use std::alloc::Global;
 use values::{Fault, Value};
-use windows_order::{Entry, sort};
+use windows_groups::{Entry, sort};
 
 /// Rows with the values of terms on them, in the order of these values, each by its direction, and then of the whole rows; equal
 /// rows stay as they were. Its faults are `Overflow` and `NoMemory`.

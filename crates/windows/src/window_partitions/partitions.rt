@@ -12,7 +12,7 @@ use expr::Expr;
 use sql_reader_syntax::Direction;
 use std::alloc::{AllocError, Global};
 use values::{Fault, Value};
-use windows_order::{Entry, peer_groups};
+use windows_groups::{Entry, peer_groups};
 
 /// Rows in partitions, one behind the other.
 #[derive(Drop)]

@@ -4,7 +4,7 @@ ghost use Rattle.values.specs.Datum.{Datum, datum_of};
 ghost use Rattle.expr.specs.Meaning.{Overflows, eval};
 ghost use Rattle.expr.specs.View.{term};
 ghost use Rattle.semantics.specs.Hits.{function_terms};
-ghost use Rattle.windows_order.specs.window_order.Placed.{rows_in};
+ghost use Rattle.windows_groups.specs.window_order.Placed.{rows_in};
 ghost use Rattle.windows.specs.window_results.Known.{known_for, known_of, shifted_of};
 ghost use Rattle.resolver_terms.specs.SelectView.{function_of};
 
@@ -13,7 +13,7 @@ use expr::{Expr, eval};
 use resolver_terms::WindowFunction;
 use std::alloc::Global;
 use values::{Fault, Value};
-use windows_order::Sequence;
+use windows_groups::Sequence;
 
 /// The values along a sequence of which each row gets that of another, and what stands on each where there is no such row.
 #[derive(Drop)]

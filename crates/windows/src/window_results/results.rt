@@ -9,7 +9,7 @@ ghost use Rattle.semantics.specs.Valuation.{Valuation};
 ghost use Rattle.semantics.specs.Windows.{places, window_result};
 ghost use Rattle.semantics.specs.Windows as windows;
 ghost use Rattle.resolver_terms.specs.SelectView.{frame_of, function_of};
-ghost use Rattle.windows_order.specs.window_order.Placed.{keys_in, rows_in, ways_in};
+ghost use Rattle.windows_groups.specs.window_order.Placed.{keys_in, rows_in, ways_in};
 ghost use Rattle.windows.specs.window_results.Known.{IsAsLong, known_for, known_of, known_result};
 ghost use Rattle.windows.specs.window_results.Over.{IsWindowOver};
 ghost use Rattle.windows.specs.window_results.Put.{AreWanted, PutsEach, numbers_in};
@@ -20,7 +20,7 @@ use crate::window_values::{dense_rank, lag, lead, ntile, rank, row_number};
 use resolver_terms::{Frame, WindowFunction};
 use std::alloc::Global;
 use values::{Fault, Value};
-use windows_order::Sequence;
+use windows_groups::Sequence;
 
 /// The number of the bucket of a row, from 1. Where there are no buckets, for which no statement asks, each row is one.
 fn bucket_number(sequence: &Sequence, buckets: u64, here: usize) -> Result<Value, Fault>

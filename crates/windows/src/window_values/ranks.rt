@@ -4,11 +4,11 @@ ghost use Rattle.values.specs.Datum.{Datum, datum_of};
 ghost use Rattle.expr.specs.operations.Operations.{settle};
 ghost use Rattle.semantics.specs.Windows.{earlier, peer_group, row_at};
 ghost use Rattle.semantics.specs.Windows as windows;
-ghost use Rattle.windows_order.specs.window_order.Placed.{keys_in, ways_in};
+ghost use Rattle.windows_groups.specs.window_order.Placed.{keys_in, ways_in};
 
 use crate::window_totals::whole_number;
 use values::{Fault, Value};
-use windows_order::Sequence;
+use windows_groups::Sequence;
 
 /// The number of a row, from 1. (Window Functions, "Built-in Window Functions")
 pub fn row_number(here: usize) -> Result<Value, Fault>

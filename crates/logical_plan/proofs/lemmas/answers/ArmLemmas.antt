@@ -11,8 +11,8 @@ use Rattle.semantics.specs.Hits.{BodyHits, FromHits, HitsOrdered, SelectHits, ke
 use Rattle.semantics.specs.Query.{Body, From, Key, KeyTerm, Operator, Select, compound, select}
 use Rattle.semantics.specs.Times.{once}
 use Rattle.semantics.proofs.TimesLemmas.{IsPermutation-once}
-use Rattle.windows_order.specs.distinct_rows.Firsts.{firsts}
-use Rattle.windows_order.proofs.lemmas.distinct_rows.FirstLemmas.{firsts_are_once}
+use Rattle.windows_groups.specs.distinct_rows.Firsts.{firsts}
+use Rattle.windows_groups.proofs.lemmas.distinct_rows.FirstLemmas.{firsts_are_once}
 use Rattle.logical_plan.specs.Plan.{rows_of}
 use Rattle.logical_plan.specs.answers.Arms.{ArmData, ArmsData, ArmsHit, arm_rows, each_once_if, joined, one, result_rows, rows_of_arms}
 use Rattle.logical_plan.specs.answers.Joined.{joined_rows}

@@ -8,8 +8,8 @@ use Rattle.semantics.specs.Query.{Operator, union, union_all, intersect, except}
 use Rattle.semantics.specs.Times.{combined, once, rule_of, same_row, times}
 use Rattle.semantics.proofs.CountLemmas.{count-append}
 use Rattle.semantics.proofs.TimesLemmas.{bags_are_times, rules_are_times, same_row-itself, same_row-reads, times-once}
-use Rattle.windows_order.specs.distinct_rows.Firsts.{firsts}
-use Rattle.windows_order.proofs.lemmas.distinct_rows.FirstLemmas.{firsts_are_once}
+use Rattle.windows_groups.specs.distinct_rows.Firsts.{firsts}
+use Rattle.windows_groups.proofs.lemmas.distinct_rows.FirstLemmas.{firsts_are_once}
 use Rattle.logical_plan.specs.answers.Joined.{JoinedIsCombined, filtered, has_row, joined_rows}
 
 pub times-firsts : (r : Row) (rows : List Row) → times r (firsts rows) ≡ min 1 (times r rows)

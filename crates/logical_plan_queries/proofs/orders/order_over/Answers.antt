@@ -3,7 +3,7 @@ use Rattle.std.proofs.lemmas.List.{length-map, take_all}
 use Rattle.expr.specs.View.{term}
 use Rattle.resolver_terms.specs.SelectView.{key_of}
 use Rattle.resolver_terms.specs.declared.selects.Key.{Key}
-use Rattle.windows_order.specs.declared.order.ResultKey.{ResultKey}
+use Rattle.windows_groups.specs.declared.order.ResultKey.{ResultKey}
 use Rattle.logical_plan_queries.specs.Places.{IsPlacedOver}
 use Rattle.logical_plan_queries.proofs.KeyLemmas.{ArePlacedOver, all_placed, key_placed, none_placed, not_all}
 use Rattle.logical_plan_queries.proofs.orders.order_over.Goals as goal

@@ -1,6 +1,6 @@
 use Rattle.std.proofs.Common.{◌∙◌, ℕ, map, sym, ap, subst}
 use Rattle.logical_plan.specs.answers.Permitted.{IsResultColumn}
-use Rattle.windows_order.specs.Keys.{result_key}
+use Rattle.windows_groups.specs.Keys.{result_key}
 use Rattle.semantics.specs.Query as query
 use Rattle.logical_plan_queries.proofs.ResultLemmas.{keys_more, not_all, results_more}
 use Rattle.logical_plan_queries.proofs.orders.result_keys.Goals as goal

@@ -1,6 +1,6 @@
 use Rattle.std.proofs.Common.{◌≡◌, map, take}
 use Rattle.logical_plan.specs.answers.Permitted.{AreResults}
-use Rattle.windows_order.specs.Keys.{result_key}
+use Rattle.windows_groups.specs.Keys.{result_key}
 use Rattle.resolver_terms.specs.SelectView.{key_of}
 use Rattle.logical_plan_queries.proofs.orders.result_keys.Given as goal
 

@@ -24,8 +24,8 @@ use Rattle.expr.proofs.BagLemmas.{IsPermutation-filter}
 use Rattle.logical_plan_terms.specs.Over.{StandsOver}
 use Rattle.logical_plan.specs.Plan.{Hits, PlanData, ReachesOverflow, grouped as grouped_plan, kept, rows_of}
 use Rattle.logical_plan.proofs.HitLemmas.{any_held}
-use Rattle.windows_terms.specs.row_groups.Gathered.{IsLeaving, ReachesIn, gathered_rows, groups_in_order}
-use Rattle.windows_terms.proofs.lemmas.row_groups.LawLemmas.{gathered_leave_as_groups}
+use Rattle.windows_groups.specs.row_groups.Gathered.{IsLeaving, ReachesIn, gathered_rows, groups_in_order}
+use Rattle.windows_groups.proofs.lemmas.row_groups.LawLemmas.{gathered_leave_as_groups}
 use Rattle.logical_plan_terms.specs.group_plans.Grouped.{AggregateStandsOver, IsGroupedOver, group_columns}
 use Rattle.logical_plan_terms.specs.group_plans.Laws.{GroupedColumnsAreHit, GroupedIsHit, SeesWhere, group_rows_kept}
 use Rattle.logical_plan_terms.proofs.lemmas.group_plans.RowLemmas.{gathered_same, grouped_has_rows, keys_same, result_seen, seen_grouping, wide}

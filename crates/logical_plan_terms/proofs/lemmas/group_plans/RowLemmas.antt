@@ -20,9 +20,9 @@ use Rattle.semantics.specs.Valuation.{Valuation, holds_on, term_values}
 use Rattle.semantics.proofs.GroupLemmas.{group_rows-same}
 use Rattle.logical_plan_terms.specs.Over.{StandsOver}
 use Rattle.logical_plan.specs.Plan.{PlanData, are_true, rows_of}
-use Rattle.windows_terms.specs.row_groups.Gathered.{gathered_rows}
-use Rattle.windows_terms.specs.row_groups.GroupView.{GroupTermsData}
-use Rattle.windows_terms.proofs.lemmas.row_groups.LawLemmas.{gathered_are_groups}
+use Rattle.windows_groups.specs.row_groups.Gathered.{gathered_rows}
+use Rattle.windows_groups.specs.row_groups.GroupView.{GroupTermsData}
+use Rattle.windows_groups.proofs.lemmas.row_groups.LawLemmas.{gathered_are_groups}
 use Rattle.logical_plan_terms.specs.group_plans.Grouped.{AggregateStandsOver}
 use Rattle.logical_plan_terms.specs.group_plans.Laws.{GroupedHasRows, SeesWhere, group_rows_kept}
 use Rattle.logical_plan_terms.proofs.lemmas.group_plans.SeenLemmas.{filter_agree, filter_seen, held_filter, map_seen}

@@ -19,7 +19,7 @@ use Rattle.logical_plan.proofs.HitLemmas.{any_held}
 use Rattle.semantics.specs.Mapped.{mapped_call}
 use Rattle.semantics_rewrites.proofs.lemmas.schema_sources.MappedLemmas.{all_call_terms_mapped, call_mapped}
 use Rattle.logical_plan_terms.proofs.lemmas.window_plans.SeenLemmas.{from_map, partner}
-use Rattle.windows_terms.specs.Reached.{CallsReach, SomeLeaves}
+use Rattle.windows_groups.specs.Reached.{CallsReach, SomeLeaves}
 use Rattle.logical_plan_terms.specs.window_plans.Laws.{HasTaken, WindowedColumnsAreHit, WindowedIsHit, windows_take}
 use Rattle.logical_plan_terms.specs.window_plans.Windowed.{IsWindowedOver, windowed_columns}
 use Rattle.logical_plan_terms.proofs.lemmas.window_plans.RowLemmas.{calls_filled, windowed_has_rows, windowed_say}

@@ -12,7 +12,7 @@ use Rattle.semantics.specs.Query.{Operator, union, union_all, intersect, except}
 use Rattle.semantics.specs.Times.{same_row, times}
 use Rattle.semantics.proofs.TimesLemmas.{same_row-reads, same_row-turned}
 use Rattle.operators_results.specs.distinct_results.Firsts.{firsts, unmet}
-use Rattle.windows_order.proofs.lemmas.distinct_rows.FirstLemmas.{are_firsts, firsts_push}
+use Rattle.windows_groups.proofs.lemmas.distinct_rows.FirstLemmas.{are_firsts, firsts_push}
 use Rattle.logical_plan.specs.answers.Arms.{each_once_if}
 use Rattle.logical_plan.specs.answers.Joined.{filtered, has_row, is_kept, joined_rows}
 use Rattle.logical_plan.proofs.lemmas.answers.JoinedLemmas.{apart, has_times, times-firsts}

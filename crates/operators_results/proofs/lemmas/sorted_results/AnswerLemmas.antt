@@ -11,10 +11,10 @@ use Rattle.semantics.proofs.AnswerLemmas.{limited-map, skipped-map}
 use Rattle.semantics.proofs.GroupLemmas.{map-map}
 use Rattle.operators_results.specs.declared.limits.LimitOffset.{LimitOffset}
 use Rattle.operators_results.specs.Slices.{sliced}
-use Rattle.windows_order.specs.declared.order.ResultKey.{ResultKey}
-use Rattle.windows_order.specs.Firsts.{BeginsAll, at_most}
-use Rattle.windows_order.specs.Keys.{comes_before, directions, key_values, result_key}
-use Rattle.windows_order.proofs.FirstLemmas.{BeginsAll-map, at_most-map}
+use Rattle.windows_groups.specs.declared.order.ResultKey.{ResultKey}
+use Rattle.windows_groups.specs.Firsts.{BeginsAll, at_most}
+use Rattle.windows_groups.specs.Keys.{comes_before, directions, key_values, result_key}
+use Rattle.windows_groups.proofs.FirstLemmas.{BeginsAll-map, at_most-map}
 use Rattle.logical_plan.specs.answers.Answers.{IsShownInOrder, OrderData, shown_output, without}
 
 -- rows in order, of which a part is shown

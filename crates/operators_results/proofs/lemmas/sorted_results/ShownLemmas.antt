@@ -10,7 +10,7 @@ use Rattle.operators_results.specs.Slices.{sliced}
 use Rattle.logical_plan.specs.answers.Answers.{without}
 use Rattle.operators_results.proofs.SliceLemmas.{none_sliced}
 use Rattle.operators_results.proofs.StreamLemmas.{GivesFirst, PassesFirst}
-use Rattle.windows_order.proofs.FirstLemmas.{row_of}
+use Rattle.windows_groups.proofs.FirstLemmas.{row_of}
 
 pub slice_whole : (first last : LimitOffset) (done given : List Row) → ((rest : List Row) → sliced first (done ++ rest) ≡ given ++ sliced last rest)
     → given ≡ sliced first done

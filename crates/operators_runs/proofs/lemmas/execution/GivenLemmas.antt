@@ -26,7 +26,7 @@ use Rattle.logical_plan_queries.specs.select_plans.Laws.{PlanReaches}
 use Rattle.logical_plan.specs.answers.Answers.{AnswerData, IsAnswer, IsShown, OrderData, answer_data}
 use Rattle.logical_plan.specs.answers.Arms.{ArePlannedOver, ArmData, ArmsData, ArmsHit, each_once_if, one, result_rows, rows_of_arms, work_of_arms}
 use Rattle.logical_plan.specs.declared.answers.Answer.{Answer}
-use Rattle.windows_order.specs.distinct_rows.Firsts.{firsts}
+use Rattle.windows_groups.specs.distinct_rows.Firsts.{firsts}
 use Rattle.operators_results.specs.compound_results.Compounds.{IsArmsCause}
 use Rattle.operators_results.specs.compound_results.InTurn.{IsChainComing, arms_of}
 use Rattle.operators_results.specs.declared.compound_results.chained.ChainedResults.{ChainedResults}

@@ -11,10 +11,10 @@ use Rattle.semantics.specs.Query.{Direction, FrameUnit}
 use Rattle.semantics.specs.Sequence.{keys_cmp}
 use Rattle.semantics.specs.Windows.{edge_key, moved, peer_group, row_at}
 use Rattle.semantics.proofs.KeyLemmas.{keys_cmp_total}
-use Rattle.windows_order.specs.declared.window_order.peers.PeerGroups.{PeerGroups}
-use Rattle.windows_order.specs.window_order.Entries.{IsInWindowOrder}
-use Rattle.windows_order.specs.window_order.Groups.{AreGroups}
-use Rattle.windows_order.proofs.lemmas.window_order.GroupLemmas.{keys-as_numbers}
+use Rattle.windows_groups.specs.declared.window_order.peers.PeerGroups.{PeerGroups}
+use Rattle.windows_groups.specs.window_order.Entries.{IsInWindowOrder}
+use Rattle.windows_groups.specs.window_order.Groups.{AreGroups}
+use Rattle.windows_groups.proofs.lemmas.window_order.GroupLemmas.{keys-as_numbers}
 use Rattle.windows.specs.declared.frames.cuts.Side.{Side}
 use Rattle.windows.specs.declared.frames.cuts.Side.TheVariants.{Start, End}
 use Rattle.windows.specs.frames.Cuts.{CutsPlaces, ahead, is_end}

@@ -7,8 +7,8 @@ use Rattle.std.specs.Ordering.{is_eq, nat_cmp}
 use Rattle.values.specs.Row.{Row}
 use Rattle.semantics.specs.Query.{Direction}
 use Rattle.semantics.specs.Windows.{are_peers, peer_group, unless}
-use Rattle.windows_order.specs.window_order.Entries.{IsInWindowOrder}
-use Rattle.windows_order.proofs.lemmas.window_order.GroupLemmas.{keys-as_numbers}
+use Rattle.windows_groups.specs.window_order.Entries.{IsInWindowOrder}
+use Rattle.windows_groups.proofs.lemmas.window_order.GroupLemmas.{keys-as_numbers}
 use Rattle.windows.specs.declared.frames.excluded.Gap.{Gap}
 use Rattle.windows.specs.frames.Cuts.{CutsPlaces}
 use Rattle.windows.specs.frames.Ranges.{IsTaken, IsUnion, IsRangeOf}

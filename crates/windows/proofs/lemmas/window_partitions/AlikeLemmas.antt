@@ -17,10 +17,10 @@ use Rattle.semantics.specs.Valuation.{Valuation, term_values}
 use Rattle.semantics.specs.Windows.{row_at, sort_values}
 use Rattle.semantics.proofs.KeyLemmas.{keys_cmp_total}
 use Rattle.semantics.proofs.TimesLemmas.{same_row-reads}
-use Rattle.windows_order.specs.declared.window_order.sorting.Entry.{Entry}
-use Rattle.windows_order.specs.window_order.Entries.{IsOf, Keyed, entry_cmp, keys_of, rows_of, view}
-use Rattle.windows_order.proofs.lemmas.window_order.EntryLemmas.{key_at, row_of_at}
-use Rattle.windows_order.proofs.lemmas.window_order.SortLemmas.{entry_total}
+use Rattle.windows_groups.specs.declared.window_order.sorting.Entry.{Entry}
+use Rattle.windows_groups.specs.window_order.Entries.{IsOf, Keyed, entry_cmp, keys_of, rows_of, view}
+use Rattle.windows_groups.proofs.lemmas.window_order.EntryLemmas.{key_at, row_of_at}
+use Rattle.windows_groups.proofs.lemmas.window_order.SortLemmas.{entry_total}
 use Rattle.windows.specs.window_entries.Tags.{tags_of}
 use Rattle.windows.specs.window_partitions.Tagged.{AreAlike, copies, rows_of_tags, terms_of}
 

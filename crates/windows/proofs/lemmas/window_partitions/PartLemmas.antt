@@ -16,10 +16,10 @@ use Rattle.semantics.specs.Windows.{partition_of, peer_group, row_at}
 use Rattle.semantics.proofs.KeyLemmas.{keys_cmp_total}
 use Rattle.semantics.proofs.MoveLemmas.{filter-filter}
 use Rattle.semantics.proofs.TimesLemmas.{same_row-itself, same_row-reads}
-use Rattle.windows_order.specs.declared.window_order.peers.PeerGroups.{PeerGroups}
-use Rattle.windows_order.specs.window_order.Entries.{IsInWindowOrder}
-use Rattle.windows_order.specs.window_order.Groups.{AreGroups}
-use Rattle.windows_order.proofs.lemmas.window_order.GroupLemmas.{keys-as_numbers, keys-ties}
+use Rattle.windows_groups.specs.declared.window_order.peers.PeerGroups.{PeerGroups}
+use Rattle.windows_groups.specs.window_order.Entries.{IsInWindowOrder}
+use Rattle.windows_groups.specs.window_order.Groups.{AreGroups}
+use Rattle.windows_groups.proofs.lemmas.window_order.GroupLemmas.{keys-as_numbers, keys-ties}
 use Rattle.windows.specs.window_partitions.Tagged.{AreAlike, copies, rows_of_tags, tagged}
 use Rattle.windows.specs.window_partitions.Partition.{ArePartitions, IsPartition, part_at}
 use Rattle.windows.proofs.lemmas.window_partitions.AlikeLemmas.{agree_on, filter-map}

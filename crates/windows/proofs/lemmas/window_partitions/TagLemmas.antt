@@ -4,8 +4,8 @@ use Rattle.std.specs.List.{range_with_len}
 use Rattle.std.proofs.lemmas.List.{length-map}
 use Rattle.values.specs.Datum.{datum_of}
 use Rattle.values.specs.declared.value.Value.{Value}
-use Rattle.windows_order.specs.declared.window_order.sorting.Entry.{Entry}
-use Rattle.windows_order.specs.window_order.Entries.{rows_of}
+use Rattle.windows_groups.specs.declared.window_order.sorting.Entry.{Entry}
+use Rattle.windows_groups.specs.window_order.Entries.{rows_of}
 use Rattle.windows.specs.window_entries.Tags.{tags_of}
 use Rattle.windows.specs.window_partitions.Tagged.{tagged}
 

@@ -14,7 +14,7 @@ use Rattle.semantics.specs.Query.{Window, WindowFunction}
 use Rattle.semantics.specs.Sequence.{value_at}
 use Rattle.semantics.specs.Valuation.{Valuation}
 use Rattle.semantics.specs.Windows.{bucket, directions, in_frame, places, row_at, sort_values, window_result}
-use Rattle.windows_order.specs.declared.window_order.sorting.Entry.{Entry}
+use Rattle.windows_groups.specs.declared.window_order.sorting.Entry.{Entry}
 use Rattle.windows.specs.declared.frames.ranges.Ranges.{Ranges}
 use Rattle.windows.specs.frames.Ranges.{AreInside, IsUnion}
 use Rattle.windows.specs.frames.Slices.{slices}

@@ -5,10 +5,10 @@ use Rattle.std.specs.Ordering.{is_lt, nat_cmp}
 use Rattle.values.specs.Row.{Row}
 use Rattle.semantics.specs.Query.{Direction}
 use Rattle.semantics.specs.Windows.{earlier, peer_group, row_at}
-use Rattle.windows_order.specs.declared.window_order.peers.PeerGroups.{PeerGroups}
-use Rattle.windows_order.specs.window_order.Entries.{IsInWindowOrder}
-use Rattle.windows_order.specs.window_order.Groups.{AreGroups}
-use Rattle.windows_order.proofs.lemmas.window_order.GroupLemmas.{keys-as_numbers}
+use Rattle.windows_groups.specs.declared.window_order.peers.PeerGroups.{PeerGroups}
+use Rattle.windows_groups.specs.window_order.Entries.{IsInWindowOrder}
+use Rattle.windows_groups.specs.window_order.Groups.{AreGroups}
+use Rattle.windows_groups.proofs.lemmas.window_order.GroupLemmas.{keys-as_numbers}
 
 -- what is kept of a list, where it is the first elements
 first_kept : (p : Row → Bool) (xs : List Row) (n : ℕ) → n ≤ length xs → ((j : ℕ) → j < length xs → p (row_at xs j) ≡ nat_lt j n) → length (filter p xs) ≡ n

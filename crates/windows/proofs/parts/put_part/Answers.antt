@@ -1,7 +1,7 @@
 use Rattle.std.proofs.Common.{◌∙◌, ◌≤◌, inl, inr, length, map, sym, ap, arith}
 use Rattle.std.proofs.lemmas.Result.{IfOk-weaker, err_from_is_err_and, on_ok_weaker}
 use Rattle.values.specs.Datum.{datum_of}
-use Rattle.windows_order.specs.window_order.Entries.{rows_of}
+use Rattle.windows_groups.specs.window_order.Entries.{rows_of}
 use Rattle.windows.proofs.lemmas.window_partitions.AlikeLemmas.{as_many_entries}
 use Rattle.windows.specs.Wanted.{wanted}
 use Rattle.windows.proofs.PartLemmas.{all_wanted, leaves}

@@ -8,7 +8,7 @@ use Rattle.logical_plan.specs.Plan.{rows_of, work}
 use Rattle.logical_plan.specs.PlanView.{plan_data}
 use Rattle.operators_results.specs.Coming.{IsResultCause}
 use Rattle.logical_plan.specs.answers.Arms.{each_once_if, result_rows}
-use Rattle.windows_order.proofs.FirstLemmas.{row_of}
+use Rattle.windows_groups.proofs.FirstLemmas.{row_of}
 use Rattle.operators_results.specs.compound_results.InTurn.{over_plan}
 use Rattle.operators_results.proofs.lemmas.compound_results.ArmLemmas.{stored_over}
 use Rattle.operators_results.proofs.compound_results.arms.push_arm.Goals as goal

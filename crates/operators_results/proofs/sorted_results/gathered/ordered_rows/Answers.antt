@@ -2,9 +2,9 @@ use Rattle.std.proofs.Common.{◌≡◌, ◌∙◌, List, ℤ, w64, ap, subst}
 use Rattle.std.proofs.lemmas.Int.{to_z-of_z}
 use Rattle.values.specs.Row.{rows_data}
 use Rattle.semantics.specs.Answer.{limited, skipped}
-use Rattle.windows_order.specs.declared.order.ResultKey.{ResultKey}
-use Rattle.windows_order.specs.Firsts.{BeginsAll, at_most}
-use Rattle.windows_order.specs.Keys.{comes_before}
+use Rattle.windows_groups.specs.declared.order.ResultKey.{ResultKey}
+use Rattle.windows_groups.specs.Firsts.{BeginsAll, at_most}
+use Rattle.windows_groups.specs.Keys.{comes_before}
 use Rattle.logical_plan.specs.answers.Arms.{arms_data, rows_of_arms}
 use Rattle.operators_results.proofs.lemmas.sorted_results.AnswerLemmas.{is_shown}
 use Rattle.operators_results.proofs.sorted_results.gathered.ordered_rows.Goals as goal

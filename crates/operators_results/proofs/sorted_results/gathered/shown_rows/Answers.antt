@@ -7,7 +7,7 @@ use Rattle.semantics.proofs.ScanLemmas.{map-identity}
 use Rattle.values.specs.Row.{rows_data}
 use Rattle.operators_results.specs.Slices.{sliced}
 use Rattle.logical_plan.specs.answers.Answers.{without}
-use Rattle.windows_order.proofs.FirstLemmas.{row_of}
+use Rattle.windows_groups.proofs.FirstLemmas.{row_of}
 use Rattle.operators_results.proofs.lemmas.sorted_results.ShownLemmas.{shown_more, slice_gives, slice_passes, slice_whole}
 use Rattle.operators_results.proofs.sorted_results.gathered.shown_rows.Goals as goal
 

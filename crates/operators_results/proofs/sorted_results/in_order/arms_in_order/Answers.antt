@@ -4,8 +4,8 @@ use Rattle.std.proofs.lemmas.Result.{err_from_is_err_and}
 use Rattle.btree.specs.image.Pages.{pages_seen}
 use Rattle.operators_results.specs.declared.stream.Results.{Results}
 use Rattle.values.specs.Row.{rows_data}
-use Rattle.windows_order.specs.Firsts.{BeginsAll}
-use Rattle.windows_order.specs.Keys.{comes_before}
+use Rattle.windows_groups.specs.Firsts.{BeginsAll}
+use Rattle.windows_groups.specs.Keys.{comes_before}
 use Rattle.logical_plan.specs.answers.Arms.{ArmsData, arms_data, rows_of_arms, work_of_arms}
 use Rattle.operators_results.specs.compound_results.Compounds.{IsArmsCause}
 use Rattle.operators_results.specs.compound_results.InTurn.{AreComing, IsWaiting, arms_from, arms_of}

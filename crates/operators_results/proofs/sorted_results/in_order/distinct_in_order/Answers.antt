@@ -6,8 +6,8 @@ use Rattle.expr.specs.View.{term}
 use Rattle.logical_plan.specs.Plan.{rows_of, work}
 use Rattle.logical_plan.specs.PlanView.{plan_data}
 use Rattle.logical_plan.specs.answers.Arms.{each_once_if, result_rows}
-use Rattle.windows_order.specs.Firsts.{BeginsAll}
-use Rattle.windows_order.specs.Keys.{comes_before}
+use Rattle.windows_groups.specs.Firsts.{BeginsAll}
+use Rattle.windows_groups.specs.Keys.{comes_before}
 use Rattle.operators_results.specs.Coming.{IsResultCause}
 use Rattle.operators_results.specs.compound_results.InTurn.{over_plan}
 use Rattle.operators_results.specs.distinct_results.Firsts.{firsts}

@@ -1,8 +1,8 @@
 use Rattle.std.proofs.Common.{List, IsPermutation, refl, subst}
 use Rattle.std.proofs.lemmas.List.Sorted.{IsPermutation-map}
 use Rattle.values.specs.Row.{Row, rows_data}
-use Rattle.windows_order.specs.Keys.{comes_before}
-use Rattle.windows_order.proofs.FirstLemmas.{row_of, sorted_map}
+use Rattle.windows_groups.specs.Keys.{comes_before}
+use Rattle.windows_groups.proofs.FirstLemmas.{row_of, sorted_map}
 use Rattle.operators_results.proofs.sorted_results.in_order.rows_in_order.Goals as goal
 
 pub returns-then-arm-clause-rows : goal.returns-then-arm-clause-rows

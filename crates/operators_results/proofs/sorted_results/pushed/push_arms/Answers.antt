@@ -3,7 +3,7 @@ use Rattle.std.proofs.lemmas.Result.{err_from_is_err_and}
 use Rattle.values.specs.Datum.{datum_of}
 use Rattle.values.specs.Row.{Row}
 use Rattle.pager.proofs.CallLemmas.{SameImage-none, SameImage-trans}
-use Rattle.windows_order.specs.FirstView.{KeepsFirst}
+use Rattle.windows_groups.specs.FirstView.{KeepsFirst}
 use Rattle.operators_results.proofs.lemmas.sorted_results.GatherLemmas.{Gathering-start, gather_says, gathered_all, gathered_more}
 use Rattle.operators_results.specs.compound_results.Compounds.{IsArmsCause}
 use Rattle.operators_results.specs.compound_results.InTurn.{AreComing, arms_of}

@@ -3,7 +3,7 @@ use Rattle.values.specs.Database.{Database}
 use Rattle.values.specs.Datum.{Datum}
 use Rattle.values.specs.Row.{Row}
 use Rattle.pager.specs.Calls.{SameImage}
-use Rattle.windows_order.specs.FirstView.{FewAreKept, KeepsFirst}
+use Rattle.windows_groups.specs.FirstView.{FewAreKept, KeepsFirst}
 use Rattle.operators_results.proofs.lemmas.sorted_results.GatherLemmas.{Gathering}
 use Rattle.logical_plan.specs.answers.Arms.{ArePlannedOver, ArmsHit}
 use Rattle.operators_results.specs.compound_results.InTurn.{AreComing, arms_of, turn_steps}

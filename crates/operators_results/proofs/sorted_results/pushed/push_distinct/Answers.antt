@@ -5,7 +5,7 @@ use Rattle.values.specs.Row.{Row}
 use Rattle.pager.proofs.CallLemmas.{SameImage-none, SameImage-trans}
 use Rattle.expr.specs.View.{term}
 use Rattle.operators_results.specs.Coming.{IsComing, IsResultCause}
-use Rattle.windows_order.specs.distinct_rows.OnceView.{KeepsOnce}
+use Rattle.windows_groups.specs.distinct_rows.OnceView.{KeepsOnce}
 use Rattle.operators_results.proofs.lemmas.sorted_results.GatherLemmas.{Gathering-start, gather_says, gathered_all, gathered_more}
 use Rattle.operators_results.proofs.sorted_results.pushed.push_distinct.Goals as goal
 

@@ -4,7 +4,7 @@ use Rattle.pager.specs.Calls.{SameImage}
 use Rattle.expr.specs.View.{term}
 use Rattle.operators.specs.Left.{plan_of, steps}
 use Rattle.operators_results.specs.Coming.{IsComing}
-use Rattle.windows_order.specs.distinct_rows.OnceView.{FewAreKeptOnce, KeepsOnce}
+use Rattle.windows_groups.specs.distinct_rows.OnceView.{FewAreKeptOnce, KeepsOnce}
 use Rattle.operators_results.proofs.lemmas.sorted_results.GatherLemmas.{Gathering}
 use Rattle.operators_results.proofs.sorted_results.pushed.push_distinct.Given as goal
 

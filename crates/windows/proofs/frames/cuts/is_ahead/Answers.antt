@@ -4,7 +4,7 @@ use Rattle.std.proofs.lemmas.Int.{ints}
 use Rattle.semantics.specs.Query.{FrameUnit}
 use Rattle.semantics.specs.Sequence.{keys_cmp}
 use Rattle.semantics.specs.Windows.{edge_key, row_at}
-use Rattle.windows_order.specs.window_order.Placed.{keys_in, ways_in}
+use Rattle.windows_groups.specs.window_order.Placed.{keys_in, ways_in}
 use Rattle.windows.specs.frames.Cuts.{ahead}
 use Rattle.windows.proofs.lemmas.frames.CutLemmas.{up_to_edge}
 use Rattle.windows.proofs.frames.cuts.is_ahead.Goals as goal

@@ -1,7 +1,7 @@
 use Rattle.std.proofs.Common.{◌≡◌, ◌∙◌, ◌+◌, ◌-◌, ◌/◌, ◌<◌, true, false, length, sym, arith, to_z, of_z}
 use Rattle.std.specs.Int.{w128}
 use Rattle.semantics.specs.Query.{FrameUnit}
-use Rattle.windows_order.specs.window_order.Placed.{keys_in, ways_in}
+use Rattle.windows_groups.specs.window_order.Placed.{keys_in, ways_in}
 use Rattle.windows.specs.frames.Cuts.{ahead}
 use Rattle.windows.proofs.lemmas.frames.CutLemmas.{ahead_back, ahead_on}
 use Rattle.windows.proofs.frames.cuts.key_cut.Goals as goal

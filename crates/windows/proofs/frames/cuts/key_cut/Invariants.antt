@@ -1,6 +1,6 @@
 use Rattle.std.proofs.Common.{◌-◌, ◌≡◌, ◌<◌, ◌≤◌, ℕ, true, false, length}
 use Rattle.semantics.specs.Query.{FrameUnit}
-use Rattle.windows_order.specs.window_order.Placed.{keys_in, ways_in}
+use Rattle.windows_groups.specs.window_order.Placed.{keys_in, ways_in}
 use Rattle.windows.specs.frames.Cuts.{ahead}
 use Rattle.windows.proofs.frames.cuts.key_cut.Given as goal
 

@@ -2,7 +2,7 @@ use Rattle.std.proofs.Common.{◌≡◌, ◌∙◌, ◌<◌, ◌+ℤ◌, if◌th
 use Rattle.std.specs.Int.{w128}
 use Rattle.std.proofs.lemmas.Int.{ints}
 use Rattle.semantics.specs.Windows.{peer_group}
-use Rattle.windows_order.specs.window_order.Placed.{keys_in, ways_in}
+use Rattle.windows_groups.specs.window_order.Placed.{keys_in, ways_in}
 use Rattle.windows.specs.frames.Cuts.{is_end}
 use Rattle.windows.proofs.lemmas.frames.CutLemmas.{groups_cut, peers_cut, read_at}
 use Rattle.windows.proofs.frames.cuts.peer_cut.Goals as goal

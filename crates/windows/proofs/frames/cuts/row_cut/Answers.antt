@@ -1,8 +1,8 @@
 use Rattle.std.proofs.Common.{◌≡◌, ◌∙◌, ◌+ℤ◌, if◌then◌else◌, int_le, length, not, pos, sym, ap, subst, arith, to_z, of_z}
 use Rattle.std.specs.Int.{w128}
 use Rattle.std.proofs.lemmas.Int.{ints}
-use Rattle.windows_order.specs.window_order.Placed.{keys_in, ways_in}
-use Rattle.windows_order.proofs.lemmas.window_order.EntryLemmas.{length-keys_of}
+use Rattle.windows_groups.specs.window_order.Placed.{keys_in, ways_in}
+use Rattle.windows_groups.proofs.lemmas.window_order.EntryLemmas.{length-keys_of}
 use Rattle.windows.specs.frames.Cuts.{CutsPlaces, is_end}
 use Rattle.windows.proofs.lemmas.frames.CutLemmas.{rows_cut}
 use Rattle.windows.proofs.frames.cuts.row_cut.Goals as goal

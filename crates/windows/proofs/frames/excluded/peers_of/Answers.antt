@@ -2,7 +2,7 @@ use Rattle.std.proofs.Common.{◌≡◌, ◌∙◌, ◌<◌, ◌+ℤ◌, length,
 use Rattle.std.specs.Int.{w128}
 use Rattle.std.proofs.lemmas.Int.{ints}
 use Rattle.semantics.specs.Windows.{peer_group}
-use Rattle.windows_order.specs.window_order.Placed.{keys_in, ways_in}
+use Rattle.windows_groups.specs.window_order.Placed.{keys_in, ways_in}
 use Rattle.windows.proofs.lemmas.frames.CutLemmas.{read_at}
 use Rattle.windows.proofs.lemmas.frames.UnionLemmas.{first_is, past_is, peers_between}
 use Rattle.windows.proofs.frames.excluded.peers_of.Goals as goal

@@ -4,8 +4,8 @@ use Rattle.std.proofs.lemmas.Int.{ints}
 use Rattle.semantics.specs.Windows.{after_edge, distance, unless}
 use Rattle.semantics_names.specs.Places.{unit_of}
 use Rattle.resolver_terms.specs.SelectView.{edge_of}
-use Rattle.windows_order.specs.window_order.Placed.{keys_in, ways_in}
-use Rattle.windows_order.proofs.lemmas.window_order.EntryLemmas.{length-keys_of}
+use Rattle.windows_groups.specs.window_order.Placed.{keys_in, ways_in}
+use Rattle.windows_groups.proofs.lemmas.window_order.EntryLemmas.{length-keys_of}
 use Rattle.windows.specs.declared.frames.cuts.Side.TheVariants.{End}
 use Rattle.windows.specs.frames.Cuts.{CutsPlaces, ahead}
 use Rattle.windows.proofs.lemmas.frames.UnionLemmas.{end_none, end_some}

@@ -1,7 +1,7 @@
 use Rattle.std.proofs.Common.{◌==◌, length}
 use Rattle.semantics.specs.Windows.{after_edge, are_peers, before_edge, distance, excludes, unless}
 use Rattle.resolver_terms.specs.SelectView.{frame_of}
-use Rattle.windows_order.specs.window_order.Placed.{keys_in, ways_in}
+use Rattle.windows_groups.specs.window_order.Placed.{keys_in, ways_in}
 use Rattle.windows.proofs.lemmas.frames.UnionLemmas.{union}
 use Rattle.windows.proofs.frames.ranges.ranges_of.Goals as goal
 

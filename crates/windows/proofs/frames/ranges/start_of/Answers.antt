@@ -4,7 +4,7 @@ use Rattle.std.proofs.lemmas.Int.{ints}
 use Rattle.semantics.specs.Windows.{before_edge, distance}
 use Rattle.semantics_names.specs.Places.{unit_of}
 use Rattle.resolver_terms.specs.SelectView.{edge_of}
-use Rattle.windows_order.specs.window_order.Placed.{keys_in, ways_in}
+use Rattle.windows_groups.specs.window_order.Placed.{keys_in, ways_in}
 use Rattle.windows.specs.declared.frames.cuts.Side.TheVariants.{Start}
 use Rattle.windows.specs.frames.Cuts.{CutsPlaces, ahead}
 use Rattle.windows.proofs.lemmas.frames.UnionLemmas.{start_none, start_some}

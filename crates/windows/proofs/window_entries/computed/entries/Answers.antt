@@ -6,7 +6,7 @@ use Rattle.values.specs.declared.value.Value.{Value}
 use Rattle.expr.specs.Meaning.{eval}
 use Rattle.expr.specs.View.{term}
 use Rattle.semantics.specs.Valuation.{term_values}
-use Rattle.windows_order.specs.declared.window_order.sorting.Entry.{Entry}
+use Rattle.windows_groups.specs.declared.window_order.sorting.Entry.{Entry}
 use Rattle.windows.proofs.lemmas.window_entries.ValueLemmas.{made_more, map-map, placed_more}
 use Rattle.windows.proofs.window_entries.computed.entries.Goals as goal
 

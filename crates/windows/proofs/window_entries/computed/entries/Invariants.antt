@@ -4,8 +4,8 @@ use Rattle.values.specs.Datum.{Datum, datum_of}
 use Rattle.expr.specs.Meaning.{eval}
 use Rattle.expr.specs.View.{term}
 use Rattle.semantics.specs.Valuation.{term_values}
-use Rattle.windows_order.specs.window_order.Entries.{keys_of, rows_of}
-use Rattle.windows_order.specs.declared.window_order.sorting.Entry.{Entry}
+use Rattle.windows_groups.specs.window_order.Entries.{keys_of, rows_of}
+use Rattle.windows_groups.specs.declared.window_order.sorting.Entry.{Entry}
 use Rattle.windows.proofs.window_entries.computed.entries.Given as goal
 
 abbrev pub invariant-loop-index : goal.invariant-loop-index

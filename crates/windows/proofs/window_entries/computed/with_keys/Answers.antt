@@ -5,7 +5,7 @@ use Rattle.expr.specs.Meaning.{eval}
 use Rattle.resolver_terms.specs.SelectView.{sort_of}
 use Rattle.windows.specs.window_partitions.Tagged.{terms_of}
 use Rattle.semantics.specs.Valuation.{term_values}
-use Rattle.windows_order.specs.declared.window_order.sorting.Entry.{Entry}
+use Rattle.windows_groups.specs.declared.window_order.sorting.Entry.{Entry}
 use Rattle.windows.proofs.lemmas.window_entries.ValueLemmas.{made_more, map-map}
 use Rattle.windows.proofs.window_entries.computed.with_keys.Goals as goal
 

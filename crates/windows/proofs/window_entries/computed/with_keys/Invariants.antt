@@ -4,8 +4,8 @@ use Rattle.expr.specs.Meaning.{eval}
 use Rattle.resolver_terms.specs.SelectView.{sort_of}
 use Rattle.windows.specs.window_partitions.Tagged.{terms_of}
 use Rattle.semantics.specs.Valuation.{term_values}
-use Rattle.windows_order.specs.window_order.Entries.{keys_of}
-use Rattle.windows_order.specs.declared.window_order.sorting.Entry.{Entry}
+use Rattle.windows_groups.specs.window_order.Entries.{keys_of}
+use Rattle.windows_groups.specs.declared.window_order.sorting.Entry.{Entry}
 use Rattle.windows.specs.window_entries.Tags.{tags_of}
 use Rattle.windows.proofs.window_entries.computed.with_keys.Given as goal
 

@@ -8,8 +8,8 @@ use Rattle.semantics.specs.Query.{SortTerm}
 use Rattle.semantics.specs.Valuation.{term_values}
 use Rattle.semantics.specs.Windows as windows
 use Rattle.resolver_terms.specs.SelectView.{direction_of, sort_of}
-use Rattle.windows_order.specs.declared.window_order.sorting.Entry.{Entry}
-use Rattle.windows_order.specs.window_order.Entries.{keys_of, rows_of}
+use Rattle.windows_groups.specs.declared.window_order.sorting.Entry.{Entry}
+use Rattle.windows_groups.specs.window_order.Entries.{keys_of, rows_of}
 use Rattle.windows.specs.window_entries.Tags.{tags_of}
 use Rattle.windows.specs.window_partitions.Tagged.{AreAlike, rows_of_tags, terms_of}
 use Rattle.windows.proofs.lemmas.window_partitions.AlikeLemmas.{IsKeyed, alike, all_keyed, all_long, all_of, keys_from_all, rows-of_tags}

@@ -7,8 +7,8 @@ use Rattle.expr.specs.Meaning.{eval}
 use Rattle.expr.specs.View.{term}
 use Rattle.semantics.specs.Valuation.{term_values}
 use Rattle.resolver_terms.specs.SelectView.{direction_of}
-use Rattle.windows_order.specs.declared.window_order.sorting.Entry.{Entry}
-use Rattle.windows_order.specs.window_order.Entries.{keys_of, rows_of}
+use Rattle.windows_groups.specs.declared.window_order.sorting.Entry.{Entry}
+use Rattle.windows_groups.specs.window_order.Entries.{keys_of, rows_of}
 use Rattle.windows.specs.window_entries.Tags.{tags_of}
 use Rattle.windows.specs.window_partitions.Tagged.{AreAlike}
 use Rattle.windows.proofs.lemmas.window_partitions.AlikeLemmas.{IsKeyed, alike, all_keyed, all_long, keys_from_all}

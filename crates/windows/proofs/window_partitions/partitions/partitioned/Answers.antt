@@ -9,11 +9,11 @@ use Rattle.expr.specs.View.{term}
 use Rattle.semantics.specs.Valuation.{term_values}
 use Rattle.sql_reader_syntax.specs.declared.query.Direction.{Direction as Way}
 use Rattle.resolver_terms.specs.SelectView.{direction_of}
-use Rattle.windows_order.specs.declared.window_order.peers.PeerGroups.{PeerGroups}
-use Rattle.windows_order.specs.declared.window_order.sorting.Entry.{Entry}
-use Rattle.windows_order.specs.window_order.Entries.{IsInWindowOrder, keys_of}
-use Rattle.windows_order.specs.window_order.Groups.{AreGroups}
-use Rattle.windows_order.proofs.lemmas.window_order.EntryLemmas.{length-keys_of}
+use Rattle.windows_groups.specs.declared.window_order.peers.PeerGroups.{PeerGroups}
+use Rattle.windows_groups.specs.declared.window_order.sorting.Entry.{Entry}
+use Rattle.windows_groups.specs.window_order.Entries.{IsInWindowOrder, keys_of}
+use Rattle.windows_groups.specs.window_order.Groups.{AreGroups}
+use Rattle.windows_groups.proofs.lemmas.window_order.EntryLemmas.{length-keys_of}
 use Rattle.windows.specs.window_entries.Tags.{tags_of}
 use Rattle.windows.proofs.lemmas.window_entries.ValueLemmas.{map-map}
 use Rattle.windows.specs.window_partitions.Tagged.{tagged}

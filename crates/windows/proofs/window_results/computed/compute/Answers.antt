@@ -2,7 +2,7 @@ use Rattle.std.proofs.Common.{inl, inr, [], ◌∷◌, ap}
 use Rattle.std.proofs.lemmas.Result.{err_from_is_err_and}
 use Rattle.expr.specs.View.{term}
 use Rattle.semantics.specs.Hits.{function_terms}
-use Rattle.windows_order.specs.window_order.Placed.{rows_in}
+use Rattle.windows_groups.specs.window_order.Placed.{rows_in}
 use Rattle.windows.proofs.lemmas.window_results.KnownLemmas.{first_reached, second_reached}
 use Rattle.windows.proofs.window_results.computed.compute.Goals as goal
 use Rattle.resolver_terms.specs.SelectView.{function_of}

@@ -2,7 +2,7 @@ use Rattle.std.proofs.Common.{◌≡◌, map, take}
 use Rattle.values.specs.Datum.{Datum, datum_of}
 use Rattle.expr.specs.Meaning.{eval}
 use Rattle.expr.specs.View.{term}
-use Rattle.windows_order.specs.declared.window_order.sorting.Entry.{Entry}
+use Rattle.windows_groups.specs.declared.window_order.sorting.Entry.{Entry}
 use Rattle.windows.proofs.window_results.computed.values_of.Given as goal
 
 abbrev pub invariant-loop-entry : goal.invariant-loop-entry

@@ -4,7 +4,7 @@ use Rattle.values.specs.Datum.{Datum, datum_of}
 use Rattle.values.specs.declared.value.Value.{Value}
 use Rattle.expr.specs.operations.Operations.{settle}
 use Rattle.semantics.specs.Windows as windows
-use Rattle.windows_order.specs.window_order.Placed.{keys_in}
+use Rattle.windows_groups.specs.window_order.Placed.{keys_in}
 use Rattle.windows.proofs.lemmas.window_results.KnownLemmas.{no_buckets}
 use Rattle.windows.proofs.window_results.results.bucket_number.Goals as goal
 

@@ -3,8 +3,8 @@ use Rattle.std.proofs.lemmas.Result.{err_from_is_err_and}
 use Rattle.values.specs.Datum.{null}
 use Rattle.expr.specs.Meaning.{eval}
 use Rattle.semantics.specs.Query.{WindowFunction}
-use Rattle.windows_order.specs.declared.window_order.placed.Sequence.{Sequence}
-use Rattle.windows_order.specs.window_order.Placed.{keys_in, rows_in}
+use Rattle.windows_groups.specs.declared.window_order.placed.Sequence.{Sequence}
+use Rattle.windows_groups.specs.window_order.Placed.{keys_in, rows_in}
 use Rattle.windows.specs.window_results.Known.{IsAsLong, Known, known_for}
 use Rattle.windows.proofs.lemmas.window_results.KnownLemmas.{known_size, same_length}
 use Rattle.windows.proofs.window_results.results.put_values.Goals as goal

@@ -1,6 +1,6 @@
 use Rattle.std.proofs.Common.{◌≡◌, ◌∙◌, ◌<◌, length, arith}
 use Rattle.semantics.specs.Windows.{peer_group}
-use Rattle.windows_order.specs.window_order.Placed.{keys_in, ways_in}
+use Rattle.windows_groups.specs.window_order.Placed.{keys_in, ways_in}
 use Rattle.windows.proofs.lemmas.window_totals.TotalLemmas.{read_at}
 use Rattle.windows.proofs.lemmas.window_values.RankLemmas.{before_group}
 use Rattle.windows.proofs.window_values.ranks.rows_before.Goals as goal

@@ -3,7 +3,7 @@ use Rattle.std.specs.List.{list_any}
 use Rattle.semantics.specs.Times.{same_row}
 use Rattle.operators_results.specs.Slices.{sliced}
 use Rattle.operators_results.specs.distinct_results.Firsts.{firsts, unmet}
-use Rattle.windows_order.proofs.lemmas.distinct_rows.FirstLemmas.{met_passed, new_first}
+use Rattle.windows_groups.proofs.lemmas.distinct_rows.FirstLemmas.{met_passed, new_first}
 use Rattle.operators_results.proofs.distinct_results.first_rows.FirstRows.meet.Goals as goal
 
 pub returns-then-contains-clause-passed : goal.returns-then-contains-clause-passed

@@ -1,7 +1,7 @@
 use Rattle.std.proofs.Common.{◌∙◌, ap}
 use Rattle.operators_results.specs.Slices.{sliced}
 use Rattle.operators_results.specs.distinct_results.Firsts.{firsts, unmet}
-use Rattle.windows_order.proofs.lemmas.distinct_rows.FirstLemmas.{unmet_none}
+use Rattle.windows_groups.proofs.lemmas.distinct_rows.FirstLemmas.{unmet_none}
 use Rattle.operators_results.proofs.distinct_results.first_rows.FirstRows.new.Goals as goal
 
 pub returns : goal.returns

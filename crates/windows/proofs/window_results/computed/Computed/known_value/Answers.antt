@@ -4,7 +4,7 @@ use Rattle.values.specs.Datum.{Datum, datum_of}
 use Rattle.values.specs.declared.value.Value.{Value}
 use Rattle.semantics.specs.Windows.{in_frame}
 use Rattle.resolver_terms.specs.SelectView.{frame_of}
-use Rattle.windows_order.specs.window_order.Placed.{keys_in, ways_in}
+use Rattle.windows_groups.specs.window_order.Placed.{keys_in, ways_in}
 use Rattle.windows.specs.frames.Slices.{slices}
 use Rattle.windows.specs.window_results.Framed.{framed_of, over_values}
 use Rattle.windows.specs.window_results.Known.{IsAsLong, Known, known_of, known_result, over_frame}

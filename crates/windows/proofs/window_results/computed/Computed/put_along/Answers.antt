@@ -2,8 +2,8 @@ use Rattle.std.proofs.Common.{◌≡◌, ◌∙◌, ◌<◌, ◌+◌, List, leng
 use Rattle.std.proofs.lemmas.List.{get_or-map, length-map, length-set, map-set}
 use Rattle.std.proofs.lemmas.Result.{err_from_is_err_and}
 use Rattle.values.specs.Datum.{Datum, datum_of}
-use Rattle.windows_order.specs.declared.window_order.sorting.Entry.{Entry}
-use Rattle.windows_order.specs.window_order.Placed.{rows_in}
+use Rattle.windows_groups.specs.declared.window_order.sorting.Entry.{Entry}
+use Rattle.windows_groups.specs.window_order.Placed.{rows_in}
 use Rattle.windows.specs.window_results.Put.{numbers_in}
 use Rattle.windows.proofs.lemmas.window_results.PutLemmas.{ArePut, all_put, length-range, one_more_put, range_at}
 use Rattle.windows.proofs.window_results.computed.Computed.put_along.Goals as goal

@@ -3,7 +3,7 @@ use Rattle.values.specs.Datum.{Datum, datum_of}
 use Rattle.semantics.specs.Query as query
 use Rattle.semantics.specs.Valuation.{Valuation}
 use Rattle.semantics.specs.Windows.{window_result}
-use Rattle.windows_order.specs.window_order.Placed.{rows_in}
+use Rattle.windows_groups.specs.window_order.Placed.{rows_in}
 use Rattle.windows.specs.window_results.Known.{known_for, known_of}
 use Rattle.windows.specs.window_results.Over.{IsWindowOver}
 use Rattle.windows.specs.window_results.Put.{AreWanted, numbers_in}

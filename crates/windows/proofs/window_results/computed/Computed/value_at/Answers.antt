@@ -6,8 +6,8 @@ use Rattle.semantics.specs.Query as query
 use Rattle.semantics.specs.Valuation.{Valuation}
 use Rattle.semantics.specs.Windows.{window_result}
 use Rattle.resolver_terms.specs.SelectView.{frame_of}
-use Rattle.windows_order.specs.declared.window_order.placed.Sequence.{Sequence}
-use Rattle.windows_order.specs.window_order.Placed.{keys_in, rows_in, ways_in}
+use Rattle.windows_groups.specs.declared.window_order.placed.Sequence.{Sequence}
+use Rattle.windows_groups.specs.window_order.Placed.{keys_in, rows_in, ways_in}
 use Rattle.resolver_terms.specs.declared.selects.Frame.{Frame}
 use Rattle.windows.specs.window_results.Known.{Known, known_for, known_of, known_result}
 use Rattle.windows.specs.window_results.Over.{IsWindowOver}

@@ -1,0 +1,9 @@
+pub mod Keys
+pub mod Ranked
+pub mod Firsts
+pub mod FirstView
+pub mod window_order
+pub mod distinct_rows
+pub mod Reached
+pub mod aggregates
+pub mod row_groups

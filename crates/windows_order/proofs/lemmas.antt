@@ -1,2 +1,0 @@
-pub mod window_order
-pub mod distinct_rows

@@ -1,2 +1,0 @@
-pub mod aggregates
-pub mod row_groups

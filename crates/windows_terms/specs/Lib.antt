@@ -1,3 +1,0 @@
-pub mod Reached
-pub mod aggregates
-pub mod row_groups
