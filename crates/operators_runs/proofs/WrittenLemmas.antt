@@ -1,5 +1,5 @@
 -- Rows of a plan that is run, written one after another.
-use Rattle.std.proofs.Common.{◌≡◌, ◌∙◌, ◌+◌, ◌-◌, ◌^◌, inl, inr, min, arith, Bool, true, ℕ, List, [], ◌∷◌, ◌++◌, length, OnOk, IfErr, IfOk, MatchResult, Result, Ok, Err, refl, sym, ap, append-nil, append_assoc, subst}
+use Rattle.std.proofs.Common.{◌≡◌, ◌∙◌, ◌+◌, ◌-◌, ◌^◌, inl, inr, min, arith, Bool, true, ℕ, List, [], ◌∷◌, ◌++◌, length, OnOk, Result, Ok, Err, refl, sym, ap, append-nil, append_assoc, subst}
 use Rattle.std.proofs.lemmas.Grind.{common_steps}
 use Rattle.std.specs.Io.KnownBytes.{Appends}
 use Rattle.values.specs.Row.{Row}
@@ -241,24 +241,6 @@ module _ (all left : List Row) (n : ℕ) (old mid : SinkFacts) (s : Lines all le
 
     pub Lines-counted : n ≡ min (length all) (2 ^ 64 - 1)
     Lines-counted = rw (← all_given) s.counted
-
-module _ (start : PagerState) (sources : List SourceData) (planned : PlannedData) (rows : List Row)
-    (answers : WhereSteady start (λ pages. (on : Basis) → AreStored pages sources on → IsAnswerOf on.w on.db planned rows)) where
-  -- what writes all rows of an answer writes an answer
-  pub gathered_written : (result : Result ℕ Fault) (old new : SinkFacts) → Writes (rows_text rows) result old new
-      → IfErr result (λ e. e ≡ WriteFailed) → IfOk result (λ n. n ≡ min (length rows) (2 ^ 64 - 1))
-      → WhereSteady start (λ pages. MatchResult result (WritesAnswer pages sources planned old new) (WritesBeginning pages sources planned old new))
-  gathered_written (Ok n) old new wrote only counted = λ steady. record {
-    given = rows;
-    answer = answers steady;
-    prints = record { written = wrote.written; counted_is = counted };
-  }
-  gathered_written (Err e) old new wrote is counted = λ steady. record {
-    given = rows;
-    begins = λ on has. ([], subst (IsAnswerOf on.w on.db planned) (sym (append-nil rows)) (answers steady on has));
-    prints = record { cut = λ _. wrote.written; whole = λ other. absurd (other is) };
-    cause = λ on has. inl (inr is);
-  }
 
 -- ---- after what was asked for before the first row
 

@@ -21,8 +21,8 @@ returns-in_err-execution-clause-only g c =
     let p = err_from_is_err_and c.from_residual.result c.from_residual.ensures.1 in
     rw (p.1, p.2) (operator_fault _ c.in_err-execution.ensures.reads.only)
 
-pub returns-clause-rows : goal.returns-clause-rows
-returns-clause-rows g c = λ steady.
+pub returns-in_default-clause-rows : goal.returns-in_default-clause-rows
+returns-in_default-clause-rows g c = λ steady.
     let sources = c.args.sources.now in
     let old = g.W.Sink.facts c.args.out.now in
     let new = g.W.Sink.facts c.write_each.new.out in
@@ -31,8 +31,8 @@ returns-clause-rows g c = λ steady.
     (WritesAnswer pages sources planned old new) (WritesBeginning pages sources planned old new))
     c.write_each.ensures.rows steady (planned_data c.args.planned.now) (c.in_ok-execution.ensures.rows steady)
 
-pub returns-clause-pages : goal.returns-clause-pages
-returns-clause-pages g c = λ steady on has.
+pub returns-in_default-clause-pages : goal.returns-in_default-clause-pages
+returns-in_default-clause-pages g c = λ steady on has.
     let sources = c.args.sources.now in
     let start = c.args.pager.now.state in
     let mid = c.begin.new.pager.state in
