@@ -1,6 +1,7 @@
 -- One SELECT behind its FROM, or why it is none.
-use Rattle.std.proofs.Common.{◌≡◌, ◌⊎◌, inl, inr, Bool, false, ℕ, suc, ℤ, pos, List, [], ◌∷◌, ◌++◌, length, Option, Some, None, Result, Ok, Err, Contains, nat_le, nat_lt, refl, subst, sym}
+use Rattle.std.proofs.Common.{◌≡◌, ◌⊎◌, inl, inr, Bool, false, ℕ, suc, ℤ, pos, List, [], ◌∷◌, ◌++◌, length, Option, Some, None, Result, Ok, Err, Contains, nat_le, nat_lt, ap, refl, subst, sym, ◌∙◌}
 use Rattle.std.specs.List.{filter_map}
+use Rattle.std.proofs.lemmas.List.{length-map}
 use Rattle.std.proofs.lemmas.List.Elements.{Contains-append_left, Contains-append_right, Contains-push}
 use Rattle.values.specs.declared.fault.Fault.{Fault}
 use Rattle.values.specs.declared.fault.Fault.TheVariants.{Ambiguous, BareColumn, DuplicateName, Limit, UnknownColumn, WrongPlace}
@@ -253,15 +254,22 @@ module _ (F : Fault → Type 0) (takes : Takes F) where
       record IsFine : Type 0 where
         stars : Each (IsFineStar F scope) (stars_in results)
         in_order : IsFineOrder F order (names_of_results scope results)
+        narrow : nat_le (length (names_of_results scope results)) max_columns ≡ false → F Limit
         in_results : Each (Deep (Sound F answers (columns_say scope))) (results_parts results)
         in_terms : Each (IsFineTerm (Sound F answers (columns_say scope)) (names_of_results scope results)) (terms_in order)
         in_behind : Each (IsLoose (Sound F answers (columns_say scope))) behind
+
+      as_many : (input : Input) (says : Says) (columns : List ResultColumn) → all_results answers scope input says results ≡ Ok columns
+          → length columns ≡ length (names_of_results scope results)
+      as_many input says columns given =
+          sym (length-map columns (λ (r : ResultColumn). r.name)) ∙ ap length (all_names answers input scope says results columns given)
 
       shown_only : (condition : Term) (input : Input) (defined : List Defined) (calls : List WindowCall) (says : Says) → IsInput input → Speaks says → IsFine
           → Only F (shown answers scope distinct results order behind condition input defined calls says)
       shown_only condition input defined calls says is speaks fine =
           known_only (all_results answers scope input says results) _ (all_only_of input is says speaks results fine.stars fine.in_results) (λ columns given.
-          checked_only (nat_le (length columns) max_columns) Limit _ (λ _. takes.limit)
+          checked_only (nat_le (length columns) max_columns) Limit _ (λ e.
+          fine.narrow (subst (λ n. nat_le n max_columns ≡ false) (as_many input says columns given) e))
           (also_only (finished distinct condition input.grouping defined calls columns) _
           (keys_only (names_in columns) (on_row answers distinct says) (Sound F answers (columns_say scope))
           (λ e all. row_only distinct says speaks e (deep e all)) order
@@ -301,8 +309,9 @@ module _ (F : Fault → Type 0) (takes : Takes F) where
     pub core_only : (core : CoreTree) (order : TermTrees) → Each (Sound F answers (columns_say scope)) (spoken_in core)
         → Each (IsFineTerm (Sound F answers (columns_say scope)) (names_of_results scope (results_in core))) (terms_in order)
         → Each (IsFineStar F scope) (stars_in (results_in core)) → (are_distinct (window_names (windows_in core)) ≡ false → F DuplicateName)
-        → IsFineOrder F order (names_of_results scope (results_in core)) → Only F (core_of answers scope core order)
-    core_only (CoreTree.Select distinct results from condition by having windows) order all in_terms stars apart in_order =
+        → IsFineOrder F order (names_of_results scope (results_in core))
+        → (nat_le (length (names_of_results scope (results_in core))) max_columns ≡ false → F Limit) → Only F (core_of answers scope core order)
+    core_only (CoreTree.Select distinct results from condition by having windows) order all in_terms stars apart in_order narrow =
         let r = results_parts results in
         let c = maybe_parts condition in
         let b = all_parts by in
@@ -322,6 +331,7 @@ module _ (F : Fault → Type 0) (takes : Takes F) where
         (record {
           stars = stars;
           in_order = in_order;
+          narrow = narrow;
           in_results = in_results;
           in_terms = in_terms;
           in_behind =

@@ -84,7 +84,7 @@ core_even answers scope (CoreTree.Select distinct results from condition by havi
     subst (λ (c : CoreData). length c.names ≡ length c.select.columns) same (named_columns columns)
 
 -- a join that is taken
-joined_made : (answers : Answers) (left : Sources) (kind : JoinKind) (on : OnTree) (given : Given) (f : Sources) → joined answers left kind on given ≡ Ok f
+pub joined_made : (answers : Answers) (left : Sources) (kind : JoinKind) (on : OnTree) (given : Given) (f : Sources) → joined answers left kind on given ≡ Ok f
     → (t : Term) × (f.from ≡ From.joined left.from kind given.source t) × (f.beside ≡ left.beside ++ given.beside)
 joined_made answers left kind on given f e = by (list_any (is_same_source given.name) left.names) e
   where

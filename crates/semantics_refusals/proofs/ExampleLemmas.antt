@@ -11,11 +11,12 @@ use Rattle.semantics_names.specs.Parts.{core_parts, terms_parts}
 use Rattle.semantics_names.specs.RefusedExamples.{RefusedNames, RefusedTypes, alias_in_where, arms_of_two_types, in_two_sources, item_in_itself, mismatch, other_type, outer_column, star_of_none, twice, two_columns, two_named, two_of_one_name, uneven, uneven_item, unknown_column, unknown_table, untyped_item, unused_window, windows_of_one_name}
 use Rattle.semantics_names.specs.Statement.{Named, from_tree}
 use Rattle.semantics_names.specs.Typed.{typed_query}
-use Rattle.semantics_names.specs.Worked.{by_term, called, id, item as item_alone, name_alone, results_of, tables}
-use Rattle.semantics_refusals.specs.Examples.{NothingIsWritten, ReasonsAreWritten, item_before_its_own, items_of_items, of_null_alone, sorted_by_alias}
+use Rattle.semantics_names.specs.Worked.{by_term, called, id, item as item_alone, name_alone, number, results_of, select, shown, statement, tables}
+use Rattle.semantics_refusals.specs.Examples.{NothingIsWritten, ReasonsAreWritten, from_ones, item_before_its_own, items_of_items, levels, of_null_alone, ones, sorted_by_alias}
 use Rattle.semantics_refusals.specs.Reasons.{IsReason}
 use Rattle.semantics_refusals.specs.UnknownColumns.{HasLooseHaving}
 use Rattle.semantics_refusals.specs.Written.{HasQuery, HasSelect, IsDerived, IsLooseHaving, IsOperand, IsQueryOf, IsSelect, StandsIn, sources_in}
+use Rattle.semantics_refusals.proofs.LimitLemmas.{beyond_limit_is_refused}
 use Rattle.semantics_refusals.proofs.MistypedQueryLemmas.{mistyped_is_refused}
 use Rattle.semantics_refusals.proofs.RefusalLemmas.{NameLaws, refusals_have_reasons}
 use Rattle.semantics_refusals.proofs.RepeatedLemmas.{repeated_is_refused}
@@ -48,6 +49,9 @@ reasons_are_written laws names types = (
   reason laws unused_window f.TypeMismatch types.2,
   reason laws arms_of_two_types f.TypeMismatch types.3,
   reason laws untyped_item f.TypeMismatch types.4,
+  reason laws (ones 101) f.Limit refl,
+  reason laws (statement (select (shown (number 1) ∷ []) (from_ones 64))) f.Limit refl,
+  reason laws (statement (levels 100)) f.Limit refl,
 )
 
 taken : (r : Result Named Fault) → is_ok r ≡ true → (n : Named) × (r ≡ Ok n)
@@ -122,7 +126,10 @@ pub nothing_is_written : UnknownIsNone → AmbiguousIsTwo → DistinctIsSaid →
 nothing_is_written none two said typed =
     let (n, items) = taken (typed_query tables items_of_items) refl in
     let (m, alias) = taken (typed_query tables sorted_by_alias) refl in
-    let (k, nulls) = taken (typed_query tables of_null_alone) refl in (
+    let (k, nulls) = taken (typed_query tables of_null_alone) refl in
+    let (i, hundred) = taken (typed_query tables (ones 100)) refl in
+    let (j, sources) = taken (typed_query tables (statement (select (shown (number 1) ∷ []) (from_ones 63)))) refl in
+    let (l, deep) = taken (typed_query tables (statement (levels 64))) refl in (
       λ has. unknown_source_is_refused tables items_of_items n has items,
       λ has. uneven_is_refused tables items_of_items n has items,
       λ has. repeated_is_refused said tables items_of_items n has items,
@@ -130,4 +137,7 @@ nothing_is_written none two said typed =
       λ has. ambiguous_column_is_refused two tables sorted_by_alias m has sorted_tight alias,
       λ has. mistyped_is_refused typed tables items_of_items n has items,
       λ has. mistyped_is_refused typed tables of_null_alone k has nulls,
+      λ has. beyond_limit_is_refused tables (ones 100) i has hundred,
+      λ has. beyond_limit_is_refused tables (statement (select (shown (number 1) ∷ []) (from_ones 63))) j has sources,
+      λ has. beyond_limit_is_refused tables (statement (levels 64)) l has deep,
     )

@@ -47,3 +47,5 @@ pub mod MistypedQueryLemmas
 pub mod MistypedFaultLemmas
 pub mod ExampleLemmas
 pub mod TypeExampleLemmas
+mod CountLemmas
+pub mod LimitLemmas

@@ -1,5 +1,5 @@
 -- A query by its names, or why it is none.
-use Rattle.std.proofs.Common.{◌≡◌, ◌⊎◌, inl, inr, false, ℕ, zero, suc, List, [], ◌∷◌, ◌++◌, length, map, Option, Some, None, Result, Ok, Contains, nat_eq, ap, refl, subst, arith}
+use Rattle.std.proofs.Common.{◌≡◌, ◌⊎◌, inl, inr, false, ℕ, zero, suc, List, [], ◌∷◌, ◌++◌, length, map, Option, Some, None, Result, Ok, Contains, nat_eq, nat_le, ap, refl, subst, arith}
 use Rattle.std.specs.List.{cons_option, filter_map}
 use Rattle.values.specs.declared.fault.Fault.{Fault}
 use Rattle.values.specs.declared.fault.Fault.TheVariants.{ColumnCount, DuplicateName, Limit}
@@ -14,8 +14,9 @@ use Rattle.semantics_names.specs.Parts.{all_parts, core_parts, definitions_parts
 use Rattle.semantics_names.specs.Places.{columns_say}
 use Rattle.semantics_names.specs.Scope.{Scope}
 use Rattle.semantics_names.specs.Sources.{Known}
-use Rattle.semantics_names.specs.Statement.{Inner, Queried, Single, answers_of, are_distinct, compounded, core_of, exists_inner, from_of, from_tree, inner_of, keys_of, no_row, queried, query_of, simple, single, single_of, values_inner, window_names, with_inners}
+use Rattle.semantics_names.specs.Statement.{Inner, Queried, Single, answers_of, are_distinct, compounded, core_of, exists_inner, from_of, from_tree, inner_of, keys_of, max_columns, no_row, queried, query_of, simple, single, single_of, values_inner, window_names, with_inners}
 use Rattle.semantics_refusals.specs.Columns.{HasNames, Offers, Shows, names_of_results, results_in}
+use Rattle.semantics_refusals.specs.Limits.{IsDeep}
 use Rattle.semantics_refusals.specs.UnknownColumns.{IsNamedAt}
 use Rattle.semantics_refusals.specs.Written.{BeginsFrom, BeginsQuery, HasQuery, IsDerived, IsOperand, IsSelect, StandsIn, names_of_sources, sources_in, spoken_in, stars_in, terms_in, windows_in}
 use Rattle.semantics_refusals.proofs.CoreLemmas.{IsFineOrder, IsFineStar, IsFineTerm, core_only, keys_only, no_row_only}
@@ -37,6 +38,8 @@ pub record IsFineSelect (F : Fault → Type 0) (known : List Known) (core : Core
       → Each (IsFineTerm (IsFineColumn F scope) (names_of_results scope (results_in core))) (terms_in by)
   pub stars : (scope : Scope) → Shows (listed_of known) (from_tree core) scope → Each (IsFineStar F scope) (stars_in (results_in core))
   pub windows : are_distinct (window_names (windows_in core)) ≡ false → F DuplicateName
+  pub narrow : (scope : Scope) → Shows (listed_of known) (from_tree core) scope
+      → nat_le (length (names_of_results scope (results_in core))) max_columns ≡ false → F Limit
   pub members : (query : QueryTree) (part : ExprTree) (names : List Name) → Contains (core_parts core by) part
       → inner_tree part ≡ Some (InnerTree.values_in query)
       → HasNames (listed_of known) query names → nat_eq (length names) 1 ≡ false → F ColumnCount
@@ -157,7 +160,7 @@ module _ (F : Fault → Type 0) (takes : Takes F) (known : List Known) (queries 
         also_only (single inners f) (core_of answers f.scope core by)
         (core_only F takes answers f.scope core by (with_answers F answers f.scope (spoken_in core) (fine.columns f.scope shows) ((in_spoken answers all).0))
         (in_terms answers f.scope (names_of_results f.scope (results_in core)) by (fine.terms f.scope shows) ((in_spoken answers all).1))
-        (fine.stars f.scope shows) fine.windows (in_order (names_of_results f.scope (results_in core)) (HasNames.alone shows)))))
+        (fine.stars f.scope shows) fine.windows (in_order (names_of_results f.scope (results_in core)) (HasNames.alone shows)) (fine.narrow f.scope shows))))
 
   compounded_only : (order : TermTrees) (left : Queried) (operator : CompoundOperator) (s : Single)
       → (nat_eq (length left.names) (length s.core.names) ≡ false → F ColumnCount)
@@ -203,8 +206,10 @@ module _ (F : Fault → Type 0) (takes : Takes F) (known : List Known) (queries 
       (fine.in_order l.names (HasNames.compound named))))
 
 pub queried_only : (F : Fault → Type 0) (takes : Takes F) (deep : ℕ) (known : List Known) (query : QueryTree) (order : TermTrees)
-    → ((inner : QueryTree) (by : TermTrees) → HasQuery query order inner by → IsFineQuery F known inner by) → Only F (queried deep known query order)
-queried_only F takes zero known query order fine = refused Limit takes.limit
-queried_only F takes (suc deep) known query order fine =
+    → ((inner : QueryTree) (by : TermTrees) → HasQuery query order inner by → IsFineQuery F known inner by) → (IsDeep deep query order → F Limit)
+    → Only F (queried deep known query order)
+queried_only F takes zero known query order fine deeply = refused Limit (deeply IsDeep.any)
+queried_only F takes (suc deep) known query order fine deeply =
     query_only F takes known (inside deep known) (λ tree q is. queried_names deep known tree TermTrees.No_term q is) query order (fine query order HasQuery.own)
-    (λ inner stands. queried_only F takes deep known inner TermTrees.No_term (λ q by has. fine q by (HasQuery.inside inner stands has)))
+    (λ inner stands. queried_only F takes deep known inner TermTrees.No_term (λ q by has. fine q by (HasQuery.inside inner stands has))
+    (λ is. deeply (IsDeep.inside inner stands is)))

@@ -1,9 +1,10 @@
 -- A statement that is refused by its names has what the fault says.
-use Rattle.std.proofs.Common.{◌≡◌, ◌∷◌, ◌++◌, Bool, true, false, inl, inr, ℕ, List, [], length, map, Option, Some, None, Ok, All, Contains, nat_eq, ap, refl, sym, subst, ◌∙◌, arith}
+use Rattle.std.proofs.Common.{◌≡◌, ◌∷◌, ◌++◌, Bool, true, false, inl, inr, ℕ, zero, suc, ◌<◌, List, [], length, map, Option, Some, None, Result, Ok, Err, All, Contains, nat_eq, nat_le, ap, refl, sym, subst, ◌∙◌, arith}
 use Rattle.std.specs.List.{list_any}
-use Rattle.std.proofs.lemmas.Bool.{eqb-false}
+use Rattle.std.proofs.lemmas.Bool.{eqb-false, leb-false}
 use Rattle.values.specs.declared.fault.Fault.{Fault}
-use Rattle.values.specs.declared.fault.Fault.TheVariants.{Ambiguous, ColumnCount, DuplicateName, UnknownColumn, UnknownTable}
+use Rattle.values.specs.declared.fault.Fault.TheVariants.{Ambiguous, ColumnCount, DuplicateName, Limit, UnknownColumn, UnknownTable}
+use Rattle.semantics.specs.Query.{Source}
 use Rattle.sql_reader_syntax.specs.ExprTree.{CoreTree, ExprTree, FromTree, OnTree, QueryTree, SourceTree, TermTrees}
 use Rattle.sql_reader_syntax.specs.StatementTree.{ItemTree, StatementTree}
 use Rattle.sql_reader_syntax.specs.Tree.{Name}
@@ -12,23 +13,25 @@ use Rattle.semantics_names.specs.Expression.{InnerTree}
 use Rattle.semantics_names.specs.Laws.{AreDistinctInAnyCase, AreSameSources, IsSameInAnyCase}
 use Rattle.semantics_names.specs.Parts.{core_parts, inner_tree, on_parts, parts}
 use Rattle.semantics_names.specs.Scope.{Scope, column_of}
-use Rattle.semantics_names.specs.Sources.{is_same_source, shown_from, used}
-use Rattle.semantics_names.specs.Statement.{With, are_distinct, from_tree, item_columns, named, named_at, window_names, with_items}
+use Rattle.semantics_names.specs.Sources.{Known, is_same_source, known_as, shown_from, used}
+use Rattle.semantics_names.specs.Statement.{Queried, With, are_distinct, from_tree, item_columns, max_columns, max_levels, max_sources, named, named_at, queried, sources_of_body, window_names, with_items}
 use Rattle.semantics_names.specs.Typed.{Table, known_tables, typed_query}
 use Rattle.semantics_refusals.specs.Columns.{AreListed, HasNames, JoinsScopes, ListedTable, Offers, Shows, names_of_results, results_in}
+use Rattle.semantics_refusals.specs.Limits.{AreCounted, Counted, IsBeyondLimit, IsCounted, IsWide, MentionsLarge}
 use Rattle.semantics_refusals.specs.RepeatedNames.{HasRepeatedName, Repeats}
 use Rattle.semantics_refusals.specs.UnevenColumns.{HasUnevenColumns, HasWideMembers, IsUneven}
 use Rattle.semantics_refusals.specs.UnknownColumns.{HasAmbiguousColumn, HasUnknownColumn, InSelect, IsAmbiguous, IsNamedAt, IsNoResult, IsTwofold, IsUnknown, NamesColumn, NamesUnknownColumn}
 use Rattle.semantics_refusals.specs.UnknownSources.{HasUnknownSource, IsNoSource, NamesNoSource}
 use Rattle.semantics_refusals.specs.Written.{BeginsFrom, HasQuery, HasQueryWith, HasSelect, IsQueryOf, IsSelect, called_so, names_of_sources, sources_in, spoken_in, stars_in, terms_in, windows_in}
+use Rattle.semantics_refusals.proofs.CountLemmas.{IsCountOf, known_counted, name_counted, queried_counts}
 use Rattle.semantics_refusals.proofs.CoreLemmas.{IsFineOrder, IsFineStar, IsFineTerm}
 use Rattle.semantics_refusals.proofs.NameLemmas.{listed_of}
-use Rattle.semantics_refusals.proofs.OutcomeLemmas.{Only, Takes, checked_only, ok}
+use Rattle.semantics_refusals.proofs.OutcomeLemmas.{Only, Takes, checked_only, ok, refused}
 use Rattle.semantics_refusals.proofs.PartLemmas.{Each, each_itself, weaker}
 use Rattle.semantics_refusals.proofs.QueryLemmas.{IsFineQuery, IsFineSelect}
 use Rattle.semantics_refusals.proofs.ScopeLemmas.{Says, column_only, named_none, named_some, named_two, same_there, star_of_none, used_only}
 use Rattle.semantics_refusals.proofs.SourceLemmas.{IsFineColumn, IsFineJoin, IsFineSource}
-use Rattle.semantics_refusals.proofs.StatementLemmas.{IsFineStatement, all_known, items_known, known_gives, known_listed, named_only, typed_only}
+use Rattle.semantics_refusals.proofs.StatementLemmas.{IsFineStatement, known_gives, known_listed, named_only, typed_only}
 use Rattle.semantics_refusals.proofs.TypeLemmas.{TakesTypes}
 use Rattle.semantics_refusals.proofs.WithLemmas.{IsOther, items_back, no_items, tables_back}
 
@@ -40,6 +43,7 @@ pub record HasReasons (F : Fault → Type 0) (tables : List Table) (tree : State
   pub ambiguous : HasAmbiguousColumn tables tree → F Ambiguous
   pub duplicate : HasRepeatedName tree → F DuplicateName
   pub column_count : HasUnevenColumns tables tree → F ColumnCount
+  pub limit : IsBeyondLimit tables tree → F Limit
 
 offers_called : {listed : List ListedTable} {source : SourceTree} {called : Option Name} {columns : List Name} → Offers listed source called columns
     → called ≡ called_so source
@@ -58,6 +62,11 @@ members_of : (part : ExprTree) (query : QueryTree) → inner_tree part ≡ Some 
     → (not : Bool) × (x : ExprTree) × (part ≡ ExprTree.InQuery not x query)
 members_of (ExprTree.InQuery not x inner) query e = let same : inner ≡ query = cc in (not, x, ap (ExprTree.InQuery not x) same)
 members_of _ query e = absurd cc
+
+-- more than 65, as one more than 64 and more
+above : (n : ℕ) → suc max_sources < n → (m : ℕ) × (n ≡ suc m) × (64 < m)
+above zero many = absurd (omega (arith, many))
+above (suc m) many = (m, refl, omega (arith, many))
 
 module _ (F : Fault → Type 0) (tables : List Table) (tree : StatementTree) (says : Says F) (reasons : HasReasons F tables tree) where
   module _ (items : List ItemTree) (outer : QueryTree) (outer_order : TermTrees) (of : IsQueryOf tree items outer outer_order) (w : With)
@@ -134,12 +143,36 @@ module _ (F : Fault → Type 0) (tables : List Table) (tree : StatementTree) (sa
           weaker (λ table there. record { is = λ e. unknown (NamesUnknownColumn.star scope table shows there (star_of_none table 0 scope e)) })
           (each_itself (stars_in (results_in core)))
 
+      -- an item of WITH that is mentioned has few enough sources
+      mentioned : (name : Name) (alias : Option Name) → Contains (sources_in (from_tree core)) (SourceTree.Named name alias) → (k : Known)
+          → known_as w.known name ≡ Ok k → Only F k.source
+      mentioned name alias there k is =
+          let h = known_counted tables items w begun in
+          let (c, stands, count) = name_counted w.known h.counted h.counts name k is in
+          counts_so h.counted h.are c stands count k.source refl
+        where
+          counts_so : (counted : List Counted) → AreCounted tables items counted → (c : Counted) → IsCounted name counted c.count → IsCountOf k c
+              → (r : Result Source Fault) → k.source ≡ r → Only F r
+          counts_so counted listed c stands count (Ok source) e = ok source
+          counts_so counted listed c stands count (Err fault) e =
+              let (limit, many) = count.many fault e in
+              let (sources, number, large) = above c.count many in
+              refused fault (subst F (sym limit) (reasons.limit (IsBeyondLimit.mention (at_select (MentionsLarge tables) (record {
+                name = name;
+                alias = alias;
+                written = there;
+                counted = counted;
+                are = listed;
+                sources = sources;
+                mentioned = subst (IsCounted name counted) number stands;
+                large = large;
+              })))))
+
       fine_sources : Each (IsFineSource F w.known) (sources_in (from_tree core))
       fine_sources =
           weaker (λ source there. record {
             named = λ name alias e.
-                known_gives F reasons.takes w.known name
-                (items_known F reasons.takes items (no_items (known_tables tables)) w begun (all_known F reasons.takes tables))
+                known_gives F reasons.takes w.known name (mentioned name alias (subst (Contains (sources_in (from_tree core))) e there))
                 (λ none. reasons.unknown_table (at_select (NamesNoSource tables) (record {
                   name = name;
                   alias = alias;
@@ -206,6 +239,15 @@ module _ (F : Fault → Type 0) (tables : List Table) (tree : StatementTree) (sa
             wide = eqb-false (length names) 1 e;
           })))))
 
+      fine_narrow : (scope : Scope) → Shows (listed_of w.known) (from_tree core) scope
+          → nat_le (length (names_of_results scope (results_in core))) max_columns ≡ false → F Limit
+      fine_narrow scope shows e =
+          reasons.limit (IsBeyondLimit.columns (here (InSelect tables IsWide) (in_select IsWide (record {
+            scope = scope;
+            shows = shows;
+            wide = leb-false (length (names_of_results scope (results_in core))) max_columns e;
+          }))))
+
       fine_select : IsFineSelect F w.known core by
       fine_select = record {
         sources = fine_sources;
@@ -214,6 +256,7 @@ module _ (F : Fault → Type 0) (tables : List Table) (tree : StatementTree) (sa
         terms = fine_terms;
         stars = fine_stars;
         windows = fine_windows;
+        narrow = fine_narrow;
         members = fine_members;
       }
 
@@ -258,11 +301,20 @@ module _ (F : Fault → Type 0) (tables : List Table) (tree : StatementTree) (sa
       some : (n : Name) (ns : List Name) → n ∷ ns ≡ [] → ⊥
       some n ns e = absurd cc
 
+  fine_size : (w : With) → with_items (no_items (known_tables tables)) tree.items ≡ Ok w → (q : Queried)
+      → queried max_levels w.known tree.query tree.order ≡ Ok q → nat_le (sources_of_body q.body) max_sources ≡ false → F Limit
+  fine_size w begun q is e =
+      let h = known_counted tables tree.items w begun in
+      reasons.limit (IsBeyondLimit.sources h.counted (sources_of_body q.body) h.are
+      (queried_counts max_levels w.known h.counted h.counts tree.query tree.order q is) (leb-false (sources_of_body q.body) max_sources e))
+
   fine_statement : IsFineStatement F reasons.takes tables tree
   fine_statement = record {
     items = λ e. says.repeated (map (λ (i : ItemTree). i.name) tree.items) e (λ apart. reasons.duplicate (HasRepeatedName.items apart));
     queries = λ {items} {query} {order} of w begun inner by has. fine_query items query order of w begun inner by has;
     columns = λ i before after stand w begun names called. fine_item i before after stand w begun i.columns names called refl;
+    deep = λ {items} {query} {order} of is. reasons.limit (IsBeyondLimit.levels items query order of is);
+    sources = fine_size;
   }
 
   pub names_for_reasons : Only F (named (known_tables tables) tree)

@@ -21,13 +21,13 @@ numbered tables tree = record {
     bare_column = (omega arith, omega arith);
     wrong_place = (omega arith, omega arith);
     bad_frame = (omega arith, omega arith);
-    limit = (omega arith, omega arith);
   };
   unknown_table = λ _. (omega arith, omega arith);
   unknown_column = λ _. (omega arith, omega arith);
   ambiguous = λ _. (omega arith, omega arith);
   duplicate = λ _. (omega arith, omega arith);
   column_count = λ _. (omega arith, omega arith);
+  limit = λ _. (omega arith, omega arith);
 }
 
 types_numbered : TakesTypes IsNameFault
@@ -67,12 +67,13 @@ IsReasonOrMismatch tables tree fault = IsReason tables tree fault ⊎ (TypeMisma
 
 reasons : (tables : List Table) (tree : StatementTree) → HasReasons (IsReasonOrMismatch tables tree) tables tree
 reasons tables tree = record {
-  takes = record { bare_column = inl tt; wrong_place = inl tt; bad_frame = inl tt; limit = inl tt };
+  takes = record { bare_column = inl tt; wrong_place = inl tt; bad_frame = inl tt };
   unknown_table = λ is. inl is;
   unknown_column = λ is. inl is;
   ambiguous = λ is. inl is;
   duplicate = λ is. inl is;
   column_count = λ is. inl is;
+  limit = λ is. inl is;
 }
 
 pub refusals_have_reasons : NameLaws → RefusalsHaveReasons

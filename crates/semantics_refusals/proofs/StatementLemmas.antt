@@ -1,25 +1,23 @@
 -- A statement by its names and types, or why it is no query.
-use Rattle.std.proofs.Common.{◌≡◌, Bool, true, false, if◌then◌else◌, ℕ, suc, List, [], ◌∷◌, ◌++◌, codes, length, map, Result, Ok, Err, All, append_assoc, append-nil, ap, refl, sym, subst, ◌∙◌, nat_eq, nat_le}
-use Rattle.std.specs.Str.{str_eq_ignore_ascii_case}
+use Rattle.std.proofs.Common.{◌≡◌, false, ℕ, suc, List, [], ◌∷◌, ◌++◌, codes, length, map, Result, Ok, Err, All, append_assoc, append-nil, ap, refl, sym, subst, ◌∙◌, nat_eq, nat_le}
 use Rattle.std.proofs.lemmas.List.{map-append}
-use Rattle.std.proofs.lemmas.List.Elements.{All-cons, All-tail, All-head}
 use Rattle.values.specs.declared.fault.Fault.{Fault}
 use Rattle.values.specs.declared.fault.Fault.TheVariants.{ColumnCount, DuplicateName, Limit, UnknownTable}
 use Rattle.values.specs.declared.value.Ty.{Ty}
-use Rattle.semantics.specs.Query.{Body, Source}
+use Rattle.semantics.specs.Query.{Body}
 use Rattle.sql_reader_syntax.specs.ExprTree.{QueryTree, TermTrees}
 use Rattle.sql_reader_syntax.specs.StatementTree.{ItemTree, StatementTree}
 use Rattle.sql_reader_syntax.specs.Tree.{Name}
 use Rattle.semantics_names.specs.Outcome.{each, followed}
 use Rattle.semantics_names.specs.Sources.{Known, known_as}
-use Rattle.semantics_names.specs.Statement.{Named, Queried, With, are_distinct, ended, item_columns, item_of, max_levels, max_sources, named, queried, sources_of_body, with_item, with_items, within}
+use Rattle.semantics_names.specs.Statement.{Named, Queried, With, are_distinct, ended, item_columns, item_of, max_levels, max_sources, named, queried, sources_of_body, with_item, with_items}
 use Rattle.semantics_names.specs.Typed.{Table, column_types, known_from, known_schema, known_tables, typed_query, with_types}
 use Rattle.semantics_names.specs.Types.{body_types, query_types}
 use Rattle.semantics_names.proofs.OutcomeLemmas.{checked-ok, followed-ok}
 use Rattle.semantics_refusals.specs.Columns.{AreListed, HasNames, columns_or, schema_listed, table_listed, tables_listed}
+use Rattle.semantics_refusals.specs.Limits.{IsDeep}
 use Rattle.semantics_refusals.specs.Written.{HasQuery, IsQueryOf}
 use Rattle.semantics_refusals.proofs.EvenLemmas.{IsEvenBody, named_even, tables_even}
-use Rattle.semantics_refusals.proofs.KnownLemmas.{tables_all}
 use Rattle.semantics_refusals.proofs.NameLemmas.{listed_of, queried_names}
 use Rattle.semantics_refusals.proofs.OutcomeLemmas.{Gives, Only, Takes, also_only, checked_only, each_only, followed_only, known_only, ok}
 use Rattle.semantics_refusals.proofs.PartLemmas.{Each, weaker}
@@ -80,37 +78,14 @@ module _ (F : Fault → Type 0) (takes : Takes F) where
   abbrev pub IsFineKnown : Known → Type 0
   IsFineKnown k = Only F k.source
 
-  within_only : (body : Body) → Only F (within body)
-  within_only body = checked_only (nat_le (sources_of_body body) max_sources) Limit (Ok (Source.derived body)) (λ _. takes.limit) (ok (Source.derived body))
-
-  pub items_known : (items : List ItemTree) (w v : With) → with_items w items ≡ Ok v → All IsFineKnown w.known → All IsFineKnown v.known
-  items_known [] w v e all = let same : w ≡ v = cc in subst (λ (w : With). All IsFineKnown w.known) same all
-  items_known (i ∷ items) w v e all =
-      let (m, is, more) = followed-ok (item_of w i) (λ more. with_items more items) v e in
-      let (q, columns, taken, named, same) = item_taken w m i is in
-      items_known items m v more (subst (λ (w : With). All IsFineKnown w.known) same (All-cons IsFineKnown _ w.known (within_only q.body) all))
-
-  pub all_known : (tables : List Table) → All IsFineKnown (known_tables tables)
-  all_known tables = tables_all IsFineKnown tables (λ at t _. ok _) (λ name. ok _)
-
   -- a name that is no source is one that nothing is called
-  pub known_gives : (known : List Known) (name : Name) → All IsFineKnown known → (All (IsOther name) known → F UnknownTable)
-      → Gives F IsFineKnown (known_as known name)
-  known_gives known name all unknown = by (known_as known name) refl (found known name all)
+  pub known_gives : (known : List Known) (name : Name) → ((k : Known) → known_as known name ≡ Ok k → IsFineKnown k)
+      → (All (IsOther name) known → F UnknownTable) → Gives F IsFineKnown (known_as known name)
+  known_gives known name found unknown = by (known_as known name) refl
     where
-      found : (known : List Known) (name : Name) → All IsFineKnown known → (k : Known) → known_as known name ≡ Ok k → IsFineKnown k
-      found [] name all k e = absurd cc
-      found (other ∷ known) name all k e =
-          taken (str_eq_ignore_ascii_case other.name name) e (All-head IsFineKnown other known all) (found known name (All-tail IsFineKnown other known all) k)
-        where
-          taken : (b : Bool) → (if b then Ok other else known_as known name) ≡ Ok k → IsFineKnown other → (known_as known name ≡ Ok k → IsFineKnown k)
-              → IsFineKnown k
-          taken true e first more = let same : other ≡ k = cc in subst IsFineKnown same first
-          taken false e first more = more e
-
-      by : (r : Result Known Fault) → known_as known name ≡ r → ((k : Known) → known_as known name ≡ Ok k → IsFineKnown k) → Gives F IsFineKnown r
-      by (Ok k) e so = record { is = so k e }
-      by (Err fault) e so = record { is = subst F (unknown_is known name fault e) (unknown (unknown_none known name fault e)) }
+      by : (r : Result Known Fault) → known_as known name ≡ r → Gives F IsFineKnown r
+      by (Ok k) e = record { is = found k e }
+      by (Err fault) e = record { is = subst F (unknown_is known name fault e) (unknown (unknown_none known name fault e)) }
 
   module _ (tables : List Table) (tree : StatementTree) where
     -- what has to hold of a statement, so that of its fault this holds
@@ -122,13 +97,18 @@ module _ (F : Fault → Type 0) (takes : Takes F) where
       pub columns : (i : ItemTree) (before after : List ItemTree) → tree.items ≡ before ++ i ∷ after → (w : With)
           → with_items (no_items (known_tables tables)) before ≡ Ok w → (names : List Name) → HasNames (listed_of w.known) i.query names
           → Only F (item_columns i.columns names)
+      pub deep : {items : List ItemTree} {query : QueryTree} {order : TermTrees} → IsQueryOf tree items query order → IsDeep max_levels query order
+          → F Limit
+      pub sources : (w : With) → with_items (no_items (known_tables tables)) tree.items ≡ Ok w → (q : Queried)
+          → queried max_levels w.known tree.query tree.order ≡ Ok q → nat_le (sources_of_body q.body) max_sources ≡ false → F Limit
 
     module _ (fine : IsFineStatement) where
       item_only : (i : ItemTree) (before after : List ItemTree) (w : With) → tree.items ≡ before ++ i ∷ after
           → with_items (no_items (known_tables tables)) before ≡ Ok w → Only F (item_of w i)
       item_only i before after w are begun =
           known_only (queried max_levels w.known i.query TermTrees.No_term) _
-          (queried_only F takes max_levels w.known i.query TermTrees.No_term (fine.queries (IsQueryOf.item before i after are) w begun))
+          (queried_only F takes max_levels w.known i.query TermTrees.No_term (fine.queries (IsQueryOf.item before i after are) w begun)
+          (fine.deep (IsQueryOf.item before i after are)))
           (λ q is. also_only (with_item w i q) (item_columns i.columns q.names)
           (fine.columns i before after are w begun q.names (queried_names max_levels w.known i.query TermTrees.No_term q is)))
 
@@ -140,16 +120,17 @@ module _ (F : Fault → Type 0) (takes : Takes F) where
           items_only (before ++ i ∷ []) after m (are ∙ sym (append_assoc before (i ∷ []) after))
           (with_more (no_items (known_tables tables)) w before (i ∷ []) begun ∙ ap (λ r. followed r (λ more. with_items more [])) is))
 
-      ended_only : (beside : List Body) (q : Queried) → Only F (ended tree beside q)
-      ended_only beside q = checked_only (nat_le (sources_of_body q.body) max_sources) Limit _ (λ _. takes.limit) (ok _)
+      ended_only : (beside : List Body) (q : Queried) → (nat_le (sources_of_body q.body) max_sources ≡ false → F Limit) → Only F (ended tree beside q)
+      ended_only beside q few = checked_only (nat_le (sources_of_body q.body) max_sources) Limit _ few (ok _)
 
       pub named_only : Only F (named (known_tables tables) tree)
       named_only =
           checked_only (are_distinct (map (λ (i : ItemTree). i.name) tree.items)) DuplicateName _ fine.items
           (known_only (with_items (no_items (known_tables tables)) tree.items) _ (items_only [] tree.items (no_items (known_tables tables)) refl refl)
           (λ w begun.
-          followed_only (queried max_levels w.known tree.query tree.order) (ended tree w.beside)
-          (queried_only F takes max_levels w.known tree.query tree.order (fine.queries IsQueryOf.whole w begun)) (ended_only w.beside)))
+          known_only (queried max_levels w.known tree.query tree.order) (ended tree w.beside)
+          (queried_only F takes max_levels w.known tree.query tree.order (fine.queries IsQueryOf.whole w begun) (fine.deep IsQueryOf.whole))
+          (λ q is. ended_only w.beside q (fine.sources w begun q is))))
 
       types_only : TakesTypes F → (types : List (List Ty)) (n : Named) → IsEvenBody types n.query.body → Each (IsEvenBody types) n.beside
           → Only F (with_types types n)

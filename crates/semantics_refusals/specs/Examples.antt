@@ -1,10 +1,12 @@
 -- Worked statements, and what is written in them.
-use Rattle.std.specs.Prelude.{false, [], ◌∷◌, codes, None}
-use Rattle.sql_reader_syntax.specs.ExprTree.{ExprTree, FromTree, ResultTree, SourceTree}
+use Rattle.std.specs.Prelude.{false, ℕ, zero, suc, [], ◌∷◌, codes, replicate, None}
+use Rattle.sql_reader_syntax.specs.ExprTree.{ExprTree, FromTree, OnTree, QueryTree, ResultTree, SourceTree}
 use Rattle.sql_reader_syntax.specs.StatementTree.{StatementTree}
 use Rattle.sql_reader_syntax.specs.declared.expr.BinaryOperator.TheVariants.{Add, Concatenate}
+use Rattle.sql_reader_syntax.specs.declared.query.Join.TheVariants.{Inner}
 use Rattle.semantics_names.specs.RefusedExamples.{alias_in_where, arms_of_two_types, in_two_sources, item_in_itself, mismatch, other_type, outer_column, star_of_none, twice, two_columns, two_named, two_of_one_name, uneven, uneven_item, unknown_column, unknown_table, untyped_item, unused_window, windows_of_one_name}
 use Rattle.semantics_names.specs.Worked.{by_term, called, id, item, name_alone, number, one, ordered, select, shown, statement, table, tables, with, with_item, without_from}
+use Rattle.semantics_refusals.specs.Limits.{IsBeyondLimit}
 use Rattle.semantics_refusals.specs.Mismatches.{IsMistyped}
 use Rattle.semantics_refusals.specs.RepeatedNames.{HasRepeatedName}
 use Rattle.semantics_refusals.specs.UnevenColumns.{HasUnevenColumns}
@@ -34,6 +36,20 @@ of_null_alone =
     ∷ [])
     (FromTree.First (SourceTree.Derived (without_from (called ExprTree.Null (codes "x") ∷ [])) None)))
 
+-- SELECT 1, 1, .., so many
+abbrev pub ones : ℕ → StatementTree
+ones n = statement (without_from (replicate n (shown (number 1))))
+
+-- (SELECT 1), (SELECT 1), .., one more than so many
+abbrev pub from_ones : ℕ → FromTree
+from_ones zero = FromTree.First (SourceTree.Derived one None)
+from_ones (suc n) = FromTree.Joined (from_ones n) Inner (SourceTree.Derived one None) OnTree.Always
+
+-- SELECT 1 FROM (SELECT 1 FROM .. (SELECT 1)), so many in the first
+abbrev pub levels : ℕ → QueryTree
+levels zero = one
+levels (suc n) = select (shown (number 1) ∷ []) (FromTree.First (SourceTree.Derived (levels n) None))
+
 -- what is written in each that is refused so
 abbrev pub ReasonsAreWritten : Type 0
 ReasonsAreWritten =
@@ -45,6 +61,8 @@ ReasonsAreWritten =
     × HasRepeatedName twice × HasRepeatedName two_of_one_name × HasRepeatedName windows_of_one_name
     × IsMistyped tables mismatch × IsMistyped tables other_type × IsMistyped tables unused_window × IsMistyped tables arms_of_two_types
     × IsMistyped tables untyped_item
+    × IsBeyondLimit tables (ones 101) × IsBeyondLimit tables (statement (select (shown (number 1) ∷ []) (from_ones 64)))
+    × IsBeyondLimit tables (statement (levels 100))
 
 -- and that nothing of it is in others
 abbrev pub NothingIsWritten : Type 0
@@ -52,3 +70,5 @@ NothingIsWritten =
     (¬ HasUnknownSource tables items_of_items) × (¬ HasUnevenColumns tables items_of_items) × (¬ HasRepeatedName items_of_items)
     × (¬ HasUnknownColumn tables sorted_by_alias) × (¬ HasAmbiguousColumn tables sorted_by_alias)
     × (¬ IsMistyped tables items_of_items) × (¬ IsMistyped tables of_null_alone)
+    × (¬ IsBeyondLimit tables (ones 100)) × (¬ IsBeyondLimit tables (statement (select (shown (number 1) ∷ []) (from_ones 63))))
+    × (¬ IsBeyondLimit tables (statement (levels 64)))

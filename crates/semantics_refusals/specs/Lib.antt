@@ -8,6 +8,7 @@ pub mod RepeatedNames
 pub mod UnevenColumns
 pub mod Clashes
 pub mod Mismatches
+pub mod Limits
 pub mod Reasons
 pub mod Examples
 pub mod TypeExamples

@@ -1,5 +1,6 @@
 //! What holds of the definitions alone.
 ghost use Rattle.semantics_refusals.specs.Examples.{NothingIsWritten, ReasonsAreWritten};
+ghost use Rattle.semantics_refusals.specs.Limits.{BeyondLimitIsRefused};
 ghost use Rattle.semantics_refusals.specs.Mismatches.{MistypedIsMismatch, MistypedIsRefused};
 ghost use Rattle.semantics_refusals.specs.Reasons.{RefusalsHaveReasons};
 ghost use Rattle.semantics_refusals.specs.Refusals.{RefusalsAreNumbered};
@@ -19,10 +20,10 @@ pub fn refusals_are_numbered()
     ensures { RefusalsAreNumbered }
 {}
 
-/// Where a statement is refused as one with an unknown source, an unknown or an ambiguous column, numbers of columns that differ, or
-/// a name that stands twice, this is written somewhere in it; and where it is refused because types don't agree, some operator in it
-/// has no type over operands that each have one, an expression is of another type than its place wants, or columns that a compound
-/// joins are of different types.
+/// Where a statement is refused as one with an unknown source, an unknown or an ambiguous column, numbers of columns that differ,
+/// a name that stands twice, or more columns, levels or sources than there may be, this is written somewhere in it; and where it is
+/// refused because types don't agree, some operator in it has no type over operands that each have one, an expression is of another
+/// type than its place wants, or columns that a compound joins are of different types.
 pub fn refusals_have_reasons()
     ensures { RefusalsHaveReasons }
 {
@@ -37,6 +38,7 @@ pub fn reasons_refuse()
     ensures ambiguous { AmbiguousColumnIsRefused }
     ensures uneven { UnevenIsRefused }
     ensures repeated { RepeatedIsRefused }
+    ensures limit { BeyondLimitIsRefused }
     ensures mistyped { MistypedIsRefused }
     ensures mismatch { MistypedIsMismatch }
 {

@@ -1,3 +1,4 @@
+use Rattle.semantics_refusals.proofs.LimitLemmas as limits
 use Rattle.semantics_refusals.proofs.MistypedFaultLemmas as faults
 use Rattle.semantics_refusals.proofs.MistypedQueryLemmas as types
 use Rattle.semantics_refusals.proofs.RepeatedLemmas as names
@@ -20,6 +21,9 @@ returns-clause-uneven c = numbers.uneven_is_refused
 
 pub returns-clause-repeated : goal.returns-clause-repeated
 returns-clause-repeated c = names.repeated_is_refused c.names_are_distinct.ensures.names
+
+pub returns-clause-limit : goal.returns-clause-limit
+returns-clause-limit c = limits.beyond_limit_is_refused
 
 pub returns-clause-mistyped : goal.returns-clause-mistyped
 returns-clause-mistyped c = types.mistyped_is_refused c.typed_is_taken.ensures
