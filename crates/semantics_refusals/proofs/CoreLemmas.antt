@@ -1,5 +1,5 @@
 -- One SELECT behind its FROM, or why it is none.
-use Rattle.std.proofs.Common.{◌≡◌, ◌⊎◌, inl, inr, Bool, false, ℕ, suc, ℤ, pos, List, [], ◌∷◌, ◌++◌, length, Option, Some, None, Result, Ok, Err, Contains, nat_le, nat_lt, ap, refl, subst, sym, ◌∙◌}
+use Rattle.std.proofs.Common.{◌≡◌, ◌⊎◌, inl, inr, Bool, false, ℕ, suc, ℤ, pos, List, [], ◌∷◌, ◌++◌, length, map, Option, Some, None, Result, Ok, Err, Contains, nat_le, nat_lt, ap, refl, subst, sym, ◌∙◌}
 use Rattle.std.specs.List.{filter_map}
 use Rattle.std.proofs.lemmas.List.{length-map}
 use Rattle.std.proofs.lemmas.List.Elements.{Contains-append_left, Contains-append_right, Contains-push}
@@ -11,10 +11,12 @@ use Rattle.sql_reader_syntax.specs.Tree.{Name}
 use Rattle.semantics.specs.Query.{Aggregate, KeyTerm, WindowCall}
 use Rattle.semantics_names.specs.Expression.{Answers, Says, term_of}
 use Rattle.semantics_names.specs.Parts.{all_parts, definitions_parts, maybe_parts, parts, parts_behind_groups, results_parts, terms_parts, window_parts}
-use Rattle.semantics_names.specs.Places.{Defined, aggregate_of, call_of, columns_say, groups_say, key_column, window_of, windows_say}
+use Rattle.semantics_names.specs.Places.{Defined, aggregate_of, call_of, columns_say, frame_of, groups_say, key_column, window_of, windows_say}
 use Rattle.semantics_names.specs.Same.{is_same_aggregate, is_same_call}
 use Rattle.semantics_names.specs.Scope.{Scope}
 use Rattle.semantics_names.specs.Statement.{Input, ResultColumn, all_results, are_distinct, as_input, behind_groups, by_of, condition_of, core_of, defined_of, finished, firsts, group_term, grouped, input_of, key_term, keys_of, max_columns, named_at, named_or, no_number, no_row, number_alone, numbered, numbered_or, on_row, one_or, or_bare, result, results_of, select_of, shown, some_of, starred, starred_of, ungrouped, window_names}
+use Rattle.semantics_names.proofs.OutcomeLemmas.{both-ok}
+use Rattle.semantics_refusals.specs.BadFrames.{defined_in}
 use Rattle.semantics_refusals.specs.Columns.{names_of_results, results_in}
 use Rattle.semantics_refusals.specs.UnknownColumns.{IsNamedAt}
 use Rattle.semantics_refusals.specs.Written.{spoken_in, stars_in, terms_in, windows_in}
@@ -23,7 +25,7 @@ use Rattle.semantics_refusals.proofs.OutcomeLemmas.{Gives, Only, OnlySome, Takes
 use Rattle.semantics_refusals.proofs.PartLemmas.{Deep, Each, back, deep, deep_spoken, first, front, itself, join, none, one, rest, weaker}
 use Rattle.semantics_refusals.proofs.PlaceLemmas.{aggregate_only, call_only, groups_only, said_of, window_only, windows_only}
 use Rattle.semantics_refusals.proofs.ScopeLemmas.{named_none}
-use Rattle.semantics_refusals.proofs.TermLemmas.{Sound, term_only}
+use Rattle.semantics_refusals.proofs.TermLemmas.{Sound, frame_in, term_only}
 
 -- a name alone in ORDER BY isn't that of two result columns
 pub record IsFineOrder (F : Fault → Type 0) (order : TermTrees) (names : List Name) : Type 0 where
@@ -51,6 +53,15 @@ loose_terms {P = P} {names = names} (TermTrees.Term e direction others) all =
         → Each (IsLoose P) (parts e)
     by e (inl (alone, at, same, is)) = subst (λ e. Each (IsLoose P) (parts e)) (sym same) (one (record { is = inl (None, alone, refl) }))
     by e (inr of) = loose (deep e of)
+
+-- the windows of a SELECT are called as they are defined
+pub defined_names : (answers : Answers) (says : Says) (windows : DefinitionTrees) (defined : List Defined) → defined_of answers says windows ≡ Ok defined
+    → map (λ (d : Defined). d.name) defined ≡ window_names windows
+defined_names answers says DefinitionTrees.No_definition defined e =
+    let same : [] ≡ defined = cc in ap (map (λ (d : Defined). d.name)) (sym same)
+defined_names answers says (DefinitionTrees.Definition name v others) defined e =
+    let (made, more, first, last, same) = both-ok _ (window_of answers says v) (defined_of answers says others) defined e in
+    ap (map (λ (d : Defined). d.name)) (sym same) ∙ ap (λ names. name ∷ names) (defined_names answers says others more last)
 
 -- `t.*` stands for some column
 pub record IsFineStar (F : Fault → Type 0) (scope : Scope) (table : Name) : Type 0 where
@@ -126,13 +137,13 @@ module _ (F : Fault → Type 0) (takes : Takes F) where
   or_bare_only (Some t) = ok t
   or_bare_only None = refused BareColumn takes.bare_column
 
-  module _ (answers : Answers) (scope : Scope) where
+  module _ (defines : List Name) (answers : Answers) (scope : Scope) where
     abbrev Base : ExprTree → Type 0
-    Base = Sound F answers (columns_say scope)
+    Base = Sound F defines answers (columns_say scope)
 
     -- what is said of a part
     record Speaks (says : Says) : Type 0 where
-      so : (part : ExprTree) → Each (Sound F answers (columns_say scope)) (parts part) → Sound F answers says part
+      so : (part : ExprTree) → Each (Sound F defines answers (columns_say scope)) (parts part) → Sound F defines answers says part
 
     columns_speak : Speaks (columns_say scope)
     columns_speak = record { so = λ part all. itself part all }
@@ -140,8 +151,9 @@ module _ (F : Fault → Type 0) (takes : Takes F) where
     groups_speak : (by : List Term) (aggregates : List Aggregate) → Speaks (groups_say answers scope by aggregates)
     groups_speak by aggregates = record {
       so = λ part all. record {
-        said = groups_only F takes answers scope by aggregates part all;
+        said = groups_only F takes defines answers scope by aggregates part all;
         answered = (itself part all).answered;
+        framed = (itself part all).framed;
       };
     }
 
@@ -150,22 +162,24 @@ module _ (F : Fault → Type 0) (takes : Takes F) where
       speaks : Speaks input.says
       over : (t : Term) → Only F (input.over_input t)
 
-    windows_speak : (input : Input) → Speaks input.says → (defined : List Defined) (calls : List WindowCall)
+    windows_speak : (input : Input) → Speaks input.says → (defined : List Defined) → map (λ (d : Defined). d.name) defined ≡ defines
+        → (calls : List WindowCall)
         → Speaks (windows_say answers input.says defined input.width calls)
-    windows_speak input speaks defined calls = record {
+    windows_speak input speaks defined named calls = record {
       so = λ part all. record {
-        said = windows_only F takes answers input.says defined input.width calls part (said_of F takes answers input.says speaks.so (deep part all));
+        said = windows_only F takes defines answers input.says defined named input.width calls part (said_of F takes defines answers input.says speaks.so (deep part all));
         answered = (itself part all).answered;
+        framed = (itself part all).framed;
       };
     }
 
     ungrouped_is : IsInput (ungrouped scope)
     ungrouped_is = record { speaks = columns_speak; over = λ t. ok t }
 
-    term_so : (says : Says) → Speaks says → (e : ExprTree) → Each (Deep (Sound F answers (columns_say scope))) (parts e) → Only F (term_of answers says e)
-    term_so says speaks e all = term_only F takes.wrong_place answers says e (said_of F takes answers says speaks.so all)
+    term_so : (says : Says) → Speaks says → (e : ExprTree) → Each (Deep (Sound F defines answers (columns_say scope))) (parts e) → Only F (term_of answers says e)
+    term_so says speaks e all = term_only F takes.wrong_place defines answers says e (said_of F takes defines answers says speaks.so all)
 
-    condition_only : (says : Says) → Speaks says → (condition : MaybeExpr) → Each (Deep (Sound F answers (columns_say scope))) (maybe_parts condition)
+    condition_only : (says : Says) → Speaks says → (condition : MaybeExpr) → Each (Deep (Sound F defines answers (columns_say scope))) (maybe_parts condition)
         → Only F (condition_of answers says condition)
     condition_only says speaks MaybeExpr.Absent all = ok _
     condition_only says speaks (MaybeExpr.Present e) all = term_so says speaks e all
@@ -175,7 +189,7 @@ module _ (F : Fault → Type 0) (takes : Takes F) where
 
     module _ (input : Input) (is : IsInput input) (says : Says) (speaks : Speaks says) where
       all_only_of : (results : ResultTrees) → Each (IsFineStar F scope) (stars_in results)
-          → Each (Deep (Sound F answers (columns_say scope))) (results_parts results)
+          → Each (Deep (Sound F defines answers (columns_say scope))) (results_parts results)
           → Only F (all_results answers scope input says results)
       all_only_of ResultTrees.No_result stars all = ok _
       all_only_of (ResultTrees.Result ResultTree.All rs) stars all =
@@ -193,20 +207,20 @@ module _ (F : Fault → Type 0) (takes : Takes F) where
           (also_only _ (term_of answers says e) (term_so says speaks e (front (parts e) (results_parts rs) all)))
           (all_only_of rs stars (back (parts e) (results_parts rs) all))
 
-    row_only : (distinct : Bool) (says : Says) → Speaks says → (e : ExprTree) → Each (Deep (Sound F answers (columns_say scope))) (parts e)
+    row_only : (distinct : Bool) (says : Says) → Speaks says → (e : ExprTree) → Each (Deep (Sound F defines answers (columns_say scope))) (parts e)
         → Only F (on_row answers distinct says e)
     row_only distinct says speaks e all =
         if_only distinct (Err WrongPlace) _ (λ _. refused WrongPlace takes.wrong_place)
         (also_only KeyTerm.term (term_of answers says e) (term_so says speaks e all))
 
-    grouped_gives : (by : List Term) (aggregates : List Aggregate) (having : MaybeExpr) → Each (Deep (Sound F answers (columns_say scope))) (maybe_parts having)
+    grouped_gives : (by : List Term) (aggregates : List Aggregate) (having : MaybeExpr) → Each (Deep (Sound F defines answers (columns_say scope))) (maybe_parts having)
         → Gives F IsInput (grouped answers scope by aggregates having)
     grouped_gives by aggregates having all =
         also_gives IsInput _ (condition_of answers (groups_say answers scope by aggregates) having)
         (condition_only (groups_say answers scope by aggregates) (groups_speak by aggregates) having all)
         (λ h. record { speaks = groups_speak by aggregates; over = λ t. or_bare_only (key_column by (Ok t)) })
 
-    input_gives : (by : List Term) (aggregates : List Aggregate) (having : MaybeExpr) → Each (Deep (Sound F answers (columns_say scope))) (maybe_parts having)
+    input_gives : (by : List Term) (aggregates : List Aggregate) (having : MaybeExpr) → Each (Deep (Sound F defines answers (columns_say scope))) (maybe_parts having)
         → Gives F IsInput (input_of answers scope by aggregates having)
     input_gives [] [] having all = record { is = ungrouped_is }
     input_gives [] (a ∷ aggregates) having all = grouped_gives [] (a ∷ aggregates) having all
@@ -216,38 +230,39 @@ module _ (F : Fault → Type 0) (takes : Takes F) where
     no_number_only (Some z) t o = refused WrongPlace takes.wrong_place
     no_number_only None t o = o
 
-    by_only : (by : ExprTrees) → Each (Deep (Sound F answers (columns_say scope))) (all_parts by) → Only F (by_of answers scope by)
+    by_only : (by : ExprTrees) → Each (Deep (Sound F defines answers (columns_say scope))) (all_parts by) → Only F (by_of answers scope by)
     by_only ExprTrees.No_more all = ok _
     by_only (ExprTrees.More e others) all =
         both_only ◌∷◌ (group_term answers scope e) (by_of answers scope others)
         (no_number_only (number_alone e) (term_of answers (columns_say scope) e)
         (term_so (columns_say scope) columns_speak e (front (parts e) (all_parts others) all))) (by_only others (back (parts e) (all_parts others) all))
 
-    defined_only : (says : Says) → Speaks says → (windows : DefinitionTrees) → Each (Deep (Sound F answers (columns_say scope))) (definitions_parts windows)
-        → Only F (defined_of answers says windows)
-    defined_only says speaks DefinitionTrees.No_definition all = ok _
-    defined_only says speaks (DefinitionTrees.Definition name v others) all =
+    defined_only : (says : Says) → Speaks says → (windows : DefinitionTrees) → Each (Deep (Sound F defines answers (columns_say scope))) (definitions_parts windows)
+        → Each (λ w. Only F (frame_of (frame_in w))) (defined_in windows) → Only F (defined_of answers says windows)
+    defined_only says speaks DefinitionTrees.No_definition all frames = ok _
+    defined_only says speaks (DefinitionTrees.Definition name v others) all frames =
         both_only _ (window_of answers says v) (defined_of answers says others)
-        (window_only F takes answers says v (said_of F takes answers says speaks.so (front (window_parts v) (definitions_parts others) all)))
-        (defined_only says speaks others (back (window_parts v) (definitions_parts others) all))
+        (window_only F takes defines answers says v (said_of F takes defines answers says speaks.so (front (window_parts v) (definitions_parts others) all))
+        (first frames))
+        (defined_only says speaks others (back (window_parts v) (definitions_parts others) all) (rest frames))
 
     -- a name alone is neither an aggregate nor a windowed function
-    loose_aggregate : (part : ExprTree) → IsLoose (Sound F answers (columns_say scope)) part → OnlySome F (aggregate_of answers (columns_say scope) part)
+    loose_aggregate : (part : ExprTree) → IsLoose (Sound F defines answers (columns_say scope)) part → OnlySome F (aggregate_of answers (columns_say scope) part)
     loose_aggregate part is = by is.is
       where
-        by : ((table : Option Name) × (name : Name) × (part ≡ ExprTree.Column table name)) ⊎ Each (Sound F answers (columns_say scope)) (parts part)
+        by : ((table : Option Name) × (name : Name) × (part ≡ ExprTree.Column table name)) ⊎ Each (Sound F defines answers (columns_say scope)) (parts part)
             → OnlySome F (aggregate_of answers (columns_say scope) part)
         by (inl (table, name, same)) = subst (λ part. OnlySome F (aggregate_of answers (columns_say scope) part)) (sym same) nothing
-        by (inr all) = aggregate_only F takes answers (columns_say scope) part all
+        by (inr all) = aggregate_only F takes defines answers (columns_say scope) part all
 
-    loose_call : (says : Says) → Speaks says → (defined : List Defined) (part : ExprTree) → IsLoose (Sound F answers (columns_say scope)) part
+    loose_call : (says : Says) → Speaks says → (defined : List Defined) → map (λ (d : Defined). d.name) defined ≡ defines → (part : ExprTree) → IsLoose (Sound F defines answers (columns_say scope)) part
         → OnlySome F (call_of answers says defined part)
-    loose_call says speaks defined part is = by is.is
+    loose_call says speaks defined named part is = by is.is
       where
-        by : ((table : Option Name) × (name : Name) × (part ≡ ExprTree.Column table name)) ⊎ Each (Sound F answers (columns_say scope)) (parts part)
+        by : ((table : Option Name) × (name : Name) × (part ≡ ExprTree.Column table name)) ⊎ Each (Sound F defines answers (columns_say scope)) (parts part)
             → OnlySome F (call_of answers says defined part)
         by (inl (table, name, same)) = subst (λ part. OnlySome F (call_of answers says defined part)) (sym same) nothing
-        by (inr all) = call_only F takes answers says defined part (said_of F takes answers says speaks.so (deep part all))
+        by (inr all) = call_only F takes defines answers says defined named part (said_of F takes defines answers says speaks.so (deep part all))
 
     module _ (distinct : Bool) (results : ResultTrees) (order : TermTrees) (behind : List ExprTree) where
       -- what has to hold of its parts
@@ -255,9 +270,9 @@ module _ (F : Fault → Type 0) (takes : Takes F) where
         stars : Each (IsFineStar F scope) (stars_in results)
         in_order : IsFineOrder F order (names_of_results scope results)
         narrow : nat_le (length (names_of_results scope results)) max_columns ≡ false → F Limit
-        in_results : Each (Deep (Sound F answers (columns_say scope))) (results_parts results)
-        in_terms : Each (IsFineTerm (Sound F answers (columns_say scope)) (names_of_results scope results)) (terms_in order)
-        in_behind : Each (IsLoose (Sound F answers (columns_say scope))) behind
+        in_results : Each (Deep (Sound F defines answers (columns_say scope))) (results_parts results)
+        in_terms : Each (IsFineTerm (Sound F defines answers (columns_say scope)) (names_of_results scope results)) (terms_in order)
+        in_behind : Each (IsLoose (Sound F defines answers (columns_say scope))) behind
 
       as_many : (input : Input) (says : Says) (columns : List ResultColumn) → all_results answers scope input says results ≡ Ok columns
           → length columns ≡ length (names_of_results scope results)
@@ -271,30 +286,33 @@ module _ (F : Fault → Type 0) (takes : Takes F) where
           checked_only (nat_le (length columns) max_columns) Limit _ (λ e.
           fine.narrow (subst (λ n. nat_le n max_columns ≡ false) (as_many input says columns given) e))
           (also_only (finished distinct condition input.grouping defined calls columns) _
-          (keys_only (names_in columns) (on_row answers distinct says) (Sound F answers (columns_say scope))
+          (keys_only (names_in columns) (on_row answers distinct says) (Sound F defines answers (columns_say scope))
           (λ e all. row_only distinct says speaks e (deep e all)) order
           (subst (IsFineOrder F order) (sym (all_names answers input scope says results columns given)) fine.in_order)
-          (subst (λ names. Each (IsFineTerm (Sound F answers (columns_say scope)) names) (terms_in order))
+          (subst (λ names. Each (IsFineTerm (Sound F defines answers (columns_say scope)) names) (terms_in order))
           (sym (all_names answers input scope says results columns given)) fine.in_terms))))
 
       behind_only : (windows : DefinitionTrees) (condition : Term) (input : Input) → IsInput input → IsFine
-          → (are_distinct (window_names windows) ≡ false → F DuplicateName) → Each (Deep (Sound F answers (columns_say scope))) (definitions_parts windows)
+          → (are_distinct (window_names windows) ≡ false → F DuplicateName) → Each (Deep (Sound F defines answers (columns_say scope))) (definitions_parts windows)
+          → Each (λ w. Only F (frame_of (frame_in w))) (defined_in windows) → window_names windows ≡ defines
           → Only F (behind_groups answers scope distinct results order behind windows condition input)
-      behind_only windows condition input is fine apart all =
+      behind_only windows condition input is fine apart all frames same =
           checked_only (are_distinct (window_names windows)) DuplicateName _ apart
-          (followed_only (defined_of answers input.says windows) _ (defined_only input.says is.speaks windows all) (λ defined.
+          (known_only (defined_of answers input.says windows) _ (defined_only input.says is.speaks windows all frames) (λ defined made.
+          let named : map (λ (d : Defined). d.name) defined ≡ defines = defined_names answers input.says windows defined made ∙ same in
           followed_only (firsts is_same_call [] (filter_map (call_of answers input.says defined) behind)) _
           (firsts_only is_same_call [] (call_of answers input.says defined) behind
-          (weaker (λ part of. loose_call input.says is.speaks defined part of) fine.in_behind))
+          (weaker (λ part of. loose_call input.says is.speaks defined named part of) fine.in_behind))
           (λ calls. shown_only condition input defined calls (windows_say answers input.says defined input.width calls) is
-          (windows_speak input is.speaks defined calls) fine)))
+          (windows_speak input is.speaks defined named calls) fine)))
 
       select_only : (condition : MaybeExpr) (by : ExprTrees) (having : MaybeExpr) (windows : DefinitionTrees) → IsFine
-          → (are_distinct (window_names windows) ≡ false → F DuplicateName) → Each (Deep (Sound F answers (columns_say scope))) (maybe_parts condition)
-          → Each (Deep (Sound F answers (columns_say scope))) (all_parts by) → Each (Deep (Sound F answers (columns_say scope))) (maybe_parts having)
-          → Each (Deep (Sound F answers (columns_say scope))) (definitions_parts windows)
+          → (are_distinct (window_names windows) ≡ false → F DuplicateName) → Each (Deep (Sound F defines answers (columns_say scope))) (maybe_parts condition)
+          → Each (Deep (Sound F defines answers (columns_say scope))) (all_parts by) → Each (Deep (Sound F defines answers (columns_say scope))) (maybe_parts having)
+          → Each (Deep (Sound F defines answers (columns_say scope))) (definitions_parts windows)
+          → Each (λ w. Only F (frame_of (frame_in w))) (defined_in windows) → window_names windows ≡ defines
           → Only F (select_of answers scope distinct results order behind condition by having windows)
-      select_only condition by having windows fine apart in_condition in_by in_having in_windows =
+      select_only condition by having windows fine apart in_condition in_by in_having in_windows frames same =
           followed_only (condition_of answers (columns_say scope) condition) _ (condition_only (columns_say scope) columns_speak condition in_condition)
           (λ test.
           followed_only (by_of answers scope by) _ (by_only by in_by) (λ keys.
@@ -304,14 +322,16 @@ module _ (F : Fault → Type 0) (takes : Takes F) where
           (λ aggregates.
           followed_gives IsInput (λ _. Unit {0}) (input_of answers scope keys aggregates having)
           (behind_groups answers scope distinct results order behind windows test) (input_gives keys aggregates having in_having)
-          (λ input is. behind_only windows test input is fine apart in_windows))))
+          (λ input is. behind_only windows test input is fine apart in_windows frames same))))
 
-    pub core_only : (core : CoreTree) (order : TermTrees) → Each (Sound F answers (columns_say scope)) (spoken_in core)
-        → Each (IsFineTerm (Sound F answers (columns_say scope)) (names_of_results scope (results_in core))) (terms_in order)
+    pub core_only : (core : CoreTree) (order : TermTrees) → Each (Sound F defines answers (columns_say scope)) (spoken_in core)
+        → Each (IsFineTerm (Sound F defines answers (columns_say scope)) (names_of_results scope (results_in core))) (terms_in order)
         → Each (IsFineStar F scope) (stars_in (results_in core)) → (are_distinct (window_names (windows_in core)) ≡ false → F DuplicateName)
         → IsFineOrder F order (names_of_results scope (results_in core))
-        → (nat_le (length (names_of_results scope (results_in core))) max_columns ≡ false → F Limit) → Only F (core_of answers scope core order)
-    core_only (CoreTree.Select distinct results from condition by having windows) order all in_terms stars apart in_order narrow =
+        → (nat_le (length (names_of_results scope (results_in core))) max_columns ≡ false → F Limit)
+        → Each (λ w. Only F (frame_of (frame_in w))) (defined_in (windows_in core)) → window_names (windows_in core) ≡ defines
+        → Only F (core_of answers scope core order)
+    core_only (CoreTree.Select distinct results from condition by having windows) order all in_terms stars apart in_order narrow frames same =
         let r = results_parts results in
         let c = maybe_parts condition in
         let b = all_parts by in
@@ -336,4 +356,4 @@ module _ (F : Fault → Type 0) (takes : Takes F) where
           in_terms = in_terms;
           in_behind =
               join (r ++ h ++ d) (terms_parts order) (loose (join (r ++ h) d (join r h in_results in_having) in_windows)) (loose_terms order in_terms);
-        }) apart in_condition in_by in_having in_windows
+        }) apart in_condition in_by in_having in_windows frames same

@@ -74,7 +74,7 @@ module _ (answers : Answers) (scope : Scope) where
   condition_told says tells MaybeExpr.Absent t e = none
   condition_told says tells (MaybeExpr.Present x) t e = told scope answers says tells x t e
 
-  group_told : (e : ExprTree) (t : Term) → group_term answers scope e ≡ Ok t → term_of answers (columns_say scope) e ≡ Ok t
+  pub group_told : (e : ExprTree) (t : Term) → group_term answers scope e ≡ Ok t → term_of answers (columns_say scope) e ≡ Ok t
   group_told e t made = by (number_alone e) made
     where
       by : (number : Option ℤ) → no_number number (term_of answers (columns_say scope) e) ≡ Ok t

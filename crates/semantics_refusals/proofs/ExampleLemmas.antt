@@ -6,13 +6,13 @@ use Rattle.values.specs.declared.fault.Fault.TheVariants as f
 use Rattle.sql_reader_syntax.specs.ExprTree.{CoreTree, DefinitionTrees, ExprTree, ExprTrees, MaybeExpr, QueryTree, SourceTree, TermTrees}
 use Rattle.sql_reader_syntax.specs.StatementTree.{ItemTree, StatementTree}
 use Rattle.sql_reader_syntax.specs.Tree.{Name}
-use Rattle.semantics_names.specs.Laws.{AmbiguousIsTwo, DistinctIsSaid, TypedIsTaken, UnknownIsNone}
+use Rattle.semantics_names.specs.Laws.{AmbiguousIsTwo, ColumnsAreScalar, DistinctIsSaid, TypedIsTaken, UnknownIsNone}
 use Rattle.semantics_names.specs.Parts.{core_parts, terms_parts}
-use Rattle.semantics_names.specs.RefusedExamples.{RefusedNames, RefusedTypes, alias_in_where, arms_of_two_types, in_two_sources, item_in_itself, mismatch, other_type, outer_column, star_of_none, twice, two_columns, two_named, two_of_one_name, uneven, uneven_item, unknown_column, unknown_table, untyped_item, unused_window, windows_of_one_name}
+use Rattle.semantics_names.specs.RefusedExamples.{RefusedFrames, RefusedNames, RefusedTypes, alias_in_where, arms_of_two_types, bad_frame, distance_of_texts, in_two_sources, item_in_itself, mismatch, no_buckets, other_type, outer_column, star_of_none, twice, two_columns, two_named, two_of_one_name, undefined_window, uneven, uneven_item, unknown_column, unknown_table, untyped_item, unused_window, windows_of_one_name}
 use Rattle.semantics_names.specs.Statement.{Named, from_tree}
 use Rattle.semantics_names.specs.Typed.{typed_query}
 use Rattle.semantics_names.specs.Worked.{by_term, called, id, item as item_alone, name_alone, number, results_of, select, shown, statement, tables}
-use Rattle.semantics_refusals.specs.Examples.{NothingIsWritten, ReasonsAreWritten, from_ones, item_before_its_own, items_of_items, levels, of_null_alone, ones, sorted_by_alias}
+use Rattle.semantics_refusals.specs.Examples.{NothingIsWritten, ReasonsAreWritten, distance_of_numbers, from_ones, item_before_its_own, items_of_items, levels, of_null_alone, ones, sorted_by_alias}
 use Rattle.semantics_refusals.specs.Reasons.{IsReason}
 use Rattle.semantics_refusals.specs.UnknownColumns.{HasLooseHaving}
 use Rattle.semantics_refusals.specs.Written.{HasQuery, HasSelect, IsDerived, IsLooseHaving, IsOperand, IsQueryOf, IsSelect, StandsIn, sources_in}
@@ -23,12 +23,13 @@ use Rattle.semantics_refusals.proofs.RepeatedLemmas.{repeated_is_refused}
 use Rattle.semantics_refusals.proofs.UnevenLemmas.{uneven_is_refused}
 use Rattle.semantics_refusals.proofs.UnknownColumnLemmas.{ambiguous_column_is_refused, unknown_column_is_refused}
 use Rattle.semantics_refusals.proofs.UnknownSourceLemmas.{unknown_source_is_refused}
+use Rattle.semantics_refusals.proofs.WindowLemmas.{bad_frame_is_refused}
 
 reason : NameLaws → (tree : StatementTree) (fault : Fault) → typed_query tables tree ≡ Err fault → IsReason tables tree fault
 reason laws tree fault e = refusals_have_reasons laws tables tree fault (inr e)
 
-pub reasons_are_written : NameLaws → RefusedNames → RefusedTypes → ReasonsAreWritten
-reasons_are_written laws names types = (
+pub reasons_are_written : NameLaws → RefusedNames → RefusedTypes → RefusedFrames → ReasonsAreWritten
+reasons_are_written laws names types frames = (
   reason laws unknown_table f.UnknownTable names.0,
   reason laws item_in_itself f.UnknownTable names.1,
   reason laws item_before_its_own f.UnknownTable refl,
@@ -49,6 +50,10 @@ reasons_are_written laws names types = (
   reason laws unused_window f.TypeMismatch types.2,
   reason laws arms_of_two_types f.TypeMismatch types.3,
   reason laws untyped_item f.TypeMismatch types.4,
+  reason laws bad_frame f.BadFrame frames.0,
+  reason laws undefined_window f.BadFrame frames.1,
+  reason laws no_buckets f.BadFrame frames.2,
+  reason laws distance_of_texts f.BadFrame frames.3,
   reason laws (ones 101) f.Limit refl,
   reason laws (statement (select (shown (number 1) ∷ []) (from_ones 64))) f.Limit refl,
   reason laws (statement (levels 100)) f.Limit refl,
@@ -122,11 +127,12 @@ sorted_tight has = by has.of has.has
     by IsQueryOf.whole deeper =
         tight_alone sorted_core by_k sorted_sources sorted_parts sorted_terms (λ loose. loose) deeper has.items has.is
 
-pub nothing_is_written : UnknownIsNone → AmbiguousIsTwo → DistinctIsSaid → TypedIsTaken → NothingIsWritten
-nothing_is_written none two said typed =
+pub nothing_is_written : UnknownIsNone → AmbiguousIsTwo → DistinctIsSaid → TypedIsTaken → ColumnsAreScalar → NothingIsWritten
+nothing_is_written none two said typed scalars =
     let (n, items) = taken (typed_query tables items_of_items) refl in
     let (m, alias) = taken (typed_query tables sorted_by_alias) refl in
     let (k, nulls) = taken (typed_query tables of_null_alone) refl in
+    let (h, distance) = taken (typed_query tables distance_of_numbers) refl in
     let (i, hundred) = taken (typed_query tables (ones 100)) refl in
     let (j, sources) = taken (typed_query tables (statement (select (shown (number 1) ∷ []) (from_ones 63)))) refl in
     let (l, deep) = taken (typed_query tables (statement (levels 64))) refl in (
@@ -137,6 +143,7 @@ nothing_is_written none two said typed =
       λ has. ambiguous_column_is_refused two tables sorted_by_alias m has sorted_tight alias,
       λ has. mistyped_is_refused typed tables items_of_items n has items,
       λ has. mistyped_is_refused typed tables of_null_alone k has nulls,
+      λ has. bad_frame_is_refused scalars typed tables distance_of_numbers h has distance,
       λ has. beyond_limit_is_refused tables (ones 100) i has hundred,
       λ has. beyond_limit_is_refused tables (statement (select (shown (number 1) ∷ []) (from_ones 63))) j has sources,
       λ has. beyond_limit_is_refused tables (statement (levels 64)) l has deep,

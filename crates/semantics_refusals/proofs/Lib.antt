@@ -49,3 +49,6 @@ pub mod ExampleLemmas
 pub mod TypeExampleLemmas
 mod CountLemmas
 pub mod LimitLemmas
+mod FrameLemmas
+mod FrameRefusedLemmas
+pub mod WindowLemmas

@@ -20,7 +20,7 @@ use Rattle.semantics_refusals.proofs.TypeLemmas.{TakesTypes, body_only, order_on
 use Rattle.semantics_refusals.proofs.WithinLemmas.{IsWithinKey}
 use Rattle.semantics_refusals.proofs.WithinStatementLemmas.{IsWithinNamed, statement_within}
 
-abbrev IsTypeFault : Fault → Type 0
+abbrev pub IsTypeFault : Fault → Type 0
 IsTypeFault fault = (fault ≡ TypeMismatch) ⊎ (fault ≡ BadFrame)
 
 takes : TakesTypes IsTypeFault
@@ -49,7 +49,7 @@ module _ (tables : List (List Ty)) where
       (each_only (λ (k : Key). key_type tables n.query.body types k.by) n.query.order
       (weaker (λ (k : Key) there. key_only n.query.body types k.by even there) w.order)))))
 
-statement_only : (tables : List Table) (tree : StatementTree) (n : Named) → named (known_tables tables) tree ≡ Ok n
+pub statement_only : (tables : List Table) (tree : StatementTree) (n : Named) → named (known_tables tables) tree ≡ Ok n
     → Only IsTypeFault (typed_query tables tree)
 statement_only tables tree n names =
     let (even, all) = named_even (column_types tables) (known_tables tables) tree n (tables_even tables) names in

@@ -18,7 +18,7 @@ use Rattle.semantics_refusals.proofs.OddsLemmas.{clash_refuted, misfit_refuted, 
 use Rattle.semantics_refusals.proofs.OwnLemmas.{own_computed, own_inputs, own_keys, own_values, values_give}
 
 -- what is related to something that stands in a list
-related : {A B : Type 0} (R : A → B → Type 0) (xs : List A) (ys : List B) (x : A) → AllZip R xs ys → Contains xs x → (y : B) × R x y
+pub related : {A B : Type 0} (R : A → B → Type 0) (xs : List A) (ys : List B) (x : A) → AllZip R xs ys → Contains xs x → (y : B) × R x y
 related {A = A} {B = B} R xs ys x zip there = All-contains (λ x. (y : B) × R x y) xs x (each_of xs ys zip) there
   where
     each_of : (xs : List A) (ys : List B) → AllZip R xs ys → All (λ x. (y : B) × R x y) xs
@@ -83,7 +83,7 @@ module _ (row general answers given : List Ty) (fit : AllZip FitsType general ro
 
 module _ (row general answers given : List Ty) (fit : AllZip FitsType general row) (replies : AllZip FitsType given answers) where
   -- the types that a SELECT's rows have of their own may stand for those that they have over another row
-  inputs_fit : (g : Option Grouping) (own inputs : List Ty) → AreOwn (GroupedHasTypes given general g) own → GroupedHasTypes answers row g inputs
+  pub inputs_fit : (g : Option Grouping) (own inputs : List Ty) → AreOwn (GroupedHasTypes given general g) own → GroupedHasTypes answers row g inputs
       → AllZip FitsType own inputs
   inputs_fit g own inputs o h =
       own_fit (GroupedHasTypes given general g) (grouped_types given general g) (own_inputs given general g) own inputs o

@@ -34,7 +34,7 @@ apart_refuted first second types a f g =
 
 module _ (tables : List (List Ty)) where
   -- what is typed with some answers is so with those that may stand in their places
-  from_over : (answers given : List Ty) → AllZip FitsType given answers → (from : From) (row : List Ty) → FromHasTypes tables answers from row
+  pub from_over : (answers given : List Ty) → AllZip FitsType given answers → (from : From) (row : List Ty) → FromHasTypes tables answers from row
       → FromHasTypes tables given from row
   from_over answers given replies From.nothing row h = h
   from_over answers given replies (From.joined from kind source on) row (l, r, left, right, e, condition) =

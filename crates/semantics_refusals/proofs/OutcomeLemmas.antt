@@ -2,7 +2,7 @@
 use Rattle.std.proofs.Common.{◌≡◌, Bool, true, false, if◌then◌else◌, List, [], ◌∷◌, Option, Some, None, Result, Ok, Err, refl}
 use Rattle.std.specs.List.{cons_option, filter_map}
 use Rattle.values.specs.declared.fault.Fault.{Fault}
-use Rattle.values.specs.declared.fault.Fault.TheVariants.{BadFrame, BareColumn, WrongPlace}
+use Rattle.values.specs.declared.fault.Fault.TheVariants.{BareColumn, WrongPlace}
 use Rattle.semantics_names.specs.Outcome.{also, both, checked, chosen, each, followed, found_or}
 use Rattle.semantics_names.specs.Statement.{firsts, once_more}
 use Rattle.semantics_names.specs.Places.{place_of}
@@ -24,7 +24,6 @@ Only F r = Gives F (λ _. Unit {0}) r
 pub record Takes (F : Fault → Type 0) : Type 0 where
   pub bare_column : F BareColumn
   pub wrong_place : F WrongPlace
-  pub bad_frame : F BadFrame
 
 module _ {F : Fault → Type 0} where
   pub ok : {A : Type 0} (a : A) → Only F (Ok a)

@@ -1,6 +1,7 @@
 -- What the places of a SELECT say of a part of an expression.
-use Rattle.std.proofs.Common.{ℕ, pos, List, [], ◌∷◌, ◌++◌, length, Option, Some, None, Result, Ok, Err}
+use Rattle.std.proofs.Common.{◌≡◌, Bool, true, false, if◌then◌else◌, true≢false, ℕ, pos, List, [], ◌∷◌, ◌++◌, length, map, Option, Some, None, Result, Ok, Err, All, refl, sym, subst, ◌∙◌}
 use Rattle.std.specs.Str.{str_eq_ignore_ascii_case}
+use Rattle.std.proofs.lemmas.List.Elements.{All-cons, All-nil}
 use Rattle.values.specs.Datum.{null}
 use Rattle.values.specs.declared.fault.Fault.{Fault}
 use Rattle.values.specs.declared.fault.Fault.TheVariants.{BadFrame, BareColumn, WrongPlace}
@@ -9,18 +10,19 @@ use Rattle.sql_reader_syntax.specs.ExprTree.{BehindTree, ExprTree, ExprTrees, Ma
 use Rattle.sql_reader_syntax.specs.Tree.{Name}
 use Rattle.sql_reader_syntax.specs.declared.expr.Function.{Function}
 use Rattle.sql_reader_syntax.specs.declared.expr.Function.TheVariants as w
-use Rattle.sql_reader_syntax.specs.declared.query.Frame as written_frame
 use Rattle.semantics.specs.Query.{always, filtered, Aggregate, AggregateFunction, Window, WindowCall, WindowFunction}
 use Rattle.semantics_names.specs.Expression.{Answers, Says, term_of, terms_of}
-use Rattle.semantics_names.specs.Outcome.{both, found_or}
+use Rattle.semantics_names.specs.Laws.{IsSameInAnyCase}
+use Rattle.semantics_names.specs.Outcome.{both}
 use Rattle.semantics_names.specs.Parts.{all_parts, maybe_parts, over_parts, parts, terms_parts, window_parts}
-use Rattle.semantics_names.specs.Places.{Defined, aggregate, aggregate_call, aggregate_column, aggregate_named, aggregate_of, bare, beside_keys, call_column, call_of, columns_say, count_rows, defined_as, edge_of, filter_of, frame_between, frame_of, function_or, groups_say, key_column, key_or, of_term, over, over_call, ranking, ranking_unless, sorted, window, window_call, window_of, windows_say}
+use Rattle.semantics_names.specs.Places.{Defined, aggregate, aggregate_call, aggregate_column, aggregate_named, aggregate_of, bare, beside_keys, call_column, call_of, columns_say, count_rows, defined_as, filter_of, frame_of, function_or, groups_say, key_column, key_or, of_term, over, over_call, ranking, ranking_unless, sorted, window, window_call, window_of, windows_say}
 use Rattle.semantics_names.specs.Scope.{Scope, column_of}
-use Rattle.semantics_refusals.proofs.OutcomeLemmas.{Only, OnlySome, Takes, also_back, also_only, both_only, followed_only, found_only, if_only, nothing, ok, refused, some}
+use Rattle.semantics_refusals.specs.BadFrames.{IsOver}
+use Rattle.semantics_refusals.proofs.OutcomeLemmas.{Only, OnlySome, Takes, also_back, also_only, both_only, followed_only, nothing, ok, refused, some}
 use Rattle.semantics_refusals.proofs.PartLemmas.{Deep, Each, back, first, front, itself, weaker}
-use Rattle.semantics_refusals.proofs.TermLemmas.{Sound, term_only, terms_only}
+use Rattle.semantics_refusals.proofs.TermLemmas.{IsFramed, Sound, frame_in, term_only, terms_only}
 
-module _ (F : Fault → Type 0) (takes : Takes F) where
+module _ (F : Fault → Type 0) (takes : Takes F) (windows : List Name) where
   bare_only : (r : Result Term Fault) → Only F r → Only F (bare r)
   bare_only (Ok t) o = refused BareColumn takes.bare_column
   bare_only (Err fault) o = record { is = o.is }
@@ -35,16 +37,18 @@ module _ (F : Fault → Type 0) (takes : Takes F) where
 
   -- ---- windows
 
-  frame_only : (frame : Option written_frame.Frame) → Only F (frame_of frame)
-  frame_only None = ok _
-  frame_only (Some frame) =
-      both_only (frame_between frame) (found_or BadFrame (edge_of frame.start)) (found_or BadFrame (edge_of frame.end))
-      (found_only BadFrame (edge_of frame.start) takes.bad_frame) (found_only BadFrame (edge_of frame.end) takes.bad_frame)
-
-  defined_only : (defined : List Defined) (name : Name) → Only F (defined_as defined name)
-  defined_only [] name = refused BadFrame takes.bad_frame
-  defined_only (d ∷ ds) name =
-      if_only (str_eq_ignore_ascii_case d.name name) (Ok d.window) (defined_as ds name) (λ _. ok d.window) (defined_only ds name)
+  defined_only : (defined : List Defined) (name : Name)
+      → (All (λ other. ¬ IsSameInAnyCase other name) (map (λ (d : Defined). d.name) defined) → F BadFrame) → Only F (defined_as defined name)
+  defined_only [] name none = refused BadFrame (none (All-nil (λ other. ¬ IsSameInAnyCase other name)))
+  defined_only (d ∷ ds) name none = by (str_eq_ignore_ascii_case d.name name) refl (λ more. defined_only ds name more)
+    where
+      by : (b : Bool) → str_eq_ignore_ascii_case d.name name ≡ b
+          → ((All (λ other. ¬ IsSameInAnyCase other name) (map (λ (d : Defined). d.name) ds) → F BadFrame) → Only F (defined_as ds name))
+          → Only F (if b then Ok d.window else defined_as ds name)
+      by true same rest = ok d.window
+      by false apart rest =
+          rest (λ all. none (All-cons (λ other. ¬ IsSameInAnyCase other name) d.name (map (λ (d : Defined). d.name) ds)
+          (λ same. true≢false (sym same ∙ apart)) all))
 
   function_only : (o : Option (Result Aggregate Fault)) (otherwise : Result WindowFunction Fault) → OnlySome F o → Only F otherwise
       → Only F (function_or o otherwise)
@@ -63,24 +67,24 @@ module _ (F : Fault → Type 0) (takes : Takes F) where
 
   module _ (answers : Answers) where
     module _ (says : Says) where
-      term_so : (e : ExprTree) → Each (Sound F answers says) (parts e) → Only F (term_of answers says e)
-      term_so = term_only F takes.wrong_place answers says
+      term_so : (e : ExprTree) → Each (Sound F windows answers says) (parts e) → Only F (term_of answers says e)
+      term_so = term_only F takes.wrong_place windows answers says
 
-      filter_only : (filter : MaybeExpr) (argument : Term) → Each (Sound F answers says) (maybe_parts filter) → Only F (filter_of answers says filter argument)
+      filter_only : (filter : MaybeExpr) (argument : Term) → Each (Sound F windows answers says) (maybe_parts filter) → Only F (filter_of answers says filter argument)
       filter_only MaybeExpr.Absent argument all = ok argument
       filter_only (MaybeExpr.Present e) argument all = also_only (λ condition. filtered condition argument) (term_of answers says e) (term_so e all)
 
-      aggregate_call_only : (function : Option AggregateFunction) (items : ExprTrees) (filter : MaybeExpr) → Each (Sound F answers says) (all_parts items)
-          → Each (Sound F answers says) (maybe_parts filter) → OnlySome F (aggregate_call answers says function items filter)
+      aggregate_call_only : (function : Option AggregateFunction) (items : ExprTrees) (filter : MaybeExpr) → Each (Sound F windows answers says) (all_parts items)
+          → Each (Sound F windows answers says) (maybe_parts filter) → OnlySome F (aggregate_call answers says function items filter)
       aggregate_call_only (Some function) (ExprTrees.More e ExprTrees.No_more) filter all of =
           some _ (also_only (aggregate function) _ (followed_only (term_of answers says e) (filter_of answers says filter)
           (term_so e (front (parts e) [] all)) (λ t. filter_only filter t of)))
       aggregate_call_only _ _ filter all of = nothing
 
-      count_only : (filter : MaybeExpr) → Each (Sound F answers says) (maybe_parts filter) → Only F (count_rows answers says filter)
+      count_only : (filter : MaybeExpr) → Each (Sound F windows answers says) (maybe_parts filter) → Only F (count_rows answers says filter)
       count_only filter of = also_only (aggregate AggregateFunction.count) (filter_of answers says filter always) (filter_only filter always of)
 
-      pub aggregate_only : (part : ExprTree) → Each (Sound F answers says) (parts part) → OnlySome F (aggregate_of answers says part)
+      pub aggregate_only : (part : ExprTree) → Each (Sound F windows answers says) (parts part) → OnlySome F (aggregate_of answers says part)
       aggregate_only (ExprTree.CountRows (BehindTree.Behind filter OverTree.No_over)) all =
           some _ (count_only filter (front (maybe_parts filter) [] (front (maybe_parts filter ++ []) _ all)))
       aggregate_only (ExprTree.Call function items (BehindTree.Behind filter OverTree.No_over)) all =
@@ -89,37 +93,40 @@ module _ (F : Fault → Type 0) (takes : Takes F) where
           (front (maybe_parts filter) [] (back (all_parts items) (maybe_parts filter ++ []) of))
       aggregate_only _ all = nothing
 
-      sorted_only : (order : TermTrees) → Each (Sound F answers says) (terms_parts order) → Only F (sorted answers says order)
+      sorted_only : (order : TermTrees) → Each (Sound F windows answers says) (terms_parts order) → Only F (sorted answers says order)
       sorted_only TermTrees.No_term all = ok _
       sorted_only (TermTrees.Term e direction more) all =
           both_only _ (term_of answers says e) (sorted answers says more) (term_so e (front (parts e) (terms_parts more) all))
           (sorted_only more (back (parts e) (terms_parts more) all))
 
-      pub window_only : (v : WindowTree) → Each (Sound F answers says) (window_parts v) → Only F (window_of answers says v)
-      window_only (WindowTree.Window partition order frame) all =
+      pub window_only : (v : WindowTree) → Each (Sound F windows answers says) (window_parts v) → Only F (frame_of (frame_in v))
+          → Only F (window_of answers says v)
+      window_only (WindowTree.Window partition order frame) all framed =
           followed_only (terms_of answers says partition) _
-          (terms_only F takes.wrong_place answers says partition (front (all_parts partition) (terms_parts order) all))
+          (terms_only F takes.wrong_place windows answers says partition (front (all_parts partition) (terms_parts order) all))
           (λ ts. both_only (window ts) (sorted answers says order) (frame_of frame)
-          (sorted_only order (back (all_parts partition) (terms_parts order) all)) (frame_only frame))
+          (sorted_only order (back (all_parts partition) (terms_parts order) all)) framed)
 
-      over_only : (defined : List Defined) (o : OverTree) → Each (Sound F answers says) (over_parts o) → OnlySome F (over answers says defined o)
-      over_only defined OverTree.No_over all = nothing
-      over_only defined (OverTree.OverName name) all = some _ (defined_only defined name)
-      over_only defined (OverTree.Over v) all = some _ (window_only v all)
+      over_only : (defined : List Defined) → map (λ (d : Defined). d.name) defined ≡ windows → (part : ExprTree) (o : OverTree) → IsOver part o
+          → IsFramed F windows part → Each (Sound F windows answers says) (over_parts o) → OnlySome F (over answers says defined o)
+      over_only defined named part OverTree.No_over is framed all = nothing
+      over_only defined named part (OverTree.OverName name) is framed all =
+          some _ (defined_only defined name (λ apart. framed.defined name is (subst (All (λ other. ¬ IsSameInAnyCase other name)) named apart)))
+      over_only defined named part (OverTree.Over v) is framed all = some _ (window_only v all (framed.frame v is))
 
-      of_term_only : (function : Term → WindowFunction) (e : ExprTree) → Each (Sound F answers says) (parts e) → Only F (of_term answers says function e)
+      of_term_only : (function : Term → WindowFunction) (e : ExprTree) → Each (Sound F windows answers says) (parts e) → Only F (of_term answers says function e)
       of_term_only function e all = also_only function (term_of answers says e) (term_so e all)
 
-      two_only : (function : Term → Term → WindowFunction) (e d : ExprTree) → Each (Sound F answers says) (parts e) → Each (Sound F answers says) (parts d)
+      two_only : (function : Term → Term → WindowFunction) (e d : ExprTree) → Each (Sound F windows answers says) (parts e) → Each (Sound F windows answers says) (parts d)
           → Only F (both function (term_of answers says e) (term_of answers says d))
       two_only function e d all more = both_only function (term_of answers says e) (term_of answers says d) (term_so e all) (term_so d more)
 
       -- the last of three arguments, the second of which is a number
-      last_of : (e : ExprTree) (n : ℕ) (d : ExprTree) → Each (Sound F answers says)
-          (all_parts (ExprTrees.More e (ExprTrees.More (ExprTree.Number (pos n)) (ExprTrees.More d ExprTrees.No_more)))) → Each (Sound F answers says) (parts d)
+      last_of : (e : ExprTree) (n : ℕ) (d : ExprTree) → Each (Sound F windows answers says)
+          (all_parts (ExprTrees.More e (ExprTrees.More (ExprTree.Number (pos n)) (ExprTrees.More d ExprTrees.No_more)))) → Each (Sound F windows answers says) (parts d)
       last_of e n d all = front (parts d) [] (back (ExprTree.Number (pos n) ∷ []) (parts d ++ []) (back (parts e) _ all))
 
-      ranking_only : (name : Function) (items : ExprTrees) → Each (Sound F answers says) (all_parts items) → Only F (ranking answers says name items)
+      ranking_only : (name : Function) (items : ExprTrees) → Each (Sound F windows answers says) (all_parts items) → Only F (ranking answers says name items)
       ranking_only w.RowNumber ExprTrees.No_more all = ok _
       ranking_only w.Rank ExprTrees.No_more all = ok _
       ranking_only w.DenseRank ExprTrees.No_more all = ok _
@@ -140,45 +147,50 @@ module _ (F : Fault → Type 0) (takes : Takes F) where
           two_only (λ t otherwise. WindowFunction.lead t n otherwise) e d (front (parts e) _ all) (last_of e n d all)
       ranking_only _ _ all = refused WrongPlace takes.wrong_place
 
-      ranking_unless_only : (filter : MaybeExpr) (name : Function) (items : ExprTrees) → Each (Sound F answers says) (all_parts items)
+      ranking_unless_only : (filter : MaybeExpr) (name : Function) (items : ExprTrees) → Each (Sound F windows answers says) (all_parts items)
           → Only F (ranking_unless answers says filter name items)
       ranking_unless_only MaybeExpr.Absent name items all = ranking_only name items all
       ranking_unless_only (MaybeExpr.Present e) name items all = refused WrongPlace takes.wrong_place
 
-      pub call_only : (defined : List Defined) (part : ExprTree) → Each (Sound F answers says) (parts part) → OnlySome F (call_of answers says defined part)
-      call_only defined (ExprTree.CountRows (BehindTree.Behind filter o)) all =
+      pub call_only : (defined : List Defined) → map (λ (d : Defined). d.name) defined ≡ windows → (part : ExprTree)
+          → Each (Sound F windows answers says) (parts part) → OnlySome F (call_of answers says defined part)
+      call_only defined named (ExprTree.CountRows (BehindTree.Behind filter o)) all =
           let of = front (maybe_parts filter ++ over_parts o) _ all in
-          over_call_only (over answers says defined o) _ (over_only defined o (back (maybe_parts filter) (over_parts o) of))
+          over_call_only (over answers says defined o) _
+          (over_only defined named (ExprTree.CountRows (BehindTree.Behind filter o)) o IsOver.rows
+          (itself (ExprTree.CountRows (BehindTree.Behind filter o)) all).framed (back (maybe_parts filter) (over_parts o) of))
           (also_only WindowFunction.aggregate (count_rows answers says filter) (count_only filter (front (maybe_parts filter) (over_parts o) of)))
-      call_only defined (ExprTree.Call function items (BehindTree.Behind filter o)) all =
+      call_only defined named (ExprTree.Call function items (BehindTree.Behind filter o)) all =
           let of = front (all_parts items ++ (maybe_parts filter ++ over_parts o)) _ all in
           let given = front (all_parts items) (maybe_parts filter ++ over_parts o) of in
           let after = back (all_parts items) (maybe_parts filter ++ over_parts o) of in
-          over_call_only (over answers says defined o) _ (over_only defined o (back (maybe_parts filter) (over_parts o) after))
+          over_call_only (over answers says defined o) _
+          (over_only defined named (ExprTree.Call function items (BehindTree.Behind filter o)) o IsOver.call
+          (itself (ExprTree.Call function items (BehindTree.Behind filter o)) all).framed (back (maybe_parts filter) (over_parts o) after))
           (function_only (aggregate_call answers says (aggregate_named function) items filter) (ranking_unless answers says filter function items)
           (aggregate_call_only (aggregate_named function) items filter given (front (maybe_parts filter) (over_parts o) after))
           (ranking_unless_only filter function items given))
-      call_only defined _ all = nothing
+      call_only defined named _ all = nothing
 
-      pub windows_only : (defined : List Defined) (width : ℕ) (calls : List WindowCall) (part : ExprTree) → Each (Sound F answers says) (parts part)
+      pub windows_only : (defined : List Defined) → map (λ (d : Defined). d.name) defined ≡ windows → (width : ℕ) (calls : List WindowCall) (part : ExprTree) → Each (Sound F windows answers says) (parts part)
           → Only F (windows_say answers says defined width calls part)
-      windows_only defined width calls part all =
-          call_column_only width calls (call_of answers says defined part) (says part) (call_only defined part all) (itself part all).said
+      windows_only defined named width calls part all =
+          call_column_only width calls (call_of answers says defined part) (says part) (call_only defined named part all) (itself part all).said
 
-    beside_only : (scope : Scope) (by : List Term) (aggregates : List Aggregate) (part : ExprTree) → Each (Sound F answers (columns_say scope)) (parts part)
+    beside_only : (scope : Scope) (by : List Term) (aggregates : List Aggregate) (part : ExprTree) → Each (Sound F windows answers (columns_say scope)) (parts part)
         → Only F (beside_keys answers scope by aggregates part)
     beside_only scope by aggregates (ExprTree.Column table name) all =
         bare_only (column_of scope table name) (also_back Some (column_of scope table name) (first all).said)
     beside_only scope by aggregates part all =
         column_from_only (length by) aggregates (aggregate_of answers (columns_say scope) part) (aggregate_only (columns_say scope) part all)
 
-    pub groups_only : (scope : Scope) (by : List Term) (aggregates : List Aggregate) (part : ExprTree) → Each (Sound F answers (columns_say scope)) (parts part)
+    pub groups_only : (scope : Scope) (by : List Term) (aggregates : List Aggregate) (part : ExprTree) → Each (Sound F windows answers (columns_say scope)) (parts part)
         → Only F (groups_say answers scope by aggregates part)
     groups_only scope by aggregates part all =
         key_only (key_column by (term_of answers (columns_say scope) part)) (beside_keys answers scope by aggregates part)
         (beside_only scope by aggregates part all)
 
     -- what a place says of all parts, where it says so of each from its own
-    pub said_of : {P : ExprTree → Type 0} {xs : List ExprTree} (says : Says) → ((part : ExprTree) → Each P (parts part) → Sound F answers says part)
-        → Each (Deep P) xs → Each (Sound F answers says) xs
+    pub said_of : {P : ExprTree → Type 0} {xs : List ExprTree} (says : Says) → ((part : ExprTree) → Each P (parts part) → Sound F windows answers says part)
+        → Each (Deep P) xs → Each (Sound F windows answers says) xs
     said_of says so all = weaker (λ part of. so part of.is) all

@@ -11,10 +11,11 @@ use Rattle.semantics.specs.Query.{InnerQuery}
 use Rattle.semantics_names.specs.Expression.{Answers, InnerTree}
 use Rattle.semantics_names.specs.Outcome.{also, each}
 use Rattle.semantics_names.specs.Parts.{all_parts, core_parts, definitions_parts, from_parts, inner_tree, inner_trees, maybe_parts, parts, results_parts, terms_parts}
-use Rattle.semantics_names.specs.Places.{columns_say}
+use Rattle.semantics_names.specs.Places.{columns_say, frame_of}
 use Rattle.semantics_names.specs.Scope.{Scope}
 use Rattle.semantics_names.specs.Sources.{Known}
 use Rattle.semantics_names.specs.Statement.{Inner, Queried, Single, answers_of, are_distinct, compounded, core_of, exists_inner, from_of, from_tree, inner_of, keys_of, max_columns, no_row, queried, query_of, simple, single, single_of, values_inner, window_names, with_inners}
+use Rattle.semantics_refusals.specs.BadFrames.{defined_in}
 use Rattle.semantics_refusals.specs.Columns.{HasNames, Offers, Shows, names_of_results, results_in}
 use Rattle.semantics_refusals.specs.Limits.{IsDeep}
 use Rattle.semantics_refusals.specs.UnknownColumns.{IsNamedAt}
@@ -22,10 +23,10 @@ use Rattle.semantics_refusals.specs.Written.{BeginsFrom, BeginsQuery, HasQuery, 
 use Rattle.semantics_refusals.proofs.CoreLemmas.{IsFineOrder, IsFineStar, IsFineTerm, core_only, keys_only, no_row_only}
 use Rattle.semantics_refusals.proofs.NameLemmas.{from_shows, listed_of, queried_names, query_names}
 use Rattle.semantics_refusals.proofs.OutcomeLemmas.{Only, Takes, also_only, checked_only, each_only, followed_only, known_only, ok, refused}
-use Rattle.semantics_refusals.proofs.PartLemmas.{Each, back, each_itself, first, front, join, more, none, rest, weaker}
+use Rattle.semantics_refusals.proofs.PartLemmas.{Each, among, back, each_itself, first, front, join, more, none, rest, weaker}
 use Rattle.semantics_refusals.proofs.SourceLemmas.{IsFineAnswer, IsFineColumn, IsFineJoin, IsFineSource, from_only, with_answers}
 use Rattle.semantics_refusals.proofs.TakenLemmas.{inside}
-use Rattle.semantics_refusals.proofs.TermLemmas.{Sound}
+use Rattle.semantics_refusals.proofs.TermLemmas.{IsFramed, Sound, frame_in}
 
 -- what has to hold of a SELECT, so that of its fault this holds
 pub record IsFineSelect (F : Fault → Type 0) (known : List Known) (core : CoreTree) (by : TermTrees) : Type 0 where
@@ -40,6 +41,8 @@ pub record IsFineSelect (F : Fault → Type 0) (known : List Known) (core : Core
   pub windows : are_distinct (window_names (windows_in core)) ≡ false → F DuplicateName
   pub narrow : (scope : Scope) → Shows (listed_of known) (from_tree core) scope
       → nat_le (length (names_of_results scope (results_in core))) max_columns ≡ false → F Limit
+  pub framed : Each (IsFramed F (window_names (windows_in core))) (core_parts core by)
+  pub frames : Each (λ w. Only F (frame_of (frame_in w))) (defined_in (windows_in core))
   pub members : (query : QueryTree) (part : ExprTree) (names : List Name) → Contains (core_parts core by) part
       → inner_tree part ≡ Some (InnerTree.values_in query)
       → HasNames (listed_of known) query names → nat_eq (length names) 1 ≡ false → F ColumnCount
@@ -79,6 +82,9 @@ module _ (F : Fault → Type 0) (takes : Takes F) (known : List Known) (queries 
     (names : (tree : QueryTree) (q : Queried) → queries tree ≡ Ok q → HasNames (listed_of known) tree q.names) where
   module _ (core : CoreTree) (by : TermTrees) (fine : IsFineSelect F known core by)
       (operands : (part : ExprTree) (inner : QueryTree) → Contains (core_parts core by) part → IsOperand part inner → Only F (queries inner)) where
+    abbrev windows : List Name
+    windows = window_names (windows_in core)
+
     inner_only : (part : ExprTree) → Contains (core_parts core by) part → (tree : InnerTree) → inner_tree part ≡ Some tree
         → Only F (inner_of known queries tree)
     inner_only (ExprTree.InQuery not x query) there tree e =
@@ -93,26 +99,29 @@ module _ (F : Fault → Type 0) (takes : Takes F) (known : List Known) (queries 
         (also_only exists_inner (queries query) (operands (ExprTree.Exists query) query there IsOperand.tested))
     inner_only _ there tree e = absurd cc
 
-    answers_only : (inners : List InnerQuery) → Each (IsFineAnswer F (answers_of known queries inners)) (core_parts core by)
+    answers_only : (inners : List InnerQuery) → Each (IsFineAnswer F windows (answers_of known queries inners)) (core_parts core by)
     answers_only inners =
-        weaker (λ part there. record { is = λ tree e. also_only _ (inner_of known queries tree) (inner_only part there tree e) })
+        weaker (λ part there. record {
+          is = λ tree e. also_only _ (inner_of known queries tree) (inner_only part there tree e);
+          framed = among fine.framed there;
+        })
         (each_itself (core_parts core by))
 
-    in_from : (answers : Answers) → Each (IsFineAnswer F answers) (core_parts core by) → Each (IsFineAnswer F answers) (from_parts (from_tree core))
+    in_from : (answers : Answers) → Each (IsFineAnswer F windows answers) (core_parts core by) → Each (IsFineAnswer F windows answers) (from_parts (from_tree core))
     in_from = from_of_core core by
       where
-        from_of_core : (core : CoreTree) (by : TermTrees) (answers : Answers) → Each (IsFineAnswer F answers) (core_parts core by)
-            → Each (IsFineAnswer F answers) (from_parts (from_tree core))
+        from_of_core : (core : CoreTree) (by : TermTrees) (answers : Answers) → Each (IsFineAnswer F windows answers) (core_parts core by)
+            → Each (IsFineAnswer F windows answers) (from_parts (from_tree core))
         from_of_core (CoreTree.Select distinct results from condition groups having windows) by answers all =
             back (results_parts results) (from_parts from) (front (results_parts results ++ from_parts from) (maybe_parts condition)
             (front _ (all_parts groups) (front _ (maybe_parts having) (front _ (definitions_parts windows) (front _ (terms_parts by) all)))))
 
-    in_spoken : (answers : Answers) → Each (IsFineAnswer F answers) (core_parts core by)
-        → Each (IsFineAnswer F answers) (spoken_in core) × Each (IsFineAnswer F answers) (terms_parts by)
+    in_spoken : (answers : Answers) → Each (IsFineAnswer F windows answers) (core_parts core by)
+        → Each (IsFineAnswer F windows answers) (spoken_in core) × Each (IsFineAnswer F windows answers) (terms_parts by)
     in_spoken = spoken_of_core core by
       where
-        spoken_of_core : (core : CoreTree) (by : TermTrees) (answers : Answers) → Each (IsFineAnswer F answers) (core_parts core by)
-            → Each (IsFineAnswer F answers) (spoken_in core) × Each (IsFineAnswer F answers) (terms_parts by)
+        spoken_of_core : (core : CoreTree) (by : TermTrees) (answers : Answers) → Each (IsFineAnswer F windows answers) (core_parts core by)
+            → Each (IsFineAnswer F windows answers) (spoken_in core) × Each (IsFineAnswer F windows answers) (terms_parts by)
         spoken_of_core (CoreTree.Select distinct results from condition groups having windows) by answers all =
             let r = results_parts results in
             let c = maybe_parts condition in
@@ -131,16 +140,16 @@ module _ (F : Fault → Type 0) (takes : Takes F) (known : List Known) (queries 
             (spoken, back (r ++ from_parts from ++ c ++ g ++ h ++ d) (terms_parts by) all)
 
     in_terms : (answers : Answers) (scope : Scope) (names : List Name) (order : TermTrees) → Each (IsFineTerm (IsFineColumn F scope) names) (terms_in order)
-        → Each (IsFineAnswer F answers) (terms_parts order) → Each (IsFineTerm (Sound F answers (columns_say scope)) names) (terms_in order)
+        → Each (IsFineAnswer F windows answers) (terms_parts order) → Each (IsFineTerm (Sound F windows answers (columns_say scope)) names) (terms_in order)
     in_terms answers scope names TermTrees.No_term terms all = none
     in_terms answers scope names (TermTrees.Term e direction others) terms all =
         more e (terms_in others) (record { is = of (first terms).is })
         (in_terms answers scope names others (rest terms) (back (parts e) (terms_parts others) all))
       where
         of : ((alone : Name) × (at : ℕ) × (e ≡ ExprTree.Column None alone) × IsNamedAt names alone at) ⊎ Each (IsFineColumn F scope) (parts e)
-            → ((alone : Name) × (at : ℕ) × (e ≡ ExprTree.Column None alone) × IsNamedAt names alone at) ⊎ Each (Sound F answers (columns_say scope)) (parts e)
+            → ((alone : Name) × (at : ℕ) × (e ≡ ExprTree.Column None alone) × IsNamedAt names alone at) ⊎ Each (Sound F windows answers (columns_say scope)) (parts e)
         of (inl result) = inl result
-        of (inr columns) = inr (with_answers F answers scope (parts e) columns (front (parts e) (terms_parts others) all))
+        of (inr columns) = inr (with_answers F windows answers scope (parts e) columns (front (parts e) (terms_parts others) all))
 
     single_only : ((names : List Name) → HasNames (listed_of known) (QueryTree.Core core) names → IsFineOrder F by names)
         → ((source : SourceTree) (query : QueryTree) → Contains (sources_in (from_tree core)) source → IsDerived source query → Only F (queries query))
@@ -154,13 +163,13 @@ module _ (F : Fault → Type 0) (takes : Takes F) (known : List Known) (queries 
         let answers : Answers = answers_of known queries queries_of in
         let all = answers_only queries_of in
         known_only (from_of known queries answers (from_tree core)) _
-        (from_only F takes answers known queries names (from_tree core) fine.sources derived fine.joins (in_from answers all))
+        (from_only F takes windows answers known queries names (from_tree core) fine.sources derived fine.joins (in_from answers all))
         (λ f taken.
         let shows = from_shows known queries names answers (from_tree core) f taken in
         also_only (single inners f) (core_of answers f.scope core by)
-        (core_only F takes answers f.scope core by (with_answers F answers f.scope (spoken_in core) (fine.columns f.scope shows) ((in_spoken answers all).0))
+        (core_only F takes windows answers f.scope core by (with_answers F windows answers f.scope (spoken_in core) (fine.columns f.scope shows) ((in_spoken answers all).0))
         (in_terms answers f.scope (names_of_results f.scope (results_in core)) by (fine.terms f.scope shows) ((in_spoken answers all).1))
-        (fine.stars f.scope shows) fine.windows (in_order (names_of_results f.scope (results_in core)) (HasNames.alone shows)) (fine.narrow f.scope shows))))
+        (fine.stars f.scope shows) fine.windows (in_order (names_of_results f.scope (results_in core)) (HasNames.alone shows)) (fine.narrow f.scope shows) fine.frames refl)))
 
   compounded_only : (order : TermTrees) (left : Queried) (operator : CompoundOperator) (s : Single)
       → (nat_eq (length left.names) (length s.core.names) ≡ false → F ColumnCount)

@@ -1,37 +1,43 @@
 -- A statement that is refused by its names has what the fault says.
-use Rattle.std.proofs.Common.{◌≡◌, ◌∷◌, ◌++◌, Bool, true, false, inl, inr, ℕ, zero, suc, ◌<◌, List, [], length, map, Option, Some, None, Result, Ok, Err, All, Contains, nat_eq, nat_le, ap, refl, sym, subst, ◌∙◌, arith}
+use Rattle.std.proofs.Common.{◌≡◌, ◌∷◌, ◌++◌, Bool, true, false, inl, inr, ℕ, zero, suc, pos, negsuc, ◌<◌, List, [], length, map, Option, Some, None, Result, Ok, Err, All, Contains, nat_eq, nat_le, ap, refl, sym, subst, ◌∙◌, arith}
 use Rattle.std.specs.List.{list_any}
 use Rattle.std.proofs.lemmas.Bool.{eqb-false, leb-false}
 use Rattle.values.specs.declared.fault.Fault.{Fault}
-use Rattle.values.specs.declared.fault.Fault.TheVariants.{Ambiguous, ColumnCount, DuplicateName, Limit, UnknownColumn, UnknownTable}
+use Rattle.values.specs.declared.fault.Fault.TheVariants.{Ambiguous, BadFrame, ColumnCount, DuplicateName, Limit, UnknownColumn, UnknownTable}
 use Rattle.semantics.specs.Query.{Source}
-use Rattle.sql_reader_syntax.specs.ExprTree.{CoreTree, ExprTree, FromTree, OnTree, QueryTree, SourceTree, TermTrees}
+use Rattle.sql_reader_syntax.specs.ExprTree.{CoreTree, ExprTree, FromTree, OnTree, QueryTree, SourceTree, TermTrees, WindowTree}
 use Rattle.sql_reader_syntax.specs.StatementTree.{ItemTree, StatementTree}
 use Rattle.sql_reader_syntax.specs.Tree.{Name}
+use Rattle.sql_reader_syntax.specs.declared.query.Edge as written_edge
+use Rattle.sql_reader_syntax.specs.declared.query.Edge.TheVariants as edges
 use Rattle.sql_reader_syntax.specs.declared.query.Join.{Join}
 use Rattle.semantics_names.specs.Expression.{InnerTree}
 use Rattle.semantics_names.specs.Laws.{AreDistinctInAnyCase, AreSameSources, IsSameInAnyCase}
+use Rattle.semantics_names.specs.Outcome.{found_or}
 use Rattle.semantics_names.specs.Parts.{core_parts, inner_tree, on_parts, parts}
+use Rattle.semantics_names.specs.Places.{edge_of, frame_between, frame_of}
 use Rattle.semantics_names.specs.Scope.{Scope, column_of}
 use Rattle.semantics_names.specs.Sources.{Known, is_same_source, known_as, shown_from, used}
 use Rattle.semantics_names.specs.Statement.{Queried, With, are_distinct, from_tree, item_columns, max_columns, max_levels, max_sources, named, named_at, queried, sources_of_body, window_names, with_items}
 use Rattle.semantics_names.specs.Typed.{Table, known_tables, typed_query}
+use Rattle.semantics_refusals.specs.BadFrames.{HasEdgeBelowZero, HasNoWindow, HasWindow, IsBelowZero, defined_in}
 use Rattle.semantics_refusals.specs.Columns.{AreListed, HasNames, JoinsScopes, ListedTable, Offers, Shows, names_of_results, results_in}
 use Rattle.semantics_refusals.specs.Limits.{AreCounted, Counted, IsBeyondLimit, IsCounted, IsWide, MentionsLarge}
 use Rattle.semantics_refusals.specs.RepeatedNames.{HasRepeatedName, Repeats}
 use Rattle.semantics_refusals.specs.UnevenColumns.{HasUnevenColumns, HasWideMembers, IsUneven}
 use Rattle.semantics_refusals.specs.UnknownColumns.{HasAmbiguousColumn, HasUnknownColumn, InSelect, IsAmbiguous, IsNamedAt, IsNoResult, IsTwofold, IsUnknown, NamesColumn, NamesUnknownColumn}
 use Rattle.semantics_refusals.specs.UnknownSources.{HasUnknownSource, IsNoSource, NamesNoSource}
-use Rattle.semantics_refusals.specs.Written.{BeginsFrom, HasQuery, HasQueryWith, HasSelect, IsQueryOf, IsSelect, called_so, names_of_sources, sources_in, spoken_in, stars_in, terms_in, windows_in}
+use Rattle.semantics_refusals.specs.Written.{BeginsFrom, HasQuery, HasQueryWith, HasSelect, HasSelectWith, IsQueryOf, IsSelect, called_so, names_of_sources, sources_in, spoken_in, stars_in, terms_in, windows_in}
 use Rattle.semantics_refusals.proofs.CountLemmas.{IsCountOf, known_counted, name_counted, queried_counts}
 use Rattle.semantics_refusals.proofs.CoreLemmas.{IsFineOrder, IsFineStar, IsFineTerm}
 use Rattle.semantics_refusals.proofs.NameLemmas.{listed_of}
-use Rattle.semantics_refusals.proofs.OutcomeLemmas.{Only, Takes, checked_only, ok, refused}
+use Rattle.semantics_refusals.proofs.OutcomeLemmas.{Only, Takes, both_only, checked_only, ok, refused}
 use Rattle.semantics_refusals.proofs.PartLemmas.{Each, each_itself, weaker}
 use Rattle.semantics_refusals.proofs.QueryLemmas.{IsFineQuery, IsFineSelect}
 use Rattle.semantics_refusals.proofs.ScopeLemmas.{Says, column_only, named_none, named_some, named_two, same_there, star_of_none, used_only}
 use Rattle.semantics_refusals.proofs.SourceLemmas.{IsFineColumn, IsFineJoin, IsFineSource}
 use Rattle.semantics_refusals.proofs.StatementLemmas.{IsFineStatement, known_gives, known_listed, named_only, typed_only}
+use Rattle.semantics_refusals.proofs.TermLemmas.{IsFramed, frame_in}
 use Rattle.semantics_refusals.proofs.TypeLemmas.{TakesTypes}
 use Rattle.semantics_refusals.proofs.WithLemmas.{IsOther, items_back, no_items, tables_back}
 
@@ -44,6 +50,7 @@ pub record HasReasons (F : Fault → Type 0) (tables : List Table) (tree : State
   pub duplicate : HasRepeatedName tree → F DuplicateName
   pub column_count : HasUnevenColumns tables tree → F ColumnCount
   pub limit : IsBeyondLimit tables tree → F Limit
+  pub frame : HasSelectWith tree HasNoWindow → F BadFrame
 
 offers_called : {listed : List ListedTable} {source : SourceTree} {called : Option Name} {columns : List Name} → Offers listed source called columns
     → called ≡ called_so source
@@ -248,6 +255,35 @@ module _ (F : Fault → Type 0) (tables : List Table) (tree : StatementTree) (sa
             wide = leb-false (length (names_of_results scope (results_in core))) max_columns e;
           }))))
 
+      edge_so : (e : written_edge.Edge) → (IsBelowZero e → F BadFrame) → Only F (found_or BadFrame (edge_of e))
+      edge_so edges.UnboundedPreceding is = ok _
+      edge_so (edges.Preceding (pos n)) is = ok _
+      edge_so (edges.Preceding (negsuc n)) is = refused BadFrame (is IsBelowZero.preceding)
+      edge_so edges.CurrentRow is = ok _
+      edge_so (edges.Following (pos n)) is = ok _
+      edge_so (edges.Following (negsuc n)) is = refused BadFrame (is IsBelowZero.following)
+      edge_so edges.UnboundedFollowing is = ok _
+
+      below : (w : WindowTree) → HasWindow core by w → HasEdgeBelowZero w → F BadFrame
+      below w is edge = reasons.frame (at_select HasNoWindow (HasNoWindow.distance w is edge))
+
+      frame_so : (w : WindowTree) → HasWindow core by w → Only F (frame_of (frame_in w))
+      frame_so (WindowTree.Window partition order None) is = ok _
+      frame_so (WindowTree.Window partition order (Some frame)) is =
+          both_only (frame_between frame) (found_or BadFrame (edge_of frame.start)) (found_or BadFrame (edge_of frame.end))
+          (edge_so frame.start (λ edge. below (WindowTree.Window partition order (Some frame)) is (HasEdgeBelowZero.start edge)))
+          (edge_so frame.end (λ edge. below (WindowTree.Window partition order (Some frame)) is (HasEdgeBelowZero.end edge)))
+
+      fine_framed : Each (IsFramed F (window_names (windows_in core))) (core_parts core by)
+      fine_framed =
+          weaker (λ part there. record {
+            frame = λ w over. frame_so w (HasWindow.over part there over);
+            defined = λ name over apart. reasons.frame (at_select HasNoWindow (HasNoWindow.unnamed part name there over apart));
+          }) (each_itself (core_parts core by))
+
+      fine_frames : Each (λ w. Only F (frame_of (frame_in w))) (defined_in (windows_in core))
+      fine_frames = weaker (λ w there. frame_so w (HasWindow.defined there)) (each_itself (defined_in (windows_in core)))
+
       fine_select : IsFineSelect F w.known core by
       fine_select = record {
         sources = fine_sources;
@@ -257,6 +293,8 @@ module _ (F : Fault → Type 0) (tables : List Table) (tree : StatementTree) (sa
         stars = fine_stars;
         windows = fine_windows;
         narrow = fine_narrow;
+        framed = fine_framed;
+        frames = fine_frames;
         members = fine_members;
       }
 

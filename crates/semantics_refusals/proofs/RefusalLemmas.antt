@@ -1,16 +1,19 @@
 -- A statement that is no query is refused by a fault of names and types, and has what the fault says.
-use Rattle.std.proofs.Common.{◌≡◌, ◌⊎◌, false, true≢false, ◌∙◌, inl, inr, List, Err, ap, refl, subst, sym, arith}
+use Rattle.std.proofs.Common.{◌≡◌, ◌⊎◌, false, true≢false, ◌∙◌, inl, inr, List, Ok, Err, ap, subst, sym, arith}
 use Rattle.values.specs.declared.fault.Fault.{Fault}
-use Rattle.values.specs.declared.fault.Fault.TheVariants.{TypeMismatch}
 use Rattle.sql_reader_syntax.specs.StatementTree.{StatementTree}
 use Rattle.sql_reader_syntax.specs.Tree.{Name}
 use Rattle.semantics_names.specs.Laws.{AmbiguousIsTwo, AreDistinctInAnyCase, DistinctIsSaid, UnknownIsNone}
-use Rattle.semantics_names.specs.Statement.{are_distinct}
-use Rattle.semantics_names.specs.Typed.{Table, typed_query}
+use Rattle.semantics_names.specs.Statement.{Named, are_distinct, named}
+use Rattle.semantics_names.specs.Typed.{Table, column_types, known_tables, typed_query, with_types}
+use Rattle.semantics_refusals.specs.BadFrames.{HasBadFrame}
 use Rattle.semantics_refusals.specs.Reasons.{IsReason, RefusalsHaveReasons}
 use Rattle.semantics_refusals.specs.Refusals.{IsNameFault, RefusalsAreNumbered}
+use Rattle.semantics_refusals.proofs.ErrLemmas.{followed-err}
+use Rattle.semantics_refusals.proofs.FrameLemmas.{frames_err}
 use Rattle.semantics_refusals.proofs.MismatchStatementLemmas.{mismatch_is_mistyped}
-use Rattle.semantics_refusals.proofs.ReasonLemmas.{HasReasons, only_for_reasons}
+use Rattle.semantics_refusals.proofs.MistypedFaultLemmas.{IsTypeFault, statement_only}
+use Rattle.semantics_refusals.proofs.ReasonLemmas.{HasReasons, names_for_reasons, only_for_reasons}
 use Rattle.semantics_refusals.proofs.ScopeLemmas.{Says}
 use Rattle.semantics_refusals.proofs.StatementLemmas.{fault_is}
 use Rattle.semantics_refusals.proofs.TypeLemmas.{TakesTypes}
@@ -20,7 +23,6 @@ numbered tables tree = record {
   takes = record {
     bare_column = (omega arith, omega arith);
     wrong_place = (omega arith, omega arith);
-    bad_frame = (omega arith, omega arith);
   };
   unknown_table = λ _. (omega arith, omega arith);
   unknown_column = λ _. (omega arith, omega arith);
@@ -28,6 +30,7 @@ numbered tables tree = record {
   duplicate = λ _. (omega arith, omega arith);
   column_count = λ _. (omega arith, omega arith);
   limit = λ _. (omega arith, omega arith);
+  frame = λ _. (omega arith, omega arith);
 }
 
 types_numbered : TakesTypes IsNameFault
@@ -61,28 +64,32 @@ by_laws F laws = record {
   repeated = λ names e so. so (apart_or laws.2 names e);
 }
 
--- what such a fault says is so, or it is one of types
-abbrev IsReasonOrMismatch : List Table → StatementTree → Fault → Type 0
-IsReasonOrMismatch tables tree fault = IsReason tables tree fault ⊎ (TypeMismatch ≡ fault)
-
-reasons : (tables : List Table) (tree : StatementTree) → HasReasons (IsReasonOrMismatch tables tree) tables tree
+reasons : (tables : List Table) (tree : StatementTree) → HasReasons (IsReason tables tree) tables tree
 reasons tables tree = record {
-  takes = record { bare_column = inl tt; wrong_place = inl tt; bad_frame = inl tt };
-  unknown_table = λ is. inl is;
-  unknown_column = λ is. inl is;
-  ambiguous = λ is. inl is;
-  duplicate = λ is. inl is;
-  column_count = λ is. inl is;
-  limit = λ is. inl is;
+  takes = record { bare_column = tt; wrong_place = tt };
+  unknown_table = λ is. is;
+  unknown_column = λ is. is;
+  ambiguous = λ is. is;
+  duplicate = λ is. is;
+  column_count = λ is. is;
+  limit = λ is. is;
+  frame = λ is. HasBadFrame.written is;
 }
 
 pub refusals_have_reasons : NameLaws → RefusalsHaveReasons
-refusals_have_reasons laws tables tree fault (inl none) = subst (IsReason tables tree) (sym none) tt
+refusals_have_reasons laws tables tree fault (inl out) = subst (IsReason tables tree) (sym out) tt
 refusals_have_reasons laws tables tree fault (inr is) =
-    by (fault_is (typed_query tables tree) fault
-    (only_for_reasons (IsReasonOrMismatch tables tree) tables tree (by_laws (IsReasonOrMismatch tables tree) laws) (reasons tables tree)
-    (record { mismatch = inr refl; bad_frame = inl tt })) is)
+    by (followed-err (named (known_tables tables) tree) (with_types (column_types tables)) fault is)
   where
-    by : IsReason tables tree fault ⊎ (TypeMismatch ≡ fault) → IsReason tables tree fault
-    by (inl reason) = reason
-    by (inr same) = subst (IsReason tables tree) same (mismatch_is_mistyped tables tree (is ∙ ap Err (sym same)))
+    of_types : (n : Named) → named (known_tables tables) tree ≡ Ok n → with_types (column_types tables) n ≡ Err fault → IsTypeFault fault
+        → IsReason tables tree fault
+    of_types n names d (inl same) = subst (IsReason tables tree) (sym same) (mismatch_is_mistyped tables tree (is ∙ ap Err same))
+    of_types n names d (inr same) =
+        subst (IsReason tables tree) (sym same) (HasBadFrame.made n names (frames_err (column_types tables) n (d ∙ ap Err same)))
+
+    by : (named (known_tables tables) tree ≡ Err fault)
+        ⊎ ((n : Named) × (named (known_tables tables) tree ≡ Ok n) × (with_types (column_types tables) n ≡ Err fault)) → IsReason tables tree fault
+    by (inl d) =
+        fault_is (named (known_tables tables) tree) fault
+        (names_for_reasons (IsReason tables tree) tables tree (by_laws (IsReason tables tree) laws) (reasons tables tree)) d
+    by (inr (n, names, d)) = of_types n names d (fault_is (typed_query tables tree) fault (statement_only tables tree n names) is)

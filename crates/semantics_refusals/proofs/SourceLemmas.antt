@@ -22,30 +22,32 @@ use Rattle.semantics_refusals.specs.Written.{BeginsFrom, IsDerived, called_so, n
 use Rattle.semantics_refusals.proofs.NameLemmas.{from_shows, listed_of, source_offers}
 use Rattle.semantics_refusals.proofs.OutcomeLemmas.{Gives, Only, Takes, also_only, followed_gives, followed_only, if_only, known_only, ok, refused}
 use Rattle.semantics_refusals.proofs.PartLemmas.{Each, back, first, front, more, none, rest}
-use Rattle.semantics_refusals.proofs.TermLemmas.{Sound, term_only}
+use Rattle.semantics_refusals.proofs.TermLemmas.{IsFramed, Sound, term_only}
 
 -- a name of a column in an expression
 pub record IsFineColumn (F : Fault → Type 0) (scope : Scope) (part : ExprTree) : Type 0 where
   pub is : (table : Option Name) (name : Name) → part ≡ ExprTree.Column table name → Only F (column_of scope table name)
 
--- the answer of a query that stands in an expression
-pub record IsFineAnswer (F : Fault → Type 0) (answers : Answers) (part : ExprTree) : Type 0 where
+-- the answer of a query that stands in an expression, and its window, where the SELECT defines windows of these names
+pub record IsFineAnswer (F : Fault → Type 0) (windows : List Name) (answers : Answers) (part : ExprTree) : Type 0 where
   pub is : (tree : InnerTree) → inner_tree part ≡ Some tree → Only F (answers tree)
+  pub framed : IsFramed F windows part
 
 columns_only : (F : Fault → Type 0) (scope : Scope) (part : ExprTree) → IsFineColumn F scope part → Only F (columns_say scope part)
 columns_only F scope (ExprTree.Column table name) fine = also_only Some (column_of scope table name) (fine.is table name refl)
 columns_only F scope _ fine = ok None
 
-pub sound_of : (F : Fault → Type 0) (answers : Answers) (scope : Scope) (part : ExprTree) → IsFineColumn F scope part → IsFineAnswer F answers part
-    → Sound F answers (columns_say scope) part
-sound_of F answers scope part column answer = record { said = columns_only F scope part column; answered = answer.is }
+pub sound_of : (F : Fault → Type 0) (windows : List Name) (answers : Answers) (scope : Scope) (part : ExprTree) → IsFineColumn F scope part → IsFineAnswer F windows answers part
+    → Sound F windows answers (columns_say scope) part
+sound_of F windows answers scope part column answer =
+    record { said = columns_only F scope part column; answered = answer.is; framed = answer.framed }
 
-pub with_answers : (F : Fault → Type 0) (answers : Answers) (scope : Scope) (xs : List ExprTree) → Each (IsFineColumn F scope) xs
-    → Each (IsFineAnswer F answers) xs
-    → Each (Sound F answers (columns_say scope)) xs
-with_answers F answers scope [] columns all = none
-with_answers F answers scope (x ∷ xs) columns all =
-    more x xs (sound_of F answers scope x (first columns) (first all)) (with_answers F answers scope xs (rest columns) (rest all))
+pub with_answers : (F : Fault → Type 0) (windows : List Name) (answers : Answers) (scope : Scope) (xs : List ExprTree) → Each (IsFineColumn F scope) xs
+    → Each (IsFineAnswer F windows answers) xs
+    → Each (Sound F windows answers (columns_say scope)) xs
+with_answers F windows answers scope [] columns all = none
+with_answers F windows answers scope (x ∷ xs) columns all =
+    more x xs (sound_of F windows answers scope x (first columns) (first all)) (with_answers F windows answers scope xs (rest columns) (rest all))
 
 -- what FROM may mention is a source, or too large
 pub record IsFineSource (F : Fault → Type 0) (known : List Known) (source : SourceTree) : Type 0 where
@@ -97,20 +99,21 @@ module _ (known : List Known) (queries : QueryTree → Result Queried Fault) whe
 
 -- ---- why a FROM is none
 
-module _ (F : Fault → Type 0) (takes : Takes F) (answers : Answers) where
+module _ (F : Fault → Type 0) (takes : Takes F) (windows : List Name) (answers : Answers) where
   on_only : (on : OnTree) (left : Scope) (names : List (Option Name)) (called : Option Name) (columns : List Name) → IsFineJoin F left names on called columns
-      → Each (IsFineAnswer F answers) (on_parts on) → Only F (joined_on answers on left (shown_from called (length left) columns))
+      → Each (IsFineAnswer F windows answers) (on_parts on) → Only F (joined_on answers on left (shown_from called (length left) columns))
   on_only OnTree.Always left names called columns fine all = ok _
   on_only (OnTree.On e) left names called columns fine all =
       let right = shown_from called (length left) columns in
       also_only _ (term_of answers (columns_say (left ++ right)) e)
-      (term_only F takes.wrong_place answers (columns_say (left ++ right)) e (with_answers F answers (left ++ right) (parts e) fine.parts all))
+      (term_only F takes.wrong_place windows answers (columns_say (left ++ right)) e
+      (with_answers F windows answers (left ++ right) (parts e) fine.parts all))
   on_only (OnTree.Using using) left names called columns fine all =
       let right = shown_from called (length left) columns in
       also_only _ (used right left right using) (fine.merged using refl)
 
   joined_only : (left : Sources) (kind : JoinKind) (on : OnTree) (given : Given) → IsFineJoin F left.scope left.names on given.name given.columns
-      → Each (IsFineAnswer F answers) (on_parts on) → Only F (joined answers left kind on given)
+      → Each (IsFineAnswer F windows answers) (on_parts on) → Only F (joined answers left kind on given)
   joined_only left kind on given fine all =
       if_only (list_any (is_same_source given.name) left.names) (Err DuplicateName) _ (λ same. refused DuplicateName (fine.twice same))
       (also_only _ (joined_on answers on left.scope (shown_from given.name (length left.scope) given.columns))
@@ -133,7 +136,7 @@ module _ (F : Fault → Type 0) (takes : Takes F) (answers : Answers) where
           → ((left : FromTree) (join : Join) (source : SourceTree) (on : OnTree) → BeginsFrom (FromTree.Joined left join source on) from
           → (scope : Scope) (called : Option Name) (columns : List Name) → Shows (listed_of known) left scope → Offers (listed_of known) source called columns
           → IsFineJoin F scope (names_of_sources left) on called columns)
-          → Each (IsFineAnswer F answers) (from_parts from) → Only F (from_of known queries answers from)
+          → Each (IsFineAnswer F windows answers) (from_parts from) → Only F (from_of known queries answers from)
       from_only FromTree.No_source sources inside joins all = ok _
       from_only (FromTree.First source) sources inside joins all =
           followed_only (source_of known queries source) _ (source_only source (first sources) (λ query is. inside source query (Contains-push [] source) is))

@@ -1,22 +1,37 @@
 -- The term that an expression is, or why it is none.
-use Rattle.std.proofs.Common.{◌≡◌, List, [], ◌∷◌, ◌++◌, Option, Some, None, refl}
+use Rattle.std.proofs.Common.{◌≡◌, All, List, [], ◌∷◌, ◌++◌, Option, Some, None, refl}
 use Rattle.values.specs.declared.fault.Fault.{Fault}
-use Rattle.values.specs.declared.fault.Fault.TheVariants.{WrongPlace}
+use Rattle.values.specs.declared.fault.Fault.TheVariants.{BadFrame, WrongPlace}
 use Rattle.expr.specs.Term.{Term}
 use Rattle.expr.specs.declared.operations.kinds.Function.{Function}
-use Rattle.sql_reader_syntax.specs.ExprTree.{ArmTrees, BehindTree, ExprTree, ExprTrees, MaybeExpr, OverTree}
+use Rattle.sql_reader_syntax.specs.ExprTree.{ArmTrees, BehindTree, ExprTree, ExprTrees, MaybeExpr, OverTree, WindowTree}
+use Rattle.sql_reader_syntax.specs.Tree.{Name}
+use Rattle.sql_reader_syntax.specs.declared.query.Frame.{Frame}
 use Rattle.sql_reader_syntax.specs.declared.expr.Function as written
 use Rattle.sql_reader_syntax.specs.declared.expr.Function.TheVariants as w
 use Rattle.semantics_names.specs.Expression.{Answers, InnerTree, Says, among_answer, among_items, arms_of, between_bounds, binary, called, case, exists, operand_of, otherwise_of, postfix, prefix, scalar, several, term_of, terms_of, unary, unary_of}
+use Rattle.semantics_names.specs.Laws.{IsSameInAnyCase}
 use Rattle.semantics_names.specs.Outcome.{both}
 use Rattle.semantics_names.specs.Parts.{all_parts, arms_parts, behind_parts, inner_tree, maybe_parts, parts}
+use Rattle.semantics_names.specs.Places.{frame_of}
+use Rattle.semantics_refusals.specs.BadFrames.{IsOver}
 use Rattle.semantics_refusals.proofs.OutcomeLemmas.{Only, also_only, both_only, chosen_only, followed_only, ok, refused}
 use Rattle.semantics_refusals.proofs.PartLemmas.{Each, back, first, front, own}
 
--- what a place says of a part, and the answer of a query that stands there
-pub record Sound (F : Fault → Type 0) (answers : Answers) (says : Says) (part : ExprTree) : Type 0 where
+-- the frame that is written in a window
+abbrev pub frame_in : WindowTree → Option Frame
+frame_in (WindowTree.Window partition order frame) = frame
+
+-- where OVER is written behind a part, in a SELECT that defines windows of these names
+pub record IsFramed (F : Fault → Type 0) (windows : List Name) (part : ExprTree) : Type 0 where
+  pub frame : (w : WindowTree) → IsOver part (OverTree.Over w) → Only F (frame_of (frame_in w))
+  pub defined : (name : Name) → IsOver part (OverTree.OverName name) → All (λ other. ¬ IsSameInAnyCase other name) windows → F BadFrame
+
+-- what a place says of a part, the answer of a query that stands there, and its window
+pub record Sound (F : Fault → Type 0) (windows : List Name) (answers : Answers) (says : Says) (part : ExprTree) : Type 0 where
   pub said : Only F (says part)
   pub answered : (tree : InnerTree) → inner_tree part ≡ Some tree → Only F (answers tree)
+  pub framed : IsFramed F windows part
 
 module _ (F : Fault → Type 0) (wrong_place : F WrongPlace) where
   unary_only : (function : Function) (items : List Term) → Only F (unary function items)
@@ -39,9 +54,9 @@ module _ (F : Fault → Type 0) (wrong_place : F WrongPlace) where
   called_only (BehindTree.Behind MaybeExpr.Absent OverTree.No_over) name items = scalar_only (unary_of name) name items
   called_only _ name items = refused WrongPlace wrong_place
 
-  module _ (answers : Answers) (says : Says) where
+  module _ (windows : List Name) (answers : Answers) (says : Says) where
     mutual
-      pub term_only : (e : ExprTree) → Each (Sound F answers says) (parts e) → Only F (term_of answers says e)
+      pub term_only : (e : ExprTree) → Each (Sound F windows answers says) (parts e) → Only F (term_of answers says e)
       term_only ExprTree.Null all = chosen_only (says ExprTree.Null) _ (first all).said (ok _)
       term_only (ExprTree.Number z) all = chosen_only (says (ExprTree.Number z)) _ (first all).said (ok _)
       term_only (ExprTree.Text content) all = chosen_only (says (ExprTree.Text content)) _ (first all).said (ok _)
@@ -97,21 +112,21 @@ module _ (F : Fault → Type 0) (wrong_place : F WrongPlace) where
           (back (maybe_parts operand ++ arms_parts arms) (maybe_parts otherwise)
           (front (maybe_parts operand ++ arms_parts arms ++ maybe_parts otherwise) _ all)))))
 
-      pub terms_only : (es : ExprTrees) → Each (Sound F answers says) (all_parts es) → Only F (terms_of answers says es)
+      pub terms_only : (es : ExprTrees) → Each (Sound F windows answers says) (all_parts es) → Only F (terms_of answers says es)
       terms_only ExprTrees.No_more all = ok _
       terms_only (ExprTrees.More e es) all =
           both_only ◌∷◌ (term_of answers says e) (terms_of answers says es) (term_only e (front (parts e) (all_parts es) all))
           (terms_only es (back (parts e) (all_parts es) all))
 
-      operand_only : (operand : MaybeExpr) → Each (Sound F answers says) (maybe_parts operand) → Only F (operand_of answers says operand)
+      operand_only : (operand : MaybeExpr) → Each (Sound F windows answers says) (maybe_parts operand) → Only F (operand_of answers says operand)
       operand_only MaybeExpr.Absent all = ok _
       operand_only (MaybeExpr.Present e) all = also_only Some (term_of answers says e) (term_only e all)
 
-      otherwise_only : (otherwise : MaybeExpr) → Each (Sound F answers says) (maybe_parts otherwise) → Only F (otherwise_of answers says otherwise)
+      otherwise_only : (otherwise : MaybeExpr) → Each (Sound F windows answers says) (maybe_parts otherwise) → Only F (otherwise_of answers says otherwise)
       otherwise_only MaybeExpr.Absent all = ok _
       otherwise_only (MaybeExpr.Present e) all = term_only e all
 
-      arms_only : (arms : ArmTrees) → Each (Sound F answers says) (arms_parts arms) → Only F (arms_of answers says arms)
+      arms_only : (arms : ArmTrees) → Each (Sound F windows answers says) (arms_parts arms) → Only F (arms_of answers says arms)
       arms_only ArmTrees.No_arm all = ok _
       arms_only (ArmTrees.Arm when then more) all =
           both_only ◌∷◌ (both (λ c e. (c, e)) (term_of answers says when) (term_of answers says then)) (arms_of answers says more)

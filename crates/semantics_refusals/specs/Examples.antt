@@ -1,11 +1,13 @@
 -- Worked statements, and what is written in them.
-use Rattle.std.specs.Prelude.{false, ℕ, zero, suc, [], ◌∷◌, codes, replicate, None}
+use Rattle.std.specs.Prelude.{false, ℕ, zero, suc, [], ◌∷◌, codes, replicate, None, Some}
 use Rattle.sql_reader_syntax.specs.ExprTree.{ExprTree, FromTree, OnTree, QueryTree, ResultTree, SourceTree}
 use Rattle.sql_reader_syntax.specs.StatementTree.{StatementTree}
 use Rattle.sql_reader_syntax.specs.declared.expr.BinaryOperator.TheVariants.{Add, Concatenate}
+use Rattle.sql_reader_syntax.specs.declared.expr.Function.TheVariants.{Sum}
 use Rattle.sql_reader_syntax.specs.declared.query.Join.TheVariants.{Inner}
-use Rattle.semantics_names.specs.RefusedExamples.{alias_in_where, arms_of_two_types, in_two_sources, item_in_itself, mismatch, other_type, outer_column, star_of_none, twice, two_columns, two_named, two_of_one_name, uneven, uneven_item, unknown_column, unknown_table, untyped_item, unused_window, windows_of_one_name}
-use Rattle.semantics_names.specs.Worked.{by_term, called, id, item, name_alone, number, one, ordered, select, shown, statement, table, tables, with, with_item, without_from}
+use Rattle.semantics_names.specs.RefusedExamples.{alias_in_where, arms_of_two_types, bad_frame, by_distance, distance_of_texts, in_two_sources, item_in_itself, mismatch, no_buckets, other_type, outer_column, star_of_none, twice, two_columns, two_named, two_of_one_name, undefined_window, uneven, uneven_item, unknown_column, unknown_table, untyped_item, unused_window, windows_of_one_name}
+use Rattle.semantics_names.specs.Worked.{by_term, call_over, called, id, item, name_alone, number, one, ordered, select, shown, statement, table, tables, window_by, with, with_item, without_from}
+use Rattle.semantics_refusals.specs.BadFrames.{HasBadFrame}
 use Rattle.semantics_refusals.specs.Limits.{IsBeyondLimit}
 use Rattle.semantics_refusals.specs.Mismatches.{IsMistyped}
 use Rattle.semantics_refusals.specs.RepeatedNames.{HasRepeatedName}
@@ -36,6 +38,10 @@ of_null_alone =
     ∷ [])
     (FromTree.First (SourceTree.Derived (without_from (called ExprTree.Null (codes "x") ∷ [])) None)))
 
+-- SELECT sum(id) OVER (ORDER BY id RANGE 1 PRECEDING) FROM item
+abbrev pub distance_of_numbers : StatementTree
+distance_of_numbers = statement (select (shown (call_over Sum (id ∷ []) (window_by (by_term id) (Some by_distance))) ∷ []) item)
+
 -- SELECT 1, 1, .., so many
 abbrev pub ones : ℕ → StatementTree
 ones n = statement (without_from (replicate n (shown (number 1))))
@@ -61,6 +67,7 @@ ReasonsAreWritten =
     × HasRepeatedName twice × HasRepeatedName two_of_one_name × HasRepeatedName windows_of_one_name
     × IsMistyped tables mismatch × IsMistyped tables other_type × IsMistyped tables unused_window × IsMistyped tables arms_of_two_types
     × IsMistyped tables untyped_item
+    × HasBadFrame tables bad_frame × HasBadFrame tables undefined_window × HasBadFrame tables no_buckets × HasBadFrame tables distance_of_texts
     × IsBeyondLimit tables (ones 101) × IsBeyondLimit tables (statement (select (shown (number 1) ∷ []) (from_ones 64)))
     × IsBeyondLimit tables (statement (levels 100))
 
@@ -70,5 +77,6 @@ NothingIsWritten =
     (¬ HasUnknownSource tables items_of_items) × (¬ HasUnevenColumns tables items_of_items) × (¬ HasRepeatedName items_of_items)
     × (¬ HasUnknownColumn tables sorted_by_alias) × (¬ HasAmbiguousColumn tables sorted_by_alias)
     × (¬ IsMistyped tables items_of_items) × (¬ IsMistyped tables of_null_alone)
+    × (¬ HasBadFrame tables distance_of_numbers)
     × (¬ IsBeyondLimit tables (ones 100)) × (¬ IsBeyondLimit tables (statement (select (shown (number 1) ∷ []) (from_ones 63))))
     × (¬ IsBeyondLimit tables (statement (levels 64)))

@@ -9,6 +9,7 @@ pub mod UnevenColumns
 pub mod Clashes
 pub mod Mismatches
 pub mod Limits
+pub mod BadFrames
 pub mod Reasons
 pub mod Examples
 pub mod TypeExamples

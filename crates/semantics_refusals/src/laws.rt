@@ -1,4 +1,5 @@
 //! What holds of the definitions alone.
+ghost use Rattle.semantics_refusals.specs.BadFrames.{BadFrameIsRefused};
 ghost use Rattle.semantics_refusals.specs.Examples.{NothingIsWritten, ReasonsAreWritten};
 ghost use Rattle.semantics_refusals.specs.Limits.{BeyondLimitIsRefused};
 ghost use Rattle.semantics_refusals.specs.Mismatches.{MistypedIsMismatch, MistypedIsRefused};
@@ -12,7 +13,7 @@ ghost use Rattle.semantics_refusals.specs.UnknownColumns.{AmbiguousColumnIsRefus
 ghost use Rattle.semantics_refusals.specs.UnknownSources.{UnknownSourceIsRefused};
 
 use semantics_names::laws::{
-    names_are_columns, names_are_distinct, refused_statements, typed_is_taken,
+    names_are_columns, names_are_distinct, places_are_kept, refused_statements, typed_is_taken,
 };
 
 /// A statement that is no query is refused by a fault of names and types, or for want of memory.
@@ -21,9 +22,10 @@ pub fn refusals_are_numbered()
 {}
 
 /// Where a statement is refused as one with an unknown source, an unknown or an ambiguous column, numbers of columns that differ,
-/// a name that stands twice, or more columns, levels or sources than there may be, this is written somewhere in it; and where it is
+/// a name that stands twice, or more columns, levels or sources than there may be, this is written somewhere in it; where it is
 /// refused because types don't agree, some operator in it has no type over operands that each have one, an expression is of another
-/// type than its place wants, or columns that a compound joins are of different types.
+/// type than its place wants, or columns that a compound joins are of different types; and where it is because of a frame, OVER
+/// names no window there, or the frame of a call can't be.
 pub fn refusals_have_reasons()
     ensures { RefusalsHaveReasons }
 {
@@ -39,11 +41,13 @@ pub fn reasons_refuse()
     ensures uneven { UnevenIsRefused }
     ensures repeated { RepeatedIsRefused }
     ensures limit { BeyondLimitIsRefused }
+    ensures frame { BadFrameIsRefused }
     ensures mistyped { MistypedIsRefused }
     ensures mismatch { MistypedIsMismatch }
 {
     names_are_columns();
     names_are_distinct();
+    places_are_kept();
     typed_is_taken();
 }
 
@@ -64,6 +68,7 @@ pub fn reasons_are_written()
 {
     names_are_columns();
     names_are_distinct();
+    places_are_kept();
     refused_statements();
     typed_is_taken();
 }
