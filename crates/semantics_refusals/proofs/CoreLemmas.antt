@@ -1,6 +1,7 @@
 -- One SELECT behind its FROM, or why it is none.
-use Rattle.std.proofs.Common.{◌≡◌, ◌⊎◌, inl, inr, Bool, false, ℕ, suc, ℤ, pos, List, [], ◌∷◌, ◌++◌, length, map, Option, Some, None, Result, Ok, Err, Contains, nat_le, nat_lt, ap, refl, subst, sym, ◌∙◌}
+use Rattle.std.proofs.Common.{◌≡◌, ◌⊎◌, inl, inr, Bool, true, false, ℕ, zero, suc, ◌<◌, ◌≤◌, ℤ, pos, negsuc, List, [], ◌∷◌, ◌++◌, length, map, Option, Some, None, Result, Ok, Err, Contains, nat_le, nat_lt, ap, refl, subst, sym, ◌∙◌, arith}
 use Rattle.std.specs.List.{filter_map}
+use Rattle.std.proofs.lemmas.Bool.{ltb-false}
 use Rattle.std.proofs.lemmas.List.{length-map}
 use Rattle.std.proofs.lemmas.List.Elements.{Contains-append_left, Contains-append_right, Contains-push}
 use Rattle.values.specs.declared.fault.Fault.{Fault}
@@ -8,6 +9,7 @@ use Rattle.values.specs.declared.fault.Fault.TheVariants.{Ambiguous, BareColumn,
 use Rattle.expr.specs.Term.{Term}
 use Rattle.sql_reader_syntax.specs.ExprTree.{CoreTree, DefinitionTrees, ExprTree, ExprTrees, MaybeExpr, ResultTree, ResultTrees, TermTrees}
 use Rattle.sql_reader_syntax.specs.Tree.{Name}
+use Rattle.sql_reader_syntax.specs.declared.expr.PrefixOperator.TheVariants as prefixes
 use Rattle.semantics.specs.Query.{Aggregate, KeyTerm, WindowCall}
 use Rattle.semantics_names.specs.Expression.{Answers, Says, term_of}
 use Rattle.semantics_names.specs.Parts.{all_parts, definitions_parts, maybe_parts, parts, parts_behind_groups, results_parts, terms_parts, window_parts}
@@ -18,19 +20,22 @@ use Rattle.semantics_names.specs.Statement.{Input, ResultColumn, all_results, ar
 use Rattle.semantics_names.proofs.OutcomeLemmas.{both-ok}
 use Rattle.semantics_refusals.specs.BadFrames.{defined_in}
 use Rattle.semantics_refusals.specs.Columns.{names_of_results, results_in}
-use Rattle.semantics_refusals.specs.UnknownColumns.{IsNamedAt}
+use Rattle.semantics_refusals.specs.UnknownColumns.{IsNamedAt, IsNoResult}
+use Rattle.semantics_refusals.specs.WrongPlaces.{HasStar, IsNoNumber, IsNumber, expressions, groups_in}
 use Rattle.semantics_refusals.specs.Written.{spoken_in, stars_in, terms_in, windows_in}
 use Rattle.semantics_refusals.proofs.NameLemmas.{all_names, names_in}
 use Rattle.semantics_refusals.proofs.OutcomeLemmas.{Gives, Only, OnlySome, Takes, all_only, also_gives, also_only, both_only, checked_only, firsts_only, followed_gives, followed_only, if_only, known_only, nothing, ok, refused}
-use Rattle.semantics_refusals.proofs.PartLemmas.{Deep, Each, back, deep, deep_spoken, first, front, itself, join, none, one, rest, weaker}
-use Rattle.semantics_refusals.proofs.PlaceLemmas.{aggregate_only, call_only, groups_only, said_of, window_only, windows_only}
+use Rattle.semantics_refusals.proofs.PartLemmas.{Deep, Each, back, deep, deep_spoken, each_itself, first, front, itself, join, none, one, rest, weaker}
+use Rattle.semantics_refusals.proofs.PlaceLemmas.{aggregate_only, call_only, groups_named, groups_only, said_of, window_only, windows_named, windows_only}
 use Rattle.semantics_refusals.proofs.ScopeLemmas.{named_none}
 use Rattle.semantics_refusals.proofs.TermLemmas.{Sound, frame_in, term_only}
 
--- a name alone in ORDER BY isn't that of two result columns
+-- a name alone in ORDER BY isn't that of two result columns, and a number alone is that of one
 pub record IsFineOrder (F : Fault → Type 0) (order : TermTrees) (names : List Name) : Type 0 where
   pub two : (name : Name) → Contains (terms_in order) (ExprTree.Column None name) → (at other : ℕ) (more : List ℕ)
       → named_at name 0 names ≡ at ∷ other ∷ more → F Ambiguous
+  pub number : (e : ExprTree) (z : ℤ) → Contains (terms_in order) e → IsNumber e z → ((at : ℕ) → at < length names → ¬ (z ≡ pos (suc at)))
+      → F WrongPlace
 
 -- an expression of ORDER BY is the name of a result column alone, or this holds of its parts
 pub record IsFineTerm (P : ExprTree → Type 0) (names : List Name) (e : ExprTree) : Type 0 where
@@ -54,6 +59,19 @@ loose_terms {P = P} {names = names} (TermTrees.Term e direction others) all =
     by e (inl (alone, at, same, is)) = subst (λ e. Each (IsLoose P) (parts e)) (sym same) (one (record { is = inl (None, alone, refl) }))
     by e (inr of) = loose (deep e of)
 
+-- a number alone
+pub number_is : (e : ExprTree) (z : ℤ) → number_alone e ≡ Some z → IsNumber e z
+number_is (ExprTree.Number n) z e = let same : n ≡ z = cc in subst (IsNumber (ExprTree.Number n)) same IsNumber.plain
+number_is (ExprTree.Prefix prefixes.Plus x) z e = IsNumber.signed (number_is x z e)
+number_is _ z e = absurd cc
+
+pub number_alone_is : {e : ExprTree} {z : ℤ} → IsNumber e z → number_alone e ≡ Some z
+number_alone_is IsNumber.plain = refl
+number_alone_is (IsNumber.signed is) = number_alone_is is
+
+pub no_number_is : (e : ExprTree) → number_alone e ≡ None → IsNoNumber e
+no_number_is e none z is = let both : None ≡ Some z = sym none ∙ number_alone_is is in absurd cc
+
 -- the windows of a SELECT are called as they are defined
 pub defined_names : (answers : Answers) (says : Says) (windows : DefinitionTrees) (defined : List Defined) → defined_of answers says windows ≡ Ok defined
     → map (λ (d : Defined). d.name) defined ≡ window_names windows
@@ -62,6 +80,10 @@ defined_names answers says DefinitionTrees.No_definition defined e =
 defined_names answers says (DefinitionTrees.Definition name v others) defined e =
     let (made, more, first, last, same) = both-ok _ (window_of answers says v) (defined_of answers says others) defined e in
     ap (map (λ (d : Defined). d.name)) (sym same) ∙ ap (λ names. name ∷ names) (defined_names answers says others more last)
+
+-- whether DISTINCT is written
+abbrev pub is_distinct : CoreTree → Bool
+is_distinct (CoreTree.Select distinct results from condition by having windows) = distinct
 
 -- `t.*` stands for some column
 pub record IsFineStar (F : Fault → Type 0) (scope : Scope) (table : Name) : Type 0 where
@@ -80,56 +102,80 @@ module _ (F : Fault → Type 0) (takes : Takes F) where
   one_only (at ∷ []) otherwise two o = ok _
   one_only (at ∷ other ∷ more) otherwise two o = record { is = two at other more refl }
 
-  numbered_only : (width : ℕ) (z : ℤ) → Only F (numbered width z)
-  numbered_only width (pos (suc at)) = checked_only (nat_lt at width) WrongPlace _ (λ _. takes.wrong_place) (ok _)
-  numbered_only width z = refused WrongPlace takes.wrong_place
+  numbered_only : (width : ℕ) (z : ℤ) → (((at : ℕ) → at < width → ¬ (z ≡ pos (suc at))) → F WrongPlace) → Only F (numbered width z)
+  numbered_only width (pos zero) out = refused WrongPlace (out (λ at less same. no_zero at same))
+    where
+      no_zero : (at : ℕ) → pos zero ≡ pos (suc at) → ⊥
+      no_zero at same = let e : zero ≡ suc at = cc in omega (arith, e)
+  numbered_only width (pos (suc k)) out =
+      checked_only (nat_lt k width) WrongPlace _ (λ e. out (λ at less same. beyond at less same (ltb-false k width e))) (ok _)
+    where
+      beyond : (at : ℕ) → at < width → pos (suc k) ≡ pos (suc at) → width ≤ k → ⊥
+      beyond at less same far = let e : suc k ≡ suc at = cc in omega (arith, less, far, e)
+  numbered_only width (negsuc k) out = refused WrongPlace (out (λ at less same. absurd cc))
 
-  numbered_or_only : (width : ℕ) (number : Option ℤ) (otherwise : Result KeyTerm Fault) → Only F otherwise
+  numbered_or_only : (width : ℕ) (number : Option ℤ) (otherwise : Result KeyTerm Fault)
+      → ((z : ℤ) → number ≡ Some z → ((at : ℕ) → at < width → ¬ (z ≡ pos (suc at))) → F WrongPlace) → (number ≡ None → Only F otherwise)
       → Only F (numbered_or width number otherwise)
-  numbered_or_only width (Some z) otherwise o = numbered_only width z
-  numbered_or_only width None otherwise o = o
+  numbered_or_only width (Some z) otherwise out o = numbered_only width z (out z refl)
+  numbered_or_only width None otherwise out o = o refl
 
   module _ (names : List Name) (otherwise : ExprTree → Result KeyTerm Fault) (Q : ExprTree → Type 0)
-      (others : (e : ExprTree) → Each Q (parts e) → Only F (otherwise e)) where
-    no_name_only : (e : ExprTree) → ((alone : Name) → ¬ (e ≡ ExprTree.Column None alone)) → IsFineTerm Q names e → Only F (otherwise e)
-    no_name_only e apart fine = by fine.is
+      (There : ExprTree → Type 0) (others : (e : ExprTree) → There e → IsNoNumber e → IsNoResult names e → Each Q (parts e) → Only F (otherwise e)) where
+    no_name_only : (e : ExprTree) → There e → IsNoNumber e → ((alone : Name) → ¬ (e ≡ ExprTree.Column None alone)) → IsFineTerm Q names e
+        → Only F (otherwise e)
+    no_name_only e there plainly apart fine = by fine.is
       where
         by : ((alone : Name) × (at : ℕ) × (e ≡ ExprTree.Column None alone) × IsNamedAt names alone at) ⊎ Each Q (parts e) → Only F (otherwise e)
         by (inl (alone, at, same, is)) = absurd (apart alone same)
-        by (inr all) = others e all
+        by (inr all) = others e there plainly (λ alone at same is. apart alone same) all
 
-    name_only : (name : Name) → named_at name 0 names ≡ [] → IsFineTerm Q names (ExprTree.Column None name) → Only F (otherwise (ExprTree.Column None name))
-    name_only name e fine = by fine.is
+    name_only : (name : Name) → There (ExprTree.Column None name) → IsNoNumber (ExprTree.Column None name) → named_at name 0 names ≡ []
+        → IsFineTerm Q names (ExprTree.Column None name) → Only F (otherwise (ExprTree.Column None name))
+    name_only name there plainly e fine = by fine.is
       where
         by : ((alone : Name) × (at : ℕ) × (ExprTree.Column None name ≡ ExprTree.Column None alone) × IsNamedAt names alone at)
             ⊎ Each Q (parts (ExprTree.Column None name)) → Only F (otherwise (ExprTree.Column None name))
         by (inl (alone, at, same, is)) =
             let called : alone ≡ name = cc in absurd (named_none name 0 names e at (subst (λ n. IsNamedAt names n at) called is))
-        by (inr all) = others (ExprTree.Column None name) all
+        by (inr all) = others (ExprTree.Column None name) there plainly (λ alone at same. no_result alone at same) all
+          where
+            no_result : (alone : Name) (at : ℕ) → ExprTree.Column None name ≡ ExprTree.Column None alone → ¬ IsNamedAt names alone at
+            no_result alone at same is =
+                let called : alone ≡ name = cc in named_none name 0 names e at (subst (λ n. IsNamedAt names n at) called is)
 
-    named_or_only : (e : ExprTree) → ((name : Name) → e ≡ ExprTree.Column None name → (at other : ℕ) (more : List ℕ)
+    named_or_only : (e : ExprTree) → There e → IsNoNumber e → ((name : Name) → e ≡ ExprTree.Column None name → (at other : ℕ) (more : List ℕ)
         → named_at name 0 names ≡ at ∷ other ∷ more → F Ambiguous) → IsFineTerm Q names e → Only F (named_or names otherwise e)
-    named_or_only (ExprTree.Column None name) two fine =
-        one_only (named_at name 0 names) _ (two name refl) (λ e. name_only name e fine)
-    named_or_only e two fine = no_name_only e (λ alone same. absurd cc) fine
+    named_or_only (ExprTree.Column None name) there plainly two fine =
+        one_only (named_at name 0 names) _ (two name refl) (λ e. name_only name there plainly e fine)
+    named_or_only e there plainly two fine = no_name_only e there plainly (λ alone same. absurd cc) fine
 
-    key_term_only : (e : ExprTree) → ((name : Name) → e ≡ ExprTree.Column None name → (at other : ℕ) (more : List ℕ)
-        → named_at name 0 names ≡ at ∷ other ∷ more → F Ambiguous) → IsFineTerm Q names e → Only F (key_term names otherwise e)
-    key_term_only e two fine = numbered_or_only (length names) (number_alone e) (named_or names otherwise e) (named_or_only e two fine)
+    key_term_only : (e : ExprTree) → There e → ((name : Name) → e ≡ ExprTree.Column None name → (at other : ℕ) (more : List ℕ)
+        → named_at name 0 names ≡ at ∷ other ∷ more → F Ambiguous)
+        → ((z : ℤ) → IsNumber e z → ((at : ℕ) → at < length names → ¬ (z ≡ pos (suc at))) → F WrongPlace) → IsFineTerm Q names e
+        → Only F (key_term names otherwise e)
+    key_term_only e there two out fine =
+        numbered_or_only (length names) (number_alone e) (named_or names otherwise e) (λ z is. out z (number_is e z is))
+        (λ none. named_or_only e there (no_number_is e none) two fine)
 
-    pub keys_only : (order : TermTrees) → IsFineOrder F order names → Each (IsFineTerm Q names) (terms_in order) → Only F (keys_of names otherwise order)
-    keys_only TermTrees.No_term fine all = ok _
-    keys_only (TermTrees.Term e direction others) fine all =
+    pub keys_only : (order : TermTrees) → Each There (terms_in order) → IsFineOrder F order names → Each (IsFineTerm Q names) (terms_in order)
+        → Only F (keys_of names otherwise order)
+    keys_only TermTrees.No_term there fine all = ok _
+    keys_only (TermTrees.Term e direction others) there fine all =
         both_only _ (key_term names otherwise e) (keys_of names otherwise others)
-        (key_term_only e (λ name same. fine.two name (subst (Contains (e ∷ terms_in others)) same (here e (terms_in others)))) (first all))
-        (keys_only others (record { two = λ name there. fine.two name (Contains-append_right (e ∷ []) (terms_in others) (ExprTree.Column None name) there) })
+        (key_term_only e (first there) (λ name same. fine.two name (subst (Contains (e ∷ terms_in others)) same (here e (terms_in others))))
+        (λ z is. fine.number e z (here e (terms_in others)) is) (first all))
+        (keys_only others (rest there) (record {
+          two = λ name there. fine.two name (Contains-append_right (e ∷ []) (terms_in others) (ExprTree.Column None name) there);
+          number = λ x z there. fine.number x z (Contains-append_right (e ∷ []) (terms_in others) x there);
+        })
         (rest all))
       where
         here : (e : ExprTree) (es : List ExprTree) → Contains (e ∷ es) e
         here e es = Contains-append_left (e ∷ []) es e (Contains-push [] e)
 
-  pub no_row_only : (e : ExprTree) → Each (λ _. Unit {0}) (parts e) → Only F (no_row e)
-  no_row_only e all = refused WrongPlace takes.wrong_place
+  pub no_row_only : (e : ExprTree) → F WrongPlace → Only F (no_row e)
+  no_row_only e is = refused WrongPlace is
 
   -- ---- one SELECT
 
@@ -154,6 +200,7 @@ module _ (F : Fault → Type 0) (takes : Takes F) where
         said = groups_only F takes defines answers scope by aggregates part all;
         answered = (itself part all).answered;
         framed = (itself part all).framed;
+        named = groups_named answers scope by aggregates part;
       };
     }
 
@@ -170,6 +217,8 @@ module _ (F : Fault → Type 0) (takes : Takes F) where
         said = windows_only F takes defines answers input.says defined named input.width calls part (said_of F takes defines answers input.says speaks.so (deep part all));
         answered = (itself part all).answered;
         framed = (itself part all).framed;
+        named = λ table name same.
+            windows_named answers input.says defined input.width calls part table name same ((speaks.so part all).named table name same);
       };
     }
 
@@ -177,7 +226,7 @@ module _ (F : Fault → Type 0) (takes : Takes F) where
     ungrouped_is = record { speaks = columns_speak; over = λ t. ok t }
 
     term_so : (says : Says) → Speaks says → (e : ExprTree) → Each (Deep (Sound F defines answers (columns_say scope))) (parts e) → Only F (term_of answers says e)
-    term_so says speaks e all = term_only F takes.wrong_place defines answers says e (said_of F takes defines answers says speaks.so all)
+    term_so says speaks e all = term_only F defines answers says e (said_of F takes defines answers says speaks.so all)
 
     condition_only : (says : Says) → Speaks says → (condition : MaybeExpr) → Each (Deep (Sound F defines answers (columns_say scope))) (maybe_parts condition)
         → Only F (condition_of answers says condition)
@@ -188,29 +237,29 @@ module _ (F : Fault → Type 0) (takes : Takes F) where
     as_input_only input r is = also_only (result r.name) (input.over_input r.term) (is.over r.term)
 
     module _ (input : Input) (is : IsInput input) (says : Says) (speaks : Speaks says) where
-      all_only_of : (results : ResultTrees) → Each (IsFineStar F scope) (stars_in results)
+      all_only_of : (results : ResultTrees) → (HasStar results → starred scope ≡ [] → F WrongPlace) → Each (IsFineStar F scope) (stars_in results)
           → Each (Deep (Sound F defines answers (columns_say scope))) (results_parts results)
           → Only F (all_results answers scope input says results)
-      all_only_of ResultTrees.No_result stars all = ok _
-      all_only_of (ResultTrees.Result ResultTree.All rs) stars all =
+      all_only_of ResultTrees.No_result nothing stars all = ok _
+      all_only_of (ResultTrees.Result ResultTree.All rs) nothing stars all =
           both_only ◌++◌ (results_of answers scope input says ResultTree.All) (all_results answers scope input says rs)
-          (followed_only (some_of WrongPlace (starred scope)) _ (some_only WrongPlace (starred scope) (λ _. takes.wrong_place))
+          (followed_only (some_of WrongPlace (starred scope)) _ (some_only WrongPlace (starred scope) (nothing HasStar.here))
           (λ columns. all_only (as_input answers input) columns (λ r. as_input_only input r is)))
-          (all_only_of rs stars (back [] (results_parts rs) all))
-      all_only_of (ResultTrees.Result (ResultTree.AllOf table) rs) stars all =
+          (all_only_of rs (λ star. nothing (HasStar.later star)) stars (back [] (results_parts rs) all))
+      all_only_of (ResultTrees.Result (ResultTree.AllOf table) rs) nothing stars all =
           both_only ◌++◌ (results_of answers scope input says (ResultTree.AllOf table)) (all_results answers scope input says rs)
           (followed_only (some_of UnknownColumn (starred_of table 0 scope)) _ (some_only UnknownColumn (starred_of table 0 scope) (first stars).is)
           (λ columns. all_only (as_input answers input) columns (λ r. as_input_only input r is)))
-          (all_only_of rs (rest stars) (back [] (results_parts rs) all))
-      all_only_of (ResultTrees.Result (ResultTree.Value e name) rs) stars all =
+          (all_only_of rs (λ star. nothing (HasStar.later star)) (rest stars) (back [] (results_parts rs) all))
+      all_only_of (ResultTrees.Result (ResultTree.Value e name) rs) nothing stars all =
           both_only ◌++◌ (results_of answers scope input says (ResultTree.Value e name)) (all_results answers scope input says rs)
           (also_only _ (term_of answers says e) (term_so says speaks e (front (parts e) (results_parts rs) all)))
-          (all_only_of rs stars (back (parts e) (results_parts rs) all))
+          (all_only_of rs (λ star. nothing (HasStar.later star)) stars (back (parts e) (results_parts rs) all))
 
-    row_only : (distinct : Bool) (says : Says) → Speaks says → (e : ExprTree) → Each (Deep (Sound F defines answers (columns_say scope))) (parts e)
+    row_only : (distinct : Bool) (says : Says) → Speaks says → (e : ExprTree) → (distinct ≡ true → F WrongPlace) → Each (Deep (Sound F defines answers (columns_say scope))) (parts e)
         → Only F (on_row answers distinct says e)
-    row_only distinct says speaks e all =
-        if_only distinct (Err WrongPlace) _ (λ _. refused WrongPlace takes.wrong_place)
+    row_only distinct says speaks e rowless all =
+        if_only distinct (Err WrongPlace) _ (λ is. refused WrongPlace (rowless is))
         (also_only KeyTerm.term (term_of answers says e) (term_so says speaks e all))
 
     grouped_gives : (by : List Term) (aggregates : List Aggregate) (having : MaybeExpr) → Each (Deep (Sound F defines answers (columns_say scope))) (maybe_parts having)
@@ -226,16 +275,19 @@ module _ (F : Fault → Type 0) (takes : Takes F) where
     input_gives [] (a ∷ aggregates) having all = grouped_gives [] (a ∷ aggregates) having all
     input_gives (t ∷ by) aggregates having all = grouped_gives (t ∷ by) aggregates having all
 
-    no_number_only : (number : Option ℤ) (t : Result Term Fault) → Only F t → Only F (no_number number t)
-    no_number_only (Some z) t o = refused WrongPlace takes.wrong_place
-    no_number_only None t o = o
+    no_number_only : (number : Option ℤ) (t : Result Term Fault) → ((z : ℤ) → number ≡ Some z → F WrongPlace) → Only F t → Only F (no_number number t)
+    no_number_only (Some z) t is o = refused WrongPlace (is z refl)
+    no_number_only None t is o = o
 
-    by_only : (by : ExprTrees) → Each (Deep (Sound F defines answers (columns_say scope))) (all_parts by) → Only F (by_of answers scope by)
-    by_only ExprTrees.No_more all = ok _
-    by_only (ExprTrees.More e others) all =
+    by_only : (by : ExprTrees) → Each (Deep (Sound F defines answers (columns_say scope))) (all_parts by)
+        → ((e : ExprTree) (z : ℤ) → Contains (expressions by) e → IsNumber e z → F WrongPlace) → Only F (by_of answers scope by)
+    by_only ExprTrees.No_more all is = ok _
+    by_only (ExprTrees.More e others) all is =
         both_only ◌∷◌ (group_term answers scope e) (by_of answers scope others)
         (no_number_only (number_alone e) (term_of answers (columns_say scope) e)
-        (term_so (columns_say scope) columns_speak e (front (parts e) (all_parts others) all))) (by_only others (back (parts e) (all_parts others) all))
+        (λ z same. is e z (Contains-append_left (e ∷ []) (expressions others) e (Contains-push [] e)) (number_is e z same))
+        (term_so (columns_say scope) columns_speak e (front (parts e) (all_parts others) all))) (by_only others (back (parts e) (all_parts others) all)
+        (λ x z there. is x z (Contains-append_right (e ∷ []) (expressions others) x there)))
 
     defined_only : (says : Says) → Speaks says → (windows : DefinitionTrees) → Each (Deep (Sound F defines answers (columns_say scope))) (definitions_parts windows)
         → Each (λ w. Only F (frame_of (frame_in w))) (defined_in windows) → Only F (defined_of answers says windows)
@@ -269,6 +321,9 @@ module _ (F : Fault → Type 0) (takes : Takes F) where
       record IsFine : Type 0 where
         stars : Each (IsFineStar F scope) (stars_in results)
         in_order : IsFineOrder F order (names_of_results scope results)
+        nothing : HasStar results → starred scope ≡ [] → F WrongPlace
+        rowless : distinct ≡ true → (e : ExprTree) → Contains (terms_in order) e → IsNoNumber e → IsNoResult (names_of_results scope results) e
+            → F WrongPlace
         narrow : nat_le (length (names_of_results scope results)) max_columns ≡ false → F Limit
         in_results : Each (Deep (Sound F defines answers (columns_say scope))) (results_parts results)
         in_terms : Each (IsFineTerm (Sound F defines answers (columns_say scope)) (names_of_results scope results)) (terms_in order)
@@ -282,12 +337,16 @@ module _ (F : Fault → Type 0) (takes : Takes F) where
       shown_only : (condition : Term) (input : Input) (defined : List Defined) (calls : List WindowCall) (says : Says) → IsInput input → Speaks says → IsFine
           → Only F (shown answers scope distinct results order behind condition input defined calls says)
       shown_only condition input defined calls says is speaks fine =
-          known_only (all_results answers scope input says results) _ (all_only_of input is says speaks results fine.stars fine.in_results) (λ columns given.
+          known_only (all_results answers scope input says results) _ (all_only_of input is says speaks results fine.nothing fine.stars fine.in_results) (λ columns given.
           checked_only (nat_le (length columns) max_columns) Limit _ (λ e.
           fine.narrow (subst (λ n. nat_le n max_columns ≡ false) (as_many input says columns given) e))
           (also_only (finished distinct condition input.grouping defined calls columns) _
           (keys_only (names_in columns) (on_row answers distinct says) (Sound F defines answers (columns_say scope))
-          (λ e all. row_only distinct says speaks e (deep e all)) order
+          (Contains (terms_in order))
+          (λ e there plainly apart all. row_only distinct says speaks e
+          (λ d. fine.rowless d e there plainly
+          (subst (λ names. IsNoResult names e) (all_names answers input scope says results columns given) apart)) (deep e all)) order
+          (each_itself (terms_in order))
           (subst (IsFineOrder F order) (sym (all_names answers input scope says results columns given)) fine.in_order)
           (subst (λ names. Each (IsFineTerm (Sound F defines answers (columns_say scope)) names) (terms_in order))
           (sym (all_names answers input scope says results columns given)) fine.in_terms))))
@@ -307,15 +366,16 @@ module _ (F : Fault → Type 0) (takes : Takes F) where
           (windows_speak input is.speaks defined named calls) fine)))
 
       select_only : (condition : MaybeExpr) (by : ExprTrees) (having : MaybeExpr) (windows : DefinitionTrees) → IsFine
+          → ((e : ExprTree) (z : ℤ) → Contains (expressions by) e → IsNumber e z → F WrongPlace)
           → (are_distinct (window_names windows) ≡ false → F DuplicateName) → Each (Deep (Sound F defines answers (columns_say scope))) (maybe_parts condition)
           → Each (Deep (Sound F defines answers (columns_say scope))) (all_parts by) → Each (Deep (Sound F defines answers (columns_say scope))) (maybe_parts having)
           → Each (Deep (Sound F defines answers (columns_say scope))) (definitions_parts windows)
           → Each (λ w. Only F (frame_of (frame_in w))) (defined_in windows) → window_names windows ≡ defines
           → Only F (select_of answers scope distinct results order behind condition by having windows)
-      select_only condition by having windows fine apart in_condition in_by in_having in_windows frames same =
+      select_only condition by having windows fine keyless apart in_condition in_by in_having in_windows frames same =
           followed_only (condition_of answers (columns_say scope) condition) _ (condition_only (columns_say scope) columns_speak condition in_condition)
           (λ test.
-          followed_only (by_of answers scope by) _ (by_only by in_by) (λ keys.
+          followed_only (by_of answers scope by) _ (by_only by in_by keyless) (λ keys.
           followed_only (firsts is_same_aggregate [] (filter_map (aggregate_of answers (columns_say scope)) behind)) _
           (firsts_only is_same_aggregate [] (aggregate_of answers (columns_say scope)) behind
           (weaker (λ part of. loose_aggregate part of) fine.in_behind))
@@ -327,11 +387,13 @@ module _ (F : Fault → Type 0) (takes : Takes F) where
     pub core_only : (core : CoreTree) (order : TermTrees) → Each (Sound F defines answers (columns_say scope)) (spoken_in core)
         → Each (IsFineTerm (Sound F defines answers (columns_say scope)) (names_of_results scope (results_in core))) (terms_in order)
         → Each (IsFineStar F scope) (stars_in (results_in core)) → (are_distinct (window_names (windows_in core)) ≡ false → F DuplicateName)
-        → IsFineOrder F order (names_of_results scope (results_in core))
+        → IsFineOrder F order (names_of_results scope (results_in core)) → (HasStar (results_in core) → starred scope ≡ [] → F WrongPlace)
+        → (is_distinct core ≡ true → (e : ExprTree) → Contains (terms_in order) e → IsNoNumber e → IsNoResult (names_of_results scope (results_in core)) e
+        → F WrongPlace) → ((e : ExprTree) (z : ℤ) → Contains (groups_in core) e → IsNumber e z → F WrongPlace)
         → (nat_le (length (names_of_results scope (results_in core))) max_columns ≡ false → F Limit)
         → Each (λ w. Only F (frame_of (frame_in w))) (defined_in (windows_in core)) → window_names (windows_in core) ≡ defines
         → Only F (core_of answers scope core order)
-    core_only (CoreTree.Select distinct results from condition by having windows) order all in_terms stars apart in_order narrow frames same =
+    core_only (CoreTree.Select distinct results from condition by having windows) order all in_terms stars apart in_order nothing rowless keyless narrow frames same =
         let r = results_parts results in
         let c = maybe_parts condition in
         let b = all_parts by in
@@ -351,9 +413,11 @@ module _ (F : Fault → Type 0) (takes : Takes F) where
         (record {
           stars = stars;
           in_order = in_order;
+          nothing = nothing;
+          rowless = rowless;
           narrow = narrow;
           in_results = in_results;
           in_terms = in_terms;
           in_behind =
               join (r ++ h ++ d) (terms_parts order) (loose (join (r ++ h) d (join r h in_results in_having) in_windows)) (loose_terms order in_terms);
-        }) apart in_condition in_by in_having in_windows frames same
+        }) keyless apart in_condition in_by in_having in_windows frames same

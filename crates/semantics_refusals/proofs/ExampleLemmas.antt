@@ -8,7 +8,7 @@ use Rattle.sql_reader_syntax.specs.StatementTree.{ItemTree, StatementTree}
 use Rattle.sql_reader_syntax.specs.Tree.{Name}
 use Rattle.semantics_names.specs.Laws.{AmbiguousIsTwo, ColumnsAreScalar, DistinctIsSaid, TypedIsTaken, UnknownIsNone}
 use Rattle.semantics_names.specs.Parts.{core_parts, terms_parts}
-use Rattle.semantics_names.specs.RefusedExamples.{RefusedFrames, RefusedNames, RefusedTypes, alias_in_where, arms_of_two_types, bad_frame, distance_of_texts, in_two_sources, item_in_itself, mismatch, no_buckets, other_type, outer_column, star_of_none, twice, two_columns, two_named, two_of_one_name, undefined_window, uneven, uneven_item, unknown_column, unknown_table, untyped_item, unused_window, windows_of_one_name}
+use Rattle.semantics_names.specs.RefusedExamples.{RefusedFrames, RefusedNames, RefusedPlaces, RefusedTypes, aggregate_in_where, alias_in_where, arms_of_two_types, bad_frame, distance_of_texts, group_by_signed_number, hidden_order, in_two_sources, item_in_itself, mismatch, no_buckets, order_out_of_range, other_type, outer_column, scalar_over, star_of_none, star_of_nothing, sum_behind_compound, twice, two_columns, two_named, two_of_one_name, undefined_window, uneven, uneven_item, unknown_column, unknown_table, untyped_item, unused_window, windows_of_one_name}
 use Rattle.semantics_names.specs.Statement.{Named, from_tree}
 use Rattle.semantics_names.specs.Typed.{typed_query}
 use Rattle.semantics_names.specs.Worked.{by_term, called, id, item as item_alone, name_alone, number, results_of, select, shown, statement, tables}
@@ -24,12 +24,13 @@ use Rattle.semantics_refusals.proofs.UnevenLemmas.{uneven_is_refused}
 use Rattle.semantics_refusals.proofs.UnknownColumnLemmas.{ambiguous_column_is_refused, unknown_column_is_refused}
 use Rattle.semantics_refusals.proofs.UnknownSourceLemmas.{unknown_source_is_refused}
 use Rattle.semantics_refusals.proofs.WindowLemmas.{bad_frame_is_refused}
+use Rattle.semantics_refusals.proofs.WrongPlaceLemmas.{wrong_place_is_refused}
 
 reason : NameLaws → (tree : StatementTree) (fault : Fault) → typed_query tables tree ≡ Err fault → IsReason tables tree fault
 reason laws tree fault e = refusals_have_reasons laws tables tree fault (inr e)
 
-pub reasons_are_written : NameLaws → RefusedNames → RefusedTypes → RefusedFrames → ReasonsAreWritten
-reasons_are_written laws names types frames = (
+pub reasons_are_written : NameLaws → RefusedNames → RefusedTypes → RefusedFrames → RefusedPlaces → ReasonsAreWritten
+reasons_are_written laws names types frames places = (
   reason laws unknown_table f.UnknownTable names.0,
   reason laws item_in_itself f.UnknownTable names.1,
   reason laws item_before_its_own f.UnknownTable refl,
@@ -54,6 +55,13 @@ reasons_are_written laws names types frames = (
   reason laws undefined_window f.BadFrame frames.1,
   reason laws no_buckets f.BadFrame frames.2,
   reason laws distance_of_texts f.BadFrame frames.3,
+  reason laws aggregate_in_where f.WrongPlace places.2,
+  reason laws hidden_order f.WrongPlace places.3,
+  reason laws order_out_of_range f.WrongPlace places.9,
+  reason laws group_by_signed_number f.WrongPlace places.13,
+  reason laws star_of_nothing f.WrongPlace places.14,
+  reason laws sum_behind_compound f.WrongPlace places.15,
+  reason laws scalar_over f.WrongPlace places.7,
   reason laws (ones 101) f.Limit refl,
   reason laws (statement (select (shown (number 1) ∷ []) (from_ones 64))) f.Limit refl,
   reason laws (statement (levels 100)) f.Limit refl,
@@ -144,6 +152,8 @@ nothing_is_written none two said typed scalars =
       λ has. mistyped_is_refused typed tables items_of_items n has items,
       λ has. mistyped_is_refused typed tables of_null_alone k has nulls,
       λ has. bad_frame_is_refused scalars typed tables distance_of_numbers h has distance,
+      λ has. wrong_place_is_refused scalars tables sorted_by_alias m has alias,
+      λ has. wrong_place_is_refused scalars tables distance_of_numbers h has distance,
       λ has. beyond_limit_is_refused tables (ones 100) i has hundred,
       λ has. beyond_limit_is_refused tables (statement (select (shown (number 1) ∷ []) (from_ones 63))) j has sources,
       λ has. beyond_limit_is_refused tables (statement (levels 64)) l has deep,

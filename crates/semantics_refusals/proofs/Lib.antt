@@ -52,3 +52,4 @@ pub mod LimitLemmas
 mod FrameLemmas
 mod FrameRefusedLemmas
 pub mod WindowLemmas
+pub mod WrongPlaceLemmas

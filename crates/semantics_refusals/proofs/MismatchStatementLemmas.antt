@@ -118,7 +118,7 @@ no_names = record {
 
 others : (tables : List Table) (tree : StatementTree) → HasReasons IsOtherFault tables tree
 others tables tree = record {
-  takes = record { bare_column = λ d. absurd cc; wrong_place = λ d. absurd cc };
+  takes = record { bare_column = λ d. absurd cc };
   unknown_table = λ _ d. absurd cc;
   unknown_column = λ _ d. absurd cc;
   ambiguous = λ _ d. absurd cc;
@@ -126,6 +126,7 @@ others tables tree = record {
   column_count = λ _ d. absurd cc;
   limit = λ _ d. absurd cc;
   frame = λ _ d. absurd cc;
+  wrong_place = λ _ d. absurd cc;
 }
 
 pub mismatch_is_mistyped : (tables : List Table) (tree : StatementTree) → typed_query tables tree ≡ Err TypeMismatch → IsMistyped tables tree

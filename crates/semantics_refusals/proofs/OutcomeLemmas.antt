@@ -2,7 +2,7 @@
 use Rattle.std.proofs.Common.{◌≡◌, Bool, true, false, if◌then◌else◌, List, [], ◌∷◌, Option, Some, None, Result, Ok, Err, refl}
 use Rattle.std.specs.List.{cons_option, filter_map}
 use Rattle.values.specs.declared.fault.Fault.{Fault}
-use Rattle.values.specs.declared.fault.Fault.TheVariants.{BareColumn, WrongPlace}
+use Rattle.values.specs.declared.fault.Fault.TheVariants.{BareColumn}
 use Rattle.semantics_names.specs.Outcome.{also, both, checked, chosen, each, followed, found_or}
 use Rattle.semantics_names.specs.Statement.{firsts, once_more}
 use Rattle.semantics_names.specs.Places.{place_of}
@@ -23,7 +23,6 @@ Only F r = Gives F (λ _. Unit {0}) r
 -- it holds of the faults of a SELECT that say nothing of its names
 pub record Takes (F : Fault → Type 0) : Type 0 where
   pub bare_column : F BareColumn
-  pub wrong_place : F WrongPlace
 
 module _ {F : Fault → Type 0} where
   pub ok : {A : Type 0} (a : A) → Only F (Ok a)
@@ -71,6 +70,12 @@ module _ {F : Fault → Type 0} where
   chosen_only (Ok (Some a)) s o p = ok a
   chosen_only (Ok None) s o p = p
   chosen_only (Err fault) s o p = record { is = o.is }
+
+  -- what is asked last knows that nothing was said
+  pub chosen_known : {A : Type 0} (r : Result (Option A) Fault) (s : Result A Fault) → Only F r → (r ≡ Ok None → Only F s) → Only F (chosen r s)
+  chosen_known (Ok (Some a)) s o p = ok a
+  chosen_known (Ok None) s o p = p refl
+  chosen_known (Err fault) s o p = record { is = o.is }
 
   pub each_only : {A B : Type 0} (f : A → Result B Fault) (xs : List A) → Each (λ x. Only F (f x)) xs → Only F (each f xs)
   each_only f [] o = ok []

@@ -6,21 +6,48 @@ use Rattle.values.specs.Datum.{null}
 use Rattle.values.specs.declared.fault.Fault.{Fault}
 use Rattle.values.specs.declared.fault.Fault.TheVariants.{BadFrame, BareColumn, WrongPlace}
 use Rattle.expr.specs.Term.{Term, literal}
-use Rattle.sql_reader_syntax.specs.ExprTree.{BehindTree, ExprTree, ExprTrees, MaybeExpr, OverTree, TermTrees, WindowTree}
+use Rattle.sql_reader_syntax.specs.ExprTree.{BehindTree, ExprTree, ExprTrees, MaybeExpr, OverTree, TermTrees, WindowTree, plain}
 use Rattle.sql_reader_syntax.specs.Tree.{Name}
 use Rattle.sql_reader_syntax.specs.declared.expr.Function.{Function}
 use Rattle.sql_reader_syntax.specs.declared.expr.Function.TheVariants as w
 use Rattle.semantics.specs.Query.{always, filtered, Aggregate, AggregateFunction, Window, WindowCall, WindowFunction}
 use Rattle.semantics_names.specs.Expression.{Answers, Says, term_of, terms_of}
 use Rattle.semantics_names.specs.Laws.{IsSameInAnyCase}
-use Rattle.semantics_names.specs.Outcome.{both}
+use Rattle.semantics_names.specs.Outcome.{also, both}
 use Rattle.semantics_names.specs.Parts.{all_parts, maybe_parts, over_parts, parts, terms_parts, window_parts}
 use Rattle.semantics_names.specs.Places.{Defined, aggregate, aggregate_call, aggregate_column, aggregate_named, aggregate_of, bare, beside_keys, call_column, call_of, columns_say, count_rows, defined_as, filter_of, frame_of, function_or, groups_say, key_column, key_or, of_term, over, over_call, ranking, ranking_unless, sorted, window, window_call, window_of, windows_say}
 use Rattle.semantics_names.specs.Scope.{Scope, column_of}
 use Rattle.semantics_refusals.specs.BadFrames.{IsOver}
 use Rattle.semantics_refusals.proofs.OutcomeLemmas.{Only, OnlySome, Takes, also_back, also_only, both_only, followed_only, nothing, ok, refused, some}
 use Rattle.semantics_refusals.proofs.PartLemmas.{Deep, Each, back, first, front, itself, weaker}
-use Rattle.semantics_refusals.proofs.TermLemmas.{IsFramed, Sound, frame_in, term_only, terms_only}
+use Rattle.semantics_refusals.proofs.TermLemmas.{IsFineCall, Sound, frame_in, term_only, terms_only}
+
+-- ---- a name of a column is never passed over
+
+pub columns_named : (scope : Scope) (part : ExprTree) (table : Option Name) (name : Name) → part ≡ ExprTree.Column table name
+    → columns_say scope part ≡ Ok None → ⊥
+columns_named scope part table name same none =
+    some_none (column_of scope table name) (subst (λ part. columns_say scope part ≡ Ok None) same none)
+  where
+    some_none : (r : Result Term Fault) → also Some r ≡ Ok None → ⊥
+    some_none (Ok t) e = absurd cc
+    some_none (Err fault) e = absurd cc
+
+pub groups_named : (answers : Answers) (scope : Scope) (by : List Term) (aggregates : List Aggregate) (part : ExprTree) (table : Option Name) (name : Name)
+    → part ≡ ExprTree.Column table name → groups_say answers scope by aggregates part ≡ Ok None → ⊥
+groups_named answers scope by aggregates part table name same none =
+    key_none (key_column by (term_of answers (columns_say scope) (ExprTree.Column table name))) (column_of scope table name)
+    (subst (λ part. groups_say answers scope by aggregates part ≡ Ok None) same none)
+  where
+    key_none : (key : Option Term) (r : Result Term Fault) → key_or key (bare r) ≡ Ok None → ⊥
+    key_none (Some t) r e = absurd cc
+    key_none None (Ok t) e = absurd cc
+    key_none None (Err fault) e = absurd cc
+
+pub windows_named : (answers : Answers) (says : Says) (defined : List Defined) (width : ℕ) (calls : List WindowCall) (part : ExprTree) (table : Option Name)
+    (name : Name) → part ≡ ExprTree.Column table name → (says part ≡ Ok None → ⊥) → windows_say answers says defined width calls part ≡ Ok None → ⊥
+windows_named answers says defined width calls part table name same apart none =
+    apart (subst (λ part. says part ≡ Ok None) (sym same) (subst (λ part. windows_say answers says defined width calls part ≡ Ok None) same none))
 
 module _ (F : Fault → Type 0) (takes : Takes F) (windows : List Name) where
   bare_only : (r : Result Term Fault) → Only F r → Only F (bare r)
@@ -68,7 +95,7 @@ module _ (F : Fault → Type 0) (takes : Takes F) (windows : List Name) where
   module _ (answers : Answers) where
     module _ (says : Says) where
       term_so : (e : ExprTree) → Each (Sound F windows answers says) (parts e) → Only F (term_of answers says e)
-      term_so = term_only F takes.wrong_place windows answers says
+      term_so = term_only F windows answers says
 
       filter_only : (filter : MaybeExpr) (argument : Term) → Each (Sound F windows answers says) (maybe_parts filter) → Only F (filter_of answers says filter argument)
       filter_only MaybeExpr.Absent argument all = ok argument
@@ -103,12 +130,12 @@ module _ (F : Fault → Type 0) (takes : Takes F) (windows : List Name) where
           → Only F (window_of answers says v)
       window_only (WindowTree.Window partition order frame) all framed =
           followed_only (terms_of answers says partition) _
-          (terms_only F takes.wrong_place windows answers says partition (front (all_parts partition) (terms_parts order) all))
+          (terms_only F windows answers says partition (front (all_parts partition) (terms_parts order) all))
           (λ ts. both_only (window ts) (sorted answers says order) (frame_of frame)
           (sorted_only order (back (all_parts partition) (terms_parts order) all)) framed)
 
       over_only : (defined : List Defined) → map (λ (d : Defined). d.name) defined ≡ windows → (part : ExprTree) (o : OverTree) → IsOver part o
-          → IsFramed F windows part → Each (Sound F windows answers says) (over_parts o) → OnlySome F (over answers says defined o)
+          → IsFineCall F windows part → Each (Sound F windows answers says) (over_parts o) → OnlySome F (over answers says defined o)
       over_only defined named part OverTree.No_over is framed all = nothing
       over_only defined named part (OverTree.OverName name) is framed all =
           some _ (defined_only defined name (λ apart. framed.defined name is (subst (All (λ other. ¬ IsSameInAnyCase other name)) named apart)))
@@ -126,31 +153,53 @@ module _ (F : Fault → Type 0) (takes : Takes F) (windows : List Name) where
           (all_parts (ExprTrees.More e (ExprTrees.More (ExprTree.Number (pos n)) (ExprTrees.More d ExprTrees.No_more)))) → Each (Sound F windows answers says) (parts d)
       last_of e n d all = front (parts d) [] (back (ExprTree.Number (pos n) ∷ []) (parts d ++ []) (back (parts e) _ all))
 
-      ranking_only : (name : Function) (items : ExprTrees) → Each (Sound F windows answers says) (all_parts items) → Only F (ranking answers says name items)
-      ranking_only w.RowNumber ExprTrees.No_more all = ok _
-      ranking_only w.Rank ExprTrees.No_more all = ok _
-      ranking_only w.DenseRank ExprTrees.No_more all = ok _
-      ranking_only w.NTile (ExprTrees.More (ExprTree.Number (pos n)) ExprTrees.No_more) all = ok _
-      ranking_only w.FirstValue (ExprTrees.More e ExprTrees.No_more) all = of_term_only WindowFunction.first_value e (front (parts e) [] all)
-      ranking_only w.LastValue (ExprTrees.More e ExprTrees.No_more) all = of_term_only WindowFunction.last_value e (front (parts e) [] all)
-      ranking_only w.NthValue (ExprTrees.More e (ExprTrees.More (ExprTree.Number (pos n)) ExprTrees.No_more)) all =
+      ranking_only : F WrongPlace → (name : Function) (items : ExprTrees) → Each (Sound F windows answers says) (all_parts items) → Only F (ranking answers says name items)
+      ranking_only place w.RowNumber ExprTrees.No_more all = ok _
+      ranking_only place w.Rank ExprTrees.No_more all = ok _
+      ranking_only place w.DenseRank ExprTrees.No_more all = ok _
+      ranking_only place w.NTile (ExprTrees.More (ExprTree.Number (pos n)) ExprTrees.No_more) all = ok _
+      ranking_only place w.FirstValue (ExprTrees.More e ExprTrees.No_more) all = of_term_only WindowFunction.first_value e (front (parts e) [] all)
+      ranking_only place w.LastValue (ExprTrees.More e ExprTrees.No_more) all = of_term_only WindowFunction.last_value e (front (parts e) [] all)
+      ranking_only place w.NthValue (ExprTrees.More e (ExprTrees.More (ExprTree.Number (pos n)) ExprTrees.No_more)) all =
           of_term_only (λ t. WindowFunction.nth_value t n) e (front (parts e) _ all)
-      ranking_only w.Lag (ExprTrees.More e ExprTrees.No_more) all = of_term_only (λ t. WindowFunction.lag t 1 (literal null)) e (front (parts e) [] all)
-      ranking_only w.Lag (ExprTrees.More e (ExprTrees.More (ExprTree.Number (pos n)) ExprTrees.No_more)) all =
+      ranking_only place w.Lag (ExprTrees.More e ExprTrees.No_more) all = of_term_only (λ t. WindowFunction.lag t 1 (literal null)) e (front (parts e) [] all)
+      ranking_only place w.Lag (ExprTrees.More e (ExprTrees.More (ExprTree.Number (pos n)) ExprTrees.No_more)) all =
           of_term_only (λ t. WindowFunction.lag t n (literal null)) e (front (parts e) _ all)
-      ranking_only w.Lag (ExprTrees.More e (ExprTrees.More (ExprTree.Number (pos n)) (ExprTrees.More d ExprTrees.No_more))) all =
+      ranking_only place w.Lag (ExprTrees.More e (ExprTrees.More (ExprTree.Number (pos n)) (ExprTrees.More d ExprTrees.No_more))) all =
           two_only (λ t otherwise. WindowFunction.lag t n otherwise) e d (front (parts e) _ all) (last_of e n d all)
-      ranking_only w.Lead (ExprTrees.More e ExprTrees.No_more) all = of_term_only (λ t. WindowFunction.lead t 1 (literal null)) e (front (parts e) [] all)
-      ranking_only w.Lead (ExprTrees.More e (ExprTrees.More (ExprTree.Number (pos n)) ExprTrees.No_more)) all =
+      ranking_only place w.Lead (ExprTrees.More e ExprTrees.No_more) all = of_term_only (λ t. WindowFunction.lead t 1 (literal null)) e (front (parts e) [] all)
+      ranking_only place w.Lead (ExprTrees.More e (ExprTrees.More (ExprTree.Number (pos n)) ExprTrees.No_more)) all =
           of_term_only (λ t. WindowFunction.lead t n (literal null)) e (front (parts e) _ all)
-      ranking_only w.Lead (ExprTrees.More e (ExprTrees.More (ExprTree.Number (pos n)) (ExprTrees.More d ExprTrees.No_more))) all =
+      ranking_only place w.Lead (ExprTrees.More e (ExprTrees.More (ExprTree.Number (pos n)) (ExprTrees.More d ExprTrees.No_more))) all =
           two_only (λ t otherwise. WindowFunction.lead t n otherwise) e d (front (parts e) _ all) (last_of e n d all)
-      ranking_only _ _ all = refused WrongPlace takes.wrong_place
+      ranking_only place _ _ all = refused WrongPlace place
 
-      ranking_unless_only : (filter : MaybeExpr) (name : Function) (items : ExprTrees) → Each (Sound F windows answers says) (all_parts items)
+      ranking_unless_only : F WrongPlace → (filter : MaybeExpr) (name : Function) (items : ExprTrees) → Each (Sound F windows answers says) (all_parts items)
           → Only F (ranking_unless answers says filter name items)
-      ranking_unless_only MaybeExpr.Absent name items all = ranking_only name items all
-      ranking_unless_only (MaybeExpr.Present e) name items all = refused WrongPlace takes.wrong_place
+      ranking_unless_only place MaybeExpr.Absent name items all = ranking_only place name items all
+      ranking_unless_only place (MaybeExpr.Present e) name items all = refused WrongPlace place
+
+      named_none : (filter : MaybeExpr) (name : Name) → BehindTree.Behind filter (OverTree.OverName name) ≡ plain → ⊥
+      named_none filter name same = absurd cc
+
+      over_none : (filter : MaybeExpr) (v : WindowTree) → BehindTree.Behind filter (OverTree.Over v) ≡ plain → ⊥
+      over_none filter v same = absurd cc
+
+      applied_only : (defined : List Defined) → map (λ (d : Defined). d.name) defined ≡ windows → (function : Function) (items : ExprTrees)
+          (filter : MaybeExpr) (o : OverTree)
+          → Each (Sound F windows answers says) (parts (ExprTree.Call function items (BehindTree.Behind filter o))) → F WrongPlace
+          → OnlySome F (over_call (over answers says defined o)
+          (function_or (aggregate_call answers says (aggregate_named function) items filter) (ranking_unless answers says filter function items)))
+      applied_only defined named function items filter o all place =
+          let of = front (all_parts items ++ (maybe_parts filter ++ over_parts o)) _ all in
+          let given = front (all_parts items) (maybe_parts filter ++ over_parts o) of in
+          let after = back (all_parts items) (maybe_parts filter ++ over_parts o) of in
+          over_call_only (over answers says defined o) _
+          (over_only defined named (ExprTree.Call function items (BehindTree.Behind filter o)) o IsOver.call
+          (itself (ExprTree.Call function items (BehindTree.Behind filter o)) all).framed (back (maybe_parts filter) (over_parts o) after))
+          (function_only (aggregate_call answers says (aggregate_named function) items filter) (ranking_unless answers says filter function items)
+          (aggregate_call_only (aggregate_named function) items filter given (front (maybe_parts filter) (over_parts o) after))
+          (ranking_unless_only place filter function items given))
 
       pub call_only : (defined : List Defined) → map (λ (d : Defined). d.name) defined ≡ windows → (part : ExprTree)
           → Each (Sound F windows answers says) (parts part) → OnlySome F (call_of answers says defined part)
@@ -160,16 +209,13 @@ module _ (F : Fault → Type 0) (takes : Takes F) (windows : List Name) where
           (over_only defined named (ExprTree.CountRows (BehindTree.Behind filter o)) o IsOver.rows
           (itself (ExprTree.CountRows (BehindTree.Behind filter o)) all).framed (back (maybe_parts filter) (over_parts o) of))
           (also_only WindowFunction.aggregate (count_rows answers says filter) (count_only filter (front (maybe_parts filter) (over_parts o) of)))
-      call_only defined named (ExprTree.Call function items (BehindTree.Behind filter o)) all =
-          let of = front (all_parts items ++ (maybe_parts filter ++ over_parts o)) _ all in
-          let given = front (all_parts items) (maybe_parts filter ++ over_parts o) of in
-          let after = back (all_parts items) (maybe_parts filter ++ over_parts o) of in
-          over_call_only (over answers says defined o) _
-          (over_only defined named (ExprTree.Call function items (BehindTree.Behind filter o)) o IsOver.call
-          (itself (ExprTree.Call function items (BehindTree.Behind filter o)) all).framed (back (maybe_parts filter) (over_parts o) after))
-          (function_only (aggregate_call answers says (aggregate_named function) items filter) (ranking_unless answers says filter function items)
-          (aggregate_call_only (aggregate_named function) items filter given (front (maybe_parts filter) (over_parts o) after))
-          (ranking_unless_only filter function items given))
+      call_only defined named (ExprTree.Call function items (BehindTree.Behind filter OverTree.No_over)) all = nothing
+      call_only defined named (ExprTree.Call function items (BehindTree.Behind filter (OverTree.OverName name))) all =
+          applied_only defined named function items filter (OverTree.OverName name) all
+          ((itself (ExprTree.Call function items (BehindTree.Behind filter (OverTree.OverName name))) all).framed.fits (λ scalar. named_none filter name scalar.0))
+      call_only defined named (ExprTree.Call function items (BehindTree.Behind filter (OverTree.Over v))) all =
+          applied_only defined named function items filter (OverTree.Over v) all
+          ((itself (ExprTree.Call function items (BehindTree.Behind filter (OverTree.Over v))) all).framed.fits (λ scalar. over_none filter v scalar.0))
       call_only defined named _ all = nothing
 
       pub windows_only : (defined : List Defined) → map (λ (d : Defined). d.name) defined ≡ windows → (width : ℕ) (calls : List WindowCall) (part : ExprTree) → Each (Sound F windows answers says) (parts part)

@@ -1,8 +1,8 @@
 -- A query by its names, or why it is none.
-use Rattle.std.proofs.Common.{◌≡◌, ◌⊎◌, inl, inr, false, ℕ, zero, suc, List, [], ◌∷◌, ◌++◌, length, map, Option, Some, None, Result, Ok, Contains, nat_eq, nat_le, ap, refl, subst, arith}
+use Rattle.std.proofs.Common.{◌≡◌, ◌⊎◌, inl, inr, true, false, ℕ, zero, suc, ℤ, List, [], ◌∷◌, ◌++◌, length, map, Option, Some, None, Result, Ok, Contains, nat_eq, nat_le, ap, refl, subst, arith}
 use Rattle.std.specs.List.{cons_option, filter_map}
 use Rattle.values.specs.declared.fault.Fault.{Fault}
-use Rattle.values.specs.declared.fault.Fault.TheVariants.{ColumnCount, DuplicateName, Limit}
+use Rattle.values.specs.declared.fault.Fault.TheVariants.{ColumnCount, DuplicateName, Limit, WrongPlace}
 use Rattle.sql_reader_syntax.specs.ExprTree.{CoreTree, ExprTree, FromTree, OnTree, QueryTree, SourceTree, TermTrees}
 use Rattle.sql_reader_syntax.specs.Tree.{Name}
 use Rattle.sql_reader_syntax.specs.declared.query.CompoundOperator.{CompoundOperator}
@@ -14,19 +14,20 @@ use Rattle.semantics_names.specs.Parts.{all_parts, core_parts, definitions_parts
 use Rattle.semantics_names.specs.Places.{columns_say, frame_of}
 use Rattle.semantics_names.specs.Scope.{Scope}
 use Rattle.semantics_names.specs.Sources.{Known}
-use Rattle.semantics_names.specs.Statement.{Inner, Queried, Single, answers_of, are_distinct, compounded, core_of, exists_inner, from_of, from_tree, inner_of, keys_of, max_columns, no_row, queried, query_of, simple, single, single_of, values_inner, window_names, with_inners}
+use Rattle.semantics_names.specs.Statement.{Inner, Queried, Single, answers_of, are_distinct, compounded, core_of, exists_inner, from_of, from_tree, inner_of, keys_of, max_columns, no_row, queried, query_of, simple, single, single_of, starred, values_inner, window_names, with_inners}
 use Rattle.semantics_refusals.specs.BadFrames.{defined_in}
 use Rattle.semantics_refusals.specs.Columns.{HasNames, Offers, Shows, names_of_results, results_in}
 use Rattle.semantics_refusals.specs.Limits.{IsDeep}
-use Rattle.semantics_refusals.specs.UnknownColumns.{IsNamedAt}
+use Rattle.semantics_refusals.specs.UnknownColumns.{IsNamedAt, IsNoResult}
+use Rattle.semantics_refusals.specs.WrongPlaces.{HasNoRow, HasStar, IsNoNumber, IsNumber, groups_in}
 use Rattle.semantics_refusals.specs.Written.{BeginsFrom, BeginsQuery, HasQuery, IsDerived, IsOperand, IsSelect, StandsIn, names_of_sources, sources_in, spoken_in, stars_in, terms_in, windows_in}
-use Rattle.semantics_refusals.proofs.CoreLemmas.{IsFineOrder, IsFineStar, IsFineTerm, core_only, keys_only, no_row_only}
+use Rattle.semantics_refusals.proofs.CoreLemmas.{IsFineOrder, IsFineStar, IsFineTerm, core_only, is_distinct, keys_only, no_row_only}
 use Rattle.semantics_refusals.proofs.NameLemmas.{from_shows, listed_of, queried_names, query_names}
 use Rattle.semantics_refusals.proofs.OutcomeLemmas.{Only, Takes, also_only, checked_only, each_only, followed_only, known_only, ok, refused}
 use Rattle.semantics_refusals.proofs.PartLemmas.{Each, among, back, each_itself, first, front, join, more, none, rest, weaker}
 use Rattle.semantics_refusals.proofs.SourceLemmas.{IsFineAnswer, IsFineColumn, IsFineJoin, IsFineSource, from_only, with_answers}
 use Rattle.semantics_refusals.proofs.TakenLemmas.{inside}
-use Rattle.semantics_refusals.proofs.TermLemmas.{IsFramed, Sound, frame_in}
+use Rattle.semantics_refusals.proofs.TermLemmas.{IsFineCall, Sound, frame_in}
 
 -- what has to hold of a SELECT, so that of its fault this holds
 pub record IsFineSelect (F : Fault → Type 0) (known : List Known) (core : CoreTree) (by : TermTrees) : Type 0 where
@@ -41,7 +42,9 @@ pub record IsFineSelect (F : Fault → Type 0) (known : List Known) (core : Core
   pub windows : are_distinct (window_names (windows_in core)) ≡ false → F DuplicateName
   pub narrow : (scope : Scope) → Shows (listed_of known) (from_tree core) scope
       → nat_le (length (names_of_results scope (results_in core))) max_columns ≡ false → F Limit
-  pub framed : Each (IsFramed F (window_names (windows_in core))) (core_parts core by)
+  pub nothing : (scope : Scope) → Shows (listed_of known) (from_tree core) scope → HasStar (results_in core) → starred scope ≡ [] → F WrongPlace
+  pub keyless : (e : ExprTree) (z : ℤ) → Contains (groups_in core) e → IsNumber e z → F WrongPlace
+  pub framed : Each (IsFineCall F (window_names (windows_in core))) (core_parts core by)
   pub frames : Each (λ w. Only F (frame_of (frame_in w))) (defined_in (windows_in core))
   pub members : (query : QueryTree) (part : ExprTree) (names : List Name) → Contains (core_parts core by) part
       → inner_tree part ≡ Some (InnerTree.values_in query)
@@ -51,6 +54,8 @@ pub record IsFineSelect (F : Fault → Type 0) (known : List Known) (core : Core
 pub record IsFineQuery (F : Fault → Type 0) (known : List Known) (query : QueryTree) (order : TermTrees) : Type 0 where
   pub selects : (core : CoreTree) (by : TermTrees) → IsSelect query order core by → IsFineSelect F known core by
   pub in_order : (names : List Name) → HasNames (listed_of known) query names → IsFineOrder F order names
+  pub rowless : (names : List Name) → HasNames (listed_of known) query names → HasNoRow query → (e : ExprTree) → Contains (terms_in order) e
+      → IsNoNumber e → IsNoResult names e → F WrongPlace
   pub even : (left : QueryTree) (operator : CompoundOperator) (core : CoreTree) → BeginsQuery (QueryTree.Compound left operator core) query
       → (names others : List Name) → HasNames (listed_of known) left names → HasNames (listed_of known) (QueryTree.Core core) others
       → nat_eq (length names) (length others) ≡ false → F ColumnCount
@@ -76,7 +81,14 @@ nothing_there : {X : Type 0} (x : X) → Contains [] x → ⊥
 nothing_there x (at, short, is) = omega arith
 
 no_order : (F : Fault → Type 0) (names : List Name) → IsFineOrder F TermTrees.No_term names
-no_order F names = record { two = λ name there at other more same. absurd (nothing_there (ExprTree.Column None name) there) }
+no_order F names = record {
+  two = λ name there at other more same. absurd (nothing_there (ExprTree.Column None name) there);
+  number = λ e z there. absurd (nothing_there e there);
+}
+
+distinct_rows : (core : CoreTree) → is_distinct core ≡ true → HasNoRow (QueryTree.Core core)
+distinct_rows (CoreTree.Select true results from condition by having windows) e = HasNoRow.distinct
+distinct_rows (CoreTree.Select false results from condition by having windows) e = absurd cc
 
 module _ (F : Fault → Type 0) (takes : Takes F) (known : List Known) (queries : QueryTree → Result Queried Fault)
     (names : (tree : QueryTree) (q : Queried) → queries tree ≡ Ok q → HasNames (listed_of known) tree q.names) where
@@ -152,9 +164,11 @@ module _ (F : Fault → Type 0) (takes : Takes F) (known : List Known) (queries 
         of (inr columns) = inr (with_answers F windows answers scope (parts e) columns (front (parts e) (terms_parts others) all))
 
     single_only : ((names : List Name) → HasNames (listed_of known) (QueryTree.Core core) names → IsFineOrder F by names)
+        → ((names : List Name) → HasNames (listed_of known) (QueryTree.Core core) names → HasNoRow (QueryTree.Core core) → (e : ExprTree)
+        → Contains (terms_in by) e → IsNoNumber e → IsNoResult names e → F WrongPlace)
         → ((source : SourceTree) (query : QueryTree) → Contains (sources_in (from_tree core)) source → IsDerived source query → Only F (queries query))
         → Only F (single_of known queries core by)
-    single_only in_order derived =
+    single_only in_order rowless derived =
         followed_only (each (inner_of known queries) (inner_trees core by)) (with_inners known queries core by)
         (each_only (inner_of known queries) (inner_trees core by) (gathered (λ tree. Only F (inner_of known queries tree)) (core_parts core by)
         (weaker (λ part there tree e. inner_only part there tree e) (each_itself (core_parts core by)))))
@@ -169,15 +183,21 @@ module _ (F : Fault → Type 0) (takes : Takes F) (known : List Known) (queries 
         also_only (single inners f) (core_of answers f.scope core by)
         (core_only F takes windows answers f.scope core by (with_answers F windows answers f.scope (spoken_in core) (fine.columns f.scope shows) ((in_spoken answers all).0))
         (in_terms answers f.scope (names_of_results f.scope (results_in core)) by (fine.terms f.scope shows) ((in_spoken answers all).1))
-        (fine.stars f.scope shows) fine.windows (in_order (names_of_results f.scope (results_in core)) (HasNames.alone shows)) (fine.narrow f.scope shows) fine.frames refl)))
+        (fine.stars f.scope shows) fine.windows (in_order (names_of_results f.scope (results_in core)) (HasNames.alone shows))
+        (fine.nothing f.scope shows) (λ d. rowless (names_of_results f.scope (results_in core)) (HasNames.alone shows) (distinct_rows core d)) fine.keyless
+        (fine.narrow f.scope shows) fine.frames refl)))
 
   compounded_only : (order : TermTrees) (left : Queried) (operator : CompoundOperator) (s : Single)
       → (nat_eq (length left.names) (length s.core.names) ≡ false → F ColumnCount)
-      → IsFineOrder F order left.names → Only F (compounded order left operator s)
-  compounded_only order left operator s even in_order =
+      → IsFineOrder F order left.names
+      → ((e : ExprTree) → Contains (terms_in order) e → IsNoNumber e → IsNoResult left.names e → F WrongPlace)
+      → Only F (compounded order left operator s)
+  compounded_only order left operator s even in_order rowless =
       checked_only (nat_eq (length left.names) (length s.core.names)) ColumnCount _ even
       (also_only _ (keys_of left.names no_row order)
-      (keys_only F takes left.names no_row (λ _. Unit {0}) (no_row_only F takes) order in_order (all_terms left.names (terms_in order))))
+      (keys_only F takes left.names no_row (λ _. Unit {0}) (Contains (terms_in order))
+      (λ e there plainly apart all. no_row_only F takes e (rowless e there plainly apart)) order (each_itself (terms_in order)) in_order
+      (all_terms left.names (terms_in order))))
 
   in_compound : (left : QueryTree) (operator : CompoundOperator) (core : CoreTree) (order : TermTrees) {inner : QueryTree}
       → StandsIn left TermTrees.No_term inner
@@ -194,13 +214,14 @@ module _ (F : Fault → Type 0) (takes : Takes F) (known : List Known) (queries 
   query_only (QueryTree.Core core) order fine stands =
       also_only simple (single_of known queries core order)
       (single_only core order (fine.selects core order IsSelect.alone)
-      (λ part inner there is. stands inner (StandsIn.operand core order inner part IsSelect.alone there is)) fine.in_order
+      (λ part inner there is. stands inner (StandsIn.operand core order inner part IsSelect.alone there is)) fine.in_order fine.rowless
       (λ source inner there is. stands inner (StandsIn.derived core order inner source IsSelect.alone there is)))
   query_only (QueryTree.Compound left operator core) order fine stands =
       known_only (query_of known queries left TermTrees.No_term) _
       (query_only left TermTrees.No_term (record {
         selects = λ other by select. fine.selects other by (IsSelect.before select);
         in_order = λ names are. no_order F names;
+        rowless = λ names are none e there. absurd (nothing_there e there);
         even = λ begin joined other begins. fine.even begin joined other (BeginsQuery.more begins);
       }) (λ inner is. stands inner (in_compound left operator core order is)))
       (λ l is.
@@ -208,11 +229,12 @@ module _ (F : Fault → Type 0) (takes : Takes F) (known : List Known) (queries 
       known_only (single_of known queries core TermTrees.No_term) (compounded order l operator)
       (single_only core TermTrees.No_term (fine.selects core TermTrees.No_term IsSelect.last)
       (λ part inner there of. stands inner (StandsIn.operand core TermTrees.No_term inner part IsSelect.last there of)) (λ names are. no_order F names)
+      (λ names are none e there. absurd (nothing_there e there))
       (λ source inner there of. stands inner (StandsIn.derived core TermTrees.No_term inner source IsSelect.last there of)))
       (λ s single. compounded_only order l operator s
       (fine.even left operator core BeginsQuery.whole l.names s.core.names named
       (query_names known queries names (QueryTree.Core core) TermTrees.No_term (simple s) (ap (also simple) single)))
-      (fine.in_order l.names (HasNames.compound named))))
+      (fine.in_order l.names (HasNames.compound named)) (fine.rowless l.names (HasNames.compound named) HasNoRow.compound)))
 
 pub queried_only : (F : Fault → Type 0) (takes : Takes F) (deep : ℕ) (known : List Known) (query : QueryTree) (order : TermTrees)
     → ((inner : QueryTree) (by : TermTrees) → HasQuery query order inner by → IsFineQuery F known inner by) → (IsDeep deep query order → F Limit)

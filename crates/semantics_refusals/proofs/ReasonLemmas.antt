@@ -1,9 +1,10 @@
 -- A statement that is refused by its names has what the fault says.
-use Rattle.std.proofs.Common.{◌≡◌, ◌∷◌, ◌++◌, Bool, true, false, inl, inr, ℕ, zero, suc, pos, negsuc, ◌<◌, List, [], length, map, Option, Some, None, Result, Ok, Err, All, Contains, nat_eq, nat_le, ap, refl, sym, subst, ◌∙◌, arith}
+use Rattle.std.proofs.Common.{◌≡◌, ◌∷◌, ◌++◌, Bool, true, false, if◌then◌else◌, inl, inr, ℕ, zero, suc, ℤ, pos, negsuc, ◌<◌, List, [], length, map, Option, Some, None, Result, Ok, Err, All, Contains, nat_eq, nat_le, ap, refl, sym, subst, ◌∙◌, arith}
 use Rattle.std.specs.List.{list_any}
 use Rattle.std.proofs.lemmas.Bool.{eqb-false, leb-false}
+use Rattle.std.proofs.lemmas.List.Elements.{All-cons, All-nil}
 use Rattle.values.specs.declared.fault.Fault.{Fault}
-use Rattle.values.specs.declared.fault.Fault.TheVariants.{Ambiguous, BadFrame, ColumnCount, DuplicateName, Limit, UnknownColumn, UnknownTable}
+use Rattle.values.specs.declared.fault.Fault.TheVariants.{Ambiguous, BadFrame, ColumnCount, DuplicateName, Limit, UnknownColumn, UnknownTable, WrongPlace}
 use Rattle.semantics.specs.Query.{Source}
 use Rattle.sql_reader_syntax.specs.ExprTree.{CoreTree, ExprTree, FromTree, OnTree, QueryTree, SourceTree, TermTrees, WindowTree}
 use Rattle.sql_reader_syntax.specs.StatementTree.{ItemTree, StatementTree}
@@ -12,13 +13,13 @@ use Rattle.sql_reader_syntax.specs.declared.query.Edge as written_edge
 use Rattle.sql_reader_syntax.specs.declared.query.Edge.TheVariants as edges
 use Rattle.sql_reader_syntax.specs.declared.query.Join.{Join}
 use Rattle.semantics_names.specs.Expression.{InnerTree}
-use Rattle.semantics_names.specs.Laws.{AreDistinctInAnyCase, AreSameSources, IsSameInAnyCase}
+use Rattle.semantics_names.specs.Laws.{AreDistinctInAnyCase, AreSameSources, IsSameInAnyCase, IsScalar}
 use Rattle.semantics_names.specs.Outcome.{found_or}
-use Rattle.semantics_names.specs.Parts.{core_parts, inner_tree, on_parts, parts}
+use Rattle.semantics_names.specs.Parts.{core_parts, from_parts, inner_tree, on_parts, parts, parts_behind_groups}
 use Rattle.semantics_names.specs.Places.{edge_of, frame_between, frame_of}
-use Rattle.semantics_names.specs.Scope.{Scope, column_of}
+use Rattle.semantics_names.specs.Scope.{Scope, bare_term, column_of, is_bare}
 use Rattle.semantics_names.specs.Sources.{Known, is_same_source, known_as, shown_from, used}
-use Rattle.semantics_names.specs.Statement.{Queried, With, are_distinct, from_tree, item_columns, max_columns, max_levels, max_sources, named, named_at, queried, sources_of_body, window_names, with_items}
+use Rattle.semantics_names.specs.Statement.{Queried, With, are_distinct, from_tree, item_columns, max_columns, max_levels, max_sources, named, named_at, queried, result, sources_of_body, starred, window_names, with_items}
 use Rattle.semantics_names.specs.Typed.{Table, known_tables, typed_query}
 use Rattle.semantics_refusals.specs.BadFrames.{HasEdgeBelowZero, HasNoWindow, HasWindow, IsBelowZero, defined_in}
 use Rattle.semantics_refusals.specs.Columns.{AreListed, HasNames, JoinsScopes, ListedTable, Offers, Shows, names_of_results, results_in}
@@ -27,18 +28,20 @@ use Rattle.semantics_refusals.specs.RepeatedNames.{HasRepeatedName, Repeats}
 use Rattle.semantics_refusals.specs.UnevenColumns.{HasUnevenColumns, HasWideMembers, IsUneven}
 use Rattle.semantics_refusals.specs.UnknownColumns.{HasAmbiguousColumn, HasUnknownColumn, InSelect, IsAmbiguous, IsNamedAt, IsNoResult, IsTwofold, IsUnknown, NamesColumn, NamesUnknownColumn}
 use Rattle.semantics_refusals.specs.UnknownSources.{HasUnknownSource, IsNoSource, NamesNoSource}
+use Rattle.semantics_refusals.specs.WrongPlaces.{GroupsByNumber, HasCall, HasStar, HasWrongPlace, InQuery, IsNumber, MayHaveWrongPlace, Misplaces, SortsWrongly, StarsNothing, groups_in, plain_parts}
 use Rattle.semantics_refusals.specs.Written.{BeginsFrom, HasQuery, HasQueryWith, HasSelect, HasSelectWith, IsQueryOf, IsSelect, called_so, names_of_sources, sources_in, spoken_in, stars_in, terms_in, windows_in}
 use Rattle.semantics_refusals.proofs.CountLemmas.{IsCountOf, known_counted, name_counted, queried_counts}
 use Rattle.semantics_refusals.proofs.CoreLemmas.{IsFineOrder, IsFineStar, IsFineTerm}
 use Rattle.semantics_refusals.proofs.NameLemmas.{listed_of}
 use Rattle.semantics_refusals.proofs.OutcomeLemmas.{Only, Takes, both_only, checked_only, ok, refused}
-use Rattle.semantics_refusals.proofs.PartLemmas.{Each, each_itself, weaker}
+use Rattle.semantics_refusals.proofs.PartLemmas.{Each, among, each_itself, weaker}
 use Rattle.semantics_refusals.proofs.QueryLemmas.{IsFineQuery, IsFineSelect}
 use Rattle.semantics_refusals.proofs.ScopeLemmas.{Says, column_only, named_none, named_some, named_two, same_there, star_of_none, used_only}
 use Rattle.semantics_refusals.proofs.SourceLemmas.{IsFineColumn, IsFineJoin, IsFineSource}
 use Rattle.semantics_refusals.proofs.StatementLemmas.{IsFineStatement, known_gives, known_listed, named_only, typed_only}
-use Rattle.semantics_refusals.proofs.TermLemmas.{IsFramed, frame_in}
+use Rattle.semantics_refusals.proofs.TermLemmas.{IsFineCall, frame_in}
 use Rattle.semantics_refusals.proofs.TypeLemmas.{TakesTypes}
+use Rattle.semantics_refusals.proofs.WindowLemmas.{whole}
 use Rattle.semantics_refusals.proofs.WithLemmas.{IsOther, items_back, no_items, tables_back}
 
 -- what has to be written, so that of the fault this holds
@@ -51,6 +54,7 @@ pub record HasReasons (F : Fault → Type 0) (tables : List Table) (tree : State
   pub column_count : HasUnevenColumns tables tree → F ColumnCount
   pub limit : IsBeyondLimit tables tree → F Limit
   pub frame : HasSelectWith tree HasNoWindow → F BadFrame
+  pub wrong_place : MayHaveWrongPlace tables tree → F WrongPlace
 
 offers_called : {listed : List ListedTable} {source : SourceTree} {called : Option Name} {columns : List Name} → Offers listed source called columns
     → called ≡ called_so source
@@ -69,6 +73,22 @@ members_of : (part : ExprTree) (query : QueryTree) → inner_tree part ≡ Some 
     → (not : Bool) × (x : ExprTree) × (part ≡ ExprTree.InQuery not x query)
 members_of (ExprTree.InQuery not x inner) query e = let same : inner ≡ query = cc in (not, x, ap (ExprTree.InQuery not x) same)
 members_of _ query e = absurd cc
+
+-- no column has a name of its own, where `*` is none
+all_hidden : (scope : Scope) → starred scope ≡ [] → All (λ shown. shown.places ≡ []) scope
+all_hidden [] e = All-nil (λ shown. shown.places ≡ [])
+all_hidden (s ∷ ss) e =
+    let (none, rest) = by (is_bare s.places) refl e in
+    All-cons (λ shown. shown.places ≡ []) s ss none (all_hidden ss rest)
+  where
+    no_place : (places : List ℕ) → is_bare places ≡ false → places ≡ []
+    no_place [] e = refl
+    no_place (at ∷ places) e = absurd cc
+
+    by : (b : Bool) → is_bare s.places ≡ b → (if b then result s.name (bare_term s.places) ∷ starred ss else starred ss) ≡ []
+        → (s.places ≡ []) × (starred ss ≡ [])
+    by true bare e = absurd cc
+    by false bare e = (no_place s.places bare, e)
 
 -- more than 65, as one more than 64 and more
 above : (n : ℕ) → suc max_sources < n → (m : ℕ) × (n ≡ suc m) × (64 < m)
@@ -274,15 +294,44 @@ module _ (F : Fault → Type 0) (tables : List Table) (tree : StatementTree) (sa
           (edge_so frame.start (λ edge. below (WindowTree.Window partition order (Some frame)) is (HasEdgeBelowZero.start edge)))
           (edge_so frame.end (λ edge. below (WindowTree.Window partition order (Some frame)) is (HasEdgeBelowZero.end edge)))
 
-      fine_framed : Each (IsFramed F (window_names (windows_in core))) (core_parts core by)
+      fits_all : Each (λ part. ¬ IsScalar part → F WrongPlace) (core_parts core by)
+      fits_all =
+          whole core by
+          (weaker (λ part there apart. reasons.wrong_place (MayHaveWrongPlace.call (at_select HasCall (HasCall.behind part there apart))))
+          (each_itself (parts_behind_groups core by)))
+          (weaker (λ part there apart.
+          reasons.wrong_place (MayHaveWrongPlace.is (HasWrongPlace.call (at_select Misplaces (Misplaces.on part there apart)))))
+          (each_itself (from_parts (from_tree core))))
+          (weaker (λ part there apart.
+          reasons.wrong_place (MayHaveWrongPlace.is (HasWrongPlace.call (at_select Misplaces (Misplaces.plain part there apart)))))
+          (each_itself (plain_parts core)))
+
+      fine_framed : Each (IsFineCall F (window_names (windows_in core))) (core_parts core by)
       fine_framed =
           weaker (λ part there. record {
             frame = λ w over. frame_so w (HasWindow.over part there over);
             defined = λ name over apart. reasons.frame (at_select HasNoWindow (HasNoWindow.unnamed part name there over apart));
+            fits = among fits_all there;
+            counted = λ function es after same few.
+                reasons.wrong_place (MayHaveWrongPlace.call (at_select HasCall
+                (HasCall.arguments function es after (subst (Contains (core_parts core by)) same there) few)));
           }) (each_itself (core_parts core by))
 
       fine_frames : Each (λ w. Only F (frame_of (frame_in w))) (defined_in (windows_in core))
       fine_frames = weaker (λ w there. frame_so w (HasWindow.defined there)) (each_itself (defined_in (windows_in core)))
+
+      fine_nothing : (scope : Scope) → Shows (listed_of w.known) (from_tree core) scope → HasStar (results_in core) → starred scope ≡ [] → F WrongPlace
+      fine_nothing scope shows star e =
+          reasons.wrong_place (MayHaveWrongPlace.is (HasWrongPlace.star (here (InSelect tables StarsNothing) (in_select StarsNothing (record {
+            star = star;
+            scope = scope;
+            shows = shows;
+            none = all_hidden scope e;
+          })))))
+
+      fine_keyless : (e : ExprTree) (z : ℤ) → Contains (groups_in core) e → IsNumber e z → F WrongPlace
+      fine_keyless e z there is =
+          reasons.wrong_place (MayHaveWrongPlace.is (HasWrongPlace.group (at_select GroupsByNumber (record { e = e; z = z; written = there; is = is }))))
 
       fine_select : IsFineSelect F w.known core by
       fine_select = record {
@@ -293,10 +342,20 @@ module _ (F : Fault → Type 0) (tables : List Table) (tree : StatementTree) (sa
         stars = fine_stars;
         windows = fine_windows;
         narrow = fine_narrow;
+        nothing = fine_nothing;
+        keyless = fine_keyless;
         framed = fine_framed;
         frames = fine_frames;
         members = fine_members;
       }
+
+    sorts : SortsWrongly (listed_of w.known) query order → F WrongPlace
+    sorts is =
+        reasons.wrong_place (MayHaveWrongPlace.is (HasWrongPlace.order (here (InQuery tables SortsWrongly) (record {
+          listed = listed_of w.known;
+          are = are;
+          is = is;
+        }))))
 
     fine_order : (names : List Name) → HasNames (listed_of w.known) query names → IsFineOrder F order names
     fine_order names called = record {
@@ -313,12 +372,14 @@ module _ (F : Fault → Type 0) (tables : List Table) (tree : StatementTree) (sa
             one = one;
             other = another;
           })));
+      number = λ e z there is out. sorts (SortsWrongly.number names e z called there is out);
     }
 
     fine_query : IsFineQuery F w.known query order
     fine_query = record {
       selects = fine_select;
       in_order = fine_order;
+      rowless = λ names called none e there plainly apart. sorts (SortsWrongly.expression names e called there plainly apart none);
       even = λ left operator core begins names others called more e.
           reasons.column_count (HasUnevenColumns.query (here (IsUneven tables)
           (IsUneven.compound (listed_of w.known) left operator core names others are begins called more (eqb-false (length names) (length others) e))));
@@ -358,5 +419,5 @@ module _ (F : Fault → Type 0) (tables : List Table) (tree : StatementTree) (sa
   pub names_for_reasons : Only F (named (known_tables tables) tree)
   names_for_reasons = named_only F reasons.takes tables tree fine_statement
 
-  pub only_for_reasons : TakesTypes F → Only F (typed_query tables tree)
-  only_for_reasons types = typed_only F reasons.takes tables tree fine_statement types
+  pub only_for_reasons : F WrongPlace → TakesTypes F → Only F (typed_query tables tree)
+  only_for_reasons place types = typed_only F reasons.takes tables tree fine_statement place types

@@ -22,7 +22,6 @@ numbered : (tables : List Table) (tree : StatementTree) → HasReasons IsNameFau
 numbered tables tree = record {
   takes = record {
     bare_column = (omega arith, omega arith);
-    wrong_place = (omega arith, omega arith);
   };
   unknown_table = λ _. (omega arith, omega arith);
   unknown_column = λ _. (omega arith, omega arith);
@@ -31,6 +30,7 @@ numbered tables tree = record {
   column_count = λ _. (omega arith, omega arith);
   limit = λ _. (omega arith, omega arith);
   frame = λ _. (omega arith, omega arith);
+  wrong_place = λ _. (omega arith, omega arith);
 }
 
 types_numbered : TakesTypes IsNameFault
@@ -46,7 +46,7 @@ no_names = record {
 pub refusals_are_numbered : RefusalsAreNumbered
 refusals_are_numbered tables tree fault (inl none) = inl none
 refusals_are_numbered tables tree fault (inr is) =
-    inr (fault_is (typed_query tables tree) fault (only_for_reasons IsNameFault tables tree no_names (numbered tables tree) types_numbered) is)
+    inr (fault_is (typed_query tables tree) fault (only_for_reasons IsNameFault tables tree no_names (numbered tables tree) (omega arith, omega arith) types_numbered) is)
 
 -- ---- what the fault says
 
@@ -66,7 +66,7 @@ by_laws F laws = record {
 
 reasons : (tables : List Table) (tree : StatementTree) → HasReasons (IsReason tables tree) tables tree
 reasons tables tree = record {
-  takes = record { bare_column = tt; wrong_place = tt };
+  takes = record { bare_column = tt };
   unknown_table = λ is. is;
   unknown_column = λ is. is;
   ambiguous = λ is. is;
@@ -74,6 +74,7 @@ reasons tables tree = record {
   column_count = λ is. is;
   limit = λ is. is;
   frame = λ is. HasBadFrame.written is;
+  wrong_place = λ is. is;
 }
 
 pub refusals_have_reasons : NameLaws → RefusalsHaveReasons

@@ -22,7 +22,8 @@ use Rattle.semantics_refusals.specs.Written.{BeginsFrom, IsDerived, called_so, n
 use Rattle.semantics_refusals.proofs.NameLemmas.{from_shows, listed_of, source_offers}
 use Rattle.semantics_refusals.proofs.OutcomeLemmas.{Gives, Only, Takes, also_only, followed_gives, followed_only, if_only, known_only, ok, refused}
 use Rattle.semantics_refusals.proofs.PartLemmas.{Each, back, first, front, more, none, rest}
-use Rattle.semantics_refusals.proofs.TermLemmas.{IsFramed, Sound, term_only}
+use Rattle.semantics_refusals.proofs.PlaceLemmas.{columns_named}
+use Rattle.semantics_refusals.proofs.TermLemmas.{IsFineCall, Sound, term_only}
 
 -- a name of a column in an expression
 pub record IsFineColumn (F : Fault → Type 0) (scope : Scope) (part : ExprTree) : Type 0 where
@@ -31,7 +32,7 @@ pub record IsFineColumn (F : Fault → Type 0) (scope : Scope) (part : ExprTree)
 -- the answer of a query that stands in an expression, and its window, where the SELECT defines windows of these names
 pub record IsFineAnswer (F : Fault → Type 0) (windows : List Name) (answers : Answers) (part : ExprTree) : Type 0 where
   pub is : (tree : InnerTree) → inner_tree part ≡ Some tree → Only F (answers tree)
-  pub framed : IsFramed F windows part
+  pub framed : IsFineCall F windows part
 
 columns_only : (F : Fault → Type 0) (scope : Scope) (part : ExprTree) → IsFineColumn F scope part → Only F (columns_say scope part)
 columns_only F scope (ExprTree.Column table name) fine = also_only Some (column_of scope table name) (fine.is table name refl)
@@ -40,7 +41,7 @@ columns_only F scope _ fine = ok None
 pub sound_of : (F : Fault → Type 0) (windows : List Name) (answers : Answers) (scope : Scope) (part : ExprTree) → IsFineColumn F scope part → IsFineAnswer F windows answers part
     → Sound F windows answers (columns_say scope) part
 sound_of F windows answers scope part column answer =
-    record { said = columns_only F scope part column; answered = answer.is; framed = answer.framed }
+    record { said = columns_only F scope part column; answered = answer.is; framed = answer.framed; named = columns_named scope part }
 
 pub with_answers : (F : Fault → Type 0) (windows : List Name) (answers : Answers) (scope : Scope) (xs : List ExprTree) → Each (IsFineColumn F scope) xs
     → Each (IsFineAnswer F windows answers) xs
@@ -106,7 +107,7 @@ module _ (F : Fault → Type 0) (takes : Takes F) (windows : List Name) (answers
   on_only (OnTree.On e) left names called columns fine all =
       let right = shown_from called (length left) columns in
       also_only _ (term_of answers (columns_say (left ++ right)) e)
-      (term_only F takes.wrong_place windows answers (columns_say (left ++ right)) e
+      (term_only F windows answers (columns_say (left ++ right)) e
       (with_answers F windows answers (left ++ right) (parts e) fine.parts all))
   on_only (OnTree.Using using) left names called columns fine all =
       let right = shown_from called (length left) columns in

@@ -2,7 +2,7 @@
 use Rattle.std.proofs.Common.{◌≡◌, false, ℕ, suc, List, [], ◌∷◌, ◌++◌, codes, length, map, Result, Ok, Err, All, append_assoc, append-nil, ap, refl, sym, subst, ◌∙◌, nat_eq, nat_le}
 use Rattle.std.proofs.lemmas.List.{map-append}
 use Rattle.values.specs.declared.fault.Fault.{Fault}
-use Rattle.values.specs.declared.fault.Fault.TheVariants.{ColumnCount, DuplicateName, Limit, UnknownTable}
+use Rattle.values.specs.declared.fault.Fault.TheVariants.{ColumnCount, DuplicateName, Limit, UnknownTable, WrongPlace}
 use Rattle.values.specs.declared.value.Ty.{Ty}
 use Rattle.semantics.specs.Query.{Body}
 use Rattle.sql_reader_syntax.specs.ExprTree.{QueryTree, TermTrees}
@@ -132,18 +132,18 @@ module _ (F : Fault → Type 0) (takes : Takes F) where
           (queried_only F takes max_levels w.known tree.query tree.order (fine.queries IsQueryOf.whole w begun) (fine.deep IsQueryOf.whole))
           (λ q is. ended_only w.beside q (fine.sources w begun q is))))
 
-      types_only : TakesTypes F → (types : List (List Ty)) (n : Named) → IsEvenBody types n.query.body → Each (IsEvenBody types) n.beside
+      types_only : F WrongPlace → TakesTypes F → (types : List (List Ty)) (n : Named) → IsEvenBody types n.query.body → Each (IsEvenBody types) n.beside
           → Only F (with_types types n)
-      types_only typed types n even all =
+      types_only place typed types n even all =
           followed_only (each (body_types types) n.beside) _
           (each_only (body_types types) n.beside (weaker (λ body even. body_only F typed types body even) all))
-          (λ _. also_only (λ _. n) (query_types types n.query) (query_only F typed types takes.wrong_place n.query even))
+          (λ _. also_only (λ _. n) (query_types types n.query) (query_only F typed types place n.query even))
 
-      pub typed_only : TakesTypes F → Only F (typed_query tables tree)
-      typed_only typed =
+      pub typed_only : F WrongPlace → TakesTypes F → Only F (typed_query tables tree)
+      typed_only place typed =
           known_only (named (known_tables tables) tree) (with_types (column_types tables)) named_only (λ n is.
           let (even, all) = named_even (column_types tables) (known_tables tables) tree n (tables_even tables) is in
-          types_only typed (column_types tables) n even all)
+          types_only place typed (column_types tables) n even all)
 
 -- the fault that it gives
 pub fault_is : {F : Fault → Type 0} {A : Type 0} (r : Result A Fault) (fault : Fault) → Only F r → r ≡ Err fault → F fault

@@ -24,6 +24,7 @@ use Rattle.semantics_names.specs.Statement.{CoreData, Named, Queried, are_distin
 use Rattle.semantics_names.specs.Typed.{column_types, known_tables, with_types}
 use Rattle.semantics_names.proofs.OutcomeLemmas.{also-ok, both-ok, checked-ok, followed-ok}
 use Rattle.semantics_refusals.specs.BadFrames.{BadFrameIsRefused, HasBadFrame, HasEdgeBelowZero, HasNoWindow, HasWindow, IsBelowZero, IsOver, defined_in}
+use Rattle.semantics_refusals.specs.WrongPlaces.{plain_parts}
 use Rattle.semantics_refusals.specs.Written.{HasSelect, windows_in}
 use Rattle.semantics_refusals.proofs.CoreLemmas.{defined_names}
 use Rattle.semantics_refusals.proofs.CoreToldLemmas.{group_told}
@@ -147,10 +148,6 @@ scalar_windowed windows part scalar = record {
 
 -- ---- one SELECT
 
--- WHERE and GROUP BY
-abbrev pub plain_parts : CoreTree → List ExprTree
-plain_parts (CoreTree.Select distinct results from condition by having windows) = maybe_parts condition ++ all_parts by
-
 pub whole : {P : ExprTree → Type 0} (core : CoreTree) (order : TermTrees) → Each P (parts_behind_groups core order) → Each P (from_parts (from_tree core))
     → Each P (plain_parts core) → Each P (core_parts core order)
 whole (CoreTree.Select distinct results from condition by having windows) order behind in_from plainly =
@@ -202,12 +199,12 @@ module _ (scalars : ColumnsAreScalar) where
       on_scalar (OnTree.Using names) left right c is = none
 
   -- the windows of a SELECT that is taken
-  record TakenWindows (core : CoreTree) (order : TermTrees) : Type 0 where
-    calls : Each (IsWindowed (window_names (windows_in core))) (parts_behind_groups core order)
-    frames : Each (λ w. IsGiven (frame_of (frame_in w))) (defined_in (windows_in core))
-    scalar : Each IsScalar (plain_parts core)
+  pub record TakenWindows (core : CoreTree) (order : TermTrees) : Type 0 where
+    pub calls : Each (IsWindowed (window_names (windows_in core))) (parts_behind_groups core order)
+    pub frames : Each (λ w. IsGiven (frame_of (frame_in w))) (defined_in (windows_in core))
+    pub scalar : Each IsScalar (plain_parts core)
 
-  core_windows : (answers : Answers) (scope : Scope) (core : CoreTree) (order : TermTrees) (c : CoreData) → core_of answers scope core order ≡ Ok c
+  pub core_windows : (answers : Answers) (scope : Scope) (core : CoreTree) (order : TermTrees) (c : CoreData) → core_of answers scope core order ≡ Ok c
       → TakenWindows core order
   core_windows answers scope (CoreTree.Select distinct results from condition by having windows) order c e =
       let behind = parts_behind_groups (CoreTree.Select distinct results from condition by having windows) order in

@@ -5,7 +5,7 @@ use Rattle.sql_reader_syntax.specs.StatementTree.{StatementTree}
 use Rattle.sql_reader_syntax.specs.declared.expr.BinaryOperator.TheVariants.{Add, Concatenate}
 use Rattle.sql_reader_syntax.specs.declared.expr.Function.TheVariants.{Sum}
 use Rattle.sql_reader_syntax.specs.declared.query.Join.TheVariants.{Inner}
-use Rattle.semantics_names.specs.RefusedExamples.{alias_in_where, arms_of_two_types, bad_frame, by_distance, distance_of_texts, in_two_sources, item_in_itself, mismatch, no_buckets, other_type, outer_column, star_of_none, twice, two_columns, two_named, two_of_one_name, undefined_window, uneven, uneven_item, unknown_column, unknown_table, untyped_item, unused_window, windows_of_one_name}
+use Rattle.semantics_names.specs.RefusedExamples.{aggregate_in_where, alias_in_where, arms_of_two_types, bad_frame, by_distance, distance_of_texts, group_by_signed_number, hidden_order, in_two_sources, item_in_itself, mismatch, no_buckets, order_out_of_range, other_type, outer_column, scalar_over, star_of_none, star_of_nothing, sum_behind_compound, twice, two_columns, two_named, two_of_one_name, undefined_window, uneven, uneven_item, unknown_column, unknown_table, untyped_item, unused_window, windows_of_one_name}
 use Rattle.semantics_names.specs.Worked.{by_term, call_over, called, id, item, name_alone, number, one, ordered, select, shown, statement, table, tables, window_by, with, with_item, without_from}
 use Rattle.semantics_refusals.specs.BadFrames.{HasBadFrame}
 use Rattle.semantics_refusals.specs.Limits.{IsBeyondLimit}
@@ -14,6 +14,7 @@ use Rattle.semantics_refusals.specs.RepeatedNames.{HasRepeatedName}
 use Rattle.semantics_refusals.specs.UnevenColumns.{HasUnevenColumns}
 use Rattle.semantics_refusals.specs.UnknownColumns.{HasAmbiguousColumn, HasUnknownColumn}
 use Rattle.semantics_refusals.specs.UnknownSources.{HasUnknownSource}
+use Rattle.semantics_refusals.specs.WrongPlaces.{HasWrongPlace, MayHaveWrongPlace}
 
 -- WITH a AS (SELECT 1), b AS (SELECT * FROM a) SELECT 1 IN (SELECT * FROM b)
 abbrev pub items_of_items : StatementTree
@@ -68,6 +69,9 @@ ReasonsAreWritten =
     × IsMistyped tables mismatch × IsMistyped tables other_type × IsMistyped tables unused_window × IsMistyped tables arms_of_two_types
     × IsMistyped tables untyped_item
     × HasBadFrame tables bad_frame × HasBadFrame tables undefined_window × HasBadFrame tables no_buckets × HasBadFrame tables distance_of_texts
+    × MayHaveWrongPlace tables aggregate_in_where × MayHaveWrongPlace tables hidden_order × MayHaveWrongPlace tables order_out_of_range
+    × MayHaveWrongPlace tables group_by_signed_number × MayHaveWrongPlace tables star_of_nothing × MayHaveWrongPlace tables sum_behind_compound
+    × MayHaveWrongPlace tables scalar_over
     × IsBeyondLimit tables (ones 101) × IsBeyondLimit tables (statement (select (shown (number 1) ∷ []) (from_ones 64)))
     × IsBeyondLimit tables (statement (levels 100))
 
@@ -78,5 +82,6 @@ NothingIsWritten =
     × (¬ HasUnknownColumn tables sorted_by_alias) × (¬ HasAmbiguousColumn tables sorted_by_alias)
     × (¬ IsMistyped tables items_of_items) × (¬ IsMistyped tables of_null_alone)
     × (¬ HasBadFrame tables distance_of_numbers)
+    × (¬ HasWrongPlace tables sorted_by_alias) × (¬ HasWrongPlace tables distance_of_numbers)
     × (¬ IsBeyondLimit tables (ones 100)) × (¬ IsBeyondLimit tables (statement (select (shown (number 1) ∷ []) (from_ones 63))))
     × (¬ IsBeyondLimit tables (statement (levels 64)))

@@ -10,6 +10,7 @@ pub mod Clashes
 pub mod Mismatches
 pub mod Limits
 pub mod BadFrames
+pub mod WrongPlaces
 pub mod Reasons
 pub mod Examples
 pub mod TypeExamples

@@ -11,6 +11,7 @@ use Rattle.semantics_refusals.specs.RepeatedNames.{HasRepeatedName}
 use Rattle.semantics_refusals.specs.UnevenColumns.{HasUnevenColumns}
 use Rattle.semantics_refusals.specs.UnknownColumns.{HasAmbiguousColumn, HasUnknownColumn}
 use Rattle.semantics_refusals.specs.UnknownSources.{HasUnknownSource}
+use Rattle.semantics_refusals.specs.WrongPlaces.{MayHaveWrongPlace}
 
 -- what such a fault says is written somewhere in the statement; of the others nothing is said here
 abbrev pub IsReason : List Table → StatementTree → Fault → Type 0
@@ -22,6 +23,7 @@ IsReason tables tree f.DuplicateName = HasRepeatedName tree
 IsReason tables tree f.TypeMismatch = IsMistyped tables tree
 IsReason tables tree f.Limit = IsBeyondLimit tables tree
 IsReason tables tree f.BadFrame = HasBadFrame tables tree
+IsReason tables tree f.WrongPlace = MayHaveWrongPlace tables tree
 IsReason tables tree _ = Unit {0}
 
 -- a statement that is refused by a fault has what the fault says

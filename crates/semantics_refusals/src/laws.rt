@@ -11,6 +11,7 @@ ghost use Rattle.semantics_refusals.specs.TypeExamples.{ClashesAreFound, OwnType
 ghost use Rattle.semantics_refusals.specs.UnevenColumns.{UnevenIsRefused};
 ghost use Rattle.semantics_refusals.specs.UnknownColumns.{AmbiguousColumnIsRefused, UnknownColumnIsRefused};
 ghost use Rattle.semantics_refusals.specs.UnknownSources.{UnknownSourceIsRefused};
+ghost use Rattle.semantics_refusals.specs.WrongPlaces.{WrongPlaceIsRefused};
 
 use semantics_names::laws::{
     names_are_columns, names_are_distinct, places_are_kept, refused_statements, typed_is_taken,
@@ -42,6 +43,7 @@ pub fn reasons_refuse()
     ensures repeated { RepeatedIsRefused }
     ensures limit { BeyondLimitIsRefused }
     ensures frame { BadFrameIsRefused }
+    ensures place { WrongPlaceIsRefused }
     ensures mistyped { MistypedIsRefused }
     ensures mismatch { MistypedIsMismatch }
 {

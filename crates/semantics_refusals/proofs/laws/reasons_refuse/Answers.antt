@@ -6,6 +6,7 @@ use Rattle.semantics_refusals.proofs.UnevenLemmas as numbers
 use Rattle.semantics_refusals.proofs.UnknownColumnLemmas as columns
 use Rattle.semantics_refusals.proofs.UnknownSourceLemmas as sources
 use Rattle.semantics_refusals.proofs.WindowLemmas as windows
+use Rattle.semantics_refusals.proofs.WrongPlaceLemmas as places
 use Rattle.semantics_refusals.proofs.laws.reasons_refuse.Goals as goal
 
 pub returns-clause-sources : goal.returns-clause-sources
@@ -28,6 +29,9 @@ returns-clause-limit c = limits.beyond_limit_is_refused
 
 pub returns-clause-frame : goal.returns-clause-frame
 returns-clause-frame c = windows.bad_frame_is_refused c.places_are_kept.ensures.scalar c.typed_is_taken.ensures
+
+pub returns-clause-place : goal.returns-clause-place
+returns-clause-place c = places.wrong_place_is_refused c.places_are_kept.ensures.scalar
 
 pub returns-clause-mistyped : goal.returns-clause-mistyped
 returns-clause-mistyped c = types.mistyped_is_refused c.typed_is_taken.ensures
