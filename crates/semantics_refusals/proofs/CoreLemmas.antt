@@ -1,9 +1,9 @@
 -- One SELECT behind its FROM, or why it is none.
-use Rattle.std.proofs.Common.{◌≡◌, ◌⊎◌, inl, inr, Bool, true, false, ℕ, zero, suc, ◌<◌, ◌≤◌, ℤ, pos, negsuc, List, [], ◌∷◌, ◌++◌, length, map, Option, Some, None, Result, Ok, Err, Contains, nat_le, nat_lt, ap, refl, subst, sym, ◌∙◌, arith}
-use Rattle.std.specs.List.{filter_map}
+use Rattle.std.proofs.Common.{◌≡◌, ◌⊎◌, inl, inr, Bool, true, false, true≢false, if◌then◌else◌, option_map, ℕ, zero, suc, ◌<◌, ◌≤◌, ℤ, pos, negsuc, List, [], ◌∷◌, ◌++◌, length, map, Option, Some, None, Result, Ok, Err, Contains, nat_le, nat_lt, ap, refl, subst, sym, ◌∙◌, arith}
+use Rattle.std.specs.List.{cons_option, filter_map}
 use Rattle.std.proofs.lemmas.Bool.{ltb-false}
 use Rattle.std.proofs.lemmas.List.{length-map}
-use Rattle.std.proofs.lemmas.List.Elements.{Contains-append_left, Contains-append_right, Contains-push}
+use Rattle.std.proofs.lemmas.List.Elements.{Contains-append_cases, Contains-append_left, Contains-append_right, Contains-push, Contains-push_cases}
 use Rattle.values.specs.declared.fault.Fault.{Fault}
 use Rattle.values.specs.declared.fault.Fault.TheVariants.{Ambiguous, BareColumn, DuplicateName, Limit, UnknownColumn, WrongPlace}
 use Rattle.expr.specs.Term.{Term}
@@ -12,23 +12,28 @@ use Rattle.sql_reader_syntax.specs.Tree.{Name}
 use Rattle.sql_reader_syntax.specs.declared.expr.PrefixOperator.TheVariants as prefixes
 use Rattle.semantics.specs.Query.{Aggregate, KeyTerm, WindowCall}
 use Rattle.semantics_names.specs.Expression.{Answers, Says, term_of}
-use Rattle.semantics_names.specs.Parts.{all_parts, definitions_parts, maybe_parts, parts, parts_behind_groups, results_parts, terms_parts, window_parts}
-use Rattle.semantics_names.specs.Places.{Defined, aggregate_of, call_of, columns_say, frame_of, groups_say, key_column, window_of, windows_say}
-use Rattle.semantics_names.specs.Same.{is_same_aggregate, is_same_call}
-use Rattle.semantics_names.specs.Scope.{Scope}
-use Rattle.semantics_names.specs.Statement.{Input, ResultColumn, all_results, are_distinct, as_input, behind_groups, by_of, condition_of, core_of, defined_of, finished, firsts, group_term, grouped, input_of, key_term, keys_of, max_columns, named_at, named_or, no_number, no_row, number_alone, numbered, numbered_or, on_row, one_or, or_bare, result, results_of, select_of, shown, some_of, starred, starred_of, ungrouped, window_names}
+use Rattle.semantics_names.specs.Laws.{IsOnlyColumn, IsScalar, NameIsColumn, SameIsEqual}
+use Rattle.semantics_names.specs.Outcome.{also, chosen}
+use Rattle.semantics_names.specs.Parts.{all_parts, behind_parts, definitions_parts, maybe_parts, parts, parts_behind_groups, results_parts, terms_parts, window_parts}
+use Rattle.semantics_names.specs.Places.{Defined, aggregate_of, call_of, column_from, columns_say, frame_of, groups_say, key_column, place_of, window_of, windows_say}
+use Rattle.semantics_names.specs.Same.{is_same_aggregate, is_same_call, is_same_term}
+use Rattle.semantics_names.specs.Scope.{Scope, Shown, bare_term, column_of, shown_places}
+use Rattle.semantics_names.specs.Statement.{Input, ResultColumn, all_results, are_distinct, as_input, behind_groups, by_of, condition_of, core_of, defined_of, finished, firsts, group_term, grouped, input_of, key_term, keys_of, max_columns, named_at, named_or, no_number, no_row, number_alone, numbered, numbered_or, on_row, one_or, or_bare, result, results_of, select_of, shown, some_of, starred, starred_of, window_names}
 use Rattle.semantics_names.proofs.OutcomeLemmas.{both-ok}
 use Rattle.semantics_refusals.specs.BadFrames.{defined_in}
+use Rattle.semantics_names.proofs.OneLemmas.{one_ok}
+use Rattle.semantics_refusals.specs.BareColumns.{AreSameColumn, HasGroups, HasStars}
 use Rattle.semantics_refusals.specs.Columns.{names_of_results, results_in}
 use Rattle.semantics_refusals.specs.UnknownColumns.{IsNamedAt, IsNoResult}
-use Rattle.semantics_refusals.specs.WrongPlaces.{HasStar, IsNoNumber, IsNumber, expressions, groups_in}
+use Rattle.semantics_refusals.specs.WrongPlaces.{HasOver, HasStar, IsAggregate, IsNoNumber, IsNumber, expressions, group_parts, groups_in, inside_call, plain_parts, row_parts}
 use Rattle.semantics_refusals.specs.Written.{spoken_in, stars_in, terms_in, windows_in}
 use Rattle.semantics_refusals.proofs.NameLemmas.{all_names, names_in}
 use Rattle.semantics_refusals.proofs.OutcomeLemmas.{Gives, Only, OnlySome, Takes, all_only, also_gives, also_only, both_only, checked_only, firsts_only, followed_gives, followed_only, if_only, known_only, nothing, ok, refused}
-use Rattle.semantics_refusals.proofs.PartLemmas.{Deep, Each, back, deep, deep_spoken, each_itself, first, front, itself, join, none, one, rest, weaker}
-use Rattle.semantics_refusals.proofs.PlaceLemmas.{aggregate_only, call_only, groups_named, groups_only, said_of, window_only, windows_named, windows_only}
+use Rattle.semantics_refusals.proofs.PartLemmas.{Deep, Each, among, back, deep, deep_definitions, deep_maybe, deep_results, each_itself, first, front, itself, join, more, none, one, rest, weaker}
+use Rattle.semantics_refusals.proofs.PlacedLemmas.{AreFound, IsPlace, aggregate_is, all_found, groups_none, mapped_place, no_aggregate, windows_none}
+use Rattle.semantics_refusals.proofs.PlaceLemmas.{aggregate_only, call_only, columns_named, groups_named, groups_only, plainly, window_only, windows_named, windows_only}
 use Rattle.semantics_refusals.proofs.ScopeLemmas.{named_none}
-use Rattle.semantics_refusals.proofs.TermLemmas.{Sound, frame_in, term_only}
+use Rattle.semantics_refusals.proofs.TermLemmas.{Base, Sound, frame_in, term_only}
 
 -- a name alone in ORDER BY isn't that of two result columns, and a number alone is that of one
 pub record IsFineOrder (F : Fault → Type 0) (order : TermTrees) (names : List Name) : Type 0 where
@@ -80,6 +85,147 @@ defined_names answers says DefinitionTrees.No_definition defined e =
 defined_names answers says (DefinitionTrees.Definition name v others) defined e =
     let (made, more, first, last, same) = both-ok _ (window_of answers says v) (defined_of answers says others) defined e in
     ap (map (λ (d : Defined). d.name)) (sym same) ∙ ap (λ names. name ∷ names) (defined_names answers says others more last)
+
+-- where calls may not be, in what is computed over groups and windows
+pub record IsWellPlaced (F : Fault → Type 0) (behind : List ExprTree) : Type 0 where
+  pub aggregate : (outer part : ExprTree) → Contains behind outer → IsAggregate outer → Contains (inside_call outer) part → ¬ IsScalar part → F WrongPlace
+  pub window : (outer part : ExprTree) → Contains behind outer → HasOver outer → Contains (inside_call outer) part → ¬ IsScalar part → ¬ IsAggregate part
+      → F WrongPlace
+
+-- and in all of a SELECT but ON
+pub record IsFineCore (F : Fault → Type 0) (core : CoreTree) (order : TermTrees) : Type 0 where
+  pub placed : IsWellPlaced F (parts_behind_groups core order)
+  pub in_plain : Each (λ part. ¬ IsScalar part → F WrongPlace) (plain_parts core)
+  pub in_groups : (part : ExprTree) → Contains (group_parts core) part → ¬ IsScalar part → ¬ IsAggregate part → F WrongPlace
+  pub in_row : (part : ExprTree) → Contains (row_parts core ++ terms_parts order) part → ¬ IsScalar part → ¬ IsAggregate part → ¬ HasOver part
+      → F WrongPlace
+
+-- what holds of each holds of what it is of
+each_place : {X : Type 0} {P Q : X → Type 0} (xs : List X) → Each P xs → ((x : X) → Contains xs x → P x → Q x) → Each Q xs
+each_place [] all so = none
+each_place (x ∷ xs) all so =
+    more x xs (so x (Contains-append_left (x ∷ []) xs x (Contains-push [] x)) (first all))
+    (each_place xs (rest all) (λ y there. so y (Contains-append_right (x ∷ []) xs y there)))
+
+inside_of : {P : ExprTree → Type 0} (part : ExprTree) → Each P (parts part) → Each P (inside_call part)
+inside_of (ExprTree.CountRows after) all = front (behind_parts after) _ all
+inside_of (ExprTree.Call function es after) all = front (all_parts es ++ behind_parts after) _ all
+inside_of _ all = none
+
+in_terms_parts : (order : TermTrees) (e q : ExprTree) → Contains (terms_in order) e → Contains (parts e) q → Contains (terms_parts order) q
+in_terms_parts TermTrees.No_term e q (at, short, is) inside = absurd (omega (arith, short))
+in_terms_parts (TermTrees.Term x direction others) e q there inside =
+    by (Contains-append_cases (x ∷ []) (terms_in others) e there) (λ rest. in_terms_parts others e q rest inside)
+  where
+    own : Contains [] e ⊎ (x ≡ e) → x ≡ e
+    own (inl (at, short, is)) = absurd (omega (arith, short))
+    own (inr same) = same
+
+    by : Contains (x ∷ []) e ⊎ Contains (terms_in others) e → (Contains (terms_in others) e → Contains (terms_parts others) q)
+        → Contains (parts x ++ terms_parts others) q
+    by (inl here) after =
+        Contains-append_left (parts x) (terms_parts others) q (subst (λ e. Contains (parts e) q) (sym (own (Contains-push_cases [] x e here))) inside)
+    by (inr later) after = Contains-append_right (parts x) (terms_parts others) q (after later)
+
+-- columns of FROM in a SELECT with groups
+pub record IsFineBare (F : Fault → Type 0) (scope : Scope) (core : CoreTree) (order : TermTrees) : Type 0 where
+  pub columns : (table : Option Name) (name : Name) (at : ℕ) (shown : Shown) → HasGroups core order
+      → Contains (parts_behind_groups core order) (ExprTree.Column table name) → IsOnlyColumn scope table name at shown
+      → ((other_table : Option Name) (other_name : Name) → Contains (groups_in core) (ExprTree.Column other_table other_name)
+      → ¬ AreSameColumn scope table name other_table other_name) → F BareColumn
+  pub stars : HasStars (results_in core) → HasGroups core order → F BareColumn
+
+-- where something is gathered, it is of something that is written
+gathered_some : {A B : Type 0} (same : A → A → Bool) (f : B → Option (Result A Fault)) (ys : List A) (xs : List B) → firsts same [] (filter_map f xs) ≡ Ok ys
+    → (ys ≡ [] → ⊥) → (x : B) × Contains xs x × ((r : Result A Fault) × (f x ≡ Some r))
+gathered_some same f ys [] e some = let alike : [] ≡ ys = cc in absurd (some (sym alike))
+gathered_some {A = A} {B = B} same f ys (x ∷ xs) e some = by (f x) refl e (λ d. gathered_some same f ys xs d some)
+  where
+    by : (o : Option (Result A Fault)) → f x ≡ o → firsts same [] (cons_option o (filter_map f xs)) ≡ Ok ys
+        → (firsts same [] (filter_map f xs) ≡ Ok ys → (x : B) × Contains xs x × ((r : Result A Fault) × (f x ≡ Some r)))
+        → (y : B) × Contains (x ∷ xs) y × ((r : Result A Fault) × (f y ≡ Some r))
+    by None is d others =
+        let (y, there, found) = others d in (y, Contains-append_right (x ∷ []) xs y there, found)
+    by (Some r) is d others = (x, Contains-append_left (x ∷ []) xs x (Contains-push [] x), (r, is))
+
+-- a SELECT that has keys or aggregates has groups
+has_groups : (answers : Answers) (scope : Scope) (core : CoreTree) (order : TermTrees) (by : ExprTrees) → groups_in core ≡ expressions by
+    → (keys : List Term) (aggregates : List Aggregate) → by_of answers scope by ≡ Ok keys
+    → firsts is_same_aggregate [] (filter_map (aggregate_of answers (columns_say scope)) (parts_behind_groups core order)) ≡ Ok aggregates
+    → (keys ≡ [] → aggregates ≡ [] → ⊥) → HasGroups core order
+has_groups answers scope core order ExprTrees.No_more are keys aggregates keyed gathered some =
+    let none_is : [] ≡ keys = cc in
+    let (part, there, (r, is)) =
+    gathered_some is_same_aggregate (aggregate_of answers (columns_say scope)) aggregates (parts_behind_groups core order) gathered
+    (λ none. some (sym none_is) none) in
+    HasGroups.aggregate part there (aggregate_is answers (columns_say scope) part r is)
+has_groups answers scope core order (ExprTrees.More e others) are keys aggregates keyed gathered some =
+    HasGroups.key e (subst (λ es. Contains es e) (sym are) (Contains-append_left (e ∷ []) (expressions others) e (Contains-push [] e)))
+
+-- a column that GROUP BY names is one of its terms
+key_there : SameIsEqual → (answers : Answers) (scope : Scope) (by : ExprTrees) (keys : List Term) → by_of answers scope by ≡ Ok keys
+    → (table : Option Name) (name : Name) (t : Term) → Contains (expressions by) (ExprTree.Column table name) → column_of scope table name ≡ Ok t
+    → IsPlace (place_of is_same_term t keys)
+key_there equal answers scope ExprTrees.No_more keys e table name t (at, short, is) of = absurd (omega (arith, short))
+key_there equal answers scope (ExprTrees.More x others) keys e table name t there of =
+    let (u, us, first, last, same) = both-ok ◌∷◌ (group_term answers scope x) (by_of answers scope others) keys e in
+    subst (λ keys. IsPlace (place_of is_same_term t keys)) same
+    (by u us first (Contains-append_cases (x ∷ []) (expressions others) (ExprTree.Column table name) there)
+    (λ rest. key_there equal answers scope others us last table name t rest of))
+  where
+    own : Contains [] (ExprTree.Column table name) ⊎ (x ≡ ExprTree.Column table name) → x ≡ ExprTree.Column table name
+    own (inl (at, short, is)) = absurd (omega (arith, short))
+    own (inr same) = same
+
+    term_is : (r : Result Term Fault) → r ≡ Ok t → (u : Term) → chosen (also Some r) (Err WrongPlace) ≡ Ok u → t ≡ u
+    term_is (Ok v) is u d =
+        let one : v ≡ t = cc in
+        let other : v ≡ u = cc in
+        sym one ∙ other
+    term_is (Err fault) is u d = absurd cc
+
+    head_place : (u : Term) (us : List Term) → t ≡ u → (b : Bool) → is_same_term t u ≡ b
+        → IsPlace (if b then Some 0 else option_map suc (place_of is_same_term t us))
+    head_place u us alike true is = tt
+    head_place u us alike false is =
+        absurd (true≢false (sym (subst (λ u. is_same_term t u ≡ true) alike ((equal.terms t t).1 refl)) ∙ is))
+
+    tail_place : (u : Term) (us : List Term) → IsPlace (place_of is_same_term t us) → (b : Bool)
+        → IsPlace (if b then Some 0 else option_map suc (place_of is_same_term t us))
+    tail_place u us p true = tt
+    tail_place u us p false = mapped_place (place_of is_same_term t us) p
+
+    by : (u : Term) (us : List Term) → group_term answers scope x ≡ Ok u
+        → Contains (x ∷ []) (ExprTree.Column table name) ⊎ Contains (expressions others) (ExprTree.Column table name)
+        → (Contains (expressions others) (ExprTree.Column table name) → IsPlace (place_of is_same_term t us)) → IsPlace (place_of is_same_term t (u ∷ us))
+    by u us first (inl here) rest =
+        head_place u us (term_is (column_of scope table name) of u
+        (subst (λ x. group_term answers scope x ≡ Ok u) (own (Contains-push_cases [] x (ExprTree.Column table name) here)) first)) (is_same_term t u) refl
+    by u us first (inr later) rest = tail_place u us (rest later) (is_same_term t u)
+
+-- a column that is none of the terms of GROUP BY is bare
+bare_beside : {F : Fault → Type 0} → SameIsEqual → NameIsColumn → (answers : Answers) (scope : Scope) (core : CoreTree) (order : TermTrees) (by : ExprTrees)
+    → groups_in core ≡ expressions by → IsFineBare F scope core order → (keys : List Term) → by_of answers scope by ≡ Ok keys → HasGroups core order
+    → (part : ExprTree) → Contains (parts_behind_groups core order) part → (table : Option Name) (name : Name) → part ≡ ExprTree.Column table name
+    → (t : Term) → column_of scope table name ≡ Ok t → key_column keys (Ok t) ≡ None → F BareColumn
+bare_beside equal names answers scope core order by are bare keys keyed g part there table name same t of none =
+    let (at, shown, only, is) = (names scope table name t).0 of in
+    bare.columns table name at shown g (subst (Contains (parts_behind_groups core order)) same there) only (λ other_table other_name inside alike.
+    let one : column_of scope table name ≡ Ok (bare_term (shown_places table alike.at alike.shown)) =
+    (names scope table name (bare_term (shown_places table alike.at alike.shown))).1 (alike.at, alike.shown, alike.one, refl) in
+    let other : column_of scope other_table other_name ≡ Ok (bare_term (shown_places other_table alike.other_at alike.other_shown)) =
+    (names scope other_table other_name (bare_term (shown_places other_table alike.other_at alike.other_shown))).1
+    (alike.other_at, alike.other_shown, alike.other, refl) in
+    let term_is : t ≡ bare_term (shown_places table alike.at alike.shown) =
+    one_ok t (bare_term (shown_places table alike.at alike.shown)) (column_of scope table name) of one in
+    let so : bare_term (shown_places other_table alike.other_at alike.other_shown) ≡ t = sym (ap bare_term alike.same) ∙ sym term_is in
+    no_key (place_of is_same_term t keys)
+    (key_there equal answers scope by keys keyed other_table other_name t (subst (λ es. Contains es (ExprTree.Column other_table other_name)) are inside)
+    (subst (λ u. column_of scope other_table other_name ≡ Ok u) so other)) none)
+  where
+    no_key : (at : Option ℕ) → IsPlace at → column_from 0 at ≡ None → ⊥
+    no_key None p e = p
+    no_key (Some at) p e = absurd cc
 
 -- whether DISTINCT is written
 abbrev pub is_distinct : CoreTree → Bool
@@ -179,144 +325,242 @@ module _ (F : Fault → Type 0) (takes : Takes F) where
 
   -- ---- one SELECT
 
-  or_bare_only : (t : Option Term) → Only F (or_bare t)
-  or_bare_only (Some t) = ok t
-  or_bare_only None = refused BareColumn takes.bare_column
+  or_bare_only : (t : Option Term) → F BareColumn → Only F (or_bare t)
+  or_bare_only (Some t) is = ok t
+  or_bare_only None is = refused BareColumn is
 
-  module _ (defines : List Name) (answers : Answers) (scope : Scope) where
-    abbrev Base : ExprTree → Type 0
-    Base = Sound F defines answers (columns_say scope)
+  -- a part of what is computed over groups and windows
+  record Placed (defines : List Name) (answers : Answers) (scope : Scope) (behind : List ExprTree) (part : ExprTree) : Type 0 where
+    base : Base F defines answers scope part
+    stands : Contains behind part
 
-    -- what is said of a part
+  -- `G` says that there are groups
+  module _ (defines : List Name) (answers : Answers) (scope : Scope) (behind : List ExprTree) (placed : IsWellPlaced F behind) (G : Type 0) where
+    aggregate_sounds : (part : ExprTree) → Each (Placed defines answers scope behind) (parts part) → IsAggregate part
+        → Each (Sound F defines answers (columns_say scope)) (inside_call part)
+    aggregate_sounds part all is =
+        each_place (inside_call part) (inside_of part all) (λ q there b. record {
+          said = b.base.said;
+          answered = b.base.answered;
+          framed = b.base.framed;
+          named = columns_named scope q;
+          fits = λ none apart. placed.aggregate part q (itself part all).stands is there apart;
+        })
+
+    -- what is said of a part; an aggregate is not passed over
     record Speaks (says : Says) : Type 0 where
-      so : (part : ExprTree) → Each (Sound F defines answers (columns_say scope)) (parts part) → Sound F defines answers says part
+      said : (part : ExprTree) → Each (Placed defines answers scope behind) (parts part) → Only F (says part)
+      none : (part : ExprTree) → Contains behind part → says part ≡ Ok None → ¬ IsAggregate part
+      named : (part : ExprTree) (table : Option Name) (name : Name) → part ≡ ExprTree.Column table name → says part ≡ Ok None → ⊥
 
-    columns_speak : Speaks (columns_say scope)
-    columns_speak = record { so = λ part all. itself part all }
+    sounds : (says : Says) → Speaks says → (xs : List ExprTree) → Each (Deep (Placed defines answers scope behind)) xs
+        → ((part : ExprTree) → Contains xs part → ¬ IsScalar part → ¬ IsAggregate part → F WrongPlace) → Each (Sound F defines answers says) xs
+    sounds says speaks xs all fits =
+        each_place xs all (λ q there d. record {
+          said = speaks.said q d.is;
+          answered = (itself q d.is).base.answered;
+          framed = (itself q d.is).base.framed;
+          named = speaks.named q;
+          fits = λ none apart. fits q there apart (speaks.none q (itself q d.is).stands none);
+        })
 
-    groups_speak : (by : List Term) (aggregates : List Aggregate) → Speaks (groups_say answers scope by aggregates)
-    groups_speak by aggregates = record {
-      so = λ part all. record {
-        said = groups_only F takes defines answers scope by aggregates part all;
-        answered = (itself part all).answered;
-        framed = (itself part all).framed;
-        named = groups_named answers scope by aggregates part;
-      };
+    window_sounds : (says : Says) → Speaks says → (part : ExprTree) → Each (Placed defines answers scope behind) (parts part) → HasOver part
+        → Each (Sound F defines answers says) (inside_call part)
+    window_sounds says speaks part all over =
+        sounds says speaks (inside_call part) (inside_of part (deep part all))
+        (λ q there apart loose. placed.window part q (itself part all).stands over there apart loose)
+
+    columns_speak : ((part : ExprTree) → Contains behind part → ¬ IsAggregate part) → Speaks (columns_say scope)
+    columns_speak without = record {
+      said = λ part all. (itself part all).base.said;
+      none = λ part there e. without part there;
+      named = columns_named scope;
+    }
+
+    -- a column is bare, where it is none of these
+    abbrev BareBeside : List Term → Type 0
+    BareBeside by =
+        (part : ExprTree) → Contains behind part → (table : Option Name) (name : Name) → part ≡ ExprTree.Column table name → (t : Term)
+        → column_of scope table name ≡ Ok t → key_column by (Ok t) ≡ None → F BareColumn
+
+    groups_speak : (by : List Term) (aggregates : List Aggregate)
+        → ((part : ExprTree) → Contains behind part → AreFound is_same_aggregate (aggregate_of answers (columns_say scope)) aggregates part)
+        → BareBeside by → Speaks (groups_say answers scope by aggregates)
+    groups_speak by aggregates found is_bare = record {
+      said = λ part all. groups_only F takes defines answers scope by aggregates part (itself part all).base.said (aggregate_sounds part all)
+          (is_bare part (itself part all).stands);
+      none = λ part there e is. groups_none answers scope by aggregates part is (found part there) e;
+      named = groups_named answers scope by aggregates;
     }
 
     -- and of a column of FROM
     record IsInput (input : Input) : Type 0 where
       speaks : Speaks input.says
-      over : (t : Term) → Only F (input.over_input t)
+      over : (G → F BareColumn) → (t : Term) → Only F (input.over_input t)
+
+    -- and after windows; a call with OVER is not passed over either
+    record RowSpeaks (says : Says) : Type 0 where
+      said : (part : ExprTree) → Each (Placed defines answers scope behind) (parts part) → Only F (says part)
+      none : (part : ExprTree) → Contains behind part → says part ≡ Ok None → (¬ IsAggregate part) × (¬ HasOver part)
+      named : (part : ExprTree) (table : Option Name) (name : Name) → part ≡ ExprTree.Column table name → says part ≡ Ok None → ⊥
+
+    row_sounds : (says : Says) → RowSpeaks says → (xs : List ExprTree) → Each (Deep (Placed defines answers scope behind)) xs
+        → ((part : ExprTree) → Contains xs part → ¬ IsScalar part → ¬ IsAggregate part → ¬ HasOver part → F WrongPlace)
+        → Each (Sound F defines answers says) xs
+    row_sounds says speaks xs all fits =
+        each_place xs all (λ q there d. record {
+          said = speaks.said q d.is;
+          answered = (itself q d.is).base.answered;
+          framed = (itself q d.is).base.framed;
+          named = speaks.named q;
+          fits = λ none apart.
+              let (loose, over) = speaks.none q (itself q d.is).stands none in fits q there apart loose over;
+        })
 
     windows_speak : (input : Input) → Speaks input.says → (defined : List Defined) → map (λ (d : Defined). d.name) defined ≡ defines
         → (calls : List WindowCall)
-        → Speaks (windows_say answers input.says defined input.width calls)
-    windows_speak input speaks defined named calls = record {
-      so = λ part all. record {
-        said = windows_only F takes defines answers input.says defined named input.width calls part (said_of F takes defines answers input.says speaks.so (deep part all));
-        answered = (itself part all).answered;
-        framed = (itself part all).framed;
-        named = λ table name same.
-            windows_named answers input.says defined input.width calls part table name same ((speaks.so part all).named table name same);
-      };
+        → ((part : ExprTree) → Contains behind part → AreFound is_same_call (call_of answers input.says defined) calls part)
+        → RowSpeaks (windows_say answers input.says defined input.width calls)
+    windows_speak input speaks defined named calls found = record {
+      said = λ part all.
+          windows_only F takes defines answers input.says defined named input.width calls part (itself part all).base.framed
+          (window_sounds input.says speaks part all) (speaks.said part all);
+      none = λ part there e.
+          let (beneath, over) = windows_none answers input.says defined input.width calls part (found part there) e in
+          (speaks.none part there beneath, over);
+      named = λ part table name same.
+          windows_named answers input.says defined input.width calls part table name same (speaks.named part table name same);
     }
 
-    ungrouped_is : IsInput (ungrouped scope)
-    ungrouped_is = record { speaks = columns_speak; over = λ t. ok t }
+    term_so : (says : Says) → Speaks says → (e : ExprTree) → Each (Deep (Placed defines answers scope behind)) (parts e)
+        → ((part : ExprTree) → Contains (parts e) part → ¬ IsScalar part → ¬ IsAggregate part → F WrongPlace) → Only F (term_of answers says e)
+    term_so says speaks e all fits = term_only F defines answers says e (sounds says speaks (parts e) all fits)
 
-    term_so : (says : Says) → Speaks says → (e : ExprTree) → Each (Deep (Sound F defines answers (columns_say scope))) (parts e) → Only F (term_of answers says e)
-    term_so says speaks e all = term_only F defines answers says e (said_of F takes defines answers says speaks.so all)
+    row_so : (says : Says) → RowSpeaks says → (e : ExprTree) → Each (Deep (Placed defines answers scope behind)) (parts e)
+        → ((part : ExprTree) → Contains (parts e) part → ¬ IsScalar part → ¬ IsAggregate part → ¬ HasOver part → F WrongPlace) → Only F (term_of answers says e)
+    row_so says speaks e all fits = term_only F defines answers says e (row_sounds says speaks (parts e) all fits)
 
-    condition_only : (says : Says) → Speaks says → (condition : MaybeExpr) → Each (Deep (Sound F defines answers (columns_say scope))) (maybe_parts condition)
-        → Only F (condition_of answers says condition)
-    condition_only says speaks MaybeExpr.Absent all = ok _
-    condition_only says speaks (MaybeExpr.Present e) all = term_so says speaks e all
+    having_only : (says : Says) → Speaks says → (having : MaybeExpr) → Each (Deep (Placed defines answers scope behind)) (maybe_parts having)
+        → ((part : ExprTree) → Contains (maybe_parts having) part → ¬ IsScalar part → ¬ IsAggregate part → F WrongPlace)
+        → Only F (condition_of answers says having)
+    having_only says speaks MaybeExpr.Absent all fits = ok _
+    having_only says speaks (MaybeExpr.Present e) all fits = term_so says speaks e all fits
 
-    as_input_only : (input : Input) (r : ResultColumn) → IsInput input → Only F (as_input answers input r)
-    as_input_only input r is = also_only (result r.name) (input.over_input r.term) (is.over r.term)
+    condition_only : (condition : MaybeExpr) → Each (Sound F defines answers (columns_say scope)) (maybe_parts condition)
+        → Only F (condition_of answers (columns_say scope) condition)
+    condition_only MaybeExpr.Absent all = ok _
+    condition_only (MaybeExpr.Present e) all = term_only F defines answers (columns_say scope) e all
 
-    module _ (input : Input) (is : IsInput input) (says : Says) (speaks : Speaks says) where
-      all_only_of : (results : ResultTrees) → (HasStar results → starred scope ≡ [] → F WrongPlace) → Each (IsFineStar F scope) (stars_in results)
-          → Each (Deep (Sound F defines answers (columns_say scope))) (results_parts results)
+    as_input_only : (input : Input) (r : ResultColumn) → IsInput input → (G → F BareColumn) → Only F (as_input answers input r)
+    as_input_only input r is star = also_only (result r.name) (input.over_input r.term) (is.over star r.term)
+
+    module _ (input : Input) (is : IsInput input) (says : Says) (speaks : RowSpeaks says) where
+      all_only_of : (results : ResultTrees) → (HasStar results → starred scope ≡ [] → F WrongPlace) → (HasStars results → G → F BareColumn)
+          → Each (IsFineStar F scope) (stars_in results)
+          → Each (Deep (Placed defines answers scope behind)) (results_parts results)
+          → ((part : ExprTree) → Contains (results_parts results) part → ¬ IsScalar part → ¬ IsAggregate part → ¬ HasOver part → F WrongPlace)
           → Only F (all_results answers scope input says results)
-      all_only_of ResultTrees.No_result nothing stars all = ok _
-      all_only_of (ResultTrees.Result ResultTree.All rs) nothing stars all =
+      all_only_of ResultTrees.No_result starless bare stars all fits = ok _
+      all_only_of (ResultTrees.Result ResultTree.All rs) starless bare stars all fits =
           both_only ◌++◌ (results_of answers scope input says ResultTree.All) (all_results answers scope input says rs)
-          (followed_only (some_of WrongPlace (starred scope)) _ (some_only WrongPlace (starred scope) (nothing HasStar.here))
-          (λ columns. all_only (as_input answers input) columns (λ r. as_input_only input r is)))
-          (all_only_of rs (λ star. nothing (HasStar.later star)) stars (back [] (results_parts rs) all))
-      all_only_of (ResultTrees.Result (ResultTree.AllOf table) rs) nothing stars all =
+          (followed_only (some_of WrongPlace (starred scope)) _ (some_only WrongPlace (starred scope) (starless HasStar.here))
+          (λ columns. all_only (as_input answers input) columns (λ r. as_input_only input r is (bare HasStars.all))))
+          (all_only_of rs (λ star. starless (HasStar.later star)) (λ star. bare (HasStars.later star)) stars (back [] (results_parts rs) all)
+          (λ q there. fits q (Contains-append_right [] (results_parts rs) q there)))
+      all_only_of (ResultTrees.Result (ResultTree.AllOf table) rs) starless bare stars all fits =
           both_only ◌++◌ (results_of answers scope input says (ResultTree.AllOf table)) (all_results answers scope input says rs)
           (followed_only (some_of UnknownColumn (starred_of table 0 scope)) _ (some_only UnknownColumn (starred_of table 0 scope) (first stars).is)
-          (λ columns. all_only (as_input answers input) columns (λ r. as_input_only input r is)))
-          (all_only_of rs (λ star. nothing (HasStar.later star)) (rest stars) (back [] (results_parts rs) all))
-      all_only_of (ResultTrees.Result (ResultTree.Value e name) rs) nothing stars all =
+          (λ columns. all_only (as_input answers input) columns (λ r. as_input_only input r is (bare HasStars.of))))
+          (all_only_of rs (λ star. starless (HasStar.later star)) (λ star. bare (HasStars.later star)) (rest stars) (back [] (results_parts rs) all)
+          (λ q there. fits q (Contains-append_right [] (results_parts rs) q there)))
+      all_only_of (ResultTrees.Result (ResultTree.Value e name) rs) starless bare stars all fits =
           both_only ◌++◌ (results_of answers scope input says (ResultTree.Value e name)) (all_results answers scope input says rs)
-          (also_only _ (term_of answers says e) (term_so says speaks e (front (parts e) (results_parts rs) all)))
-          (all_only_of rs (λ star. nothing (HasStar.later star)) stars (back (parts e) (results_parts rs) all))
+          (also_only _ (term_of answers says e) (row_so says speaks e (front (parts e) (results_parts rs) all)
+          (λ q there. fits q (Contains-append_left (parts e) (results_parts rs) q there))))
+          (all_only_of rs (λ star. starless (HasStar.later star)) (λ star. bare (HasStars.later star)) stars (back (parts e) (results_parts rs) all)
+          (λ q there. fits q (Contains-append_right (parts e) (results_parts rs) q there)))
 
-    row_only : (distinct : Bool) (says : Says) → Speaks says → (e : ExprTree) → (distinct ≡ true → F WrongPlace) → Each (Deep (Sound F defines answers (columns_say scope))) (parts e)
+    row_only : (distinct : Bool) (says : Says) → RowSpeaks says → (e : ExprTree) → (distinct ≡ true → F WrongPlace)
+        → Each (Deep (Placed defines answers scope behind)) (parts e)
+        → ((part : ExprTree) → Contains (parts e) part → ¬ IsScalar part → ¬ IsAggregate part → ¬ HasOver part → F WrongPlace)
         → Only F (on_row answers distinct says e)
-    row_only distinct says speaks e rowless all =
+    row_only distinct says speaks e rowless all fits =
         if_only distinct (Err WrongPlace) _ (λ is. refused WrongPlace (rowless is))
-        (also_only KeyTerm.term (term_of answers says e) (term_so says speaks e all))
+        (also_only KeyTerm.term (term_of answers says e) (row_so says speaks e all fits))
 
-    grouped_gives : (by : List Term) (aggregates : List Aggregate) (having : MaybeExpr) → Each (Deep (Sound F defines answers (columns_say scope))) (maybe_parts having)
+    grouped_gives : G → (by : List Term) (aggregates : List Aggregate) → BareBeside by
+        → ((part : ExprTree) → Contains behind part → AreFound is_same_aggregate (aggregate_of answers (columns_say scope)) aggregates part)
+        → (having : MaybeExpr) → Each (Deep (Placed defines answers scope behind)) (maybe_parts having)
+        → ((part : ExprTree) → Contains (maybe_parts having) part → ¬ IsScalar part → ¬ IsAggregate part → F WrongPlace)
         → Gives F IsInput (grouped answers scope by aggregates having)
-    grouped_gives by aggregates having all =
+    grouped_gives g by aggregates is_bare found having all fits =
         also_gives IsInput _ (condition_of answers (groups_say answers scope by aggregates) having)
-        (condition_only (groups_say answers scope by aggregates) (groups_speak by aggregates) having all)
-        (λ h. record { speaks = groups_speak by aggregates; over = λ t. or_bare_only (key_column by (Ok t)) })
+        (having_only (groups_say answers scope by aggregates) (groups_speak by aggregates found is_bare) having all fits)
+        (λ h. record { speaks = groups_speak by aggregates found is_bare; over = λ star t. or_bare_only (key_column by (Ok t)) (star g) })
 
-    input_gives : (by : List Term) (aggregates : List Aggregate) (having : MaybeExpr) → Each (Deep (Sound F defines answers (columns_say scope))) (maybe_parts having)
+    input_gives : (by : List Term) (aggregates : List Aggregate) → ((by ≡ [] → aggregates ≡ [] → ⊥) → G) → (G → BareBeside by)
+        → ((part : ExprTree) → Contains behind part → AreFound is_same_aggregate (aggregate_of answers (columns_say scope)) aggregates part)
+        → (having : MaybeExpr) → Each (Deep (Placed defines answers scope behind)) (maybe_parts having)
+        → ((part : ExprTree) → Contains (maybe_parts having) part → ¬ IsScalar part → ¬ IsAggregate part → F WrongPlace)
         → Gives F IsInput (input_of answers scope by aggregates having)
-    input_gives [] [] having all = record { is = ungrouped_is }
-    input_gives [] (a ∷ aggregates) having all = grouped_gives [] (a ∷ aggregates) having all
-    input_gives (t ∷ by) aggregates having all = grouped_gives (t ∷ by) aggregates having all
+    input_gives [] [] groups is_bare found having all fits = record {
+      is = record {
+        speaks = columns_speak (λ part there. no_aggregate answers scope part (found part there));
+        over = λ star t. ok t;
+      };
+    }
+    input_gives [] (a ∷ aggregates) groups is_bare found having all fits =
+        let g : G = groups (λ none other. absurd cc) in grouped_gives g [] (a ∷ aggregates) (is_bare g) found having all fits
+    input_gives (t ∷ by) aggregates groups is_bare found having all fits =
+        let g : G = groups (λ none other. absurd cc) in grouped_gives g (t ∷ by) aggregates (is_bare g) found having all fits
 
     no_number_only : (number : Option ℤ) (t : Result Term Fault) → ((z : ℤ) → number ≡ Some z → F WrongPlace) → Only F t → Only F (no_number number t)
     no_number_only (Some z) t is o = refused WrongPlace (is z refl)
     no_number_only None t is o = o
 
-    by_only : (by : ExprTrees) → Each (Deep (Sound F defines answers (columns_say scope))) (all_parts by)
+    by_only : (by : ExprTrees) → Each (Sound F defines answers (columns_say scope)) (all_parts by)
         → ((e : ExprTree) (z : ℤ) → Contains (expressions by) e → IsNumber e z → F WrongPlace) → Only F (by_of answers scope by)
     by_only ExprTrees.No_more all is = ok _
     by_only (ExprTrees.More e others) all is =
         both_only ◌∷◌ (group_term answers scope e) (by_of answers scope others)
         (no_number_only (number_alone e) (term_of answers (columns_say scope) e)
         (λ z same. is e z (Contains-append_left (e ∷ []) (expressions others) e (Contains-push [] e)) (number_is e z same))
-        (term_so (columns_say scope) columns_speak e (front (parts e) (all_parts others) all))) (by_only others (back (parts e) (all_parts others) all)
+        (term_only F defines answers (columns_say scope) e (front (parts e) (all_parts others) all)))
+        (by_only others (back (parts e) (all_parts others) all)
         (λ x z there. is x z (Contains-append_right (e ∷ []) (expressions others) x there)))
 
-    defined_only : (says : Says) → Speaks says → (windows : DefinitionTrees) → Each (Deep (Sound F defines answers (columns_say scope))) (definitions_parts windows)
+    defined_only : (says : Says) → Speaks says → (windows : DefinitionTrees) → Each (Deep (Placed defines answers scope behind)) (definitions_parts windows)
+        → ((part : ExprTree) → Contains (definitions_parts windows) part → ¬ IsScalar part → ¬ IsAggregate part → F WrongPlace)
         → Each (λ w. Only F (frame_of (frame_in w))) (defined_in windows) → Only F (defined_of answers says windows)
-    defined_only says speaks DefinitionTrees.No_definition all frames = ok _
-    defined_only says speaks (DefinitionTrees.Definition name v others) all frames =
+    defined_only says speaks DefinitionTrees.No_definition all fits frames = ok _
+    defined_only says speaks (DefinitionTrees.Definition name v others) all fits frames =
         both_only _ (window_of answers says v) (defined_of answers says others)
-        (window_only F takes defines answers says v (said_of F takes defines answers says speaks.so (front (window_parts v) (definitions_parts others) all))
+        (window_only F takes defines answers says v
+        (sounds says speaks (window_parts v) (front (window_parts v) (definitions_parts others) all)
+        (λ q there. fits q (Contains-append_left (window_parts v) (definitions_parts others) q there)))
         (first frames))
-        (defined_only says speaks others (back (window_parts v) (definitions_parts others) all) (rest frames))
+        (defined_only says speaks others (back (window_parts v) (definitions_parts others) all)
+        (λ q there. fits q (Contains-append_right (window_parts v) (definitions_parts others) q there)) (rest frames))
 
     -- a name alone is neither an aggregate nor a windowed function
-    loose_aggregate : (part : ExprTree) → IsLoose (Sound F defines answers (columns_say scope)) part → OnlySome F (aggregate_of answers (columns_say scope) part)
+    loose_aggregate : (part : ExprTree) → IsLoose (Placed defines answers scope behind) part → OnlySome F (aggregate_of answers (columns_say scope) part)
     loose_aggregate part is = by is.is
       where
-        by : ((table : Option Name) × (name : Name) × (part ≡ ExprTree.Column table name)) ⊎ Each (Sound F defines answers (columns_say scope)) (parts part)
+        by : ((table : Option Name) × (name : Name) × (part ≡ ExprTree.Column table name)) ⊎ Each (Placed defines answers scope behind) (parts part)
             → OnlySome F (aggregate_of answers (columns_say scope) part)
         by (inl (table, name, same)) = subst (λ part. OnlySome F (aggregate_of answers (columns_say scope) part)) (sym same) nothing
-        by (inr all) = aggregate_only F takes defines answers (columns_say scope) part all
+        by (inr all) = aggregate_only F takes defines answers (columns_say scope) part (aggregate_sounds part all)
 
-    loose_call : (says : Says) → Speaks says → (defined : List Defined) → map (λ (d : Defined). d.name) defined ≡ defines → (part : ExprTree) → IsLoose (Sound F defines answers (columns_say scope)) part
-        → OnlySome F (call_of answers says defined part)
+    loose_call : (says : Says) → Speaks says → (defined : List Defined) → map (λ (d : Defined). d.name) defined ≡ defines → (part : ExprTree)
+        → IsLoose (Placed defines answers scope behind) part → OnlySome F (call_of answers says defined part)
     loose_call says speaks defined named part is = by is.is
       where
-        by : ((table : Option Name) × (name : Name) × (part ≡ ExprTree.Column table name)) ⊎ Each (Sound F defines answers (columns_say scope)) (parts part)
+        by : ((table : Option Name) × (name : Name) × (part ≡ ExprTree.Column table name)) ⊎ Each (Placed defines answers scope behind) (parts part)
             → OnlySome F (call_of answers says defined part)
         by (inl (table, name, same)) = subst (λ part. OnlySome F (call_of answers says defined part)) (sym same) nothing
-        by (inr all) = call_only F takes defines answers says defined named part (said_of F takes defines answers says speaks.so (deep part all))
+        by (inr all) = call_only F takes defines answers says defined named part (itself part all).base.framed (window_sounds says speaks part all)
 
-    module _ (distinct : Bool) (results : ResultTrees) (order : TermTrees) (behind : List ExprTree) where
+    module _ (distinct : Bool) (results : ResultTrees) (order : TermTrees) where
       -- what has to hold of its parts
       record IsFine : Type 0 where
         stars : Each (IsFineStar F scope) (stars_in results)
@@ -325,99 +569,153 @@ module _ (F : Fault → Type 0) (takes : Takes F) where
         rowless : distinct ≡ true → (e : ExprTree) → Contains (terms_in order) e → IsNoNumber e → IsNoResult (names_of_results scope results) e
             → F WrongPlace
         narrow : nat_le (length (names_of_results scope results)) max_columns ≡ false → F Limit
-        in_results : Each (Deep (Sound F defines answers (columns_say scope))) (results_parts results)
-        in_terms : Each (IsFineTerm (Sound F defines answers (columns_say scope)) (names_of_results scope results)) (terms_in order)
-        in_behind : Each (IsLoose (Sound F defines answers (columns_say scope))) behind
+        in_results : Each (Deep (Placed defines answers scope behind)) (results_parts results)
+        in_terms : Each (IsFineTerm (Placed defines answers scope behind) (names_of_results scope results)) (terms_in order)
+        in_behind : Each (IsLoose (Placed defines answers scope behind)) behind
+        bare_stars : HasStars results → G → F BareColumn
+        in_row : (part : ExprTree) → Contains (results_parts results ++ terms_parts order) part → ¬ IsScalar part → ¬ IsAggregate part → ¬ HasOver part
+            → F WrongPlace
 
       as_many : (input : Input) (says : Says) (columns : List ResultColumn) → all_results answers scope input says results ≡ Ok columns
           → length columns ≡ length (names_of_results scope results)
       as_many input says columns given =
           sym (length-map columns (λ (r : ResultColumn). r.name)) ∙ ap length (all_names answers input scope says results columns given)
 
-      shown_only : (condition : Term) (input : Input) (defined : List Defined) (calls : List WindowCall) (says : Says) → IsInput input → Speaks says → IsFine
-          → Only F (shown answers scope distinct results order behind condition input defined calls says)
+      shown_only : (condition : Term) (input : Input) (defined : List Defined) (calls : List WindowCall) (says : Says) → IsInput input → RowSpeaks says
+          → IsFine → Only F (shown answers scope distinct results order behind condition input defined calls says)
       shown_only condition input defined calls says is speaks fine =
-          known_only (all_results answers scope input says results) _ (all_only_of input is says speaks results fine.nothing fine.stars fine.in_results) (λ columns given.
+          known_only (all_results answers scope input says results) _
+          (all_only_of input is says speaks results fine.nothing fine.bare_stars fine.stars fine.in_results
+          (λ q there. fine.in_row q (Contains-append_left (results_parts results) (terms_parts order) q there))) (λ columns given.
           checked_only (nat_le (length columns) max_columns) Limit _ (λ e.
           fine.narrow (subst (λ n. nat_le n max_columns ≡ false) (as_many input says columns given) e))
           (also_only (finished distinct condition input.grouping defined calls columns) _
-          (keys_only (names_in columns) (on_row answers distinct says) (Sound F defines answers (columns_say scope))
+          (keys_only (names_in columns) (on_row answers distinct says) (Placed defines answers scope behind)
           (Contains (terms_in order))
           (λ e there plainly apart all. row_only distinct says speaks e
           (λ d. fine.rowless d e there plainly
-          (subst (λ names. IsNoResult names e) (all_names answers input scope says results columns given) apart)) (deep e all)) order
+          (subst (λ names. IsNoResult names e) (all_names answers input scope says results columns given) apart)) (deep e all)
+          (λ q inside. fine.in_row q (Contains-append_right (results_parts results) (terms_parts order) q (in_terms_parts order e q there inside)))) order
           (each_itself (terms_in order))
           (subst (IsFineOrder F order) (sym (all_names answers input scope says results columns given)) fine.in_order)
-          (subst (λ names. Each (IsFineTerm (Sound F defines answers (columns_say scope)) names) (terms_in order))
+          (subst (λ names. Each (IsFineTerm (Placed defines answers scope behind) names) (terms_in order))
           (sym (all_names answers input scope says results columns given)) fine.in_terms))))
 
       behind_only : (windows : DefinitionTrees) (condition : Term) (input : Input) → IsInput input → IsFine
-          → (are_distinct (window_names windows) ≡ false → F DuplicateName) → Each (Deep (Sound F defines answers (columns_say scope))) (definitions_parts windows)
+          → (are_distinct (window_names windows) ≡ false → F DuplicateName)
+          → Each (Deep (Placed defines answers scope behind)) (definitions_parts windows)
+          → ((part : ExprTree) → Contains (definitions_parts windows) part → ¬ IsScalar part → ¬ IsAggregate part → F WrongPlace)
           → Each (λ w. Only F (frame_of (frame_in w))) (defined_in windows) → window_names windows ≡ defines
           → Only F (behind_groups answers scope distinct results order behind windows condition input)
-      behind_only windows condition input is fine apart all frames same =
+      behind_only windows condition input is fine apart all fits frames same =
           checked_only (are_distinct (window_names windows)) DuplicateName _ apart
-          (known_only (defined_of answers input.says windows) _ (defined_only input.says is.speaks windows all frames) (λ defined made.
+          (known_only (defined_of answers input.says windows) _ (defined_only input.says is.speaks windows all fits frames) (λ defined made.
           let named : map (λ (d : Defined). d.name) defined ≡ defines = defined_names answers input.says windows defined made ∙ same in
-          followed_only (firsts is_same_call [] (filter_map (call_of answers input.says defined) behind)) _
+          known_only (firsts is_same_call [] (filter_map (call_of answers input.says defined) behind)) _
           (firsts_only is_same_call [] (call_of answers input.says defined) behind
           (weaker (λ part of. loose_call input.says is.speaks defined named part of) fine.in_behind))
-          (λ calls. shown_only condition input defined calls (windows_say answers input.says defined input.width calls) is
-          (windows_speak input is.speaks defined named calls) fine)))
+          (λ calls called. shown_only condition input defined calls (windows_say answers input.says defined input.width calls) is
+          (windows_speak input is.speaks defined named calls
+          (λ part there. among (all_found is_same_call (λ c. (takes.same.calls c c).1 refl) (call_of answers input.says defined) calls behind called) there))
+          fine)))
 
       select_only : (condition : MaybeExpr) (by : ExprTrees) (having : MaybeExpr) (windows : DefinitionTrees) → IsFine
           → ((e : ExprTree) (z : ℤ) → Contains (expressions by) e → IsNumber e z → F WrongPlace)
-          → (are_distinct (window_names windows) ≡ false → F DuplicateName) → Each (Deep (Sound F defines answers (columns_say scope))) (maybe_parts condition)
-          → Each (Deep (Sound F defines answers (columns_say scope))) (all_parts by) → Each (Deep (Sound F defines answers (columns_say scope))) (maybe_parts having)
-          → Each (Deep (Sound F defines answers (columns_say scope))) (definitions_parts windows)
+          → ((keys : List Term) (aggregates : List Aggregate) → by_of answers scope by ≡ Ok keys
+          → firsts is_same_aggregate [] (filter_map (aggregate_of answers (columns_say scope)) behind) ≡ Ok aggregates → (keys ≡ [] → aggregates ≡ [] → ⊥) → G)
+          → ((keys : List Term) → by_of answers scope by ≡ Ok keys → G → BareBeside keys)
+          → (are_distinct (window_names windows) ≡ false → F DuplicateName)
+          → Each (Sound F defines answers (columns_say scope)) (maybe_parts condition)
+          → Each (Sound F defines answers (columns_say scope)) (all_parts by) → Each (Deep (Placed defines answers scope behind)) (maybe_parts having)
+          → Each (Deep (Placed defines answers scope behind)) (definitions_parts windows)
+          → ((part : ExprTree) → Contains (maybe_parts having ++ definitions_parts windows) part → ¬ IsScalar part → ¬ IsAggregate part → F WrongPlace)
           → Each (λ w. Only F (frame_of (frame_in w))) (defined_in windows) → window_names windows ≡ defines
           → Only F (select_of answers scope distinct results order behind condition by having windows)
-      select_only condition by having windows fine keyless apart in_condition in_by in_having in_windows frames same =
-          followed_only (condition_of answers (columns_say scope) condition) _ (condition_only (columns_say scope) columns_speak condition in_condition)
-          (λ test.
-          followed_only (by_of answers scope by) _ (by_only by in_by keyless) (λ keys.
-          followed_only (firsts is_same_aggregate [] (filter_map (aggregate_of answers (columns_say scope)) behind)) _
+      select_only condition by having windows fine keyless groups is_bare apart in_condition in_by in_having in_windows in_groups frames same =
+          followed_only (condition_of answers (columns_say scope) condition) _ (condition_only condition in_condition) (λ test.
+          known_only (by_of answers scope by) _ (by_only by in_by keyless) (λ keys keyed.
+          known_only (firsts is_same_aggregate [] (filter_map (aggregate_of answers (columns_say scope)) behind)) _
           (firsts_only is_same_aggregate [] (aggregate_of answers (columns_say scope)) behind
           (weaker (λ part of. loose_aggregate part of) fine.in_behind))
-          (λ aggregates.
+          (λ aggregates gathered.
           followed_gives IsInput (λ _. Unit {0}) (input_of answers scope keys aggregates having)
-          (behind_groups answers scope distinct results order behind windows test) (input_gives keys aggregates having in_having)
-          (λ input is. behind_only windows test input is fine apart in_windows frames same))))
+          (behind_groups answers scope distinct results order behind windows test)
+          (input_gives keys aggregates (groups keys aggregates keyed gathered) (is_bare keys keyed)
+          (λ part there.
+          among (all_found is_same_aggregate (λ a. (takes.same.aggregates a a).1 refl) (aggregate_of answers (columns_say scope)) aggregates behind gathered) there)
+          having in_having (λ q there. in_groups q (Contains-append_left (maybe_parts having) (definitions_parts windows) q there)))
+          (λ input is. behind_only windows test input is fine apart in_windows
+          (λ q there. in_groups q (Contains-append_right (maybe_parts having) (definitions_parts windows) q there)) frames same))))
 
-    pub core_only : (core : CoreTree) (order : TermTrees) → Each (Sound F defines answers (columns_say scope)) (spoken_in core)
-        → Each (IsFineTerm (Sound F defines answers (columns_say scope)) (names_of_results scope (results_in core))) (terms_in order)
+  module _ (defines : List Name) (answers : Answers) (scope : Scope) where
+    pub core_only : (core : CoreTree) (order : TermTrees) → IsFineCore F core order → Each (Base F defines answers scope) (spoken_in core)
+        → Each (IsFineTerm (Base F defines answers scope) (names_of_results scope (results_in core))) (terms_in order)
         → Each (IsFineStar F scope) (stars_in (results_in core)) → (are_distinct (window_names (windows_in core)) ≡ false → F DuplicateName)
         → IsFineOrder F order (names_of_results scope (results_in core)) → (HasStar (results_in core) → starred scope ≡ [] → F WrongPlace)
         → (is_distinct core ≡ true → (e : ExprTree) → Contains (terms_in order) e → IsNoNumber e → IsNoResult (names_of_results scope (results_in core)) e
         → F WrongPlace) → ((e : ExprTree) (z : ℤ) → Contains (groups_in core) e → IsNumber e z → F WrongPlace)
         → (nat_le (length (names_of_results scope (results_in core))) max_columns ≡ false → F Limit)
-        → Each (λ w. Only F (frame_of (frame_in w))) (defined_in (windows_in core)) → window_names (windows_in core) ≡ defines
+        → Each (λ w. Only F (frame_of (frame_in w))) (defined_in (windows_in core)) → window_names (windows_in core) ≡ defines → IsFineBare F scope core order
         → Only F (core_of answers scope core order)
-    core_only (CoreTree.Select distinct results from condition by having windows) order all in_terms stars apart in_order nothing rowless keyless narrow frames same =
+    core_only (CoreTree.Select distinct results from condition by having windows) order calls all in_terms stars apart in_order starless rowless keyless narrow
+        frames same bare =
         let r = results_parts results in
         let c = maybe_parts condition in
         let b = all_parts by in
         let h = maybe_parts having in
         let d = definitions_parts windows in
-        let deeply = deep_spoken (CoreTree.Select distinct results from condition by having windows) all in
-        let in_windows = back (r ++ c ++ b ++ h) d deeply in
-        let to_having = front (r ++ c ++ b ++ h) d deeply in
+        let o = terms_parts order in
+        let behind : List ExprTree = parts_behind_groups (CoreTree.Select distinct results from condition by having windows) order in
+        let in_windows = back (r ++ c ++ b ++ h) d all in
+        let to_having = front (r ++ c ++ b ++ h) d all in
         let in_having = back (r ++ c ++ b) h to_having in
         let to_by = front (r ++ c ++ b) h to_having in
         let in_by = back (r ++ c) b to_by in
         let to_condition = front (r ++ c) b to_by in
         let in_condition = back r c to_condition in
         let in_results = front r c to_condition in
-        select_only distinct results order
-        (parts_behind_groups (CoreTree.Select distinct results from condition by having windows) order) condition by having windows
+        let placed_results : Each (Placed defines answers scope behind) r =
+        stand r in_results (λ q there.
+        Contains-append_left (r ++ h ++ d) o q (Contains-append_left (r ++ h) d q (Contains-append_left r h q there))) in
+        let placed_having : Each (Placed defines answers scope behind) h =
+        stand h in_having (λ q there.
+        Contains-append_left (r ++ h ++ d) o q (Contains-append_left (r ++ h) d q (Contains-append_right r h q there))) in
+        let placed_windows : Each (Placed defines answers scope behind) d =
+        stand d in_windows (λ q there. Contains-append_left (r ++ h ++ d) o q (Contains-append_right (r ++ h) d q there)) in
+        let placed_terms : Each (IsFineTerm (Placed defines answers scope behind) (names_of_results scope results)) (terms_in order) =
+        each_place (terms_in order) in_terms (λ e there is. record {
+          is = term_placed (names_of_results scope results) e (λ q inside. Contains-append_right (r ++ h ++ d) o q (in_terms_parts order e q there inside)) is.is;
+        }) in
+        let whole_of : Each (Deep (Placed defines answers scope behind)) (r ++ h ++ d) =
+        join (r ++ h) d (join r h (deep_results results placed_results) (deep_maybe having placed_having)) (deep_definitions windows placed_windows) in
+        select_only defines answers scope behind calls.placed (HasGroups (CoreTree.Select distinct results from condition by having windows) order) distinct results
+        order condition by having windows
         (record {
           stars = stars;
           in_order = in_order;
-          nothing = nothing;
+          nothing = starless;
           rowless = rowless;
           narrow = narrow;
-          in_results = in_results;
-          in_terms = in_terms;
-          in_behind =
-              join (r ++ h ++ d) (terms_parts order) (loose (join (r ++ h) d (join r h in_results in_having) in_windows)) (loose_terms order in_terms);
-        }) keyless apart in_condition in_by in_having in_windows frames same
+          in_results = deep_results results placed_results;
+          in_terms = placed_terms;
+          in_behind = join (r ++ h ++ d) o (loose whole_of) (loose_terms order placed_terms);
+          in_row = calls.in_row;
+          bare_stars = bare.stars;
+        }) keyless (λ keys aggregates keyed gathered some. has_groups answers scope
+        (CoreTree.Select distinct results from condition by having windows) order by refl keys aggregates keyed gathered some)
+        (λ keys keyed g part there table name same t of none.
+        bare_beside takes.same takes.columns answers scope (CoreTree.Select distinct results from condition by having windows) order by refl bare keys keyed g
+        part there table name same t of none) apart (plainly F defines answers scope c in_condition (front c b calls.in_plain))
+        (plainly F defines answers scope b in_by (back c b calls.in_plain)) (deep_maybe having placed_having) (deep_definitions windows placed_windows)
+        calls.in_groups frames same
+      where
+        stand : {behind : List ExprTree} (xs : List ExprTree) → Each (Base F defines answers scope) xs
+            → ((q : ExprTree) → Contains xs q → Contains behind q) → Each (Placed defines answers scope behind) xs
+        stand xs all stands = each_place xs all (λ q there b. record { base = b; stands = stands q there })
+
+        term_placed : (names : List Name) {behind : List ExprTree} (e : ExprTree) → ((q : ExprTree) → Contains (parts e) q → Contains behind q)
+            → ((alone : Name) × (at : ℕ) × (e ≡ ExprTree.Column None alone) × IsNamedAt names alone at) ⊎ Each (Base F defines answers scope) (parts e)
+            → ((alone : Name) × (at : ℕ) × (e ≡ ExprTree.Column None alone) × IsNamedAt names alone at)
+            ⊎ Each (Placed defines answers scope behind) (parts e)
+        term_placed names e stands (inl result) = inl result
+        term_placed names e stands (inr all) = inr (stand (parts e) all stands)

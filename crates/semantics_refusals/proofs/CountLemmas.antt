@@ -34,7 +34,7 @@ pub record IsCountOf (k : Known) (c : Counted) : Type 0 where
 abbrev pub Counts : List Known → List Counted → Type 0
 Counts known counted = AllZip IsCountOf known counted
 
--- the number of what a name stands for
+-- the number of what is named
 pub name_counted : (known : List Known) (counted : List Counted) → Counts known counted → (name : Name) (k : Known) → known_as known name ≡ Ok k
     → (c : Counted) × IsCounted name counted c.count × IsCountOf k c
 name_counted [] counted counts name k e = absurd cc

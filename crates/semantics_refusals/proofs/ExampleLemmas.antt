@@ -8,7 +8,7 @@ use Rattle.sql_reader_syntax.specs.StatementTree.{ItemTree, StatementTree}
 use Rattle.sql_reader_syntax.specs.Tree.{Name}
 use Rattle.semantics_names.specs.Laws.{AmbiguousIsTwo, ColumnsAreScalar, DistinctIsSaid, TypedIsTaken, UnknownIsNone}
 use Rattle.semantics_names.specs.Parts.{core_parts, terms_parts}
-use Rattle.semantics_names.specs.RefusedExamples.{RefusedFrames, RefusedNames, RefusedPlaces, RefusedTypes, aggregate_in_where, alias_in_where, arms_of_two_types, bad_frame, distance_of_texts, group_by_signed_number, hidden_order, in_two_sources, item_in_itself, mismatch, no_buckets, order_out_of_range, other_type, outer_column, scalar_over, star_of_none, star_of_nothing, sum_behind_compound, twice, two_columns, two_named, two_of_one_name, undefined_window, uneven, uneven_item, unknown_column, unknown_table, untyped_item, unused_window, windows_of_one_name}
+use Rattle.semantics_names.specs.RefusedExamples.{RefusedFrames, RefusedNames, RefusedPlaces, RefusedTypes, aggregate_in_where, alias_in_where, arms_of_two_types, bad_frame, bare, distance_of_texts, group_by_signed_number, hidden_order, in_two_sources, item_in_itself, mismatch, no_buckets, order_out_of_range, other_type, outer_column, scalar_over, star_beside_aggregate, star_of_none, star_of_nothing, sum_behind_compound, twice, two_columns, two_named, two_of_one_name, undefined_window, uneven, uneven_item, unknown_column, unknown_table, untyped_item, unused_window, windows_of_one_name}
 use Rattle.semantics_names.specs.Statement.{Named, from_tree}
 use Rattle.semantics_names.specs.Typed.{typed_query}
 use Rattle.semantics_names.specs.Worked.{by_term, called, id, item as item_alone, name_alone, number, results_of, select, shown, statement, tables}
@@ -62,6 +62,8 @@ reasons_are_written laws names types frames places = (
   reason laws star_of_nothing f.WrongPlace places.14,
   reason laws sum_behind_compound f.WrongPlace places.15,
   reason laws scalar_over f.WrongPlace places.7,
+  reason laws bare f.BareColumn places.0,
+  reason laws star_beside_aggregate f.BareColumn places.1,
   reason laws (ones 101) f.Limit refl,
   reason laws (statement (select (shown (number 1) ∷ []) (from_ones 64))) f.Limit refl,
   reason laws (statement (levels 100)) f.Limit refl,

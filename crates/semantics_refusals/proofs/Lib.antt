@@ -4,6 +4,7 @@ mod WithLemmas
 mod KnownLemmas
 mod NameLemmas
 mod PartLemmas
+mod PlacedLemmas
 mod OutcomeLemmas
 mod TermLemmas
 mod PlaceLemmas

@@ -2,7 +2,7 @@
 use Rattle.std.proofs.Common.{◌≡◌, Bool, true, false, if◌then◌else◌, List, [], ◌∷◌, Option, Some, None, Result, Ok, Err, refl}
 use Rattle.std.specs.List.{cons_option, filter_map}
 use Rattle.values.specs.declared.fault.Fault.{Fault}
-use Rattle.values.specs.declared.fault.Fault.TheVariants.{BareColumn}
+use Rattle.semantics_names.specs.Laws.{NameIsColumn, SameIsEqual}
 use Rattle.semantics_names.specs.Outcome.{also, both, checked, chosen, each, followed, found_or}
 use Rattle.semantics_names.specs.Statement.{firsts, once_more}
 use Rattle.semantics_names.specs.Places.{place_of}
@@ -20,9 +20,10 @@ pub record Gives (F : Fault → Type 0) {A : Type 0} (P : A → Type 0) (r : Res
 abbrev pub Only : (Fault → Type 0) → {A : Type 0} → Result A Fault → Type 0
 Only F r = Gives F (λ _. Unit {0}) r
 
--- it holds of the faults of a SELECT that say nothing of its names
+-- what is known of equal terms, and of names of columns
 pub record Takes (F : Fault → Type 0) : Type 0 where
-  pub bare_column : F BareColumn
+  pub same : SameIsEqual
+  pub columns : NameIsColumn
 
 module _ {F : Fault → Type 0} where
   pub ok : {A : Type 0} (a : A) → Only F (Ok a)

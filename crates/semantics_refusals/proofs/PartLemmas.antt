@@ -133,7 +133,7 @@ module _ {P : ExprTree → Type 0} where
     deep_terms TermTrees.No_term all = none
     deep_terms (TermTrees.Term e direction others) all = two (parts e) (terms_parts others) (λ a. deep e a) (λ a. deep_terms others a) all
 
-  deep_results : (results : ResultTrees) → Each P (results_parts results) → Each (Deep P) (results_parts results)
+  pub deep_results : (results : ResultTrees) → Each P (results_parts results) → Each (Deep P) (results_parts results)
   deep_results ResultTrees.No_result all = none
   deep_results (ResultTrees.Result r others) all = two (result_parts r) (results_parts others) (deep_result r) (λ a. deep_results others a) all
     where
@@ -142,7 +142,7 @@ module _ {P : ExprTree → Type 0} where
       deep_result ResultTree.All a = none
       deep_result (ResultTree.AllOf table) a = none
 
-  deep_definitions : (windows : DefinitionTrees) → Each P (definitions_parts windows) → Each (Deep P) (definitions_parts windows)
+  pub deep_definitions : (windows : DefinitionTrees) → Each P (definitions_parts windows) → Each (Deep P) (definitions_parts windows)
   deep_definitions DefinitionTrees.No_definition all = none
   deep_definitions (DefinitionTrees.Definition name w others) all =
       two (window_parts w) (definitions_parts others) (deep_window w) (λ a. deep_definitions others a) all

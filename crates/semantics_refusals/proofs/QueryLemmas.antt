@@ -9,9 +9,10 @@ use Rattle.sql_reader_syntax.specs.declared.query.CompoundOperator.{CompoundOper
 use Rattle.sql_reader_syntax.specs.declared.query.Join.{Join}
 use Rattle.semantics.specs.Query.{InnerQuery}
 use Rattle.semantics_names.specs.Expression.{Answers, InnerTree}
+use Rattle.semantics_names.specs.Laws.{IsScalar}
 use Rattle.semantics_names.specs.Outcome.{also, each}
 use Rattle.semantics_names.specs.Parts.{all_parts, core_parts, definitions_parts, from_parts, inner_tree, inner_trees, maybe_parts, parts, results_parts, terms_parts}
-use Rattle.semantics_names.specs.Places.{columns_say, frame_of}
+use Rattle.semantics_names.specs.Places.{frame_of}
 use Rattle.semantics_names.specs.Scope.{Scope}
 use Rattle.semantics_names.specs.Sources.{Known}
 use Rattle.semantics_names.specs.Statement.{Inner, Queried, Single, answers_of, are_distinct, compounded, core_of, exists_inner, from_of, from_tree, inner_of, keys_of, max_columns, no_row, queried, query_of, simple, single, single_of, starred, values_inner, window_names, with_inners}
@@ -21,13 +22,13 @@ use Rattle.semantics_refusals.specs.Limits.{IsDeep}
 use Rattle.semantics_refusals.specs.UnknownColumns.{IsNamedAt, IsNoResult}
 use Rattle.semantics_refusals.specs.WrongPlaces.{HasNoRow, HasStar, IsNoNumber, IsNumber, groups_in}
 use Rattle.semantics_refusals.specs.Written.{BeginsFrom, BeginsQuery, HasQuery, IsDerived, IsOperand, IsSelect, StandsIn, names_of_sources, sources_in, spoken_in, stars_in, terms_in, windows_in}
-use Rattle.semantics_refusals.proofs.CoreLemmas.{IsFineOrder, IsFineStar, IsFineTerm, core_only, is_distinct, keys_only, no_row_only}
+use Rattle.semantics_refusals.proofs.CoreLemmas.{IsFineBare, IsFineCore, IsFineOrder, IsFineStar, IsFineTerm, core_only, is_distinct, keys_only, no_row_only}
 use Rattle.semantics_refusals.proofs.NameLemmas.{from_shows, listed_of, queried_names, query_names}
 use Rattle.semantics_refusals.proofs.OutcomeLemmas.{Only, Takes, also_only, checked_only, each_only, followed_only, known_only, ok, refused}
 use Rattle.semantics_refusals.proofs.PartLemmas.{Each, among, back, each_itself, first, front, join, more, none, rest, weaker}
 use Rattle.semantics_refusals.proofs.SourceLemmas.{IsFineAnswer, IsFineColumn, IsFineJoin, IsFineSource, from_only, with_answers}
 use Rattle.semantics_refusals.proofs.TakenLemmas.{inside}
-use Rattle.semantics_refusals.proofs.TermLemmas.{IsFineCall, Sound, frame_in}
+use Rattle.semantics_refusals.proofs.TermLemmas.{Base, IsFineCall, frame_in}
 
 -- what has to hold of a SELECT, so that of its fault this holds
 pub record IsFineSelect (F : Fault → Type 0) (known : List Known) (core : CoreTree) (by : TermTrees) : Type 0 where
@@ -44,6 +45,9 @@ pub record IsFineSelect (F : Fault → Type 0) (known : List Known) (core : Core
       → nat_le (length (names_of_results scope (results_in core))) max_columns ≡ false → F Limit
   pub nothing : (scope : Scope) → Shows (listed_of known) (from_tree core) scope → HasStar (results_in core) → starred scope ≡ [] → F WrongPlace
   pub keyless : (e : ExprTree) (z : ℤ) → Contains (groups_in core) e → IsNumber e z → F WrongPlace
+  pub on : Each (λ part. ¬ IsScalar part → F WrongPlace) (from_parts (from_tree core))
+  pub calls : IsFineCore F core by
+  pub bare : (scope : Scope) → Shows (listed_of known) (from_tree core) scope → IsFineBare F scope core by
   pub framed : Each (IsFineCall F (window_names (windows_in core))) (core_parts core by)
   pub frames : Each (λ w. Only F (frame_of (frame_in w))) (defined_in (windows_in core))
   pub members : (query : QueryTree) (part : ExprTree) (names : List Name) → Contains (core_parts core by) part
@@ -152,14 +156,14 @@ module _ (F : Fault → Type 0) (takes : Takes F) (known : List Known) (queries 
             (spoken, back (r ++ from_parts from ++ c ++ g ++ h ++ d) (terms_parts by) all)
 
     in_terms : (answers : Answers) (scope : Scope) (names : List Name) (order : TermTrees) → Each (IsFineTerm (IsFineColumn F scope) names) (terms_in order)
-        → Each (IsFineAnswer F windows answers) (terms_parts order) → Each (IsFineTerm (Sound F windows answers (columns_say scope)) names) (terms_in order)
+        → Each (IsFineAnswer F windows answers) (terms_parts order) → Each (IsFineTerm (Base F windows answers scope) names) (terms_in order)
     in_terms answers scope names TermTrees.No_term terms all = none
     in_terms answers scope names (TermTrees.Term e direction others) terms all =
         more e (terms_in others) (record { is = of (first terms).is })
         (in_terms answers scope names others (rest terms) (back (parts e) (terms_parts others) all))
       where
         of : ((alone : Name) × (at : ℕ) × (e ≡ ExprTree.Column None alone) × IsNamedAt names alone at) ⊎ Each (IsFineColumn F scope) (parts e)
-            → ((alone : Name) × (at : ℕ) × (e ≡ ExprTree.Column None alone) × IsNamedAt names alone at) ⊎ Each (Sound F windows answers (columns_say scope)) (parts e)
+            → ((alone : Name) × (at : ℕ) × (e ≡ ExprTree.Column None alone) × IsNamedAt names alone at) ⊎ Each (Base F windows answers scope) (parts e)
         of (inl result) = inl result
         of (inr columns) = inr (with_answers F windows answers scope (parts e) columns (front (parts e) (terms_parts others) all))
 
@@ -177,15 +181,15 @@ module _ (F : Fault → Type 0) (takes : Takes F) (known : List Known) (queries 
         let answers : Answers = answers_of known queries queries_of in
         let all = answers_only queries_of in
         known_only (from_of known queries answers (from_tree core)) _
-        (from_only F takes windows answers known queries names (from_tree core) fine.sources derived fine.joins (in_from answers all))
+        (from_only F takes windows answers known queries names (from_tree core) fine.sources derived fine.joins (in_from answers all) fine.on)
         (λ f taken.
         let shows = from_shows known queries names answers (from_tree core) f taken in
         also_only (single inners f) (core_of answers f.scope core by)
-        (core_only F takes windows answers f.scope core by (with_answers F windows answers f.scope (spoken_in core) (fine.columns f.scope shows) ((in_spoken answers all).0))
+        (core_only F takes windows answers f.scope core by fine.calls (with_answers F windows answers f.scope (spoken_in core) (fine.columns f.scope shows) ((in_spoken answers all).0))
         (in_terms answers f.scope (names_of_results f.scope (results_in core)) by (fine.terms f.scope shows) ((in_spoken answers all).1))
         (fine.stars f.scope shows) fine.windows (in_order (names_of_results f.scope (results_in core)) (HasNames.alone shows))
         (fine.nothing f.scope shows) (λ d. rowless (names_of_results f.scope (results_in core)) (HasNames.alone shows) (distinct_rows core d)) fine.keyless
-        (fine.narrow f.scope shows) fine.frames refl)))
+        (fine.narrow f.scope shows) fine.frames refl (fine.bare f.scope shows))))
 
   compounded_only : (order : TermTrees) (left : Queried) (operator : CompoundOperator) (s : Single)
       → (nat_eq (length left.names) (length s.core.names) ≡ false → F ColumnCount)

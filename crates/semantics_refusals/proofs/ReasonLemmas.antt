@@ -4,7 +4,7 @@ use Rattle.std.specs.List.{list_any}
 use Rattle.std.proofs.lemmas.Bool.{eqb-false, leb-false}
 use Rattle.std.proofs.lemmas.List.Elements.{All-cons, All-nil}
 use Rattle.values.specs.declared.fault.Fault.{Fault}
-use Rattle.values.specs.declared.fault.Fault.TheVariants.{Ambiguous, BadFrame, ColumnCount, DuplicateName, Limit, UnknownColumn, UnknownTable, WrongPlace}
+use Rattle.values.specs.declared.fault.Fault.TheVariants.{Ambiguous, BadFrame, BareColumn, ColumnCount, DuplicateName, Limit, UnknownColumn, UnknownTable, WrongPlace}
 use Rattle.semantics.specs.Query.{Source}
 use Rattle.sql_reader_syntax.specs.ExprTree.{CoreTree, ExprTree, FromTree, OnTree, QueryTree, SourceTree, TermTrees, WindowTree}
 use Rattle.sql_reader_syntax.specs.StatementTree.{ItemTree, StatementTree}
@@ -15,33 +15,33 @@ use Rattle.sql_reader_syntax.specs.declared.query.Join.{Join}
 use Rattle.semantics_names.specs.Expression.{InnerTree}
 use Rattle.semantics_names.specs.Laws.{AreDistinctInAnyCase, AreSameSources, IsSameInAnyCase, IsScalar}
 use Rattle.semantics_names.specs.Outcome.{found_or}
-use Rattle.semantics_names.specs.Parts.{core_parts, from_parts, inner_tree, on_parts, parts, parts_behind_groups}
+use Rattle.semantics_names.specs.Parts.{core_parts, from_parts, inner_tree, on_parts, parts}
 use Rattle.semantics_names.specs.Places.{edge_of, frame_between, frame_of}
 use Rattle.semantics_names.specs.Scope.{Scope, bare_term, column_of, is_bare}
 use Rattle.semantics_names.specs.Sources.{Known, is_same_source, known_as, shown_from, used}
 use Rattle.semantics_names.specs.Statement.{Queried, With, are_distinct, from_tree, item_columns, max_columns, max_levels, max_sources, named, named_at, queried, result, sources_of_body, starred, window_names, with_items}
 use Rattle.semantics_names.specs.Typed.{Table, known_tables, typed_query}
 use Rattle.semantics_refusals.specs.BadFrames.{HasEdgeBelowZero, HasNoWindow, HasWindow, IsBelowZero, defined_in}
+use Rattle.semantics_refusals.specs.BareColumns.{HasBareColumn, MayHaveBareColumn}
 use Rattle.semantics_refusals.specs.Columns.{AreListed, HasNames, JoinsScopes, ListedTable, Offers, Shows, names_of_results, results_in}
 use Rattle.semantics_refusals.specs.Limits.{AreCounted, Counted, IsBeyondLimit, IsCounted, IsWide, MentionsLarge}
 use Rattle.semantics_refusals.specs.RepeatedNames.{HasRepeatedName, Repeats}
 use Rattle.semantics_refusals.specs.UnevenColumns.{HasUnevenColumns, HasWideMembers, IsUneven}
 use Rattle.semantics_refusals.specs.UnknownColumns.{HasAmbiguousColumn, HasUnknownColumn, InSelect, IsAmbiguous, IsNamedAt, IsNoResult, IsTwofold, IsUnknown, NamesColumn, NamesUnknownColumn}
 use Rattle.semantics_refusals.specs.UnknownSources.{HasUnknownSource, IsNoSource, NamesNoSource}
-use Rattle.semantics_refusals.specs.WrongPlaces.{GroupsByNumber, HasCall, HasStar, HasWrongPlace, InQuery, IsNumber, MayHaveWrongPlace, Misplaces, SortsWrongly, StarsNothing, groups_in, plain_parts}
+use Rattle.semantics_refusals.specs.WrongPlaces.{GroupsByNumber, HasAnyWrongPlace, HasStar, HasWrongPlace, InQuery, IsNumber, Misplaces, MisplacesInGroups, SortsWrongly, StarsNothing, groups_in, plain_parts}
 use Rattle.semantics_refusals.specs.Written.{BeginsFrom, HasQuery, HasQueryWith, HasSelect, HasSelectWith, IsQueryOf, IsSelect, called_so, names_of_sources, sources_in, spoken_in, stars_in, terms_in, windows_in}
 use Rattle.semantics_refusals.proofs.CountLemmas.{IsCountOf, known_counted, name_counted, queried_counts}
-use Rattle.semantics_refusals.proofs.CoreLemmas.{IsFineOrder, IsFineStar, IsFineTerm}
+use Rattle.semantics_refusals.proofs.CoreLemmas.{IsFineBare, IsFineCore, IsFineOrder, IsFineStar, IsFineTerm}
 use Rattle.semantics_refusals.proofs.NameLemmas.{listed_of}
 use Rattle.semantics_refusals.proofs.OutcomeLemmas.{Only, Takes, both_only, checked_only, ok, refused}
-use Rattle.semantics_refusals.proofs.PartLemmas.{Each, among, each_itself, weaker}
+use Rattle.semantics_refusals.proofs.PartLemmas.{Each, each_itself, weaker}
 use Rattle.semantics_refusals.proofs.QueryLemmas.{IsFineQuery, IsFineSelect}
 use Rattle.semantics_refusals.proofs.ScopeLemmas.{Says, column_only, named_none, named_some, named_two, same_there, star_of_none, used_only}
 use Rattle.semantics_refusals.proofs.SourceLemmas.{IsFineColumn, IsFineJoin, IsFineSource}
 use Rattle.semantics_refusals.proofs.StatementLemmas.{IsFineStatement, known_gives, known_listed, named_only, typed_only}
 use Rattle.semantics_refusals.proofs.TermLemmas.{IsFineCall, frame_in}
 use Rattle.semantics_refusals.proofs.TypeLemmas.{TakesTypes}
-use Rattle.semantics_refusals.proofs.WindowLemmas.{whole}
 use Rattle.semantics_refusals.proofs.WithLemmas.{IsOther, items_back, no_items, tables_back}
 
 -- what has to be written, so that of the fault this holds
@@ -54,7 +54,8 @@ pub record HasReasons (F : Fault → Type 0) (tables : List Table) (tree : State
   pub column_count : HasUnevenColumns tables tree → F ColumnCount
   pub limit : IsBeyondLimit tables tree → F Limit
   pub frame : HasSelectWith tree HasNoWindow → F BadFrame
-  pub wrong_place : MayHaveWrongPlace tables tree → F WrongPlace
+  pub wrong_place : HasAnyWrongPlace tables tree → F WrongPlace
+  pub bare_column : MayHaveBareColumn tables tree → F BareColumn
 
 offers_called : {listed : List ListedTable} {source : SourceTree} {called : Option Name} {columns : List Name} → Offers listed source called columns
     → called ≡ called_so source
@@ -294,27 +295,47 @@ module _ (F : Fault → Type 0) (tables : List Table) (tree : StatementTree) (sa
           (edge_so frame.start (λ edge. below (WindowTree.Window partition order (Some frame)) is (HasEdgeBelowZero.start edge)))
           (edge_so frame.end (λ edge. below (WindowTree.Window partition order (Some frame)) is (HasEdgeBelowZero.end edge)))
 
-      fits_all : Each (λ part. ¬ IsScalar part → F WrongPlace) (core_parts core by)
-      fits_all =
-          whole core by
-          (weaker (λ part there apart. reasons.wrong_place (MayHaveWrongPlace.call (at_select HasCall (HasCall.behind part there apart))))
-          (each_itself (parts_behind_groups core by)))
-          (weaker (λ part there apart.
-          reasons.wrong_place (MayHaveWrongPlace.is (HasWrongPlace.call (at_select Misplaces (Misplaces.on part there apart)))))
-          (each_itself (from_parts (from_tree core))))
-          (weaker (λ part there apart.
-          reasons.wrong_place (MayHaveWrongPlace.is (HasWrongPlace.call (at_select Misplaces (Misplaces.plain part there apart)))))
-          (each_itself (plain_parts core)))
+      misplaced : MisplacesInGroups items core by → F WrongPlace
+      misplaced is = reasons.wrong_place (HasAnyWrongPlace.call (at_select MisplacesInGroups is))
+
+      fine_conditions : Each (λ part. ¬ IsScalar part → F WrongPlace) (from_parts (from_tree core))
+      fine_conditions =
+          weaker (λ part there apart.
+          reasons.wrong_place (HasAnyWrongPlace.is (HasWrongPlace.call (at_select Misplaces (Misplaces.on part there apart)))))
+          (each_itself (from_parts (from_tree core)))
+
+      fine_calls : IsFineCore F core by
+      fine_calls = record {
+        placed = record {
+          aggregate = λ outer part there is inside apart. misplaced (MisplacesInGroups.in_aggregate outer part there is inside apart);
+          window = λ outer part there is inside apart loose. misplaced (MisplacesInGroups.in_window outer part there is inside apart loose);
+        };
+        in_plain =
+            weaker (λ part there apart.
+            reasons.wrong_place (HasAnyWrongPlace.is (HasWrongPlace.call (at_select Misplaces (Misplaces.plain part there apart)))))
+            (each_itself (plain_parts core));
+        in_groups = λ part there apart loose. misplaced (MisplacesInGroups.in_groups part there apart loose);
+        in_row = λ part there apart loose over. misplaced (MisplacesInGroups.in_row part there apart loose over);
+      }
+
+      bare_so : HasBareColumn (listed_of w.known) core by → F BareColumn
+      bare_so is = reasons.bare_column (here (InSelect tables HasBareColumn) (in_select HasBareColumn is))
+
+      fine_bare : (scope : Scope) → Shows (listed_of w.known) (from_tree core) scope → IsFineBare F scope core by
+      fine_bare scope shows = record {
+        columns = λ table name at shown groups there only apart.
+            bare_so (HasBareColumn.column scope table name at shown groups shows there only apart);
+        stars = λ stars groups. bare_so (HasBareColumn.star groups stars);
+      }
 
       fine_framed : Each (IsFineCall F (window_names (windows_in core))) (core_parts core by)
       fine_framed =
           weaker (λ part there. record {
             frame = λ w over. frame_so w (HasWindow.over part there over);
             defined = λ name over apart. reasons.frame (at_select HasNoWindow (HasNoWindow.unnamed part name there over apart));
-            fits = among fits_all there;
+            function = λ over apart. misplaced (MisplacesInGroups.over part there over apart);
             counted = λ function es after same few.
-                reasons.wrong_place (MayHaveWrongPlace.call (at_select HasCall
-                (HasCall.arguments function es after (subst (Contains (core_parts core by)) same there) few)));
+                misplaced (MisplacesInGroups.arguments function es after (subst (Contains (core_parts core by)) same there) few);
           }) (each_itself (core_parts core by))
 
       fine_frames : Each (λ w. Only F (frame_of (frame_in w))) (defined_in (windows_in core))
@@ -322,7 +343,7 @@ module _ (F : Fault → Type 0) (tables : List Table) (tree : StatementTree) (sa
 
       fine_nothing : (scope : Scope) → Shows (listed_of w.known) (from_tree core) scope → HasStar (results_in core) → starred scope ≡ [] → F WrongPlace
       fine_nothing scope shows star e =
-          reasons.wrong_place (MayHaveWrongPlace.is (HasWrongPlace.star (here (InSelect tables StarsNothing) (in_select StarsNothing (record {
+          reasons.wrong_place (HasAnyWrongPlace.is (HasWrongPlace.star (here (InSelect tables StarsNothing) (in_select StarsNothing (record {
             star = star;
             scope = scope;
             shows = shows;
@@ -331,7 +352,7 @@ module _ (F : Fault → Type 0) (tables : List Table) (tree : StatementTree) (sa
 
       fine_keyless : (e : ExprTree) (z : ℤ) → Contains (groups_in core) e → IsNumber e z → F WrongPlace
       fine_keyless e z there is =
-          reasons.wrong_place (MayHaveWrongPlace.is (HasWrongPlace.group (at_select GroupsByNumber (record { e = e; z = z; written = there; is = is }))))
+          reasons.wrong_place (HasAnyWrongPlace.is (HasWrongPlace.group (at_select GroupsByNumber (record { e = e; z = z; written = there; is = is }))))
 
       fine_select : IsFineSelect F w.known core by
       fine_select = record {
@@ -342,6 +363,9 @@ module _ (F : Fault → Type 0) (tables : List Table) (tree : StatementTree) (sa
         stars = fine_stars;
         windows = fine_windows;
         narrow = fine_narrow;
+        on = fine_conditions;
+        calls = fine_calls;
+        bare = fine_bare;
         nothing = fine_nothing;
         keyless = fine_keyless;
         framed = fine_framed;
@@ -351,7 +375,7 @@ module _ (F : Fault → Type 0) (tables : List Table) (tree : StatementTree) (sa
 
     sorts : SortsWrongly (listed_of w.known) query order → F WrongPlace
     sorts is =
-        reasons.wrong_place (MayHaveWrongPlace.is (HasWrongPlace.order (here (InQuery tables SortsWrongly) (record {
+        reasons.wrong_place (HasAnyWrongPlace.is (HasWrongPlace.order (here (InQuery tables SortsWrongly) (record {
           listed = listed_of w.known;
           are = are;
           is = is;

@@ -3,7 +3,7 @@ use Rattle.std.proofs.Common.{◌≡◌, ◌⊎◌, false, true≢false, ◌∙�
 use Rattle.values.specs.declared.fault.Fault.{Fault}
 use Rattle.sql_reader_syntax.specs.StatementTree.{StatementTree}
 use Rattle.sql_reader_syntax.specs.Tree.{Name}
-use Rattle.semantics_names.specs.Laws.{AmbiguousIsTwo, AreDistinctInAnyCase, DistinctIsSaid, UnknownIsNone}
+use Rattle.semantics_names.specs.Laws.{AmbiguousIsTwo, AreDistinctInAnyCase, DistinctIsSaid, NameIsColumn, SameIsEqual, UnknownIsNone}
 use Rattle.semantics_names.specs.Statement.{Named, are_distinct, named}
 use Rattle.semantics_names.specs.Typed.{Table, column_types, known_tables, typed_query, with_types}
 use Rattle.semantics_refusals.specs.BadFrames.{HasBadFrame}
@@ -18,10 +18,11 @@ use Rattle.semantics_refusals.proofs.ScopeLemmas.{Says}
 use Rattle.semantics_refusals.proofs.StatementLemmas.{fault_is}
 use Rattle.semantics_refusals.proofs.TypeLemmas.{TakesTypes}
 
-numbered : (tables : List Table) (tree : StatementTree) → HasReasons IsNameFault tables tree
-numbered tables tree = record {
+numbered : SameIsEqual → NameIsColumn → (tables : List Table) (tree : StatementTree) → HasReasons IsNameFault tables tree
+numbered same names tables tree = record {
   takes = record {
-    bare_column = (omega arith, omega arith);
+    same = same;
+    columns = names;
   };
   unknown_table = λ _. (omega arith, omega arith);
   unknown_column = λ _. (omega arith, omega arith);
@@ -31,6 +32,7 @@ numbered tables tree = record {
   limit = λ _. (omega arith, omega arith);
   frame = λ _. (omega arith, omega arith);
   wrong_place = λ _. (omega arith, omega arith);
+  bare_column = λ _. (omega arith, omega arith);
 }
 
 types_numbered : TakesTypes IsNameFault
@@ -43,16 +45,16 @@ no_names = record {
   repeated = λ names e so. (omega arith, omega arith);
 }
 
-pub refusals_are_numbered : RefusalsAreNumbered
-refusals_are_numbered tables tree fault (inl none) = inl none
-refusals_are_numbered tables tree fault (inr is) =
-    inr (fault_is (typed_query tables tree) fault (only_for_reasons IsNameFault tables tree no_names (numbered tables tree) (omega arith, omega arith) types_numbered) is)
+pub refusals_are_numbered : SameIsEqual → NameIsColumn → RefusalsAreNumbered
+refusals_are_numbered same names tables tree fault (inl none) = inl none
+refusals_are_numbered same names tables tree fault (inr is) =
+    inr (fault_is (typed_query tables tree) fault (only_for_reasons IsNameFault tables tree no_names (numbered same names tables tree) (omega arith, omega arith) types_numbered) is)
 
 -- ---- what the fault says
 
 -- what the definitions of names are known to say
 abbrev pub NameLaws : Type 0
-NameLaws = UnknownIsNone × AmbiguousIsTwo × DistinctIsSaid
+NameLaws = UnknownIsNone × AmbiguousIsTwo × DistinctIsSaid × SameIsEqual × NameIsColumn
 
 apart_or : (said : DistinctIsSaid) (names : List Name) → are_distinct names ≡ false → ¬ AreDistinctInAnyCase names
 apart_or said names e apart = absurd (true≢false (sym ((said names).1 apart) ∙ e))
@@ -64,9 +66,9 @@ by_laws F laws = record {
   repeated = λ names e so. so (apart_or laws.2 names e);
 }
 
-reasons : (tables : List Table) (tree : StatementTree) → HasReasons (IsReason tables tree) tables tree
-reasons tables tree = record {
-  takes = record { bare_column = tt };
+reasons : SameIsEqual → NameIsColumn → (tables : List Table) (tree : StatementTree) → HasReasons (IsReason tables tree) tables tree
+reasons equal names tables tree = record {
+  takes = record { same = equal; columns = names };
   unknown_table = λ is. is;
   unknown_column = λ is. is;
   ambiguous = λ is. is;
@@ -75,6 +77,7 @@ reasons tables tree = record {
   limit = λ is. is;
   frame = λ is. HasBadFrame.written is;
   wrong_place = λ is. is;
+  bare_column = λ is. is;
 }
 
 pub refusals_have_reasons : NameLaws → RefusalsHaveReasons
@@ -84,7 +87,7 @@ refusals_have_reasons laws tables tree fault (inr is) =
   where
     of_types : (n : Named) → named (known_tables tables) tree ≡ Ok n → with_types (column_types tables) n ≡ Err fault → IsTypeFault fault
         → IsReason tables tree fault
-    of_types n names d (inl same) = subst (IsReason tables tree) (sym same) (mismatch_is_mistyped tables tree (is ∙ ap Err same))
+    of_types n names d (inl same) = subst (IsReason tables tree) (sym same) (mismatch_is_mistyped laws.3 laws.4 tables tree (is ∙ ap Err same))
     of_types n names d (inr same) =
         subst (IsReason tables tree) (sym same) (HasBadFrame.made n names (frames_err (column_types tables) n (d ∙ ap Err same)))
 
@@ -92,5 +95,5 @@ refusals_have_reasons laws tables tree fault (inr is) =
         ⊎ ((n : Named) × (named (known_tables tables) tree ≡ Ok n) × (with_types (column_types tables) n ≡ Err fault)) → IsReason tables tree fault
     by (inl d) =
         fault_is (named (known_tables tables) tree) fault
-        (names_for_reasons (IsReason tables tree) tables tree (by_laws (IsReason tables tree) laws) (reasons tables tree)) d
+        (names_for_reasons (IsReason tables tree) tables tree (by_laws (IsReason tables tree) laws) (reasons laws.3 laws.4 tables tree)) d
     by (inr (n, names, d)) = of_types n names d (fault_is (typed_query tables tree) fault (statement_only tables tree n names) is)

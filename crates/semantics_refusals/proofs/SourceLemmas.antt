@@ -4,13 +4,14 @@ use Rattle.std.specs.List.{list_any}
 use Rattle.std.proofs.lemmas.List.{map-append}
 use Rattle.std.proofs.lemmas.List.Elements.{Contains-append_left, Contains-push}
 use Rattle.values.specs.declared.fault.Fault.{Fault}
-use Rattle.values.specs.declared.fault.Fault.TheVariants.{DuplicateName}
+use Rattle.values.specs.declared.fault.Fault.TheVariants.{DuplicateName, WrongPlace}
 use Rattle.semantics.specs.Query.{From, JoinKind}
 use Rattle.sql_reader_syntax.specs.ExprTree.{ExprTree, FromTree, OnTree, QueryTree, SourceTree}
 use Rattle.sql_reader_syntax.specs.Tree.{Name}
 use Rattle.sql_reader_syntax.specs.declared.query.Join.{Join}
 use Rattle.semantics_names.specs.Expression.{Answers, InnerTree, term_of}
 use Rattle.semantics_names.specs.Outcome.{also}
+use Rattle.semantics_names.specs.Laws.{IsScalar}
 use Rattle.semantics_names.specs.Parts.{from_parts, inner_tree, on_parts, parts}
 use Rattle.semantics_names.specs.Places.{columns_say}
 use Rattle.semantics_names.specs.Scope.{Scope, column_of}
@@ -22,8 +23,8 @@ use Rattle.semantics_refusals.specs.Written.{BeginsFrom, IsDerived, called_so, n
 use Rattle.semantics_refusals.proofs.NameLemmas.{from_shows, listed_of, source_offers}
 use Rattle.semantics_refusals.proofs.OutcomeLemmas.{Gives, Only, Takes, also_only, followed_gives, followed_only, if_only, known_only, ok, refused}
 use Rattle.semantics_refusals.proofs.PartLemmas.{Each, back, first, front, more, none, rest}
-use Rattle.semantics_refusals.proofs.PlaceLemmas.{columns_named}
-use Rattle.semantics_refusals.proofs.TermLemmas.{IsFineCall, Sound, term_only}
+use Rattle.semantics_refusals.proofs.PlaceLemmas.{plainly}
+use Rattle.semantics_refusals.proofs.TermLemmas.{Base, IsFineCall, term_only}
 
 -- a name of a column in an expression
 pub record IsFineColumn (F : Fault → Type 0) (scope : Scope) (part : ExprTree) : Type 0 where
@@ -38,17 +39,16 @@ columns_only : (F : Fault → Type 0) (scope : Scope) (part : ExprTree) → IsFi
 columns_only F scope (ExprTree.Column table name) fine = also_only Some (column_of scope table name) (fine.is table name refl)
 columns_only F scope _ fine = ok None
 
-pub sound_of : (F : Fault → Type 0) (windows : List Name) (answers : Answers) (scope : Scope) (part : ExprTree) → IsFineColumn F scope part → IsFineAnswer F windows answers part
-    → Sound F windows answers (columns_say scope) part
-sound_of F windows answers scope part column answer =
-    record { said = columns_only F scope part column; answered = answer.is; framed = answer.framed; named = columns_named scope part }
+pub base_of : (F : Fault → Type 0) (windows : List Name) (answers : Answers) (scope : Scope) (part : ExprTree) → IsFineColumn F scope part
+    → IsFineAnswer F windows answers part → Base F windows answers scope part
+base_of F windows answers scope part column answer =
+    record { said = columns_only F scope part column; answered = answer.is; framed = answer.framed }
 
 pub with_answers : (F : Fault → Type 0) (windows : List Name) (answers : Answers) (scope : Scope) (xs : List ExprTree) → Each (IsFineColumn F scope) xs
-    → Each (IsFineAnswer F windows answers) xs
-    → Each (Sound F windows answers (columns_say scope)) xs
+    → Each (IsFineAnswer F windows answers) xs → Each (Base F windows answers scope) xs
 with_answers F windows answers scope [] columns all = none
 with_answers F windows answers scope (x ∷ xs) columns all =
-    more x xs (sound_of F windows answers scope x (first columns) (first all)) (with_answers F windows answers scope xs (rest columns) (rest all))
+    more x xs (base_of F windows answers scope x (first columns) (first all)) (with_answers F windows answers scope xs (rest columns) (rest all))
 
 -- what FROM may mention is a source, or too large
 pub record IsFineSource (F : Fault → Type 0) (known : List Known) (source : SourceTree) : Type 0 where
@@ -102,23 +102,25 @@ module _ (known : List Known) (queries : QueryTree → Result Queried Fault) whe
 
 module _ (F : Fault → Type 0) (takes : Takes F) (windows : List Name) (answers : Answers) where
   on_only : (on : OnTree) (left : Scope) (names : List (Option Name)) (called : Option Name) (columns : List Name) → IsFineJoin F left names on called columns
-      → Each (IsFineAnswer F windows answers) (on_parts on) → Only F (joined_on answers on left (shown_from called (length left) columns))
-  on_only OnTree.Always left names called columns fine all = ok _
-  on_only (OnTree.On e) left names called columns fine all =
+      → Each (IsFineAnswer F windows answers) (on_parts on) → Each (λ part. ¬ IsScalar part → F WrongPlace) (on_parts on)
+      → Only F (joined_on answers on left (shown_from called (length left) columns))
+  on_only OnTree.Always left names called columns fine all fits = ok _
+  on_only (OnTree.On e) left names called columns fine all fits =
       let right = shown_from called (length left) columns in
       also_only _ (term_of answers (columns_say (left ++ right)) e)
       (term_only F windows answers (columns_say (left ++ right)) e
-      (with_answers F windows answers (left ++ right) (parts e) fine.parts all))
-  on_only (OnTree.Using using) left names called columns fine all =
+      (plainly F windows answers (left ++ right) (parts e) (with_answers F windows answers (left ++ right) (parts e) fine.parts all) fits))
+  on_only (OnTree.Using using) left names called columns fine all fits =
       let right = shown_from called (length left) columns in
       also_only _ (used right left right using) (fine.merged using refl)
 
   joined_only : (left : Sources) (kind : JoinKind) (on : OnTree) (given : Given) → IsFineJoin F left.scope left.names on given.name given.columns
-      → Each (IsFineAnswer F windows answers) (on_parts on) → Only F (joined answers left kind on given)
-  joined_only left kind on given fine all =
+      → Each (IsFineAnswer F windows answers) (on_parts on) → Each (λ part. ¬ IsScalar part → F WrongPlace) (on_parts on)
+      → Only F (joined answers left kind on given)
+  joined_only left kind on given fine all fits =
       if_only (list_any (is_same_source given.name) left.names) (Err DuplicateName) _ (λ same. refused DuplicateName (fine.twice same))
       (also_only _ (joined_on answers on left.scope (shown_from given.name (length left.scope) given.columns))
-      (on_only on left.scope left.names given.name given.columns fine all))
+      (on_only on left.scope left.names given.name given.columns fine all fits))
 
   first_only : (given : Given) → Only F (joined answers no_sources JoinKind.inner OnTree.Always given)
   first_only given = ok _
@@ -137,20 +139,23 @@ module _ (F : Fault → Type 0) (takes : Takes F) (windows : List Name) (answers
           → ((left : FromTree) (join : Join) (source : SourceTree) (on : OnTree) → BeginsFrom (FromTree.Joined left join source on) from
           → (scope : Scope) (called : Option Name) (columns : List Name) → Shows (listed_of known) left scope → Offers (listed_of known) source called columns
           → IsFineJoin F scope (names_of_sources left) on called columns)
-          → Each (IsFineAnswer F windows answers) (from_parts from) → Only F (from_of known queries answers from)
-      from_only FromTree.No_source sources inside joins all = ok _
-      from_only (FromTree.First source) sources inside joins all =
+          → Each (IsFineAnswer F windows answers) (from_parts from) → Each (λ part. ¬ IsScalar part → F WrongPlace) (from_parts from)
+          → Only F (from_of known queries answers from)
+      from_only FromTree.No_source sources inside joins all fits = ok _
+      from_only (FromTree.First source) sources inside joins all fits =
           followed_only (source_of known queries source) _ (source_only source (first sources) (λ query is. inside source query (Contains-push [] source) is))
           first_only
-      from_only (FromTree.Joined from join source on) sources inside joins all =
+      from_only (FromTree.Joined from join source on) sources inside joins all fits =
           known_only (from_of known queries answers from) _
           (from_only from (front (sources_in from) (source ∷ []) sources)
           (λ other query there is. inside other query (Contains-append_left (sources_in from) (source ∷ []) other there) is)
-          (λ left kind other condition begins. joins left kind other condition (BeginsFrom.more begins)) (front (from_parts from) (on_parts on) all))
+          (λ left kind other condition begins. joins left kind other condition (BeginsFrom.more begins)) (front (from_parts from) (on_parts on) all)
+          (front (from_parts from) (on_parts on) fits))
           (λ left taken. known_only (source_of known queries source) (joined answers left (kind_of join) on)
           (source_only source (first (back (sources_in from) (source ∷ []) sources))
           (λ query is. inside source query (Contains-push (sources_in from) source) is))
           (λ given is. joined_only left (kind_of join) on given
           (subst (λ all. IsFineJoin F left.scope all on given.name given.columns) (sym (from_called known queries answers from left taken))
           (joins from join source on BeginsFrom.whole left.scope given.name given.columns (from_shows known queries names answers from left taken)
-          (source_offers known queries names source given is))) (back (from_parts from) (on_parts on) all)))
+          (source_offers known queries names source given is))) (back (from_parts from) (on_parts on) all)
+          (back (from_parts from) (on_parts on) fits)))

@@ -16,9 +16,11 @@ use Rattle.semantics_names.specs.Expression.{Answers, InnerTree, Says, among_ans
 use Rattle.semantics_names.specs.Laws.{IsSameInAnyCase, IsScalar, is_scalar}
 use Rattle.semantics_names.specs.Outcome.{both}
 use Rattle.semantics_names.specs.Parts.{all_parts, arms_parts, behind_parts, inner_tree, maybe_parts, parts}
-use Rattle.semantics_names.specs.Places.{frame_of}
+use Rattle.semantics_names.specs.Places.{columns_say, frame_of}
+use Rattle.semantics_names.specs.Scope.{Scope}
 use Rattle.semantics_names.proofs.OutcomeLemmas.{both-ok}
 use Rattle.semantics_refusals.specs.BadFrames.{IsOver}
+use Rattle.semantics_refusals.specs.WrongPlaces.{HasOver, MayHaveOver}
 use Rattle.semantics_refusals.proofs.OutcomeLemmas.{Only, also_only, both_only, chosen_known, chosen_only, followed_only, known_only, ok, refused}
 use Rattle.semantics_refusals.proofs.PartLemmas.{Each, back, first, front, own}
 
@@ -26,20 +28,27 @@ use Rattle.semantics_refusals.proofs.PartLemmas.{Each, back, first, front, own}
 abbrev pub frame_in : WindowTree → Option Frame
 frame_in (WindowTree.Window partition order frame) = frame
 
--- what is written behind a part, if it is a call, in a SELECT that defines windows of these names
+-- what follows a part, if it is a call, in a SELECT that defines windows of these names
 pub record IsFineCall (F : Fault → Type 0) (windows : List Name) (part : ExprTree) : Type 0 where
   pub frame : (w : WindowTree) → IsOver part (OverTree.Over w) → Only F (frame_of (frame_in w))
   pub defined : (name : Name) → IsOver part (OverTree.OverName name) → All (λ other. ¬ IsSameInAnyCase other name) windows → F BadFrame
-  pub fits : ¬ IsScalar part → F WrongPlace
+  pub function : HasOver part → ¬ MayHaveOver part → F WrongPlace
   pub counted : (function : written.Function) (es : ExprTrees) (after : BehindTree) → part ≡ ExprTree.Call function es after
       → takes function (count es) ≡ false → F WrongPlace
 
--- what a place says of a part, the answer of a query that stands there, and its window
+-- a column of FROM that a part names, the answer of a query that stands there, and what follows it
+pub record Base (F : Fault → Type 0) (windows : List Name) (answers : Answers) (scope : Scope) (part : ExprTree) : Type 0 where
+  pub said : Only F (columns_say scope part)
+  pub answered : (tree : InnerTree) → inner_tree part ≡ Some tree → Only F (answers tree)
+  pub framed : IsFineCall F windows part
+
+-- what a place says of a part, and what it is where nothing is said
 pub record Sound (F : Fault → Type 0) (windows : List Name) (answers : Answers) (says : Says) (part : ExprTree) : Type 0 where
   pub said : Only F (says part)
   pub answered : (tree : InnerTree) → inner_tree part ≡ Some tree → Only F (answers tree)
   pub framed : IsFineCall F windows part
   pub named : (table : Option Name) (name : Name) → part ≡ ExprTree.Column table name → says part ≡ Ok None → ⊥
+  pub fits : says part ≡ Ok None → ¬ IsScalar part → F WrongPlace
 
 module _ (F : Fault → Type 0) where
   one_only : (function : Function) (items : List Term) (n : ℕ) → length items ≡ n → (nat_eq n 1 ≡ false → F WrongPlace) → Only F (unary function items)
@@ -66,7 +75,7 @@ module _ (F : Fault → Type 0) where
   three_only (x ∷ y ∷ z ∷ []) n size is = ok _
   three_only (x ∷ y ∷ z ∷ v ∷ more) n size is = refused WrongPlace (is (ne_eqb n 3 (λ e. omega (arith, size, e))))
 
-  -- a function over so many arguments
+  -- a function over its arguments, by their number
   applied_only : (name : written.Function) (items : List Term) (n : ℕ) → length items ≡ n → (¬ (is_scalar name ≡ true) → F WrongPlace)
       → (takes name n ≡ false → F WrongPlace) → Only F (scalar (unary_of name) name items)
   applied_only w.Abs items n size fits is = one_only g.Abs items n size is
@@ -150,14 +159,14 @@ module _ (F : Fault → Type 0) where
           chosen_only (says (ExprTree.Exists query)) _ (first all).said
           (also_only exists (answers (InnerTree.exists_in query)) ((first all).answered (InnerTree.exists_in query) refl))
       term_only (ExprTree.CountRows after) all =
-          chosen_only (says (ExprTree.CountRows after)) _ (own (behind_parts after) all).said
-          (refused WrongPlace ((own (behind_parts after) all).framed.fits (λ scalar. scalar)))
+          chosen_known (says (ExprTree.CountRows after)) _ (own (behind_parts after) all).said
+          (λ none. refused WrongPlace ((own (behind_parts after) all).fits none (λ scalar. scalar)))
       term_only (ExprTree.Call function items after) all =
-          chosen_only (says (ExprTree.Call function items after)) _ (own (all_parts items ++ behind_parts after) all).said
-          (known_only (terms_of answers says items) (called after function)
+          chosen_known (says (ExprTree.Call function items after)) _ (own (all_parts items ++ behind_parts after) all).said
+          (λ none. known_only (terms_of answers says items) (called after function)
           (terms_only items (front (all_parts items) (behind_parts after) (front (all_parts items ++ behind_parts after) _ all)))
           (λ ts is. called_only after function ts (count items) (terms_count answers says items ts is)
-          (own (all_parts items ++ behind_parts after) all).framed.fits
+          ((own (all_parts items ++ behind_parts after) all).fits none)
           ((own (all_parts items ++ behind_parts after) all).framed.counted function items after refl)))
       term_only (ExprTree.Case operand arms otherwise) all =
           chosen_only (says (ExprTree.Case operand arms otherwise)) _ (own (maybe_parts operand ++ arms_parts arms ++ maybe_parts otherwise) all).said

@@ -26,12 +26,12 @@ pub data IsOver : ExprTree → OverTree → Type 0 where
   call : {function : Function} {items : ExprTrees} {filter : MaybeExpr} {over : OverTree}
       → IsOver (ExprTree.Call function items (BehindTree.Behind filter over)) over
 
--- the windows behind WINDOW, without their names
+-- the windows after WINDOW, without their names
 abbrev pub defined_in : DefinitionTrees → List WindowTree
 defined_in DefinitionTrees.No_definition = []
 defined_in (DefinitionTrees.Definition name w windows) = w ∷ defined_in windows
 
--- a window is written in a SELECT, behind OVER or WINDOW
+-- a window is written in a SELECT, after OVER or WINDOW
 pub data HasWindow (core : CoreTree) (by : TermTrees) (w : WindowTree) : Type 0 where
   over : (part : ExprTree) → Contains (core_parts core by) part → IsOver part (OverTree.Over w) → HasWindow core by w
   defined : Contains (defined_in (windows_in core)) w → HasWindow core by w

@@ -5,16 +5,17 @@ use Rattle.sql_reader_syntax.specs.StatementTree.{StatementTree}
 use Rattle.sql_reader_syntax.specs.declared.expr.BinaryOperator.TheVariants.{Add, Concatenate}
 use Rattle.sql_reader_syntax.specs.declared.expr.Function.TheVariants.{Sum}
 use Rattle.sql_reader_syntax.specs.declared.query.Join.TheVariants.{Inner}
-use Rattle.semantics_names.specs.RefusedExamples.{aggregate_in_where, alias_in_where, arms_of_two_types, bad_frame, by_distance, distance_of_texts, group_by_signed_number, hidden_order, in_two_sources, item_in_itself, mismatch, no_buckets, order_out_of_range, other_type, outer_column, scalar_over, star_of_none, star_of_nothing, sum_behind_compound, twice, two_columns, two_named, two_of_one_name, undefined_window, uneven, uneven_item, unknown_column, unknown_table, untyped_item, unused_window, windows_of_one_name}
+use Rattle.semantics_names.specs.RefusedExamples.{aggregate_in_where, alias_in_where, arms_of_two_types, bad_frame, bare, by_distance, distance_of_texts, group_by_signed_number, hidden_order, in_two_sources, item_in_itself, mismatch, no_buckets, order_out_of_range, other_type, outer_column, scalar_over, star_beside_aggregate, star_of_none, star_of_nothing, sum_behind_compound, twice, two_columns, two_named, two_of_one_name, undefined_window, uneven, uneven_item, unknown_column, unknown_table, untyped_item, unused_window, windows_of_one_name}
 use Rattle.semantics_names.specs.Worked.{by_term, call_over, called, id, item, name_alone, number, one, ordered, select, shown, statement, table, tables, window_by, with, with_item, without_from}
 use Rattle.semantics_refusals.specs.BadFrames.{HasBadFrame}
+use Rattle.semantics_refusals.specs.BareColumns.{MayHaveBareColumn}
 use Rattle.semantics_refusals.specs.Limits.{IsBeyondLimit}
 use Rattle.semantics_refusals.specs.Mismatches.{IsMistyped}
 use Rattle.semantics_refusals.specs.RepeatedNames.{HasRepeatedName}
 use Rattle.semantics_refusals.specs.UnevenColumns.{HasUnevenColumns}
 use Rattle.semantics_refusals.specs.UnknownColumns.{HasAmbiguousColumn, HasUnknownColumn}
 use Rattle.semantics_refusals.specs.UnknownSources.{HasUnknownSource}
-use Rattle.semantics_refusals.specs.WrongPlaces.{HasWrongPlace, MayHaveWrongPlace}
+use Rattle.semantics_refusals.specs.WrongPlaces.{HasWrongPlace, HasAnyWrongPlace}
 
 -- WITH a AS (SELECT 1), b AS (SELECT * FROM a) SELECT 1 IN (SELECT * FROM b)
 abbrev pub items_of_items : StatementTree
@@ -43,16 +44,16 @@ of_null_alone =
 abbrev pub distance_of_numbers : StatementTree
 distance_of_numbers = statement (select (shown (call_over Sum (id ∷ []) (window_by (by_term id) (Some by_distance))) ∷ []) item)
 
--- SELECT 1, 1, .., so many
+-- SELECT 1, 1, .., of n columns
 abbrev pub ones : ℕ → StatementTree
 ones n = statement (without_from (replicate n (shown (number 1))))
 
--- (SELECT 1), (SELECT 1), .., one more than so many
+-- (SELECT 1), (SELECT 1), .., of n + 1 sources
 abbrev pub from_ones : ℕ → FromTree
 from_ones zero = FromTree.First (SourceTree.Derived one None)
 from_ones (suc n) = FromTree.Joined (from_ones n) Inner (SourceTree.Derived one None) OnTree.Always
 
--- SELECT 1 FROM (SELECT 1 FROM .. (SELECT 1)), so many in the first
+-- SELECT 1 FROM (SELECT 1 FROM .. (SELECT 1)), with n queries in the first
 abbrev pub levels : ℕ → QueryTree
 levels zero = one
 levels (suc n) = select (shown (number 1) ∷ []) (FromTree.First (SourceTree.Derived (levels n) None))
@@ -69,9 +70,10 @@ ReasonsAreWritten =
     × IsMistyped tables mismatch × IsMistyped tables other_type × IsMistyped tables unused_window × IsMistyped tables arms_of_two_types
     × IsMistyped tables untyped_item
     × HasBadFrame tables bad_frame × HasBadFrame tables undefined_window × HasBadFrame tables no_buckets × HasBadFrame tables distance_of_texts
-    × MayHaveWrongPlace tables aggregate_in_where × MayHaveWrongPlace tables hidden_order × MayHaveWrongPlace tables order_out_of_range
-    × MayHaveWrongPlace tables group_by_signed_number × MayHaveWrongPlace tables star_of_nothing × MayHaveWrongPlace tables sum_behind_compound
-    × MayHaveWrongPlace tables scalar_over
+    × HasAnyWrongPlace tables aggregate_in_where × HasAnyWrongPlace tables hidden_order × HasAnyWrongPlace tables order_out_of_range
+    × HasAnyWrongPlace tables group_by_signed_number × HasAnyWrongPlace tables star_of_nothing × HasAnyWrongPlace tables sum_behind_compound
+    × HasAnyWrongPlace tables scalar_over
+    × MayHaveBareColumn tables bare × MayHaveBareColumn tables star_beside_aggregate
     × IsBeyondLimit tables (ones 101) × IsBeyondLimit tables (statement (select (shown (number 1) ∷ []) (from_ones 64)))
     × IsBeyondLimit tables (statement (levels 100))
 

@@ -11,6 +11,7 @@ pub mod Mismatches
 pub mod Limits
 pub mod BadFrames
 pub mod WrongPlaces
+pub mod BareColumns
 pub mod Reasons
 pub mod Examples
 pub mod TypeExamples

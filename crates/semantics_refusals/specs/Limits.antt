@@ -23,7 +23,7 @@ pub record IsWide (listed : List ListedTable) (core : CoreTree) (by : TermTrees)
   pub shows : Shows listed (from_tree core) scope
   pub wide : 100 < length (names_of_results scope (results_in core))
 
--- so many queries, and maybe more, stand in one another inside a query
+-- at least this number of queries are in one another, inside a query
 pub data IsDeep : ℕ → QueryTree → TermTrees → Type 0 where
   any : {query : QueryTree} {order : TermTrees} → IsDeep 0 query order
   inside : {levels : ℕ} {query : QueryTree} {order : TermTrees} (inner : QueryTree) → StandsIn query order inner
@@ -55,7 +55,7 @@ mutual
     joined : {from : FromTree} {join : Join} {source : SourceTree} {on : OnTree} {m n : ℕ} → FromCounts counted from m
         → SourceCounts counted source n → FromCounts counted (FromTree.Joined from join source on) (m + n)
 
-  -- the sources of the queries that stand in expressions
+  -- the sources of the queries in expressions
   pub data PartsCount (counted : List Counted) : List ExprTree → ℕ → Type 0 where
     none : PartsCount counted [] 0
     plain : {part : ExprTree} {parts : List ExprTree} {n : ℕ} → ((query : QueryTree) → ¬ IsOperand part query) → PartsCount counted parts n
@@ -76,7 +76,7 @@ mutual
 abbrev pub tables_counted : List Table → List Counted
 tables_counted tables = map (λ name. record { name = name; count = 1 }) (table_names tables)
 
--- what may be mentioned behind these items of WITH: they, the last one first, each as one and its sources with it, and the tables
+-- what may be mentioned after these items of WITH: they, the last one first, each as one and its sources with it, and the tables
 pub data AreCounted (tables : List Table) : List ItemTree → List Counted → Type 0 where
   no_item : AreCounted tables [] (tables_counted tables)
   item : {before : List ItemTree} {counted : List Counted} (i : ItemTree) (n : ℕ) → AreCounted tables before counted
@@ -95,7 +95,7 @@ pub record MentionsLarge (tables : List Table) (items : List ItemTree) (core : C
 
 -- ---- the statement
 
--- Somewhere in a statement a SELECT has more than 100 result columns; in its query, or in that of an item of WITH, 100 more stand in
+-- Somewhere in a statement a SELECT has more than 100 result columns; in its query, or in that of an item of WITH, 100 more are in
 -- one another, so that there are 101 levels; the query has more than 64 sources, or an item is mentioned that has.
 pub data IsBeyondLimit (tables : List Table) (tree : StatementTree) : Type 0 where
   columns : HasQueryWith tree (InSelect tables IsWide) → IsBeyondLimit tables tree

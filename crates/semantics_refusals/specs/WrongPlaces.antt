@@ -1,14 +1,15 @@
--- Calls, numbers and `*` where they may not stand. (SELECT; Built-In Scalar SQL Functions; Aggregate Functions; Window Functions)
-use Rattle.std.specs.Prelude.{◌≡◌, ◌<◌, ℕ, suc, ℤ, pos, All, Contains, List, [], ◌∷◌, ◌++◌, false, length, true}
-use Rattle.sql_reader_syntax.specs.ExprTree.{BehindTree, CoreTree, DefinitionTrees, ExprTree, ExprTrees, FromTree, MaybeExpr, QueryTree, ResultTree, ResultTrees, TermTrees, count}
+-- Calls, numbers and `*` where they may not be. (SELECT; Built-In Scalar SQL Functions; Aggregate Functions; Window Functions)
+use Rattle.std.specs.Prelude.{◌≡◌, ◌⊎◌, ◌<◌, ℕ, suc, ℤ, pos, All, Contains, List, [], ◌∷◌, ◌++◌, false, length, true}
+use Rattle.sql_reader_syntax.specs.ExprTree.{BehindTree, CoreTree, DefinitionTrees, ExprTree, ExprTrees, FromTree, MaybeExpr, OverTree, QueryTree, ResultTree, ResultTrees, TermTrees, count}
 use Rattle.sql_reader_syntax.specs.Functions.{takes}
 use Rattle.sql_reader_syntax.specs.StatementTree.{ItemTree, StatementTree}
 use Rattle.sql_reader_syntax.specs.Tree.{Name}
 use Rattle.sql_reader_syntax.specs.declared.expr.Function.{Function}
+use Rattle.sql_reader_syntax.specs.declared.expr.Function.TheVariants as w
 use Rattle.sql_reader_syntax.specs.declared.expr.PrefixOperator.TheVariants as prefixes
 use Rattle.sql_reader_syntax.specs.declared.query.CompoundOperator.{CompoundOperator}
 use Rattle.semantics_names.specs.Laws.{IsScalar}
-use Rattle.semantics_names.specs.Parts.{all_parts, core_parts, from_parts, maybe_parts, parts_behind_groups}
+use Rattle.semantics_names.specs.Parts.{all_parts, behind_parts, core_parts, definitions_parts, from_parts, maybe_parts, parts_behind_groups, results_parts, terms_parts}
 use Rattle.semantics_names.specs.Scope.{Scope}
 use Rattle.semantics_names.specs.Statement.{Named, from_tree}
 use Rattle.semantics_names.specs.Typed.{Table, Types}
@@ -18,25 +19,94 @@ use Rattle.semantics_refusals.specs.Written.{HasQueryWith, HasSelectWith, terms_
 
 -- ---- calls
 
--- WHERE, and what stands behind GROUP BY
+-- WHERE and GROUP BY
 abbrev pub plain_parts : CoreTree → List ExprTree
 plain_parts (CoreTree.Select distinct results from condition by having windows) = maybe_parts condition ++ all_parts by
 
--- in ON, WHERE or GROUP BY stands an aggregate, a window function, or a function with FILTER or OVER
+-- in ON, WHERE or GROUP BY is an aggregate, a window function, or a function with FILTER or OVER
 pub data Misplaces (items : List ItemTree) (core : CoreTree) (by : TermTrees) : Type 0 where
   on : (part : ExprTree) → Contains (from_parts (from_tree core)) part → ¬ IsScalar part → Misplaces items core by
   plain : (part : ExprTree) → Contains (plain_parts core) part → ¬ IsScalar part → Misplaces items core by
 
--- one of these stands in a result column, HAVING, WINDOW or ORDER BY, where it may stand, or not; or a call has not as many arguments as
--- its function takes, as no text has it
-pub data HasCall (items : List ItemTree) (core : CoreTree) (by : TermTrees) : Type 0 where
-  behind : (part : ExprTree) → Contains (parts_behind_groups core by) part → ¬ IsScalar part → HasCall items core by
+-- an aggregate function over one value
+abbrev pub Measures : Function → ExprTrees → Type 0
+Measures w.Count (ExprTrees.More e ExprTrees.No_more) = Unit {0}
+Measures w.Sum (ExprTrees.More e ExprTrees.No_more) = Unit {0}
+Measures w.Min (ExprTrees.More e ExprTrees.No_more) = Unit {0}
+Measures w.Max (ExprTrees.More e ExprTrees.No_more) = Unit {0}
+Measures _ _ = ⊥
+
+-- an aggregate: a call of such a function, or count(*), without OVER
+abbrev pub IsAggregate : ExprTree → Type 0
+IsAggregate (ExprTree.CountRows (BehindTree.Behind filter OverTree.No_over)) = Unit {0}
+IsAggregate (ExprTree.Call function es (BehindTree.Behind filter OverTree.No_over)) = Measures function es
+IsAggregate e = ⊥
+
+abbrev pub IsOverWritten : OverTree → Type 0
+IsOverWritten OverTree.No_over = ⊥
+IsOverWritten over = Unit {0}
+
+-- a call with OVER
+abbrev pub HasOver : ExprTree → Type 0
+HasOver (ExprTree.CountRows (BehindTree.Behind filter over)) = IsOverWritten over
+HasOver (ExprTree.Call function es (BehindTree.Behind filter over)) = IsOverWritten over
+HasOver e = ⊥
+
+-- a ranking or value function and its arguments; a number of buckets or of rows is written as a number
+abbrev pub Ranks : Function → ExprTrees → Type 0
+Ranks w.RowNumber ExprTrees.No_more = Unit {0}
+Ranks w.Rank ExprTrees.No_more = Unit {0}
+Ranks w.DenseRank ExprTrees.No_more = Unit {0}
+Ranks w.NTile (ExprTrees.More (ExprTree.Number (pos n)) ExprTrees.No_more) = Unit {0}
+Ranks w.FirstValue (ExprTrees.More e ExprTrees.No_more) = Unit {0}
+Ranks w.LastValue (ExprTrees.More e ExprTrees.No_more) = Unit {0}
+Ranks w.NthValue (ExprTrees.More e (ExprTrees.More (ExprTree.Number (pos n)) ExprTrees.No_more)) = Unit {0}
+Ranks w.Lag (ExprTrees.More e ExprTrees.No_more) = Unit {0}
+Ranks w.Lag (ExprTrees.More e (ExprTrees.More (ExprTree.Number (pos n)) ExprTrees.No_more)) = Unit {0}
+Ranks w.Lag (ExprTrees.More e (ExprTrees.More (ExprTree.Number (pos n)) (ExprTrees.More d ExprTrees.No_more))) = Unit {0}
+Ranks w.Lead (ExprTrees.More e ExprTrees.No_more) = Unit {0}
+Ranks w.Lead (ExprTrees.More e (ExprTrees.More (ExprTree.Number (pos n)) ExprTrees.No_more)) = Unit {0}
+Ranks w.Lead (ExprTrees.More e (ExprTrees.More (ExprTree.Number (pos n)) (ExprTrees.More d ExprTrees.No_more))) = Unit {0}
+Ranks _ _ = ⊥
+
+-- OVER may follow it: it is an aggregate, with FILTER or without, or a ranking or value function without FILTER
+abbrev pub MayHaveOver : ExprTree → Type 0
+MayHaveOver (ExprTree.CountRows after) = Unit {0}
+MayHaveOver (ExprTree.Call function es (BehindTree.Behind filter over)) = Measures function es ⊎ ((filter ≡ MaybeExpr.Absent) × Ranks function es)
+MayHaveOver e = Unit {0}
+
+-- the parts of a call's arguments, and of its FILTER and OVER
+abbrev pub inside_call : ExprTree → List ExprTree
+inside_call (ExprTree.CountRows after) = behind_parts after
+inside_call (ExprTree.Call function es after) = all_parts es ++ behind_parts after
+inside_call e = []
+
+-- HAVING, and the windows after WINDOW
+abbrev pub group_parts : CoreTree → List ExprTree
+group_parts (CoreTree.Select distinct results from condition by having windows) = maybe_parts having ++ definitions_parts windows
+
+-- the result columns
+abbrev pub row_parts : CoreTree → List ExprTree
+row_parts (CoreTree.Select distinct results from condition by having windows) = results_parts results
+
+-- In an aggregate is a call that isn't of a function of one row's values; in HAVING, WINDOW, or a call with OVER, one that isn't an
+-- aggregate either; in a result column or ORDER BY one that has no OVER either. Or OVER follows what may not have it; or a call has not
+-- as many arguments as its function takes, as no text has it.
+pub data MisplacesInGroups (items : List ItemTree) (core : CoreTree) (by : TermTrees) : Type 0 where
+  in_aggregate : (outer part : ExprTree) → Contains (parts_behind_groups core by) outer → IsAggregate outer → Contains (inside_call outer) part
+      → ¬ IsScalar part → MisplacesInGroups items core by
+  in_window : (outer part : ExprTree) → Contains (parts_behind_groups core by) outer → HasOver outer → Contains (inside_call outer) part
+      → ¬ IsScalar part → ¬ IsAggregate part → MisplacesInGroups items core by
+  in_groups : (part : ExprTree) → Contains (group_parts core) part → ¬ IsScalar part → ¬ IsAggregate part → MisplacesInGroups items core by
+  in_row : (part : ExprTree) → Contains (row_parts core ++ terms_parts by) part → ¬ IsScalar part → ¬ IsAggregate part → ¬ HasOver part
+      → MisplacesInGroups items core by
+  over : (part : ExprTree) → Contains (core_parts core by) part → HasOver part → ¬ MayHaveOver part → MisplacesInGroups items core by
   arguments : (function : Function) (es : ExprTrees) (after : BehindTree) → Contains (core_parts core by) (ExprTree.Call function es after)
-      → takes function (count es) ≡ false → HasCall items core by
+      → takes function (count es) ≡ false → MisplacesInGroups items core by
 
 -- ---- numbers, `*` and ORDER BY
 
--- an expression is a number alone, whatever signs + stand before it
+-- an expression is a number alone, with any number of signs + before it
 pub data IsNumber : ExprTree → ℤ → Type 0 where
   plain : {z : ℤ} → IsNumber (ExprTree.Number z) z
   signed : {e : ExprTree} {z : ℤ} → IsNumber e z → IsNumber (ExprTree.Prefix prefixes.Plus e) z
@@ -48,11 +118,11 @@ abbrev pub expressions : ExprTrees → List ExprTree
 expressions ExprTrees.No_more = []
 expressions (ExprTrees.More e es) = e ∷ expressions es
 
--- the expressions behind GROUP BY
+-- the expressions after GROUP BY
 abbrev pub groups_in : CoreTree → List ExprTree
 groups_in (CoreTree.Select distinct results from condition by having windows) = expressions by
 
--- a number alone stands behind GROUP BY
+-- a number alone is in GROUP BY
 pub record GroupsByNumber (items : List ItemTree) (core : CoreTree) (by : TermTrees) : Type 0 where
   pub e : ExprTree
   pub z : ℤ
@@ -85,7 +155,7 @@ pub data SortsWrongly (listed : List ListedTable) (query : QueryTree) (order : T
   expression : (names : List Name) (e : ExprTree) → HasNames listed query names → Contains (terms_in order) e → IsNoNumber e → IsNoResult names e
       → HasNoRow query → SortsWrongly listed query order
 
--- in a query of a statement, where FROM may mention what stands before it
+-- in a query of a statement, where FROM may mention what is before it
 pub record InQuery (tables : List Table) (Is : List ListedTable → QueryTree → TermTrees → Type 0) (items : List ItemTree) (query : QueryTree)
     (order : TermTrees) : Type 0 where
   pub listed : List ListedTable
@@ -101,10 +171,10 @@ pub data HasWrongPlace (tables : List Table) (tree : StatementTree) : Type 0 whe
   star : HasQueryWith tree (InSelect tables StarsNothing) → HasWrongPlace tables tree
   order : HasQueryWith tree (InQuery tables SortsWrongly) → HasWrongPlace tables tree
 
--- it is so, or somewhere a call of which that isn't said is behind the groups of a SELECT
-pub data MayHaveWrongPlace (tables : List Table) (tree : StatementTree) : Type 0 where
-  is : HasWrongPlace tables tree → MayHaveWrongPlace tables tree
-  call : HasSelectWith tree HasCall → MayHaveWrongPlace tables tree
+-- it is so, or a call is where it may not be in what a SELECT computes over its groups or windows
+pub data HasAnyWrongPlace (tables : List Table) (tree : StatementTree) : Type 0 where
+  is : HasWrongPlace tables tree → HasAnyWrongPlace tables tree
+  call : HasSelectWith tree MisplacesInGroups → HasAnyWrongPlace tables tree
 
 -- a statement with such a place is no query
 abbrev pub WrongPlaceIsRefused : Type 0

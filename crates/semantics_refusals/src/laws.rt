@@ -14,24 +14,30 @@ ghost use Rattle.semantics_refusals.specs.UnknownSources.{UnknownSourceIsRefused
 ghost use Rattle.semantics_refusals.specs.WrongPlaces.{WrongPlaceIsRefused};
 
 use semantics_names::laws::{
-    names_are_columns, names_are_distinct, places_are_kept, refused_statements, typed_is_taken,
+    names_are_columns, names_are_distinct, places_are_kept, refused_statements, same_is_equal,
+    typed_is_taken,
 };
 
 /// A statement that is no query is refused by a fault of names and types, or for want of memory.
 pub fn refusals_are_numbered()
     ensures { RefusalsAreNumbered }
-{}
+{
+    names_are_columns();
+    same_is_equal();
+}
 
 /// Where a statement is refused as one with an unknown source, an unknown or an ambiguous column, numbers of columns that differ,
 /// a name that stands twice, or more columns, levels or sources than there may be, this is written somewhere in it; where it is
 /// refused because types don't agree, some operator in it has no type over operands that each have one, an expression is of another
-/// type than its place wants, or columns that a compound joins are of different types; and where it is because of a frame, OVER
-/// names no window there, or the frame of a call can't be.
+/// type than its place wants, or columns that a compound joins are of different types; where it is because of a frame, OVER names no
+/// window there, or the frame of a call can't be; and where it is because of a wrong place, a call, a number or `*` is where it may
+/// not be, or because of a bare column, a SELECT with groups names a column that GROUP BY doesn't.
 pub fn refusals_have_reasons()
     ensures { RefusalsHaveReasons }
 {
     names_are_columns();
     names_are_distinct();
+    same_is_equal();
 }
 
 /// A statement of which one of these holds is no query; where types don't agree, it is refused so, unless a window's frame is none.
@@ -72,6 +78,7 @@ pub fn reasons_are_written()
     names_are_distinct();
     places_are_kept();
     refused_statements();
+    same_is_equal();
     typed_is_taken();
 }
 
