@@ -295,25 +295,24 @@ module _ (F : Fault → Type 0) (tables : List Table) (tree : StatementTree) (sa
           (edge_so frame.start (λ edge. below (WindowTree.Window partition order (Some frame)) is (HasEdgeBelowZero.start edge)))
           (edge_so frame.end (λ edge. below (WindowTree.Window partition order (Some frame)) is (HasEdgeBelowZero.end edge)))
 
+      plainly_misplaced : Misplaces items core by → F WrongPlace
+      plainly_misplaced is = reasons.wrong_place (HasAnyWrongPlace.is (HasWrongPlace.call (at_select Misplaces is)))
+
       misplaced : MisplacesInGroups items core by → F WrongPlace
       misplaced is = reasons.wrong_place (HasAnyWrongPlace.call (at_select MisplacesInGroups is))
 
       fine_conditions : Each (λ part. ¬ IsScalar part → F WrongPlace) (from_parts (from_tree core))
       fine_conditions =
-          weaker (λ part there apart.
-          reasons.wrong_place (HasAnyWrongPlace.is (HasWrongPlace.call (at_select Misplaces (Misplaces.on part there apart)))))
-          (each_itself (from_parts (from_tree core)))
+          weaker (λ part there apart. plainly_misplaced (Misplaces.on part there apart)) (each_itself (from_parts (from_tree core)))
 
       fine_calls : IsFineCore F core by
       fine_calls = record {
         placed = record {
-          aggregate = λ outer part there is inside apart. misplaced (MisplacesInGroups.in_aggregate outer part there is inside apart);
+          aggregate = λ outer part there is inside apart. plainly_misplaced (Misplaces.in_aggregate outer part there is inside apart);
           window = λ outer part there is inside apart loose. misplaced (MisplacesInGroups.in_window outer part there is inside apart loose);
         };
         in_plain =
-            weaker (λ part there apart.
-            reasons.wrong_place (HasAnyWrongPlace.is (HasWrongPlace.call (at_select Misplaces (Misplaces.plain part there apart)))))
-            (each_itself (plain_parts core));
+            weaker (λ part there apart. plainly_misplaced (Misplaces.plain part there apart)) (each_itself (plain_parts core));
         in_groups = λ part there apart loose. misplaced (MisplacesInGroups.in_groups part there apart loose);
         in_row = λ part there apart loose over. misplaced (MisplacesInGroups.in_row part there apart loose over);
       }
@@ -333,7 +332,7 @@ module _ (F : Fault → Type 0) (tables : List Table) (tree : StatementTree) (sa
           weaker (λ part there. record {
             frame = λ w over. frame_so w (HasWindow.over part there over);
             defined = λ name over apart. reasons.frame (at_select HasNoWindow (HasNoWindow.unnamed part name there over apart));
-            function = λ over apart. misplaced (MisplacesInGroups.over part there over apart);
+            function = λ over apart. plainly_misplaced (Misplaces.over part there over apart);
             counted = λ function es after same few.
                 misplaced (MisplacesInGroups.arguments function es after (subst (Contains (core_parts core by)) same there) few);
           }) (each_itself (core_parts core by))

@@ -85,7 +85,7 @@ pub record IsWindowed (windows : List Name) (part : ExprTree) : Type 0 where
   pub frame : (w : WindowTree) → IsOver part (OverTree.Over w) → IsGiven (frame_of (frame_in w))
   pub defined : (name : Name) → IsOver part (OverTree.OverName name) → All (λ other. ¬ IsSameInAnyCase other name) windows → ⊥
 
-firsts_given : {A B : Type 0} (same : A → A → Bool) (found ys : List A) (f : B → Option (Result A Fault)) (xs : List B)
+pub firsts_given : {A B : Type 0} (same : A → A → Bool) (found ys : List A) (f : B → Option (Result A Fault)) (xs : List B)
     → firsts same found (filter_map f xs) ≡ Ok ys → Each (λ x. (r : Result A Fault) → f x ≡ Some r → IsGiven r) xs
 firsts_given same found ys f [] e = none
 firsts_given {A = A} {B = B} same found ys f (x ∷ xs) e = by (f x) refl e (λ next d. firsts_given same next ys f xs d)
@@ -167,7 +167,7 @@ whole (CoreTree.Select distinct results from condition by having windows) order 
     (back (r ++ h) d to_windows)) (back (r ++ h ++ d) o behind)
 
 module _ (scalars : ColumnsAreScalar) where
-  term_scalar : (answers : Answers) (scope : Scope) (e : ExprTree) (t : Term) → term_of answers (columns_say scope) e ≡ Ok t → Each IsScalar (parts e)
+  pub term_scalar : (answers : Answers) (scope : Scope) (e : ExprTree) (t : Term) → term_of answers (columns_say scope) e ≡ Ok t → Each IsScalar (parts e)
   term_scalar answers scope e t is = record { is = scalars answers scope e t is }
 
   condition_scalar : (answers : Answers) (scope : Scope) (condition : MaybeExpr) (t : Term) → condition_of answers (columns_say scope) condition ≡ Ok t

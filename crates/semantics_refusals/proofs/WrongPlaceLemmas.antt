@@ -1,20 +1,22 @@
 -- A statement in which a call, a number, `*` or an expression of ORDER BY is where it may not be is no query.
-use Rattle.std.proofs.Common.{◌≡◌, ◌≢◌, ◌<◌, Bool, true, false, if◌then◌else◌, ℕ, zero, suc, ℤ, pos, negsuc, List, [], ◌∷◌, ◌++◌, length, Option, Some, None, Result, Ok, All, Contains, nat_eq, nat_le, nat_lt, ap, refl, sym, subst, ◌∙◌}
+use Rattle.std.proofs.Common.{◌≡◌, ◌≢◌, ◌⊎◌, inl, inr, ◌<◌, Bool, true, false, if◌then◌else◌, ℕ, zero, suc, ℤ, pos, negsuc, List, [], ◌∷◌, ◌++◌, length, Option, Some, None, Result, Ok, All, Contains, nat_eq, nat_le, nat_lt, ap, refl, sym, subst, ◌∙◌}
 use Rattle.std.specs.List.{filter_map}
 use Rattle.std.proofs.lemmas.Bool.{ltb-true}
 use Rattle.std.proofs.lemmas.List.Elements.{All-head, All-tail}
 use Rattle.values.specs.declared.fault.Fault.{Fault}
 use Rattle.values.specs.declared.fault.Fault.TheVariants.{ColumnCount, DuplicateName, Limit, WrongPlace}
 use Rattle.expr.specs.Term.{Term}
-use Rattle.semantics.specs.Query.{Body, Key, KeyTerm}
-use Rattle.sql_reader_syntax.specs.ExprTree.{CoreTree, ExprTree, ExprTrees, QueryTree, ResultTree, ResultTrees, TermTrees}
+use Rattle.semantics.specs.Query.{Aggregate, AggregateFunction, Body, Key, KeyTerm, Window, WindowCall, WindowFunction, always, filtered}
+use Rattle.sql_reader_syntax.specs.ExprTree.{BehindTree, CoreTree, ExprTree, ExprTrees, MaybeExpr, OverTree, QueryTree, ResultTree, ResultTrees, TermTrees, WindowTree, plain}
 use Rattle.sql_reader_syntax.specs.StatementTree.{ItemTree}
 use Rattle.sql_reader_syntax.specs.Tree.{Name}
+use Rattle.sql_reader_syntax.specs.declared.expr.Function.{Function}
+use Rattle.sql_reader_syntax.specs.declared.expr.Function.TheVariants as w
 use Rattle.semantics_names.specs.Expression.{Answers, Says, term_of}
-use Rattle.semantics_names.specs.Laws.{ColumnsAreScalar}
-use Rattle.semantics_names.specs.Outcome.{each}
-use Rattle.semantics_names.specs.Parts.{parts_behind_groups}
-use Rattle.semantics_names.specs.Places.{aggregate_of, call_of, columns_say, windows_say}
+use Rattle.semantics_names.specs.Laws.{ColumnsAreScalar, IsScalar}
+use Rattle.semantics_names.specs.Outcome.{also, both, each, followed}
+use Rattle.semantics_names.specs.Parts.{all_parts, from_parts, maybe_parts, parts, parts_behind_groups}
+use Rattle.semantics_names.specs.Places.{Defined, aggregate, aggregate_call, aggregate_named, aggregate_of, call_of, columns_say, defined_as, filter_of, function_or, ranking, ranking_unless, window_call, window_of, windows_say}
 use Rattle.semantics_names.specs.Same.{is_same_aggregate, is_same_call}
 use Rattle.semantics_names.specs.Scope.{Scope, bare_term, is_bare}
 use Rattle.semantics_names.specs.Sources.{Known}
@@ -24,17 +26,17 @@ use Rattle.semantics_names.proofs.OutcomeLemmas.{also-ok, both-ok, checked-ok, f
 use Rattle.semantics_refusals.specs.Columns.{HasNames, names_of_results, results_in}
 use Rattle.semantics_refusals.specs.UnknownColumns.{InSelect, IsNoResult}
 use Rattle.semantics_refusals.specs.Written.{HasSelect, terms_in}
-use Rattle.semantics_refusals.specs.WrongPlaces.{GroupsByNumber, HasNoRow, HasStar, HasWrongPlace, InQuery, IsNoNumber, IsNumber, Misplaces, SortsWrongly, StarsNothing, WrongPlaceIsRefused, expressions, groups_in}
+use Rattle.semantics_refusals.specs.WrongPlaces.{GroupsByNumber, HasNoRow, HasOver, HasStar, HasWrongPlace, InQuery, IsAggregate, IsNoNumber, IsNumber, MayHaveOver, Measures, Misplaces, Ranks, SortsWrongly, StarsNothing, WrongPlaceIsRefused, expressions, groups_in, inside_call, plain_parts}
 use Rattle.semantics_refusals.proofs.CoreLemmas.{is_distinct, number_alone_is, number_is}
 use Rattle.semantics_refusals.proofs.CoreToldLemmas.{keys_given}
 use Rattle.semantics_refusals.proofs.NameLemmas.{all_names, core_names, listed_of, names_in}
 use Rattle.semantics_refusals.proofs.OkLemmas.{IsGiven}
-use Rattle.semantics_refusals.proofs.PartLemmas.{Each, among, more, none}
+use Rattle.semantics_refusals.proofs.PartLemmas.{Each, among, join, more, none, weaker}
 use Rattle.semantics_refusals.proofs.SameColumnLemmas.{listed_same, names_one, same_inside, shows_one}
 use Rattle.semantics_refusals.proofs.ScopeLemmas.{named_some}
 use Rattle.semantics_refusals.proofs.SelectLemmas.{TakenSelect, part_taken, select_taken}
 use Rattle.semantics_refusals.proofs.TakenLemmas.{IsTakenQuery, answers_with, from_taken, inside}
-use Rattle.semantics_refusals.proofs.WindowLemmas.{core_windows, from_scalar}
+use Rattle.semantics_refusals.proofs.WindowLemmas.{core_windows, firsts_given, from_scalar, term_scalar, whole}
 
 -- ---- numbers
 
@@ -104,6 +106,142 @@ starred_some answers scope input says (ResultTrees.Result r rs) columns e star =
     by _ HasStar.here first is after =
         let (shown, given, last) = followed-ok (some_of WrongPlace (starred scope)) (each (as_input answers input)) first is in
         some (starred scope) shown given
+
+-- ---- calls
+
+module _ (answers : Answers) where
+  module _ (scalars : ColumnsAreScalar) (scope : Scope) where
+    filter_scalar : (filter : MaybeExpr) (argument t : Term) → filter_of answers (columns_say scope) filter argument ≡ Ok t
+        → Each IsScalar (maybe_parts filter ++ [])
+    filter_scalar MaybeExpr.Absent argument t e = none
+    filter_scalar (MaybeExpr.Present x) argument t e =
+        let (u, is, same) = also-ok (λ condition. filtered condition argument) (term_of answers (columns_say scope) x) t e in
+        join (parts x) [] (term_scalar scalars answers scope x u is) none
+
+    measured_scalar : (function : AggregateFunction) (x : ExprTree) (filter : MaybeExpr) (a : Aggregate)
+        → also (aggregate function) (followed (term_of answers (columns_say scope) x) (filter_of answers (columns_say scope) filter)) ≡ Ok a
+        → Each IsScalar (all_parts (ExprTrees.More x ExprTrees.No_more) ++ (maybe_parts filter ++ []))
+    measured_scalar function x filter a e =
+        let (t, made, same) =
+        also-ok (aggregate function) (followed (term_of answers (columns_say scope) x) (filter_of answers (columns_say scope) filter)) a e in
+        let (u, is, rest) = followed-ok (term_of answers (columns_say scope) x) (filter_of answers (columns_say scope) filter) t made in
+        join (all_parts (ExprTrees.More x ExprTrees.No_more)) (maybe_parts filter ++ [])
+        (join (parts x) [] (term_scalar scalars answers scope x u is) none) (filter_scalar filter u t rest)
+
+    measure_scalar : (function : Function) (es : ExprTrees) (filter : MaybeExpr) → Measures function es
+        → ((r : Result Aggregate Fault) → aggregate_call answers (columns_say scope) (aggregate_named function) es filter ≡ Some r → IsGiven r)
+        → Each IsScalar (all_parts es ++ (maybe_parts filter ++ []))
+    measure_scalar w.Count (ExprTrees.More x ExprTrees.No_more) filter m given =
+        let (a, e) = given _ refl in measured_scalar AggregateFunction.count x filter a e
+    measure_scalar w.Sum (ExprTrees.More x ExprTrees.No_more) filter m given =
+        let (a, e) = given _ refl in measured_scalar AggregateFunction.sum x filter a e
+    measure_scalar w.Min (ExprTrees.More x ExprTrees.No_more) filter m given =
+        let (a, e) = given _ refl in measured_scalar AggregateFunction.min x filter a e
+    measure_scalar w.Max (ExprTrees.More x ExprTrees.No_more) filter m given =
+        let (a, e) = given _ refl in measured_scalar AggregateFunction.max x filter a e
+    measure_scalar _ _ filter m given = absurd m
+
+    -- in an aggregate that is taken all is scalar
+    aggregate_scalar : (part : ExprTree) → IsAggregate part
+        → ((r : Result Aggregate Fault) → aggregate_of answers (columns_say scope) part ≡ Some r → IsGiven r) → Each IsScalar (inside_call part)
+    aggregate_scalar (ExprTree.CountRows (BehindTree.Behind filter OverTree.No_over)) m given =
+        let (a, e) = given _ refl in
+        let (t, is, same) = also-ok (aggregate AggregateFunction.count) (filter_of answers (columns_say scope) filter always) a e in
+        filter_scalar filter always t is
+    aggregate_scalar (ExprTree.Call function es (BehindTree.Behind filter OverTree.No_over)) m given = measure_scalar function es filter m given
+    aggregate_scalar _ m given = absurd m
+
+  module _ (says : Says) where
+    ranks_given : (function : Function) (es : ExprTrees) (g : WindowFunction) → ranking answers says function es ≡ Ok g → Ranks function es
+    ranks_given w.RowNumber ExprTrees.No_more g e = tt
+    ranks_given w.Rank ExprTrees.No_more g e = tt
+    ranks_given w.DenseRank ExprTrees.No_more g e = tt
+    ranks_given w.NTile (ExprTrees.More (ExprTree.Number (pos n)) ExprTrees.No_more) g e = tt
+    ranks_given w.FirstValue (ExprTrees.More x ExprTrees.No_more) g e = tt
+    ranks_given w.LastValue (ExprTrees.More x ExprTrees.No_more) g e = tt
+    ranks_given w.NthValue (ExprTrees.More x (ExprTrees.More (ExprTree.Number (pos n)) ExprTrees.No_more)) g e = tt
+    ranks_given w.Lag (ExprTrees.More x ExprTrees.No_more) g e = tt
+    ranks_given w.Lag (ExprTrees.More x (ExprTrees.More (ExprTree.Number (pos n)) ExprTrees.No_more)) g e = tt
+    ranks_given w.Lag (ExprTrees.More x (ExprTrees.More (ExprTree.Number (pos n)) (ExprTrees.More d ExprTrees.No_more))) g e = tt
+    ranks_given w.Lead (ExprTrees.More x ExprTrees.No_more) g e = tt
+    ranks_given w.Lead (ExprTrees.More x (ExprTrees.More (ExprTree.Number (pos n)) ExprTrees.No_more)) g e = tt
+    ranks_given w.Lead (ExprTrees.More x (ExprTrees.More (ExprTree.Number (pos n)) (ExprTrees.More d ExprTrees.No_more))) g e = tt
+    ranks_given _ _ g e = absurd cc
+
+    unless_given : (filter : MaybeExpr) (function : Function) (es : ExprTrees) (g : WindowFunction) → ranking_unless answers says filter function es ≡ Ok g
+        → (filter ≡ MaybeExpr.Absent) × Ranks function es
+    unless_given MaybeExpr.Absent function es g e = (refl, ranks_given function es g e)
+    unless_given (MaybeExpr.Present x) function es g e = absurd cc
+
+    function_given : (function : Function) (es : ExprTrees) (filter : MaybeExpr) (g : WindowFunction)
+        → function_or (aggregate_call answers says (aggregate_named function) es filter) (ranking_unless answers says filter function es) ≡ Ok g
+        → Measures function es ⊎ ((filter ≡ MaybeExpr.Absent) × Ranks function es)
+    function_given w.Count (ExprTrees.More x ExprTrees.No_more) filter g e = inl tt
+    function_given w.Sum (ExprTrees.More x ExprTrees.No_more) filter g e = inl tt
+    function_given w.Min (ExprTrees.More x ExprTrees.No_more) filter g e = inl tt
+    function_given w.Max (ExprTrees.More x ExprTrees.No_more) filter g e = inl tt
+    function_given function es filter g e = inr (unless_given filter function es g e)
+
+    module _ (defined : List Defined) where
+      before_given : (function : Function) (es : ExprTrees) (filter : MaybeExpr) (v : Result Window Fault)
+          → IsGiven (both window_call (function_or (aggregate_call answers says (aggregate_named function) es filter)
+          (ranking_unless answers says filter function es)) v)
+          → Measures function es ⊎ ((filter ≡ MaybeExpr.Absent) × Ranks function es)
+      before_given function es filter v (c, e) =
+          let (g, u, first, last, same) =
+          both-ok window_call (function_or (aggregate_call answers says (aggregate_named function) es filter) (ranking_unless answers says filter function es)) v c e in
+          function_given function es filter g first
+
+      -- a call with OVER that is taken may have it
+      over_given : (part : ExprTree) → HasOver part → ((r : Result WindowCall Fault) → call_of answers says defined part ≡ Some r → IsGiven r)
+          → MayHaveOver part
+      over_given (ExprTree.CountRows after) h given = tt
+      over_given (ExprTree.Call function es (BehindTree.Behind filter OverTree.No_over)) h given = absurd h
+      over_given (ExprTree.Call function es (BehindTree.Behind filter (OverTree.OverName name))) h given =
+          before_given function es filter (defined_as defined name) (given _ refl)
+      over_given (ExprTree.Call function es (BehindTree.Behind filter (OverTree.Over v))) h given =
+          before_given function es filter (window_of answers says v) (given _ refl)
+      over_given _ h given = tt
+
+-- a scalar function has no OVER
+scalar_over : (part : ExprTree) → IsScalar part → HasOver part → ⊥
+scalar_over (ExprTree.CountRows after) scalar h = scalar
+scalar_over (ExprTree.Call function es (BehindTree.Behind filter OverTree.No_over)) scalar h = h
+scalar_over (ExprTree.Call function es (BehindTree.Behind filter (OverTree.OverName name))) scalar h = name_none filter name scalar.0
+  where
+    name_none : (filter : MaybeExpr) (name : Name) → BehindTree.Behind filter (OverTree.OverName name) ≡ plain → ⊥
+    name_none filter name same = absurd cc
+scalar_over (ExprTree.Call function es (BehindTree.Behind filter (OverTree.Over v))) scalar h = over_none filter v scalar.0
+  where
+    over_none : (filter : MaybeExpr) (v : WindowTree) → BehindTree.Behind filter (OverTree.Over v) ≡ plain → ⊥
+    over_none filter v same = absurd cc
+scalar_over _ scalar h = h
+
+-- the calls of a SELECT that is taken
+record IsCalled (core : CoreTree) (order : TermTrees) : Type 0 where
+  aggregates : (part q : ExprTree) → Contains (parts_behind_groups core order) part → IsAggregate part → Contains (inside_call part) q → IsScalar q
+  over : Each (λ part. HasOver part → MayHaveOver part) (parts_behind_groups core order)
+
+core_called : ColumnsAreScalar → (answers : Answers) (scope : Scope) (core : CoreTree) (order : TermTrees) (c : CoreData)
+    → core_of answers scope core order ≡ Ok c → IsCalled core order
+core_called scalars answers scope (CoreTree.Select distinct results from condition by having windows) order c e =
+    let behind = parts_behind_groups (CoreTree.Select distinct results from condition by having windows) order in
+    let (test, is, others) = followed-ok (condition_of answers (columns_say scope) condition) _ c e in
+    let (keys, are, rest) = followed-ok (by_of answers scope by) _ c others in
+    let (aggregates, found, last) =
+    followed-ok (firsts is_same_aggregate [] (filter_map (aggregate_of answers (columns_say scope)) behind)) _ c rest in
+    let (input, given, all) =
+    followed-ok (input_of answers scope keys aggregates having) (behind_groups answers scope distinct results order behind windows test) c last in
+    let (apart, on) = checked-ok (are_distinct (window_names windows)) DuplicateName _ c all in
+    let (defined, are_defined, next) = followed-ok (defined_of answers input.says windows) _ c on in
+    let (calls, called, end) = followed-ok (firsts is_same_call [] (filter_map (call_of answers input.says defined) behind)) _ c next in
+    record {
+      aggregates = λ part q there m inside.
+          among (aggregate_scalar answers scalars scope part m
+          (among (firsts_given is_same_aggregate [] aggregates (aggregate_of answers (columns_say scope)) behind found) there)) inside;
+      over = weaker (λ part so h. over_given answers input.says defined part h so)
+          (firsts_given is_same_call [] calls (call_of answers input.says defined) behind called);
+    }
 
 -- what is known of a SELECT that is taken, of ORDER BY and its result columns
 record IsPlaced (scope : Scope) (core : CoreTree) (order : TermTrees) : Type 0 where
@@ -226,13 +364,26 @@ module _ (known : List Known) where
       compound_sorts (QueryTree.Compound left operator core) order l.names keys sorted
       (λ names has. names_one known queries (same_inside known deep) has order q e ∙ sym (ap (λ (q : Queried). q.names) same)) sorts
 
-  call_refuted : ColumnsAreScalar → (items : List ItemTree) (core : CoreTree) (by : TermTrees) → TakenSelect known core by → Misplaces items core by → ⊥
-  call_refuted scalars items core by taken (Misplaces.on part there apart) =
-      apart (among (from_scalar scalars known (inside taken.deep known) (answers_with known (inside taken.deep known) taken.inners) (from_tree core)
-      taken.sources taken.from) there)
-  call_refuted scalars items core by taken (Misplaces.plain part there apart) =
-      apart (among (core_windows scalars (answers_with known (inside taken.deep known) taken.inners) taken.sources.scope core by taken.made taken.is).scalar
-      there)
+  module _ (scalars : ColumnsAreScalar) (core : CoreTree) (by : TermTrees) (taken : TakenSelect known core by) where
+    on_scalar : Each IsScalar (from_parts (from_tree core))
+    on_scalar =
+        from_scalar scalars known (inside taken.deep known) (answers_with known (inside taken.deep known) taken.inners) (from_tree core) taken.sources
+        taken.from
+
+    plain_scalar : Each IsScalar (plain_parts core)
+    plain_scalar =
+        (core_windows scalars (answers_with known (inside taken.deep known) taken.inners) taken.sources.scope core by taken.made taken.is).scalar
+
+    called : IsCalled core by
+    called = core_called scalars (answers_with known (inside taken.deep known) taken.inners) taken.sources.scope core by taken.made taken.is
+
+    call_refuted : (items : List ItemTree) → Misplaces items core by → ⊥
+    call_refuted items (Misplaces.on part there apart) = apart (among on_scalar there)
+    call_refuted items (Misplaces.plain part there apart) = apart (among plain_scalar there)
+    call_refuted items (Misplaces.in_aggregate outer part there is inside apart) = apart (called.aggregates outer part there is inside)
+    call_refuted items (Misplaces.over part there has apart) =
+        apart (among (whole core by called.over (weaker (λ part scalar h. absurd (scalar_over part scalar h)) on_scalar)
+        (weaker (λ part scalar h. absurd (scalar_over part scalar h)) plain_scalar)) there has)
 
 pub wrong_place_is_refused : ColumnsAreScalar → WrongPlaceIsRefused
 wrong_place_is_refused scalars tables tree n has e =
@@ -243,7 +394,7 @@ wrong_place_is_refused scalars tables tree n has e =
     by found names (HasWrongPlace.call has) =
         let (w, items, taken) = part_taken tables tree found (HasSelect Misplaces) has names in
         let here = has.is in
-        call_refuted w.known scalars has.items here.core here.by (select_taken w.known has.query has.order here.core here.by taken here.select) here.is
+        call_refuted w.known scalars here.core here.by (select_taken w.known has.query has.order here.core here.by taken here.select) has.items here.is
     by found names (HasWrongPlace.group has) =
         let (w, items, taken) = part_taken tables tree found (HasSelect GroupsByNumber) has names in
         let here = has.is in

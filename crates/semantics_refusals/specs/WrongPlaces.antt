@@ -23,11 +23,6 @@ use Rattle.semantics_refusals.specs.Written.{HasQueryWith, HasSelectWith, terms_
 abbrev pub plain_parts : CoreTree → List ExprTree
 plain_parts (CoreTree.Select distinct results from condition by having windows) = maybe_parts condition ++ all_parts by
 
--- in ON, WHERE or GROUP BY is an aggregate, a window function, or a function with FILTER or OVER
-pub data Misplaces (items : List ItemTree) (core : CoreTree) (by : TermTrees) : Type 0 where
-  on : (part : ExprTree) → Contains (from_parts (from_tree core)) part → ¬ IsScalar part → Misplaces items core by
-  plain : (part : ExprTree) → Contains (plain_parts core) part → ¬ IsScalar part → Misplaces items core by
-
 -- an aggregate function over one value
 abbrev pub Measures : Function → ExprTrees → Type 0
 Measures w.Count (ExprTrees.More e ExprTrees.No_more) = Unit {0}
@@ -89,18 +84,23 @@ group_parts (CoreTree.Select distinct results from condition by having windows) 
 abbrev pub row_parts : CoreTree → List ExprTree
 row_parts (CoreTree.Select distinct results from condition by having windows) = results_parts results
 
--- In an aggregate is a call that isn't of a function of one row's values; in HAVING, WINDOW, or a call with OVER, one that isn't an
--- aggregate either; in a result column or ORDER BY one that has no OVER either. Or OVER follows what may not have it; or a call has not
--- as many arguments as its function takes, as no text has it.
-pub data MisplacesInGroups (items : List ItemTree) (core : CoreTree) (by : TermTrees) : Type 0 where
+-- In ON, WHERE, GROUP BY or an aggregate is another aggregate, a window function, or a function with FILTER or OVER; or OVER follows what
+-- may not have it.
+pub data Misplaces (items : List ItemTree) (core : CoreTree) (by : TermTrees) : Type 0 where
+  on : (part : ExprTree) → Contains (from_parts (from_tree core)) part → ¬ IsScalar part → Misplaces items core by
+  plain : (part : ExprTree) → Contains (plain_parts core) part → ¬ IsScalar part → Misplaces items core by
   in_aggregate : (outer part : ExprTree) → Contains (parts_behind_groups core by) outer → IsAggregate outer → Contains (inside_call outer) part
-      → ¬ IsScalar part → MisplacesInGroups items core by
+      → ¬ IsScalar part → Misplaces items core by
+  over : (part : ExprTree) → Contains (core_parts core by) part → HasOver part → ¬ MayHaveOver part → Misplaces items core by
+
+-- In HAVING, WINDOW, or a call with OVER is a call that is neither of a function of one row's values nor an aggregate; in a result column
+-- or ORDER BY one that has no OVER either. Or a call has not as many arguments as its function takes, as no text has it.
+pub data MisplacesInGroups (items : List ItemTree) (core : CoreTree) (by : TermTrees) : Type 0 where
   in_window : (outer part : ExprTree) → Contains (parts_behind_groups core by) outer → HasOver outer → Contains (inside_call outer) part
       → ¬ IsScalar part → ¬ IsAggregate part → MisplacesInGroups items core by
   in_groups : (part : ExprTree) → Contains (group_parts core) part → ¬ IsScalar part → ¬ IsAggregate part → MisplacesInGroups items core by
   in_row : (part : ExprTree) → Contains (row_parts core ++ terms_parts by) part → ¬ IsScalar part → ¬ IsAggregate part → ¬ HasOver part
       → MisplacesInGroups items core by
-  over : (part : ExprTree) → Contains (core_parts core by) part → HasOver part → ¬ MayHaveOver part → MisplacesInGroups items core by
   arguments : (function : Function) (es : ExprTrees) (after : BehindTree) → Contains (core_parts core by) (ExprTree.Call function es after)
       → takes function (count es) ≡ false → MisplacesInGroups items core by
 
