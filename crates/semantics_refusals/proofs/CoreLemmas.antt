@@ -28,7 +28,7 @@ use Rattle.semantics_refusals.specs.UnknownColumns.{IsNamedAt, IsNoResult}
 use Rattle.semantics_refusals.specs.WrongPlaces.{HasOver, HasStar, IsAggregate, IsNoNumber, IsNumber, expressions, group_parts, groups_in, inside_call, plain_parts, row_parts}
 use Rattle.semantics_refusals.specs.Written.{spoken_in, stars_in, terms_in, windows_in}
 use Rattle.semantics_refusals.proofs.NameLemmas.{all_names, names_in}
-use Rattle.semantics_refusals.proofs.OutcomeLemmas.{Gives, Only, OnlySome, Takes, all_only, also_gives, also_only, both_only, checked_only, firsts_only, followed_gives, followed_only, if_only, known_only, nothing, ok, refused}
+use Rattle.semantics_refusals.proofs.OutcomeLemmas.{Gives, Only, OnlySome, Takes, all_only, also_gives, also_only, both_only, checked_only, either, firsts_only, followed_gives, followed_only, if_only, known_only, nothing, ok, or_else, refused}
 use Rattle.semantics_refusals.proofs.PartLemmas.{Deep, Each, among, back, deep, deep_definitions, deep_maybe, deep_results, each_itself, first, front, itself, join, more, none, one, rest, weaker}
 use Rattle.semantics_refusals.proofs.PlacedLemmas.{AreFound, IsPlace, aggregate_is, all_found, groups_none, mapped_place, no_aggregate, windows_none}
 use Rattle.semantics_refusals.proofs.PlaceLemmas.{aggregate_only, call_only, columns_named, groups_named, groups_only, plainly, window_only, windows_named, windows_only}
@@ -323,6 +323,21 @@ module _ (F : Fault → Type 0) (takes : Takes F) where
   pub no_row_only : (e : ExprTree) → F WrongPlace → Only F (no_row e)
   no_row_only e is = refused WrongPlace is
 
+  -- what is known, or that the fault is fine
+  known_or : (SameIsEqual × NameIsColumn) ⊎ F WrongPlace
+  known_or = by takes.laws
+    where
+      by : (SameIsEqual × NameIsColumn) ⊎ (F WrongPlace × F BareColumn) → (SameIsEqual × NameIsColumn) ⊎ F WrongPlace
+      by (inl laws) = inl laws
+      by (inr both) = inr both.0
+
+  bare_or : (SameIsEqual × NameIsColumn) ⊎ F BareColumn
+  bare_or = by takes.laws
+    where
+      by : (SameIsEqual × NameIsColumn) ⊎ (F WrongPlace × F BareColumn) → (SameIsEqual × NameIsColumn) ⊎ F BareColumn
+      by (inl laws) = inl laws
+      by (inr both) = inr both.1
+
   -- ---- one SELECT
 
   or_bare_only : (t : Option Term) → F BareColumn → Only F (or_bare t)
@@ -350,7 +365,7 @@ module _ (F : Fault → Type 0) (takes : Takes F) where
     -- what is said of a part; an aggregate is not passed over
     record Speaks (says : Says) : Type 0 where
       said : (part : ExprTree) → Each (Placed defines answers scope behind) (parts part) → Only F (says part)
-      none : (part : ExprTree) → Contains behind part → says part ≡ Ok None → ¬ IsAggregate part
+      none : (part : ExprTree) → Contains behind part → says part ≡ Ok None → (¬ IsAggregate part) ⊎ F WrongPlace
       named : (part : ExprTree) (table : Option Name) (name : Name) → part ≡ ExprTree.Column table name → says part ≡ Ok None → ⊥
 
     sounds : (says : Says) → Speaks says → (xs : List ExprTree) → Each (Deep (Placed defines answers scope behind)) xs
@@ -361,7 +376,7 @@ module _ (F : Fault → Type 0) (takes : Takes F) where
           answered = (itself q d.is).base.answered;
           framed = (itself q d.is).base.framed;
           named = speaks.named q;
-          fits = λ none apart. fits q there apart (speaks.none q (itself q d.is).stands none);
+          fits = λ none apart. or_else (speaks.none q (itself q d.is).stands none) (fits q there apart);
         })
 
     window_sounds : (says : Says) → Speaks says → (part : ExprTree) → Each (Placed defines answers scope behind) (parts part) → HasOver part
@@ -370,7 +385,7 @@ module _ (F : Fault → Type 0) (takes : Takes F) where
         sounds says speaks (inside_call part) (inside_of part (deep part all))
         (λ q there apart loose. placed.window part q (itself part all).stands over there apart loose)
 
-    columns_speak : ((part : ExprTree) → Contains behind part → ¬ IsAggregate part) → Speaks (columns_say scope)
+    columns_speak : ((part : ExprTree) → Contains behind part → (¬ IsAggregate part) ⊎ F WrongPlace) → Speaks (columns_say scope)
     columns_speak without = record {
       said = λ part all. (itself part all).base.said;
       none = λ part there e. without part there;
@@ -384,12 +399,12 @@ module _ (F : Fault → Type 0) (takes : Takes F) where
         → column_of scope table name ≡ Ok t → key_column by (Ok t) ≡ None → F BareColumn
 
     groups_speak : (by : List Term) (aggregates : List Aggregate)
-        → ((part : ExprTree) → Contains behind part → AreFound is_same_aggregate (aggregate_of answers (columns_say scope)) aggregates part)
+        → ((part : ExprTree) → Contains behind part → AreFound is_same_aggregate (aggregate_of answers (columns_say scope)) aggregates part ⊎ F WrongPlace)
         → BareBeside by → Speaks (groups_say answers scope by aggregates)
     groups_speak by aggregates found is_bare = record {
       said = λ part all. groups_only F takes defines answers scope by aggregates part (itself part all).base.said (aggregate_sounds part all)
           (is_bare part (itself part all).stands);
-      none = λ part there e is. groups_none answers scope by aggregates part is (found part there) e;
+      none = λ part there e. either (found part there) (λ f is. groups_none answers scope by aggregates part is f e);
       named = groups_named answers scope by aggregates;
     }
 
@@ -401,7 +416,7 @@ module _ (F : Fault → Type 0) (takes : Takes F) where
     -- and after windows; a call with OVER is not passed over either
     record RowSpeaks (says : Says) : Type 0 where
       said : (part : ExprTree) → Each (Placed defines answers scope behind) (parts part) → Only F (says part)
-      none : (part : ExprTree) → Contains behind part → says part ≡ Ok None → (¬ IsAggregate part) × (¬ HasOver part)
+      none : (part : ExprTree) → Contains behind part → says part ≡ Ok None → ((¬ IsAggregate part) × (¬ HasOver part)) ⊎ F WrongPlace
       named : (part : ExprTree) (table : Option Name) (name : Name) → part ≡ ExprTree.Column table name → says part ≡ Ok None → ⊥
 
     row_sounds : (says : Says) → RowSpeaks says → (xs : List ExprTree) → Each (Deep (Placed defines answers scope behind)) xs
@@ -413,24 +428,29 @@ module _ (F : Fault → Type 0) (takes : Takes F) where
           answered = (itself q d.is).base.answered;
           framed = (itself q d.is).base.framed;
           named = speaks.named q;
-          fits = λ none apart.
-              let (loose, over) = speaks.none q (itself q d.is).stands none in fits q there apart loose over;
+          fits = λ none apart. or_else (speaks.none q (itself q d.is).stands none) (λ both. fits q there apart both.0 both.1);
         })
 
     windows_speak : (input : Input) → Speaks input.says → (defined : List Defined) → map (λ (d : Defined). d.name) defined ≡ defines
         → (calls : List WindowCall)
-        → ((part : ExprTree) → Contains behind part → AreFound is_same_call (call_of answers input.says defined) calls part)
+        → ((part : ExprTree) → Contains behind part → AreFound is_same_call (call_of answers input.says defined) calls part ⊎ F WrongPlace)
         → RowSpeaks (windows_say answers input.says defined input.width calls)
     windows_speak input speaks defined named calls found = record {
       said = λ part all.
           windows_only F takes defines answers input.says defined named input.width calls part (itself part all).base.framed
           (window_sounds input.says speaks part all) (speaks.said part all);
-      none = λ part there e.
-          let (beneath, over) = windows_none answers input.says defined input.width calls part (found part there) e in
-          (speaks.none part there beneath, over);
+      none = λ part there e. by_found part there e (found part there);
       named = λ part table name same.
           windows_named answers input.says defined input.width calls part table name same (speaks.named part table name same);
     }
+      where
+        by_found : (part : ExprTree) → Contains behind part → windows_say answers input.says defined input.width calls part ≡ Ok None
+            → AreFound is_same_call (call_of answers input.says defined) calls part ⊎ F WrongPlace
+            → ((¬ IsAggregate part) × (¬ HasOver part)) ⊎ F WrongPlace
+        by_found part there e (inl f) =
+            let (beneath, over) = windows_none answers input.says defined input.width calls part f e in
+            either (speaks.none part there beneath) (λ loose. (loose, over))
+        by_found part there e (inr wrong) = inr wrong
 
     term_so : (says : Says) → Speaks says → (e : ExprTree) → Each (Deep (Placed defines answers scope behind)) (parts e)
         → ((part : ExprTree) → Contains (parts e) part → ¬ IsScalar part → ¬ IsAggregate part → F WrongPlace) → Only F (term_of answers says e)
@@ -489,7 +509,7 @@ module _ (F : Fault → Type 0) (takes : Takes F) where
         (also_only KeyTerm.term (term_of answers says e) (row_so says speaks e all fits))
 
     grouped_gives : G → (by : List Term) (aggregates : List Aggregate) → BareBeside by
-        → ((part : ExprTree) → Contains behind part → AreFound is_same_aggregate (aggregate_of answers (columns_say scope)) aggregates part)
+        → ((part : ExprTree) → Contains behind part → AreFound is_same_aggregate (aggregate_of answers (columns_say scope)) aggregates part ⊎ F WrongPlace)
         → (having : MaybeExpr) → Each (Deep (Placed defines answers scope behind)) (maybe_parts having)
         → ((part : ExprTree) → Contains (maybe_parts having) part → ¬ IsScalar part → ¬ IsAggregate part → F WrongPlace)
         → Gives F IsInput (grouped answers scope by aggregates having)
@@ -499,13 +519,13 @@ module _ (F : Fault → Type 0) (takes : Takes F) where
         (λ h. record { speaks = groups_speak by aggregates found is_bare; over = λ star t. or_bare_only (key_column by (Ok t)) (star g) })
 
     input_gives : (by : List Term) (aggregates : List Aggregate) → ((by ≡ [] → aggregates ≡ [] → ⊥) → G) → (G → BareBeside by)
-        → ((part : ExprTree) → Contains behind part → AreFound is_same_aggregate (aggregate_of answers (columns_say scope)) aggregates part)
+        → ((part : ExprTree) → Contains behind part → AreFound is_same_aggregate (aggregate_of answers (columns_say scope)) aggregates part ⊎ F WrongPlace)
         → (having : MaybeExpr) → Each (Deep (Placed defines answers scope behind)) (maybe_parts having)
         → ((part : ExprTree) → Contains (maybe_parts having) part → ¬ IsScalar part → ¬ IsAggregate part → F WrongPlace)
         → Gives F IsInput (input_of answers scope by aggregates having)
     input_gives [] [] groups is_bare found having all fits = record {
       is = record {
-        speaks = columns_speak (λ part there. no_aggregate answers scope part (found part there));
+        speaks = columns_speak (λ part there. either (found part there) (λ f. no_aggregate answers scope part f));
         over = λ star t. ok t;
       };
     }
@@ -616,7 +636,8 @@ module _ (F : Fault → Type 0) (takes : Takes F) where
           (weaker (λ part of. loose_call input.says is.speaks defined named part of) fine.in_behind))
           (λ calls called. shown_only condition input defined calls (windows_say answers input.says defined input.width calls) is
           (windows_speak input is.speaks defined named calls
-          (λ part there. among (all_found is_same_call (λ c. (takes.same.calls c c).1 refl) (call_of answers input.says defined) calls behind called) there))
+          (λ part there. either known_or (λ laws.
+          among (all_found is_same_call (λ c. (laws.0.calls c c).1 refl) (call_of answers input.says defined) calls behind called) there)))
           fine)))
 
       select_only : (condition : MaybeExpr) (by : ExprTrees) (having : MaybeExpr) (windows : DefinitionTrees) → IsFine
@@ -641,8 +662,9 @@ module _ (F : Fault → Type 0) (takes : Takes F) where
           followed_gives IsInput (λ _. Unit {0}) (input_of answers scope keys aggregates having)
           (behind_groups answers scope distinct results order behind windows test)
           (input_gives keys aggregates (groups keys aggregates keyed gathered) (is_bare keys keyed)
-          (λ part there.
-          among (all_found is_same_aggregate (λ a. (takes.same.aggregates a a).1 refl) (aggregate_of answers (columns_say scope)) aggregates behind gathered) there)
+          (λ part there. either known_or (λ laws.
+          among (all_found is_same_aggregate (λ a. (laws.0.aggregates a a).1 refl) (aggregate_of answers (columns_say scope)) aggregates behind gathered)
+          there))
           having in_having (λ q there. in_groups q (Contains-append_left (maybe_parts having) (definitions_parts windows) q there)))
           (λ input is. behind_only windows test input is fine apart in_windows
           (λ q there. in_groups q (Contains-append_right (maybe_parts having) (definitions_parts windows) q there)) frames same))))
@@ -704,8 +726,8 @@ module _ (F : Fault → Type 0) (takes : Takes F) where
         }) keyless (λ keys aggregates keyed gathered some. has_groups answers scope
         (CoreTree.Select distinct results from condition by having windows) order by refl keys aggregates keyed gathered some)
         (λ keys keyed g part there table name same t of none.
-        bare_beside takes.same takes.columns answers scope (CoreTree.Select distinct results from condition by having windows) order by refl bare keys keyed g
-        part there table name same t of none) apart (plainly F defines answers scope c in_condition (front c b calls.in_plain))
+        or_else bare_or (λ laws. bare_beside laws.0 laws.1 answers scope (CoreTree.Select distinct results from condition by having windows) order by refl
+        bare keys keyed g part there table name same t of none)) apart (plainly F defines answers scope c in_condition (front c b calls.in_plain))
         (plainly F defines answers scope b in_by (back c b calls.in_plain)) (deep_maybe having placed_having) (deep_definitions windows placed_windows)
         calls.in_groups frames same
       where

@@ -7,7 +7,6 @@ use Rattle.values.specs.declared.value.Ty.{Ty}
 use Rattle.values.specs.declared.value.Ty.TheVariants.{Int}
 use Rattle.sql_reader_syntax.specs.StatementTree.{StatementTree}
 use Rattle.semantics.specs.Query.{Body, Key, KeyTerm}
-use Rattle.semantics_names.specs.Laws.{NameIsColumn, SameIsEqual}
 use Rattle.semantics_names.specs.Outcome.{also, each, followed}
 use Rattle.semantics_names.specs.Statement.{Named, named}
 use Rattle.semantics_names.specs.Typed.{Table, column_types, known_tables, typed_query, with_types}
@@ -117,9 +116,9 @@ no_names = record {
   repeated = λ names e so d. absurd cc;
 }
 
-others : SameIsEqual → NameIsColumn → (tables : List Table) (tree : StatementTree) → HasReasons IsOtherFault tables tree
-others same names tables tree = record {
-  takes = record { same = same; columns = names };
+others : (tables : List Table) (tree : StatementTree) → HasReasons IsOtherFault tables tree
+others tables tree = record {
+  takes = record { laws = inr (λ d. absurd cc, λ d. absurd cc) };
   unknown_table = λ _ d. absurd cc;
   unknown_column = λ _ d. absurd cc;
   ambiguous = λ _ d. absurd cc;
@@ -131,12 +130,12 @@ others same names tables tree = record {
   bare_column = λ _ d. absurd cc;
 }
 
-pub mismatch_is_mistyped : SameIsEqual → NameIsColumn → (tables : List Table) (tree : StatementTree) → typed_query tables tree ≡ Err TypeMismatch → IsMistyped tables tree
-mismatch_is_mistyped same names tables tree e = by (followed-err (named (known_tables tables) tree) (with_types (column_types tables)) TypeMismatch e)
+pub mismatch_is_mistyped : (tables : List Table) (tree : StatementTree) → typed_query tables tree ≡ Err TypeMismatch → IsMistyped tables tree
+mismatch_is_mistyped tables tree e = by (followed-err (named (known_tables tables) tree) (with_types (column_types tables)) TypeMismatch e)
   where
     by : (named (known_tables tables) tree ≡ Err TypeMismatch)
         ⊎ ((n : Named) × (named (known_tables tables) tree ≡ Ok n) × (with_types (column_types tables) n ≡ Err TypeMismatch)) → IsMistyped tables tree
     by (inl d) =
         absurd (fault_is (named (known_tables tables) tree) TypeMismatch
-        (names_for_reasons IsOtherFault tables tree no_names (others same names tables tree)) d refl)
+        (names_for_reasons IsOtherFault tables tree no_names (others tables tree)) d refl)
     by (inr (n, is, d)) = (n, is, named_err (column_types tables) n (statement_within tables tree n is) d)

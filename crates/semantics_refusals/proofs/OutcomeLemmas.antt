@@ -1,7 +1,8 @@
 -- Where something is refused, it is so by a fault of which this holds.
-use Rattle.std.proofs.Common.{◌≡◌, Bool, true, false, if◌then◌else◌, List, [], ◌∷◌, Option, Some, None, Result, Ok, Err, refl}
+use Rattle.std.proofs.Common.{◌≡◌, ◌⊎◌, inl, inr, Bool, true, false, if◌then◌else◌, List, [], ◌∷◌, Option, Some, None, Result, Ok, Err, refl}
 use Rattle.std.specs.List.{cons_option, filter_map}
 use Rattle.values.specs.declared.fault.Fault.{Fault}
+use Rattle.values.specs.declared.fault.Fault.TheVariants.{BareColumn, WrongPlace}
 use Rattle.semantics_names.specs.Laws.{NameIsColumn, SameIsEqual}
 use Rattle.semantics_names.specs.Outcome.{also, both, checked, chosen, each, followed, found_or}
 use Rattle.semantics_names.specs.Statement.{firsts, once_more}
@@ -20,10 +21,17 @@ pub record Gives (F : Fault → Type 0) {A : Type 0} (P : A → Type 0) (r : Res
 abbrev pub Only : (Fault → Type 0) → {A : Type 0} → Result A Fault → Type 0
 Only F r = Gives F (λ _. Unit {0}) r
 
--- what is known of equal terms, and of names of columns
+-- it is known what is equal, and what names of columns stand for; or it holds of the faults that speak of these
 pub record Takes (F : Fault → Type 0) : Type 0 where
-  pub same : SameIsEqual
-  pub columns : NameIsColumn
+  pub laws : (SameIsEqual × NameIsColumn) ⊎ (F WrongPlace × F BareColumn)
+
+pub or_else : {A B : Type 0} → A ⊎ B → (A → B) → B
+or_else (inl a) f = f a
+or_else (inr b) f = b
+
+pub either : {A B C : Type 0} → A ⊎ B → (A → C) → C ⊎ B
+either (inl a) f = inl (f a)
+either (inr b) f = inr b
 
 module _ {F : Fault → Type 0} where
   pub ok : {A : Type 0} (a : A) → Only F (Ok a)

@@ -18,11 +18,10 @@ use Rattle.semantics_refusals.proofs.ScopeLemmas.{Says}
 use Rattle.semantics_refusals.proofs.StatementLemmas.{fault_is}
 use Rattle.semantics_refusals.proofs.TypeLemmas.{TakesTypes}
 
-numbered : SameIsEqual → NameIsColumn → (tables : List Table) (tree : StatementTree) → HasReasons IsNameFault tables tree
-numbered same names tables tree = record {
+numbered : (tables : List Table) (tree : StatementTree) → HasReasons IsNameFault tables tree
+numbered tables tree = record {
   takes = record {
-    same = same;
-    columns = names;
+    laws = inr ((omega arith, omega arith), (omega arith, omega arith));
   };
   unknown_table = λ _. (omega arith, omega arith);
   unknown_column = λ _. (omega arith, omega arith);
@@ -45,10 +44,10 @@ no_names = record {
   repeated = λ names e so. (omega arith, omega arith);
 }
 
-pub refusals_are_numbered : SameIsEqual → NameIsColumn → RefusalsAreNumbered
-refusals_are_numbered same names tables tree fault (inl none) = inl none
-refusals_are_numbered same names tables tree fault (inr is) =
-    inr (fault_is (typed_query tables tree) fault (only_for_reasons IsNameFault tables tree no_names (numbered same names tables tree) (omega arith, omega arith) types_numbered) is)
+pub refusals_are_numbered : RefusalsAreNumbered
+refusals_are_numbered tables tree fault (inl none) = inl none
+refusals_are_numbered tables tree fault (inr is) =
+    inr (fault_is (typed_query tables tree) fault (only_for_reasons IsNameFault tables tree no_names (numbered tables tree) (omega arith, omega arith) types_numbered) is)
 
 -- ---- what the fault says
 
@@ -68,7 +67,7 @@ by_laws F laws = record {
 
 reasons : SameIsEqual → NameIsColumn → (tables : List Table) (tree : StatementTree) → HasReasons (IsReason tables tree) tables tree
 reasons equal names tables tree = record {
-  takes = record { same = equal; columns = names };
+  takes = record { laws = inl (equal, names) };
   unknown_table = λ is. is;
   unknown_column = λ is. is;
   ambiguous = λ is. is;
@@ -87,7 +86,7 @@ refusals_have_reasons laws tables tree fault (inr is) =
   where
     of_types : (n : Named) → named (known_tables tables) tree ≡ Ok n → with_types (column_types tables) n ≡ Err fault → IsTypeFault fault
         → IsReason tables tree fault
-    of_types n names d (inl same) = subst (IsReason tables tree) (sym same) (mismatch_is_mistyped laws.3 laws.4 tables tree (is ∙ ap Err same))
+    of_types n names d (inl same) = subst (IsReason tables tree) (sym same) (mismatch_is_mistyped tables tree (is ∙ ap Err same))
     of_types n names d (inr same) =
         subst (IsReason tables tree) (sym same) (HasBadFrame.made n names (frames_err (column_types tables) n (d ∙ ap Err same)))
 

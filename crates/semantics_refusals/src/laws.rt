@@ -21,10 +21,7 @@ use semantics_names::laws::{
 /// A statement that is no query is refused by a fault of names and types, or for want of memory.
 pub fn refusals_are_numbered()
     ensures { RefusalsAreNumbered }
-{
-    names_are_columns();
-    same_is_equal();
-}
+{}
 
 /// Where a statement is refused as one with an unknown source, an unknown or an ambiguous column, numbers of columns that differ,
 /// a name that stands twice, or more columns, levels or sources than there may be, this is written somewhere in it; where it is

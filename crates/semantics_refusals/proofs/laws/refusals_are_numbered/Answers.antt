@@ -2,4 +2,4 @@ use Rattle.semantics_refusals.proofs.RefusalLemmas as refusals
 use Rattle.semantics_refusals.proofs.laws.refusals_are_numbered.Goals as goal
 
 pub returns : goal.returns
-returns c = refusals.refusals_are_numbered c.same_is_equal.ensures c.names_are_columns.ensures.one
+returns c = refusals.refusals_are_numbered
