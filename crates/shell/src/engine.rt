@@ -5,12 +5,13 @@ ghost use Rattle.pager.specs.Calls.{HandsBack};
 ghost use Rattle.values.specs.Fault.{Counts};
 ghost use Rattle.values.specs.Row.{Row as RowData};
 ghost use Rattle.semantics.specs.Query.{QueryData};
-ghost use Rattle.shell.specs.Prepared.{IsPreparedFor, Means, RefusesText};
+ghost use Rattle.shell.specs.Prepared.{IsPreparedFor, IsShownFor, Means, RefusesText};
 ghost use Rattle.shell.specs.PreparedView.{prepared_data};
 ghost use Rattle.shell.specs.Run.{HasRun, HasStopped};
 ghost use Rattle.shell.specs.State.{IsOpenedOver, IsEngineFault, ReadsTables};
 ghost use Rattle.shell.specs.Stepped.{EndsStatement, HasEnded, HasGivenSoFar, HasStarted, IsStepFault, IsSteppedOver, IsUnstarted, NeedsNoFurther, StepsStatement, rows_ahead};
 
+use crate::explained::explained_query;
 use crate::{Prepared, Started, Statement};
 use integrity::{Checked, check};
 use pager::{Pager, Source};
@@ -52,7 +53,7 @@ impl<S: Source> Model for Engine<S> {
 
     ghost Value = { EngineState };
 
-    ghost view = { λ e. record { pager = e.pager.state; tables = (checked_data e.checked).tables; found = found_data (checked_data e.checked) } };
+    ghost view = { λ e. record { pager = e.pager.state; tables = (checked_data e.checked).tables; indexes = (checked_data e.checked).indexes; schema_tree = (checked_data e.checked).schema_tree; found = found_data (checked_data e.checked) } };
 
     ghost invariant = { λ e. IsReadyWith e.pager.state (checked_data e.checked) e.tables.items };
 }
@@ -100,20 +101,18 @@ impl<S: Source> Engine<S> {
     /// # Errors
     ///
     /// `Syntax` where the text spells no statement, with the place of a byte where it stopped being one; `Limit`; the faults of
-    /// its names and its types, as `UnknownTable`, `Ambiguous` and `TypeMismatch`; `NotYet` for one with EXPLAIN, whose plan isn't told yet;
-    /// and `NoMemory`.
+    /// its names and its types, as `UnknownTable`, `Ambiguous` and `TypeMismatch`; and `NoMemory`.
     pub fn prepare(&self, text: &str) -> Result<Prepared, Fault>
         ensures { MatchResult result
-            (λ p. IsPreparedFor self.now.tables (prepared_data p) × Means self.now.tables text.now (prepared_data p))
+            (λ p. IsPreparedFor self.now.tables (prepared_data p) × Means self.now.tables text.now (prepared_data p)
+            × IsShownFor self.now text.now (prepared_data p))
             (RefusesText self.now.tables text.now) }
     {
         let statement = read_select(self.alloc, text)?;
         let named = resolve(self.alloc, self.checked.tables(), &statement)?;
-        if statement.explain {
-            return Err(Fault::NotYet);
-        }
+        let explained = explained_query(self.alloc, &self.checked, &statement, &named.query)?;
         let place = self.checked.tables().len();
-        let prepared = Prepared::new(self.alloc, named, place)?;
+        let prepared = Prepared::new(self.alloc, named, explained, place)?;
         Ok(prepared)
     }
 
@@ -157,7 +156,8 @@ impl<S: Source> Engine<S> {
         if spelt.explain {
             return Err(Fault::WrongPlace);
         }
-        let prepared = Prepared::new(self.alloc, named, tables.len())?;
+        let explained = explained_query(self.alloc, &self.checked, &spelt, &named.query)?;
+        let prepared = Prepared::new(self.alloc, named, explained, tables.len())?;
         let started = prepared.start(self.alloc)?;
         Ok(started)
     }

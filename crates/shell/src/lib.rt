@@ -12,6 +12,7 @@
 
 mod args;
 mod engine;
+mod explained;
 mod prepared;
 mod program;
 mod stepped;

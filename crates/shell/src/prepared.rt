@@ -3,8 +3,10 @@ ghost use Rattle.std.specs.Prelude.{◌≡◌, [], All, IfErr, IfOk, MatchResult
 ghost use Rattle.values.specs.Datum.{text};
 ghost use Rattle.values.specs.Fault.{Counts};
 ghost use Rattle.values.specs.Sink.{Writes};
+ghost use Rattle.access_plans.specs.PlanView.{plan_data};
 ghost use Rattle.pager.specs.Calls.{ReadsPages};
 ghost use Rattle.btree.specs.image.Pages.{WhereSteady};
+ghost use Rattle.explain.specs.PlanText.{line_data, plan_text};
 ghost use Rattle.explain.specs.Text.{row_text};
 ghost use Rattle.resolver_bodies.specs.NamedView.{named_data, query_data};
 ghost use Rattle.operators_scan.specs.scan.Coming.{Asks};
@@ -24,8 +26,9 @@ ghost use Rattle.shell.specs.Prepared.{IsPlannedAs};
 ghost use Rattle.shell.specs.PreparedView.{prepared_data};
 ghost use Rattle.shell.specs.Stepped.{IsRunOf, IsStartedFor};
 
+use crate::explained::Explained;
 use crate::{Started, Statement};
-use explain::rows_text;
+use explain::{plan_text, rows_text};
 use logical_plan_queries::{Planned, plan};
 use operators_runs::{Execution, QueryRun, write_query};
 use pager::{Pager, Source};
@@ -108,6 +111,8 @@ pub struct Prepared {
     settled: Query,
     /// Its plan, which a query with queries in it has once these are computed.
     planned: Option<Planned>,
+    /// The plan that is shown.
+    explained: Explained,
     header: Header,
 }
 
@@ -133,11 +138,15 @@ impl Prepared {
     pub(crate) fn new(
         alloc: Global,
         statement: NamedStatement,
+        explained: Explained,
         place: usize,
     ) -> Result<Prepared, Fault>
         ensures query { IfOk result (λ p. (prepared_data p).query ≡ query_data statement.query) }
         ensures names { IfOk result (λ p. (prepared_data p).names ≡ (named_data statement).names) }
         ensures settled { IfOk result (λ p. (prepared_data p).settled ≡ settled place (query_data statement.query)) }
+        ensures shown { IfOk result (λ p. (prepared_data p).plan ≡ plan_data explained.plan) }
+        ensures lines { IfOk result (λ p. (prepared_data p).lines ≡ map line_data explained.lines.items) }
+        ensures asked { IfOk result (λ p. (prepared_data p).explained ≡ explained.is_asked) }
         ensures plan { IfOk result (λ p. IsPlannedAs (settled place (query_data statement.query)) (prepared_data p).planned) }
         ensures only { IfErr result (λ e. e ≡ Fault.NoMemory) }
     {
@@ -149,8 +158,25 @@ impl Prepared {
             query,
             settled,
             planned,
+            explained,
             header,
         })
+    }
+
+    /// Whether EXPLAIN QUERY PLAN is written before the statement.
+    pub(crate) fn is_explained(&self) -> bool
+        ensures { result ≡ (prepared_data self.now).explained }
+    {
+        self.explained.is_asked
+    }
+
+    /// Writes the plan of the query, a line for each of its steps. Its one fault is `WriteFailed`, after a beginning of the plan's
+    /// text; it takes no memory. (EXPLAIN QUERY PLAN)
+    pub fn explain<W: Sink>(&self, out: &mut W) -> Result<(), Fault>
+        ensures only { IfErr result (λ e. e ≡ Fault.WriteFailed) }
+        ensures writes { Writes (plan_text (prepared_data self.now).lines) result (W.facts out.old) (W.facts out.new) }
+    {
+        plan_text(&self.explained.lines, out)
     }
 
     /// What is run for the query, before its first row, with the names of the result columns. It reads no page.
