@@ -72,6 +72,7 @@ pub(crate) fn written_behind(
         columns,
         tests: on,
         padded: last.is_padded(),
+        search: None,
     };
     let plan = joined(alloc, last, left, nested, first.len())?;
     Ok(Some(plan))
