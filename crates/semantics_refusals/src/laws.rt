@@ -28,7 +28,7 @@ pub fn refusals_are_numbered()
 /// refused because types don't agree, some operator in it has no type over operands that each have one, an expression is of another
 /// type than its place wants, or columns that a compound joins are of different types; where it is because of a frame, OVER names no
 /// window there, or the frame of a call can't be; and where it is because of a wrong place, a call, a number or `*` is where it may
-/// not be, or because of a bare column, a SELECT with groups names a column that GROUP BY doesn't.
+/// not be, or because of a bare column, a SELECT with groups names a column that GROUP BY doesn't, or has `*`.
 pub fn refusals_have_reasons()
     ensures { RefusalsHaveReasons }
 {
