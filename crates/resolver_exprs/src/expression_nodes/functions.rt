@@ -50,28 +50,27 @@ fn if_null(items: Vec<Expr>) -> Result<Expr, Fault>
 fn null_if(alloc: Global, items: Vec<Expr>) -> Result<Expr, Fault>
     ensures { Gives term result (spec.several w.NullIf (map term items.items)) }
 {
-    let mut items = items.into_iter();
-    match (items.next(), items.next(), items.next()) {
-        (Some(x), Some(y), None) => {
-            let x = Box::new(alloc, x)?;
-            Ok(Expr::NullIf(x, Box::new(alloc, y)?))
-        }
-        _ => Err(Fault::WrongPlace),
+    let mut items = items;
+    if items.len() != 2 {
+        return Err(Fault::WrongPlace);
     }
+    let y = Box::new(alloc, items.remove(1))?;
+    let x = Box::new(alloc, items.remove(0))?;
+    Ok(Expr::NullIf(x, y))
 }
 
 fn iif(alloc: Global, items: Vec<Expr>) -> Result<Expr, Fault>
     ensures { Gives term result (spec.several w.Iif (map term items.items)) }
 {
-    let mut items = items.into_iter();
-    match (items.next(), items.next(), items.next(), items.next()) {
-        (Some(condition), Some(then), Some(otherwise), None) => {
-            let mut arms = Vec::new(alloc);
-            arms.push(when_then(condition, then))?;
-            Ok(bare_case(arms, Box::new(alloc, otherwise)?))
-        }
-        _ => Err(Fault::WrongPlace),
+    let mut items = items;
+    if items.len() != 3 {
+        return Err(Fault::WrongPlace);
     }
+    let otherwise = Box::new(alloc, items.remove(2))?;
+    let then = items.remove(1);
+    let mut arms = Vec::new(alloc);
+    arms.push(when_then(items.remove(0), then))?;
+    Ok(bare_case(arms, otherwise))
 }
 
 /// What a function makes of its arguments.
