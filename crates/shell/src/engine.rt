@@ -23,12 +23,26 @@ use std::num::NonZeroUsize;
 use values::{Fault, Row, Sink};
 
 /// An image that was checked whole, and its tables: queries are run over these and, behind them, the table of the schema's rows.
-#[derive(Drop)]
 pub struct Engine<S: Source> {
     pager: Pager<S>,
     checked: Checked,
     tables: Vec<Table>,
     alloc: Global,
+}
+
+// Written, and not derived: a crate that drops an engine would prove the drop of each type in it again.
+impl<S: Source + Drop> Drop for Engine<S> {
+    fn drop(self) {
+        let Engine {
+            pager,
+            checked,
+            tables,
+            alloc: _alloc,
+        } = self;
+        drop(pager);
+        drop(checked);
+        drop(tables);
+    }
 }
 
 impl<S: Source> Model for Engine<S> {

@@ -102,7 +102,6 @@ fn run_of(alloc: Global, settled: Query, planned: Option<Planned>) -> Result<Que
 }
 
 /// A query over an engine's tables, whose names are resolved, and what is run for it.
-#[derive(Drop)]
 pub struct Prepared {
     query: Query,
     /// The query as it is run, over the schema's table as one table more.
@@ -110,6 +109,22 @@ pub struct Prepared {
     /// Its plan, which a query with queries in it has once these are computed.
     planned: Option<Planned>,
     header: Header,
+}
+
+// Written, as that of an engine.
+impl Drop for Prepared {
+    fn drop(self) {
+        let Prepared {
+            query,
+            settled,
+            planned,
+            header,
+        } = self;
+        drop(query);
+        drop(settled);
+        drop(planned);
+        drop(header);
+    }
 }
 
 impl Prepared {
@@ -143,10 +158,10 @@ impl Prepared {
         ensures { IfOk result (IsStartedFor (prepared_data self)) }
     {
         let Prepared {
+            query: _query,
             settled,
             planned,
             header,
-            ..
         } = self;
         let Header { names, .. } = header;
         let run = run_of(alloc, settled, planned)?;

@@ -2,9 +2,16 @@
 use operators_runs::QueryRun;
 
 /// A statement over an engine's tables that is stepped, and where it stands. It owns what is run for it.
-#[derive(Drop)]
 pub struct Statement {
     pub(crate) run: QueryRun,
+}
+
+// Written, as that of an engine.
+impl Drop for Statement {
+    fn drop(self) {
+        let Statement { run } = self;
+        drop(run);
+    }
 }
 
 /// A statement before its first row.
