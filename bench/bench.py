@@ -24,7 +24,7 @@ sys.path.insert(0, str(TOP / "compare"))
 
 from costs import CACHE, Command, Cost, measure_all, met, peak_of, seleq, sqlite  # noqa: E402
 from joined import joined_lines  # noqa: E402
-from lookups import build_table_rows, lookup_lines  # noqa: E402
+from lookups import build_images, lookup_lines  # noqa: E402
 from measured import GATHERED, INDEXED_TARGET, INDEXES, JOINS, STATEMENTS, WINDOWS, Statement  # noqa: E402
 from program import build, give_up  # noqa: E402
 from reading import reading_lines  # noqa: E402
@@ -238,7 +238,7 @@ def main() -> int:
         give_up("the program sqlite3 is not on the PATH")
     if not words.built:
         build()
-        build_table_rows()
+        build_images()
     sizes = [max(1, words.rows // 100), max(2, words.rows // 10), words.rows]
     with tempfile.TemporaryDirectory() as folder:
         all_costs = []

@@ -1,5 +1,5 @@
 """Searches that are measured beside `sqlite3`: a million of them, for rows by their numbers and for entries of an index, each for a
-key that is there, in random order. The searches are those of the program `table_rows`, which writes what it finds."""
+key that is there, in random order. The searches are those of the program `images`, which writes what it finds."""
 
 from __future__ import annotations
 
@@ -11,21 +11,23 @@ from pathlib import Path
 from costs import Command, measure_all
 from program import TOP
 
-TABLE_ROWS = TOP / "crates" / "table_rows" / "out" / "table_rows"
+IMAGES = TOP / "crates" / "images" / "out" / "images"
 # At most the time that sqlite3 takes for a join with a list of the keys.
 LOOKUP_TARGET = 1.0
 
 
-def write_keys(folder: Path, name: str, keys: list[int]) -> tuple[Path, Path]:
-    """Writes keys in random order: as lines that `table_rows` reads, and as a table of an image of their own."""
+def write_keys(folder: Path, name: str, tree: str, keys: list[int]) -> tuple[Path, Path, Path]:
+    """Writes keys in random order: as lines that `images` reads, after one that names the tree, which is written alone too, and as a
+    table of an image of their own."""
     random.Random(7).shuffle(keys)
-    lines, image = folder / f"{name}.txt", folder / f"{name}.db"
-    lines.write_text("".join(f"at\ti{key}\n" for key in keys))
+    lines, alone, image = folder / f"{name}.txt", folder / f"{name}.alone.txt", folder / f"{name}.db"
+    lines.write_text(tree + "".join(f"at\ti{key}\n" for key in keys))
+    alone.write_text(tree)
     with sqlite3.connect(image) as database:
         database.execute("CREATE TABLE probe(k INT) STRICT")
         database.executemany("INSERT INTO probe VALUES (?)", ((key,) for key in keys))
     database.close()
-    return lines, image
+    return lines, alone, image
 
 
 def lookup_line(what: str, own: float, other: float) -> str:
@@ -40,18 +42,18 @@ def lookup_lines(path: Path, folder: Path, pages: int, runs: int) -> list[str]:
     database = sqlite3.connect(path)
     roots = dict(database.execute("SELECT name, rootpage FROM sqlite_schema WHERE name IN ('item', 'item_a')"))
     lines = ["| A million searches | seleq, s | sqlite3, s | Ratio | Target |", "|" + "---|" * 5]
-    for what, name, column, shown, way in (
-        ("for rows by their numbers", "item", "id", "item.id, item.a, item.b, item.name", "rowid"),
-        ("for entries of an index", "item_a", "a", "item.a, item.id", "+"),
+    for what, name, column, shown, tree in (
+        ("for rows by their numbers", "item", "id", "item.id, item.a, item.b, item.name", f"table\t{path}\t{roots['item']}\t{pages}\n"),
+        ("for entries of an index", "item_a", "a", "item.a, item.id", f"index\t{path}\t{roots['item_a']}\t+\t{pages}\n"),
     ):
-        keys, probe = write_keys(folder, name, [key for (key,) in database.execute(f"SELECT {column} FROM item")])
-        own = [str(TABLE_ROWS), str(path), str(roots[name]), way, str(pages)]
+        found = [key for (key,) in database.execute(f"SELECT {column} FROM item")]
+        keys, alone, probe = write_keys(folder, name, tree, found)
         other = ["sqlite3", "-batch", "-readonly", "-quote", "-cmd", f"ATTACH '{probe}' AS p", str(path)]
         join = f"SELECT {shown} FROM p.probe CROSS JOIN item ON item.{column} = probe.k"
         costs = measure_all(
             [
-                Command("own", own, given=str(keys)),
-                Command("own begin", own),
+                Command("own", [str(IMAGES)], given=str(keys)),
+                Command("own begin", [str(IMAGES)], given=str(alone)),
                 Command("other", [*other, join]),
                 Command("other begin", [*other, "SELECT k FROM p.probe"]),
             ],
@@ -63,8 +65,6 @@ def lookup_lines(path: Path, folder: Path, pages: int, runs: int) -> list[str]:
     return lines
 
 
-def build_table_rows() -> None:
+def build_images() -> None:
     """Proves and builds the program, and runs it once."""
-    crate = TABLE_ROWS.parent.parent
-    words = ["rt", "run", "--", "data/index.db", "2"]
-    subprocess.run(words, cwd=crate, stdin=subprocess.DEVNULL, stdout=subprocess.DEVNULL, check=True)
+    subprocess.run(["rt", "run"], cwd=IMAGES.parent.parent, stdin=subprocess.DEVNULL, stdout=subprocess.DEVNULL, check=True)

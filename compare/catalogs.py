@@ -10,7 +10,7 @@ import sys
 
 from program import TOP, Tally, fault_line, give_up
 
-CRATE = TOP / "crates" / "catalog_lines"
+CRATE = TOP / "crates" / "texts"
 CLASSES = {"INT": "int", "INTEGER": "int", "TEXT": "text", "BLOB": "blob"}
 
 # Tables that are served, by what stands in the parentheses of `CREATE TABLE t(..) STRICT`.
@@ -119,7 +119,7 @@ def made(texts: list[str]) -> tuple[sqlite3.Connection, list[tuple], str]:
     for text in texts:
         database.execute(text)
     rows = database.execute("SELECT type, name, tbl_name, rootpage, sql FROM sqlite_schema ORDER BY rowid").fetchall()
-    lines = ["\t".join("" if value is None else str(value) for value in row) + "\n" for row in rows]
+    lines = ["row " + "\t".join("" if value is None else str(value) for value in row) + "\n" for row in rows]
     return database, rows, "".join(lines)
 
 
@@ -134,8 +134,8 @@ def read(texts: list[str]) -> tuple[str, str]:
 
 def answers(schemas: list[str]) -> list[str]:
     """What our program answers for these rows of schemas."""
-    command = [str(CRATE / "out" / "catalog_lines")] if os.environ.get("BUILT") else ["rt", "run"]
-    given = "".join(schema + "\n" for schema in schemas)
+    command = [str(CRATE / "out" / "texts")] if os.environ.get("BUILT") else ["rt", "run"]
+    given = "".join(schema + "catalog\n" for schema in schemas)
     run = subprocess.run(command, cwd=CRATE, input=given, capture_output=True, text=True, check=False)
     if run.returncode != 0:
         sys.stdout.write(run.stdout + run.stderr)

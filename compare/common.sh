@@ -17,13 +17,13 @@ failed=0
 wanted="$folder/wanted"
 answer="$folder/answer"
 
-# build CRATE WORD..: proves and builds a program, unless BUILT tells that this was just done, and runs it on these words.
-# Where that fails, nothing is compared.
+# build CRATE WORD..: proves and builds a program, unless BUILT tells that this was just done, and runs it on these words
+# and nothing on standard input. Where that fails, nothing is compared.
 build() {
     crate=$1
     shift
     if ! { test -n "$BUILT" || python3 -B gate/build.py "$crate"; } >"$folder/run.log" 2>&1 ||
-        ! (cd "crates/$crate" && "out/$crate" "$@") >>"$folder/run.log" 2>&1; then
+        ! (cd "crates/$crate" && "out/$crate" "$@") </dev/null >>"$folder/run.log" 2>&1; then
         cat "$folder/run.log"
         echo "0 passed, 1 failed"
         exit 1

@@ -8,8 +8,8 @@
 
 . "$(dirname "$0")/common.sh"
 
-program=crates/table_counts
-build table_counts data/shop.db
+program=crates/images
+build images
 
 # How many words of a line are compared.
 words=2
@@ -145,7 +145,7 @@ said() {
 
 # found FILE KIND: the same as the check finds it.
 found() {
-    "$program/out/table_counts" "$1" >"$folder/lines" 2>&1
+    printf 'counts\t%s\n' "$1" | "$program/out/images" >"$folder/lines" 2>&1
     awk -v words="$words" '{
         line = $1
         for (i = 2; i <= words; i++) line = line " " $i

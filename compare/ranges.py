@@ -18,7 +18,7 @@ from random import Random
 from program import TOP, Tally, give_up
 from searches import KEYS, SIZES, Value, levels_of, random_rowid, random_value
 
-CRATE = TOP / "crates" / "searched_rows"
+PROGRAM = TOP / "crates" / "images" / "out" / "images"
 ROWS = 1000
 TEXT = """
     CREATE TABLE t(id INTEGER PRIMARY KEY, a INT, b TEXT, c BLOB, u INT UNIQUE) STRICT;
@@ -70,7 +70,7 @@ class Search:
 
     def line(self) -> str:
         """The search as the program reads it."""
-        return "\t".join([self.tree.name, *(word for sign, value in self.bounds for word in (sign, written(value)))]) + "\n"
+        return "\t".join(["range", self.tree.name, *(word for sign, value in self.bounds for word in (sign, written(value)))]) + "\n"
 
     def query(self) -> str:
         """The same as a query. A column is written with a sign, so that no value is converted to its type."""
@@ -164,9 +164,8 @@ def searches_of(random: Random, database: sqlite3.Connection, tree: Tree) -> lis
 
 def answers(path: Path, searches: list[Search]) -> tuple[list[tuple[list[str], int, int]], bytes]:
     """What the program says of each search: the rows, and how many pages the opening and the rows asked for; and of a fault."""
-    given = "".join(search.line() for search in searches)
-    command = [str(CRATE / "out" / "searched_rows"), str(path)]
-    run = subprocess.run(command, input=given.encode(), capture_output=True, check=False)
+    given = f"image\t{path}\n" + "".join(search.line() for search in searches)
+    run = subprocess.run([str(PROGRAM)], input=given.encode(), capture_output=True, check=False)
     found, rows = [], []
     for line in run.stdout.decode().split("\n")[:-1]:
         if counts := COUNTS.fullmatch(line):
@@ -206,7 +205,7 @@ def compare(tally: Tally, path: Path, database: sqlite3.Connection, tree: Tree, 
 
 def main() -> int:
     """Compares searches of each tree at each page size."""
-    if not (CRATE / "out" / "searched_rows").exists():
+    if not PROGRAM.exists():
         give_up("the program isn't built")
     tally, random = Tally(), Random(11)
     with tempfile.TemporaryDirectory() as folder:

@@ -1,5 +1,5 @@
 """Has sqlite3 make tables with indexes at several page sizes, and compares the entries that our cursor lists of each index, where
-its searches of indexes and of tables stand, at a key and behind it, and the one entry or row that is found by a key, with the
+its searches of indexes and of tables end, at a key and after it, and the one entry or row that is found by a key, with the
 order that sqlite3 gives. Each search of an index asks for no more pages than the tree has levels, and so does each that finds one
 cell; a search of a table for a row that is there neither, and else for one less than twice as many. Run from the top of the
 repository; the last line is 'N passed, M failed'."""
@@ -20,7 +20,7 @@ from oracle import Reader
 from program import TOP, Tally, give_up
 from writer import Writer, record
 
-CRATE = TOP / "crates" / "table_rows"
+PROGRAM = TOP / "crates" / "images" / "out" / "images"
 SIZES = (512, 4096) if os.environ.get("SMALL") else (512, 1024, 4096, 65536)
 ROWS = 3000
 KEYS = 100 if os.environ.get("SMALL") else 1000
@@ -28,12 +28,12 @@ KEYS = 100 if os.environ.get("SMALL") else 1000
 MOST_LEVELS = 5
 
 Value = int | str | bytes | None
-# The first columns of entries, and how they are sought: by a search that stands at the entries that have these or behind them, or as
+# The first columns of entries, and how they are sought: by a search that ends at the entries that have these or after them, or as
 # the first of these alone.
 Sought = tuple[list[Value], str]
-WAYS = ("at", "behind", "find")
+WAYS = ("at", "after", "find")
 # How the rowid of the row that is answered stands to the one that is sought.
-RELATIONS = {"at": ">=", "behind": ">", "find": "="}
+RELATIONS = {"at": ">=", "after": ">", "find": "="}
 
 
 @dataclass(frozen=True)
@@ -156,18 +156,19 @@ def sought_keys(random: Random, entries: list[list[Value]], columns: tuple[str, 
     return found
 
 
-def listed(path: Path, root: int, how: str, keys: list[Sought]) -> tuple[list[str], bytes]:
-    """What our program lists of the tree with this root, and of searches for these keys; and what it says of a fault."""
-    given = "".join(key_line(*key) for key in keys)
-    command = [str(CRATE / "out" / "table_rows"), str(path), str(root), how]
-    run = subprocess.run(command, input=given.encode(), capture_output=True, check=False)
+def listed(path: Path, root: int, signs: str, keys: list[Sought]) -> tuple[list[str], bytes]:
+    """What our program lists of the index with this root and these signs, or of a table where there are none, and of searches for
+    these keys; and what it says of a fault."""
+    tree = f"index\t{path}\t{root}\t{signs}\n" if signs else f"table\t{path}\t{root}\n"
+    given = tree + "".join(key_line(*key) for key in keys)
+    run = subprocess.run([PROGRAM], input=given.encode(), capture_output=True, check=False)
     return run.stdout.decode().split("\n")[:-1], run.stderr[:200]
 
 
 def compare_entries(
     tally: Tally, what: str, path: Path, root: int, signs: str, entries: list[list[Value]], keys: list[Sought], levels: int
 ) -> None:
-    """Compares what is listed of an index with its entries, which are in their order, and where searches stand."""
+    """Compares what is listed of an index with its entries, which are in their order, and where searches end."""
     lines, said = listed(path, root, signs, keys)
     wanted = [",".join(map(literal, entry)) for entry in entries]
     if lines[: len(wanted)] != wanted or len(lines) != len(wanted) + len(keys):
@@ -175,7 +176,7 @@ def compare_entries(
         return
     tally.add(what, "")
     for (key, way), line in zip(keys, lines[len(wanted) :]):
-        place = bisect_left(entries, True, key=lambda entry: not comes_before(entry, key, signs, way == "behind"))
+        place = bisect_left(entries, True, key=lambda entry: not comes_before(entry, key, signs, way == "after"))
         found, _, asked = line.rpartition(",")
         stands = wanted[place] if place < len(wanted) and is_answer(entries[place], key, way) else ""
         problem = "" if found == stands and int(asked) <= levels else f"{line}; wanted {stands}, {levels} levels"
@@ -224,12 +225,12 @@ def levels_of(database: sqlite3.Connection, name: str) -> int:
 
 
 def compare_rows(tally: Tally, path: Path, database: sqlite3.Connection, random: Random) -> None:
-    """Compares where searches for rows stand, at a rowid and behind it, and the rows that are found, half of them rows that there are."""
+    """Compares where searches for rows end, at a rowid and after it, and the rows that are found, half of them rows that there are."""
     rows = dict(database.execute("SELECT id, name FROM k"))
     there = sorted(rows)
     found = [random.choice(there) if random.random() < 0.5 else random_rowid(random) for _ in range(KEYS)]
     keys = [(rowid, way) for rowid in found for way in WAYS]
-    lines, said = listed(path, root_of(database, "k"), "rowid", [([rowid], way) for rowid, way in keys])
+    lines, said = listed(path, root_of(database, "k"), "", [([rowid], way) for rowid, way in keys])
     if len(lines) != len(keys):
         tally.add(f"{path.name}: rows", f"{len(lines)} lines, {said!r}")
         return
@@ -247,7 +248,7 @@ def compare_rows(tally: Tally, path: Path, database: sqlite3.Connection, random:
 
 def main() -> int:
     """Compares an index of few entries, and the indexes and the searches of a table at each page size."""
-    if not (CRATE / "out" / "table_rows").exists():
+    if not PROGRAM.exists():
         give_up("the program isn't built")
     tally, random = Tally(), Random(7)
     with tempfile.TemporaryDirectory() as folder:

@@ -25,8 +25,8 @@ from memory import build_library
 from program import MOST_SECONDS, TOP, Tally, fault_line, give_up, limit_child
 from recipes import fill, make_file
 
-CRATE = TOP / "crates" / "stepped_statements"
-PROGRAM = CRATE / "out" / "stepped_statements"
+CRATE = TOP / "crates" / "engines"
+PROGRAM = CRATE / "out" / "engines"
 
 # More reads than any schedule makes.
 MOST_READS = 5000
@@ -88,14 +88,23 @@ class Schedule:
         self.wanted.append(wanted)
 
 
-def run(path: Path, lines: list[str], words: tuple[object, ...] = (), **more: str) -> tuple[int, list[str], str]:
-    """The status of a run that makes these steps, its lines, and what it wrote on standard error."""
-    command = [str(PROGRAM), str(path), *(str(word) for word in words)]
+def given(path: Path, lines: list[str], how: str = "session", read: int = 0) -> list[str]:
+    """The lines that ask for these steps over an image, of which a read may fail."""
+    return [f"{how}\t{path}\t{read}", *lines]
+
+
+def run_lines(lines: list[str], **more: str) -> tuple[int, list[str], str]:
+    """The status of a run that is given these lines, the lines that it writes, and what it writes on standard error."""
     ran = subprocess.run(
-        command, input="".join(f"{line}\n" for line in lines), env={**os.environ, **more}, preexec_fn=limit_child,
+        [PROGRAM], input="".join(f"{line}\n" for line in lines), env={**os.environ, **more}, preexec_fn=limit_child,
         capture_output=True, text=True, timeout=6 * MOST_SECONDS, check=False,
     )
     return ran.returncode, ran.stdout.splitlines(keepends=True), ran.stderr
+
+
+def run(path: Path, lines: list[str], how: str = "session", read: int = 0, **more: str) -> tuple[int, list[str], str]:
+    """The same of a run that makes these steps."""
+    return run_lines(given(path, lines, how, read), **more)
 
 
 def steps_of(slot: int, which: int, wanted: list[str]) -> list[tuple[str, int, str]]:
@@ -106,7 +115,7 @@ def steps_of(slot: int, which: int, wanted: list[str]) -> list[tuple[str, int, s
 
 
 def schedules(alone: list[list[str]]) -> list[Schedule]:
-    """Each order of the three statements: one after the other, in turn, two steps at a time, and each closed and opened anew midway."""
+    """Each order of the three statements: one after the other, in turn, two steps at a time, and each closed and opened again midway."""
     made = []
     for order in permutations(range(3)):
         for width in (100, 1, 2, 3):
@@ -133,7 +142,7 @@ def differing(wanted: list[str], replies: list[str]) -> str:
 
 
 def failing_problem(schedule: Schedule, replies: list[str], fault: str) -> str:
-    """What is wrong with replies of which one may be this fault: behind it its statement has ended until it is closed, and all others are
+    """What is wrong with replies of which one may be this fault: after it its statement has ended until it is closed, and all others are
     as they are alone."""
     if len(replies) != len(schedule.wanted):
         return f"{len(replies)} replies for {len(schedule.wanted)}"
@@ -156,9 +165,9 @@ def failing_problem(schedule: Schedule, replies: list[str], fault: str) -> str:
 
 def try_lines(tally: Tally, path: Path, name: str, lines: list[str], wanted: list[str]) -> None:
     """Makes steps one by one, and all of them by one call."""
-    for how, words in (("by steps", ()), ("by one call", (0, "replay"))):
-        status, replies, errors = run(path, lines, words)
-        tally.add(f"{name} {how}", differing(wanted, replies) or (errors if status else ""))
+    for called, how in (("by steps", "session"), ("by one call", "replay")):
+        status, replies, errors = run(path, lines, how)
+        tally.add(f"{name} {called}", differing(wanted, replies) or (errors if status else ""))
 
 
 def try_schedules(tally: Tally, path: Path) -> None:
@@ -169,10 +178,10 @@ def try_schedules(tally: Tally, path: Path) -> None:
 
 
 def try_reads(tally: Tally, path: Path, schedule: Schedule) -> None:
-    """Each read fails in turn, up to one behind the last. Those of opening end the program."""
+    """Each read fails in turn, up to one after the last. Those of opening end the program."""
     opened = False
     for read in range(1, MOST_READS):
-        status, replies, errors = run(path, schedule.lines, (read,))
+        status, replies, errors = run(path, schedule.lines, read=read)
         if status:
             tally.add(f"read {read} of opening", "" if not opened and "ReadFailed" in errors and not replies else f"{errors}, {replies}")
             continue
@@ -200,8 +209,8 @@ def try_memory(tally: Tally, path: Path, folder: Path, schedule: Schedule) -> No
 def peak_of(path: Path, lines: list[str]) -> int:
     """The most memory that a run which makes these steps had when it wrote its replies, of which a pipe holds back a page."""
     steps, peak = path.with_suffix(".steps"), 0
-    steps.write_text("".join(f"{line}\n" for line in lines))
-    with open(steps) as given, subprocess.Popen([str(PROGRAM), str(path)], stdin=given, stdout=subprocess.PIPE, pipesize=4096) as child:
+    steps.write_text("".join(f"{line}\n" for line in given(path, lines)))
+    with open(steps) as lines_given, subprocess.Popen([PROGRAM], stdin=lines_given, stdout=subprocess.PIPE, pipesize=4096) as child:
         while child.stdout.read1():
             told = re.search(r"VmHWM:\s+([0-9]+) kB", Path(f"/proc/{child.pid}/status").read_text())
             peak = max(peak, int(told[1]) * 1024 if told else 0)
@@ -227,7 +236,7 @@ def try_again(tally: Tally, path: Path) -> None:
 
 def build() -> None:
     """Proves and builds the program, unless BUILT tells that this was just done."""
-    command = ["true"] if os.environ.get("BUILT") else ["rt", "run", "--", "data/shop.db"]
+    command = ["true"] if os.environ.get("BUILT") else ["rt", "run"]
     built = subprocess.run(command, cwd=CRATE, stdin=subprocess.DEVNULL, capture_output=True, check=False)
     if built.returncode != 0:
         sys.stdout.write(built.stdout.decode(errors="replace") + built.stderr.decode(errors="replace"))

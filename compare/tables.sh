@@ -3,7 +3,7 @@
 # with those that sqlite3 gives. Run from the top of the repository. The last line is 'N passed, M failed'.
 . "$(dirname "$0")/common.sh"
 
-build table_rows data/index.db 2
+build images
 
 for size in $(sizes 512 1024 4096 65536); do
     file="$folder/$size.db"
@@ -15,7 +15,7 @@ for size in $(sizes 512 1024 4096 65536); do
             substr('it''s a text of forty letters or of fewer', 1, i % 41) FROM n;" >"$folder/made" 2>&1
     root=$(sqlite3 "$file" "SELECT rootpage FROM sqlite_schema WHERE name = 't'")
     sqlite3 "$file" "SELECT quote(id) || ',NULL,' || quote(a) || ',' || quote(b) FROM t ORDER BY id" >"$wanted"
-    crates/table_rows/out/table_rows "$file" "$root" >"$answer" 2>&1
+    printf 'rows\t%s\t%s\n' "$file" "$root" | crates/images/out/images >"$answer" 2>&1
     if test "$(wc -l <"$wanted")" -eq 100000 && cmp -s "$wanted" "$answer"; then
         pass
     else

@@ -1,5 +1,5 @@
 #!/usr/bin/env python3
-"""Tries the programs `seleq` and `table_counts` on worked images: pages of trees, records, schemas and overflow pages of each
+"""Tries the programs `seleq` and `images` on worked images: pages of trees, records, schemas and overflow pages of each
 kind, sound ones and broken ones, with what has to be said of each. Where an image is sound, SQLite's own check says so too.
 
 Run from any folder. The last line is 'N passed, M failed'.
@@ -24,7 +24,7 @@ from recipes import make_file
 from shop import ANSWERS, CACHED, HEADED, ITEM, NO_STATEMENTS, REFUSED, SHOP, STOPPED
 from writer import WIDTHS, Field, Tree, Value, Writer, integer, record, stored, varint
 
-COUNTS = TOP / "crates" / "table_counts" / "out" / "table_counts"
+IMAGES = TOP / "crates" / "images" / "out" / "images"
 
 NUMBERS = "CREATE TABLE t(id INTEGER PRIMARY KEY, a INT, b TEXT) STRICT"
 NOTE = "CREATE TABLE note(body TEXT) STRICT"
@@ -211,7 +211,7 @@ class Trial:
     def counted(self, what: str, image: bytes, lines: str) -> None:
         """What the check counts in the image: a line `name rows pages levels` for each table."""
         self.path.write_bytes(image)
-        ran = subprocess.run([COUNTS, self.path], capture_output=True, check=False)
+        ran = subprocess.run([IMAGES], input=f"counts\t{self.path}\n".encode(), capture_output=True, check=False)
         self.tally.add(f"{what}, counts", "" if ran.stdout == lines.encode() else f"{ran.stdout!r} {ran.stderr!r}")
 
 
@@ -666,8 +666,8 @@ def sized(size: int, reserved: int) -> tuple[Writer, str]:
 
 
 def try_kept(trial: Trial) -> None:
-    """The images beside the programs for tests are those that are written here, for `further_runs`, and in `kept.py`."""
-    folder = TOP / "crates" / "further_runs" / "data"
+    """The images beside the programs for tests are those that are written here, for `engines`, and in `kept.py`."""
+    folder = TOP / "crates" / "engines" / "data"
     rows, _ = numbers(1, 60, leaf=4, fan=3)
     chains, _, _ = long_values("BLOB", [2000, 477, 985])
     for file, whole in {folder / "rows.db": rows.image(), folder / "chains.db": chains.image(), **kept()}.items():

@@ -1,6 +1,0 @@
-use Rattle.std.proofs.Common.{◌≡◌}
-use Rattle.records_tables.specs.Reading.{table_read}
-use Rattle.searched_rows.proofs.rows.write_row.Given as goal
-
-abbrev pub invariant-loop-column : goal.invariant-loop-column
-invariant-loop-column g l = table_read l.reader ≡ l.table
