@@ -2,6 +2,7 @@
 """Proves and builds crates and what is below them, over what earlier checks kept, several side by side.
 
     python3 gate/build.py [--jobs N] [--memory GB] [CRATE ..]     the crates named and all below them; without names all
+    python3 gate/build.py --proved CRATE ..     static libraries, of what `rt ci` proved
 
 What is built and of which no source differs is left alone. Of what waits for nothing those crates come first that stand at
 the foot of the longest chain, as many at once as there are jobs and as their likely memory leaves room for; where fewer
@@ -17,11 +18,14 @@ from __future__ import annotations
 import argparse
 import copy
 import os
+import shutil
 import signal
+import subprocess
 import sys
 import tempfile
 import threading
 import time
+from collections.abc import Callable
 from dataclasses import dataclass
 from functools import cache
 from pathlib import Path
@@ -190,11 +194,16 @@ class Builder:
 
 
 def build_one(task: Task) -> bool:
-    """Whether the task's crate is proved and built. What the prover says is kept where it isn't."""
+    """Whether the task's crate is proved and built."""
+    crate = task.crate
+    return is_done(task, build_program if crate.is_program else build_static if crate.is_static else build_library)
+
+
+def is_done(task: Task, build: Callable[..., int]) -> bool:
+    """Whether a task's crate was built so. What the prover says is kept where it wasn't."""
     crate = copy.copy(task.crate)
     os.makedirs(f"{crate.folder}/out", exist_ok=True)
     with tempfile.TemporaryFile("w+", errors="replace") as crate.out:
-        build = build_program if crate.is_program else build_library
         status = build(crate, ["--jobs", str(task.jobs)])
         crate.out.seek(0)
         task.said = crate.out.read() if status else ""
@@ -205,9 +214,41 @@ def build_library(crate, flags: list[str]) -> int:
     return crate.build_rlib(flags, anew=False)
 
 
+def build_static(crate, flags: list[str]) -> int:
+    """Proves and compiles a static library, and makes of it one archive that needs no other and one shared library."""
+    made, stamp, sources = made_by(crate), stamp_of(crate), crate.stamp()
+    stamp.unlink(missing_ok=True)
+    status = crate.compile(flags, alone_by(crate)) or join_archives(crate, made)
+    if not status and sources == crate.stamp():
+        stamp.write_text(sources + rt.rtlib.sum_of(f"{crate.folder}/{made}"), encoding="utf-8")
+    return status
+
+
+def build_checked(crate, flags: list[str]) -> int:
+    """The same of what `rt ci` compiled. Where it took the proof of an earlier run, and compiled nothing, that is done here."""
+    is_compiled = Path(crate.folder, alone_by(crate)).exists()
+    return (0 if is_compiled else crate.compile(flags, alone_by(crate))) or join_archives(crate, made_by(crate))
+
+
+def join_archives(crate, made: str) -> int:
+    """Puts the kit's archives of C functions beside a static library's own, and links all into a shared one of its exports."""
+    alone, shared = alone_by(crate), f"{made[:-2]}.so"
+    Path(crate.folder, made).unlink(missing_ok=True)
+    parts = [alone, *(f"{rt.KIT}/c/{name}.a" for name in ("liblibc_c", "libos_c"))]
+    words = [f"create {made}", *(f"addlib {part}" for part in parts), "save", "end"]
+    how = {"cwd": crate.folder, "stdout": crate.out, "stderr": subprocess.STDOUT, "text": True, "check": False}
+    status = subprocess.run([f"{rt.KIT}/toolchain/bin/llvm-ar", "-M"], input="\n".join(words) + "\n", **how).returncode
+    if status or not shutil.which("cc"):
+        return status
+    exports = f"{{ global: {crate.name.removesuffix('_c')}_*; local: *; }};\n"
+    Path(crate.folder, "out", "exports").write_text(exports, encoding="utf-8")
+    words = ["cc", "-shared", "-o", shared, "-Wl,--version-script=out/exports", "-Wl,--whole-archive", alone, "-Wl,--no-whole-archive"]
+    return subprocess.run([*words, *parts[1:]], **how).returncode
+
+
 def build_program(crate, flags: list[str]) -> int:
     """Proves, compiles and links a program as `rt run` does, with the stamp by which that finds it built."""
-    made, stamp, sources = f"out/{crate.name}", stamp_of(crate), crate.stamp()
+    made, stamp, sources = made_by(crate), stamp_of(crate), crate.stamp()
     stamp.unlink(missing_ok=True)
     words = ["--target", "x86_64-unknown-linux-gnu", "--toolchain", f"{rt.KIT}/toolchain", "-o", made, f"{made}.o"]
     words += [f"{rt.KIT}/c/libos_c.a", f"{rt.KIT}/c/liblibc_c.a"]
@@ -217,16 +258,26 @@ def build_program(crate, flags: list[str]) -> int:
     return status
 
 
+def made_by(crate) -> str:
+    """What the build of a program or a static library makes: `seleq_c` is the library `seleq` of C."""
+    return f"out/lib{crate.name.removesuffix('_c')}.a" if crate.is_static else f"out/{crate.name}"
+
+
+def alone_by(crate) -> str:
+    """What the kit makes of a static library: an archive of its own code."""
+    return f"out/lib{crate.name}.a"
+
+
 def stamp_of(crate) -> Path:
-    """Where it stands of which sources and of which bytes a built program is."""
+    """Where it stands of which sources and of which bytes a built program or static library is."""
     return Path(crate.folder, "out", f"{crate.name}.stamp")
 
 
 def is_built(crate) -> bool:
     """Whether a crate is built of the sources that stand there."""
-    if not crate.is_program:
+    if not crate.is_program and not crate.is_static:
         return crate.is_built()
-    return rt.rtlib.text_of(str(stamp_of(crate))) == crate.stamp() + rt.rtlib.sum_of(f"{crate.folder}/out/{crate.name}")
+    return rt.rtlib.text_of(str(stamp_of(crate))) == crate.stamp() + rt.rtlib.sum_of(f"{crate.folder}/{made_by(crate)}")
 
 
 def build(names: list[str], jobs: int, memory: float) -> bool:
@@ -243,11 +294,24 @@ def build(names: list[str], jobs: int, memory: float) -> bool:
     held = rt.rtlib.lock(crates)
     builder = Builder(Schedule(tasks_of(not_built(crates)), jobs, memory), len(crates))
     is_well = builder.run()
-    for task in builder.schedule.those("failed"):
-        print(f"{told_of(task.said)}\n{task.name} isn't proved", file=sys.stderr)
+    tell_of(builder.schedule.those("failed"))
     for it in held:
         os.close(it)
     return is_well
+
+
+def build_over_proved(names: list[str], jobs: int) -> bool:
+    """Whether the static libraries are made that `rt ci` proved, over the crates below them, for which it writes no stamps."""
+    tasks = [Task(it, 0.0, 0.0, jobs=jobs) for it in rt.rtlib.crates_below(str(TOP)) if it.name in names]
+    failed = [it for it in tasks if not is_done(it, build_checked)]
+    tell_of(failed)
+    return not failed
+
+
+def tell_of(failed: list[Task]) -> None:
+    """Shows what the prover says of crates that it doesn't prove."""
+    for task in failed:
+        print(f"{told_of(task.said)}\n{task.name} isn't proved", file=sys.stderr)
 
 
 def told_of(said: str) -> str:
@@ -274,6 +338,7 @@ def read_words() -> argparse.Namespace:
     parser.add_argument("crates", nargs="*", help="the crates that are built, with what is below them (all)")
     parser.add_argument("--jobs", type=int, default=rt.processors(), help="how many provers run side by side")
     parser.add_argument("--memory", type=float, default=8.0, help="how many gigabytes they may take together (8)")
+    parser.add_argument("--proved", action="store_true", help="make these static libraries of what `rt ci` proved")
     return parser.parse_args()
 
 
@@ -281,6 +346,8 @@ def main() -> int:
     """Builds what the command line asks for."""
     words = read_words()
     signal.signal(signal.SIGINT, stop)
+    if words.proved:
+        return 0 if build_over_proved(words.crates, words.jobs) else 1
     return 0 if build(words.crates, words.jobs, min(1000 * words.memory, free_memory())) else 1
 
 

@@ -33,20 +33,11 @@ from turns import changed_crates
 TOP = Path(__file__).resolve().parent.parent
 # What stands beside the sources and is no part of them.
 MADE = ("out", ".git", "__pycache__")
-# The programs that are run here and by the scripts of compare/, with the words of a run.
-PROGRAMS = {
-    "catalog_lines": [],
-    "further_runs": ["data/rows.db", "data/chains.db"],
-    "searched_rows": ["data/worked.db"],
-    "seleq": ["data/shop.db", "SELECT name FROM item"],
-    "stepped_statements": ["data/shop.db"],
-    "table_counts": ["data/shop.db"],
-    "table_rows": ["data/index.db", "5", "+"],
-    "text_trees": [],
-}
+# The programs that are run here and by the scripts of compare/.
+PROGRAMS = ("engines", "images", "second_engine", "seleq", "texts")
 # The scripts of compare/ that ask the built program.
 OURS = (
-    *("worked", "conditions", "interrupted", "sessions", "catalogs", "searches", "ranges"),
+    *("worked", "conditions", "interrupted", "sessions", "agreement", "catalogs", "searches", "ranges", "linked"),
     *("statements", "nested", "joins", "windows", "names"),
 )
 # The kit's command.
@@ -165,6 +156,7 @@ def check_whole(is_all: bool, total: Sum, began: float) -> None:
         for edits in TOP.glob("crates/*/must-fail"):
             shutil.copytree(edits, copy / edits.relative_to(TOP))
         if not ran.status:
+            total.add_one("the library for C", passes(["python3", "-B", "gate/build.py", "--proved", "seleq_c"], copy))
             # The edits begin with nothing that the proofs kept, and need the disk.
             for kept in copy.glob(f"crates/*/{rt.rtlib.KEPT[1]}"):
                 shutil.rmtree(kept)
@@ -194,11 +186,11 @@ def check_quick(total: Sum) -> None:
     total.add_one("the proofs", built)
     if not built:
         return
-    built = all(passes([f"out/{name}", *words], TOP / "crates" / name) for name, words in PROGRAMS.items())
-    total.add_one("the programs", built)
-    if not built:
+    answered = [writes_what_is_stored(TOP / "crates" / name) for name in PROGRAMS]
+    for name, is_well in zip(PROGRAMS, answered):
+        total.add_one(f"the program {name}", is_well)
+    if not all(answered):
         return
-    total.add_one("the worked texts", all(has_worked_texts(TOP / "crates" / name, words) for name, words in PROGRAMS.items()))
     edited = [it.name for it in crates if it.name in names and rt.edits_of(it)[0]]
     parts = [Part("edits", ["python3", "gate/edits.py", "--kept", "--changed-in", str(TOP), *edited])] if edited else []
     parts += scripts(TOP, {"SMALL": "1"}, ["--rounds", "50"])
@@ -208,12 +200,14 @@ def check_quick(total: Sum) -> None:
         tests.result()
 
 
-def has_worked_texts(crate: Path, words: list[str]) -> bool:
-    """Whether a program that has a file `stdin` writes of it what stands in `stdout`, as `rt ci` asks of it too."""
-    if not (crate / "stdin").exists():
-        return True
-    with (crate / "stdin").open("rb") as texts:
-        ran = subprocess.run([f"out/{crate.name}", *words], cwd=crate, stdin=texts, capture_output=True, check=False)
+def writes_what_is_stored(crate: Path) -> bool:
+    """Whether a program that runs beside its data writes its file `stdout` of its files `args` and `stdin`, as `rt ci` asks of it
+    too."""
+    args, given, data = crate / "args", crate / "stdin", crate / "data"
+    words = args.read_text().splitlines() if args.exists() else []
+    with (given if given.exists() else Path(os.devnull)).open("rb") as lines:
+        command = [crate / "out" / crate.name, *words]
+        ran = subprocess.run(command, cwd=data if data.exists() else crate, stdin=lines, capture_output=True, check=False)
     return ran.returncode == 0 and ran.stdout == (crate / "stdout").read_bytes()
 
 

@@ -7,6 +7,7 @@ import importlib.util
 import os
 import shutil
 import sys
+import tempfile
 import threading
 from collections.abc import Iterator
 from contextlib import contextmanager
@@ -26,6 +27,7 @@ def load() -> ModuleType:
     module.rtlib.guarded()
     sum_once(module.rtlib.Crate)
     list_once(module.rtlib.Crate)
+    compile_static(module)
     return module
 
 
@@ -72,6 +74,27 @@ def list_once(crates: type) -> None:
         return list(held[1])
 
     crates.below = below
+
+
+def compile_static(module: ModuleType) -> None:
+    """Has the gate compile a static library of what its check proved, as it compiles a program. By itself the command only checks it,
+    and a build after that would prove it once more."""
+    crates, rattle, kit = module.Crate, module.rtlib.RATTLE, module.KIT
+    whole = crates.ci
+
+    def ci(crate, flags: list[str], tests: bool) -> int:
+        if tests or not crate.is_static:
+            return whole(crate, flags, tests)
+        words = crate.words(flags, keeps=False)
+        with tempfile.TemporaryDirectory(prefix="static-") as room:
+            status = crate.prove(["check", *words, "-o", f"{room}/checked"])
+            for flag in ("--logic-built", "--jobs"):
+                at = words.index(flag)
+                words = [*words[:at], *words[at + 2 :]]
+            words += ["--crate-checked", f"{room}/checked", "--toolchain", f"{kit}/toolchain", "--backend", "llvm"]
+            return status or crate.call(rattle, "build", *words, "-o", f"out/lib{crate.name}.a")
+
+    crates.ci = ci
 
 
 rt = load()

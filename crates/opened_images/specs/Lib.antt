@@ -1,0 +1,2 @@
+pub mod Detail
+pub mod Held

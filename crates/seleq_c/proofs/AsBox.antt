@@ -1,0 +1,21 @@
+-- The parts own what a box at the same types owns, and so does a handle with an image.
+use mir.Syntax.{impl, tnil, dnil}
+use mathlib.Core.List.{[]}
+use denote.Signature.{Slot, plain}
+use Rattle.std_alloc.proofs.BoxSteps.Form.{Bx}
+use Rattle.std_heap.specs.contracts.Global as Heap
+use Rattle.std_heap.specs.contracts.GlobalAllocator.TheImpl.{ghosts, dict}
+use Rattle.std_heap.proofs.Global.TheLaws as heap
+use Rattle.opened_images.specs.contracts.image.OpenImage as Image
+use Rattle.opened_images.proofs.image.OpenImage.TheLaws as image
+use Rattle.seleq_c.specs.contracts.parts.Parts as Parts
+use Rattle.seleq_c.specs.contracts.handle.Handle as Handle
+
+abbrev pub E : Bx
+E = record { row = Image.the_row; laws = image.the_row_laws; al = record { row = Heap.the_row; laws = heap.the_row_laws; g = ghosts; d = dict; drops = impl [] tnil dnil } }
+
+abbrev pub FromParts : Slot 0
+FromParts = plain (λ _. Parts.the_row Image.the_row Heap.the_row ghosts)
+
+abbrev pub FromHandle : Slot 0
+FromHandle = plain (λ _. Handle.the_row)

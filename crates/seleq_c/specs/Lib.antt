@@ -1,0 +1,4 @@
+pub mod Owned
+pub mod Lent
+pub mod Called
+pub mod Shown
