@@ -2,8 +2,9 @@
 #![tactic(auto)]
 
 use clap::error::ErrorKind;
+use command_line::Args;
 use pager::FileSource;
-use shell::{Args, fail, serve};
+use shell::{fail, serve};
 use std::alloc::{AllocError, Global};
 use std::fs::{self, File};
 use std::process::ExitCode;

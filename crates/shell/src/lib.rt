@@ -1,22 +1,19 @@
-//! The program without its runtime: what a command line asks for, and what is written for it. It promises the
-//! exact answer: an engine opens only an image that passes its check, prepares only a text that spells a
-//! SELECT over the tables that it has, and a run writes exactly the text of an answer that the query permits
-//! over the tables that the image denotes, or a beginning of one before a fault whose cause is there. A
-//! statement that is stepped instead gives the rows of such an answer one by one, whatever else reads pages
-//! in between.
+//! The program without its runtime: what is written for what a command line asks for. It promises the exact
+//! answer: an engine opens only an image that passes its check, prepares only a text that spells a SELECT over
+//! the tables that it has, and a run writes exactly the text of an answer that the query permits over the
+//! tables that the image denotes, or a beginning of one before a fault whose cause is there. A statement that
+//! is stepped instead gives the rows of such an answer one by one, whatever else reads pages in between.
 //!
-//! The modules, in the order in which data passes them: `args` (the command line), `stepped` (statements that
-//! are stepped), `prepared` (a query whose names are resolved, and what is run for it), `engine` (an image
-//! that was checked, its statements, their runs and their steps) and `program` (`serve` and `fail`).
+//! The modules, in the order in which data passes them: `stepped` (statements that are stepped), `prepared` (a
+//! query whose names are resolved, and what is run for it), `engine` (an image that was checked, its
+//! statements, their runs and their steps) and `program` (`serve` and `fail`).
 #![tactic(auto)]
 
-mod args;
 mod engine;
 mod prepared;
 mod program;
 mod stepped;
 
-pub use args::{Args, MAX_CACHE};
 pub use engine::{Engine, Report};
 pub use prepared::Prepared;
 pub use program::{fail, serve};

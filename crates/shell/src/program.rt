@@ -8,7 +8,8 @@ ghost use Rattle.shell.specs.Served.{HasLines, IsServedWhole, header_text};
 ghost use Rattle.shell.specs.Prepared.{IsPreparedFor};
 ghost use Rattle.shell.specs.PreparedView.{prepared_data};
 
-use crate::{Args, Engine, Prepared};
+use crate::{Engine, Prepared};
+use command_line::Args;
 use pager::Source;
 use std::alloc::Global;
 use std::num::NonZeroUsize;
