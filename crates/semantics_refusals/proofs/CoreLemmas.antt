@@ -1,6 +1,6 @@
 -- One SELECT behind its FROM, or why it is none.
-use Rattle.std.proofs.Common.{◌≡◌, ◌⊎◌, inl, inr, Bool, true, false, true≢false, if◌then◌else◌, option_map, ℕ, zero, suc, ◌<◌, ◌≤◌, ℤ, pos, negsuc, List, [], ◌∷◌, ◌++◌, length, map, Option, Some, None, Result, Ok, Err, Contains, nat_le, nat_lt, ap, refl, subst, sym, ◌∙◌, arith}
-use Rattle.std.specs.List.{cons_option, filter_map}
+use Rattle.std.proofs.Common.{◌≡◌, ◌⊎◌, inl, inr, Bool, true, false, ℕ, zero, suc, ◌<◌, ◌≤◌, ℤ, pos, negsuc, List, [], ◌∷◌, ◌++◌, length, map, Option, Some, None, Result, Ok, Err, Contains, nat_le, nat_lt, ap, refl, subst, sym, ◌∙◌, arith}
+use Rattle.std.specs.List.{filter_map}
 use Rattle.std.proofs.lemmas.Bool.{ltb-false}
 use Rattle.std.proofs.lemmas.List.{length-map}
 use Rattle.std.proofs.lemmas.List.Elements.{Contains-append_cases, Contains-append_left, Contains-append_right, Contains-push, Contains-push_cases}
@@ -12,17 +12,14 @@ use Rattle.sql_reader_syntax.specs.Tree.{Name}
 use Rattle.sql_reader_syntax.specs.declared.expr.PrefixOperator.TheVariants as prefixes
 use Rattle.semantics.specs.Query.{Aggregate, KeyTerm, WindowCall}
 use Rattle.semantics_names.specs.Expression.{Answers, Says, term_of}
-use Rattle.semantics_names.specs.Laws.{IsOnlyColumn, IsScalar, NameIsColumn, SameIsEqual}
-use Rattle.semantics_names.specs.Outcome.{also, chosen}
+use Rattle.semantics_names.specs.Laws.{IsScalar}
 use Rattle.semantics_names.specs.Parts.{all_parts, behind_parts, definitions_parts, maybe_parts, parts, parts_behind_groups, results_parts, terms_parts, window_parts}
-use Rattle.semantics_names.specs.Places.{Defined, aggregate_of, call_of, column_from, columns_say, frame_of, groups_say, key_column, place_of, window_of, windows_say}
-use Rattle.semantics_names.specs.Same.{is_same_aggregate, is_same_call, is_same_term}
-use Rattle.semantics_names.specs.Scope.{Scope, Shown, bare_term, column_of, shown_places}
+use Rattle.semantics_names.specs.Places.{Defined, aggregate_of, call_of, columns_say, frame_of, groups_say, key_column, window_of, windows_say}
+use Rattle.semantics_names.specs.Same.{is_same_aggregate, is_same_call}
+use Rattle.semantics_names.specs.Scope.{Scope}
 use Rattle.semantics_names.specs.Statement.{Input, ResultColumn, all_results, are_distinct, as_input, behind_groups, by_of, condition_of, core_of, defined_of, finished, firsts, group_term, grouped, input_of, key_term, keys_of, max_columns, named_at, named_or, no_number, no_row, number_alone, numbered, numbered_or, on_row, one_or, or_bare, result, results_of, select_of, shown, some_of, starred, starred_of, window_names}
 use Rattle.semantics_names.proofs.OutcomeLemmas.{both-ok}
 use Rattle.semantics_refusals.specs.BadFrames.{defined_in}
-use Rattle.semantics_names.proofs.OneLemmas.{one_ok}
-use Rattle.semantics_refusals.specs.BareColumns.{AreSameColumn, HasGroups, HasStars}
 use Rattle.semantics_refusals.specs.Columns.{names_of_results, results_in}
 use Rattle.semantics_refusals.specs.UnknownColumns.{IsNamedAt, IsNoResult}
 use Rattle.semantics_refusals.specs.WrongPlaces.{HasOver, HasStar, IsAggregate, IsNoNumber, IsNumber, expressions, group_parts, groups_in, inside_call, plain_parts, row_parts}
@@ -30,7 +27,7 @@ use Rattle.semantics_refusals.specs.Written.{spoken_in, stars_in, terms_in, wind
 use Rattle.semantics_refusals.proofs.NameLemmas.{all_names, names_in}
 use Rattle.semantics_refusals.proofs.OutcomeLemmas.{Gives, Only, OnlySome, Takes, all_only, also_gives, also_only, both_only, checked_only, either, firsts_only, followed_gives, followed_only, if_only, known_only, nothing, ok, or_else, refused}
 use Rattle.semantics_refusals.proofs.PartLemmas.{Deep, Each, among, back, deep, deep_definitions, deep_maybe, deep_results, each_itself, first, front, itself, join, more, none, one, rest, weaker}
-use Rattle.semantics_refusals.proofs.PlacedLemmas.{AreFound, IsPlace, aggregate_is, all_found, groups_none, mapped_place, no_aggregate, windows_none}
+use Rattle.semantics_refusals.proofs.PlacedLemmas.{AreFound, all_found, groups_none, no_aggregate, windows_none}
 use Rattle.semantics_refusals.proofs.PlaceLemmas.{aggregate_only, call_only, columns_named, groups_named, groups_only, plainly, window_only, windows_named, windows_only}
 use Rattle.semantics_refusals.proofs.ScopeLemmas.{named_none}
 use Rattle.semantics_refusals.proofs.TermLemmas.{Base, Sound, frame_in, term_only}
@@ -101,13 +98,13 @@ pub record IsFineCore (F : Fault → Type 0) (core : CoreTree) (order : TermTree
       → F WrongPlace
 
 -- what holds of each holds of what it is of
-each_place : {X : Type 0} {P Q : X → Type 0} (xs : List X) → Each P xs → ((x : X) → Contains xs x → P x → Q x) → Each Q xs
+pub each_place : {X : Type 0} {P Q : X → Type 0} (xs : List X) → Each P xs → ((x : X) → Contains xs x → P x → Q x) → Each Q xs
 each_place [] all so = none
 each_place (x ∷ xs) all so =
     more x xs (so x (Contains-append_left (x ∷ []) xs x (Contains-push [] x)) (first all))
     (each_place xs (rest all) (λ y there. so y (Contains-append_right (x ∷ []) xs y there)))
 
-inside_of : {P : ExprTree → Type 0} (part : ExprTree) → Each P (parts part) → Each P (inside_call part)
+pub inside_of : {P : ExprTree → Type 0} (part : ExprTree) → Each P (parts part) → Each P (inside_call part)
 inside_of (ExprTree.CountRows after) all = front (behind_parts after) _ all
 inside_of (ExprTree.Call function es after) all = front (all_parts es ++ behind_parts after) _ all
 inside_of _ all = none
@@ -126,106 +123,6 @@ in_terms_parts (TermTrees.Term x direction others) e q there inside =
     by (inl here) after =
         Contains-append_left (parts x) (terms_parts others) q (subst (λ e. Contains (parts e) q) (sym (own (Contains-push_cases [] x e here))) inside)
     by (inr later) after = Contains-append_right (parts x) (terms_parts others) q (after later)
-
--- columns of FROM in a SELECT with groups
-pub record IsFineBare (F : Fault → Type 0) (scope : Scope) (core : CoreTree) (order : TermTrees) : Type 0 where
-  pub columns : (table : Option Name) (name : Name) (at : ℕ) (shown : Shown) → HasGroups core order
-      → Contains (parts_behind_groups core order) (ExprTree.Column table name) → IsOnlyColumn scope table name at shown
-      → ((other_table : Option Name) (other_name : Name) → Contains (groups_in core) (ExprTree.Column other_table other_name)
-      → ¬ AreSameColumn scope table name other_table other_name) → F BareColumn
-  pub stars : HasStars (results_in core) → HasGroups core order → F BareColumn
-
--- where something is gathered, it is of something that is written
-gathered_some : {A B : Type 0} (same : A → A → Bool) (f : B → Option (Result A Fault)) (ys : List A) (xs : List B) → firsts same [] (filter_map f xs) ≡ Ok ys
-    → (ys ≡ [] → ⊥) → (x : B) × Contains xs x × ((r : Result A Fault) × (f x ≡ Some r))
-gathered_some same f ys [] e some = let alike : [] ≡ ys = cc in absurd (some (sym alike))
-gathered_some {A = A} {B = B} same f ys (x ∷ xs) e some = by (f x) refl e (λ d. gathered_some same f ys xs d some)
-  where
-    by : (o : Option (Result A Fault)) → f x ≡ o → firsts same [] (cons_option o (filter_map f xs)) ≡ Ok ys
-        → (firsts same [] (filter_map f xs) ≡ Ok ys → (x : B) × Contains xs x × ((r : Result A Fault) × (f x ≡ Some r)))
-        → (y : B) × Contains (x ∷ xs) y × ((r : Result A Fault) × (f y ≡ Some r))
-    by None is d others =
-        let (y, there, found) = others d in (y, Contains-append_right (x ∷ []) xs y there, found)
-    by (Some r) is d others = (x, Contains-append_left (x ∷ []) xs x (Contains-push [] x), (r, is))
-
--- a SELECT that has keys or aggregates has groups
-has_groups : (answers : Answers) (scope : Scope) (core : CoreTree) (order : TermTrees) (by : ExprTrees) → groups_in core ≡ expressions by
-    → (keys : List Term) (aggregates : List Aggregate) → by_of answers scope by ≡ Ok keys
-    → firsts is_same_aggregate [] (filter_map (aggregate_of answers (columns_say scope)) (parts_behind_groups core order)) ≡ Ok aggregates
-    → (keys ≡ [] → aggregates ≡ [] → ⊥) → HasGroups core order
-has_groups answers scope core order ExprTrees.No_more are keys aggregates keyed gathered some =
-    let none_is : [] ≡ keys = cc in
-    let (part, there, (r, is)) =
-    gathered_some is_same_aggregate (aggregate_of answers (columns_say scope)) aggregates (parts_behind_groups core order) gathered
-    (λ none. some (sym none_is) none) in
-    HasGroups.aggregate part there (aggregate_is answers (columns_say scope) part r is)
-has_groups answers scope core order (ExprTrees.More e others) are keys aggregates keyed gathered some =
-    HasGroups.key e (subst (λ es. Contains es e) (sym are) (Contains-append_left (e ∷ []) (expressions others) e (Contains-push [] e)))
-
--- a column that GROUP BY names is one of its terms
-key_there : SameIsEqual → (answers : Answers) (scope : Scope) (by : ExprTrees) (keys : List Term) → by_of answers scope by ≡ Ok keys
-    → (table : Option Name) (name : Name) (t : Term) → Contains (expressions by) (ExprTree.Column table name) → column_of scope table name ≡ Ok t
-    → IsPlace (place_of is_same_term t keys)
-key_there equal answers scope ExprTrees.No_more keys e table name t (at, short, is) of = absurd (omega (arith, short))
-key_there equal answers scope (ExprTrees.More x others) keys e table name t there of =
-    let (u, us, first, last, same) = both-ok ◌∷◌ (group_term answers scope x) (by_of answers scope others) keys e in
-    subst (λ keys. IsPlace (place_of is_same_term t keys)) same
-    (by u us first (Contains-append_cases (x ∷ []) (expressions others) (ExprTree.Column table name) there)
-    (λ rest. key_there equal answers scope others us last table name t rest of))
-  where
-    own : Contains [] (ExprTree.Column table name) ⊎ (x ≡ ExprTree.Column table name) → x ≡ ExprTree.Column table name
-    own (inl (at, short, is)) = absurd (omega (arith, short))
-    own (inr same) = same
-
-    term_is : (r : Result Term Fault) → r ≡ Ok t → (u : Term) → chosen (also Some r) (Err WrongPlace) ≡ Ok u → t ≡ u
-    term_is (Ok v) is u d =
-        let one : v ≡ t = cc in
-        let other : v ≡ u = cc in
-        sym one ∙ other
-    term_is (Err fault) is u d = absurd cc
-
-    head_place : (u : Term) (us : List Term) → t ≡ u → (b : Bool) → is_same_term t u ≡ b
-        → IsPlace (if b then Some 0 else option_map suc (place_of is_same_term t us))
-    head_place u us alike true is = tt
-    head_place u us alike false is =
-        absurd (true≢false (sym (subst (λ u. is_same_term t u ≡ true) alike ((equal.terms t t).1 refl)) ∙ is))
-
-    tail_place : (u : Term) (us : List Term) → IsPlace (place_of is_same_term t us) → (b : Bool)
-        → IsPlace (if b then Some 0 else option_map suc (place_of is_same_term t us))
-    tail_place u us p true = tt
-    tail_place u us p false = mapped_place (place_of is_same_term t us) p
-
-    by : (u : Term) (us : List Term) → group_term answers scope x ≡ Ok u
-        → Contains (x ∷ []) (ExprTree.Column table name) ⊎ Contains (expressions others) (ExprTree.Column table name)
-        → (Contains (expressions others) (ExprTree.Column table name) → IsPlace (place_of is_same_term t us)) → IsPlace (place_of is_same_term t (u ∷ us))
-    by u us first (inl here) rest =
-        head_place u us (term_is (column_of scope table name) of u
-        (subst (λ x. group_term answers scope x ≡ Ok u) (own (Contains-push_cases [] x (ExprTree.Column table name) here)) first)) (is_same_term t u) refl
-    by u us first (inr later) rest = tail_place u us (rest later) (is_same_term t u)
-
--- a column that is none of the terms of GROUP BY is bare
-bare_beside : {F : Fault → Type 0} → SameIsEqual → NameIsColumn → (answers : Answers) (scope : Scope) (core : CoreTree) (order : TermTrees) (by : ExprTrees)
-    → groups_in core ≡ expressions by → IsFineBare F scope core order → (keys : List Term) → by_of answers scope by ≡ Ok keys → HasGroups core order
-    → (part : ExprTree) → Contains (parts_behind_groups core order) part → (table : Option Name) (name : Name) → part ≡ ExprTree.Column table name
-    → (t : Term) → column_of scope table name ≡ Ok t → key_column keys (Ok t) ≡ None → F BareColumn
-bare_beside equal names answers scope core order by are bare keys keyed g part there table name same t of none =
-    let (at, shown, only, is) = (names scope table name t).0 of in
-    bare.columns table name at shown g (subst (Contains (parts_behind_groups core order)) same there) only (λ other_table other_name inside alike.
-    let one : column_of scope table name ≡ Ok (bare_term (shown_places table alike.at alike.shown)) =
-    (names scope table name (bare_term (shown_places table alike.at alike.shown))).1 (alike.at, alike.shown, alike.one, refl) in
-    let other : column_of scope other_table other_name ≡ Ok (bare_term (shown_places other_table alike.other_at alike.other_shown)) =
-    (names scope other_table other_name (bare_term (shown_places other_table alike.other_at alike.other_shown))).1
-    (alike.other_at, alike.other_shown, alike.other, refl) in
-    let term_is : t ≡ bare_term (shown_places table alike.at alike.shown) =
-    one_ok t (bare_term (shown_places table alike.at alike.shown)) (column_of scope table name) of one in
-    let so : bare_term (shown_places other_table alike.other_at alike.other_shown) ≡ t = sym (ap bare_term alike.same) ∙ sym term_is in
-    no_key (place_of is_same_term t keys)
-    (key_there equal answers scope by keys keyed other_table other_name t (subst (λ es. Contains es (ExprTree.Column other_table other_name)) are inside)
-    (subst (λ u. column_of scope other_table other_name ≡ Ok u) so other)) none)
-  where
-    no_key : (at : Option ℕ) → IsPlace at → column_from 0 at ≡ None → ⊥
-    no_key None p e = p
-    no_key (Some at) p e = absurd cc
 
 -- whether DISTINCT is written
 abbrev pub is_distinct : CoreTree → Bool
@@ -323,21 +220,6 @@ module _ (F : Fault → Type 0) (takes : Takes F) where
   pub no_row_only : (e : ExprTree) → F WrongPlace → Only F (no_row e)
   no_row_only e is = refused WrongPlace is
 
-  -- what is known, or that the fault is fine
-  known_or : (SameIsEqual × NameIsColumn) ⊎ F WrongPlace
-  known_or = by takes.laws
-    where
-      by : (SameIsEqual × NameIsColumn) ⊎ (F WrongPlace × F BareColumn) → (SameIsEqual × NameIsColumn) ⊎ F WrongPlace
-      by (inl laws) = inl laws
-      by (inr both) = inr both.0
-
-  bare_or : (SameIsEqual × NameIsColumn) ⊎ F BareColumn
-  bare_or = by takes.laws
-    where
-      by : (SameIsEqual × NameIsColumn) ⊎ (F WrongPlace × F BareColumn) → (SameIsEqual × NameIsColumn) ⊎ F BareColumn
-      by (inl laws) = inl laws
-      by (inr both) = inr both.1
-
   -- ---- one SELECT
 
   or_bare_only : (t : Option Term) → F BareColumn → Only F (or_bare t)
@@ -349,8 +231,8 @@ module _ (F : Fault → Type 0) (takes : Takes F) where
     base : Base F defines answers scope part
     stands : Contains behind part
 
-  -- `G` says that there are groups
-  module _ (defines : List Name) (answers : Answers) (scope : Scope) (behind : List ExprTree) (placed : IsWellPlaced F behind) (G : Type 0) where
+  -- of a bare column it holds
+  module _ (defines : List Name) (answers : Answers) (scope : Scope) (behind : List ExprTree) (placed : IsWellPlaced F behind) (bare : F BareColumn) where
     aggregate_sounds : (part : ExprTree) → Each (Placed defines answers scope behind) (parts part) → IsAggregate part
         → Each (Sound F defines answers (columns_say scope)) (inside_call part)
     aggregate_sounds part all is =
@@ -392,18 +274,11 @@ module _ (F : Fault → Type 0) (takes : Takes F) where
       named = columns_named scope;
     }
 
-    -- a column is bare, where it is none of these
-    abbrev BareBeside : List Term → Type 0
-    BareBeside by =
-        (part : ExprTree) → Contains behind part → (table : Option Name) (name : Name) → part ≡ ExprTree.Column table name → (t : Term)
-        → column_of scope table name ≡ Ok t → key_column by (Ok t) ≡ None → F BareColumn
-
     groups_speak : (by : List Term) (aggregates : List Aggregate)
         → ((part : ExprTree) → Contains behind part → AreFound is_same_aggregate (aggregate_of answers (columns_say scope)) aggregates part ⊎ F WrongPlace)
-        → BareBeside by → Speaks (groups_say answers scope by aggregates)
-    groups_speak by aggregates found is_bare = record {
-      said = λ part all. groups_only F takes defines answers scope by aggregates part (itself part all).base.said (aggregate_sounds part all)
-          (is_bare part (itself part all).stands);
+        → Speaks (groups_say answers scope by aggregates)
+    groups_speak by aggregates found = record {
+      said = λ part all. groups_only F takes defines answers scope by aggregates part (itself part all).base.said (aggregate_sounds part all) bare;
       none = λ part there e. either (found part there) (λ f is. groups_none answers scope by aggregates part is f e);
       named = groups_named answers scope by aggregates;
     }
@@ -411,7 +286,7 @@ module _ (F : Fault → Type 0) (takes : Takes F) where
     -- and of a column of FROM
     record IsInput (input : Input) : Type 0 where
       speaks : Speaks input.says
-      over : (G → F BareColumn) → (t : Term) → Only F (input.over_input t)
+      over : (t : Term) → Only F (input.over_input t)
 
     -- and after windows; a call with OVER is not passed over either
     record RowSpeaks (says : Says) : Type 0 where
@@ -471,33 +346,33 @@ module _ (F : Fault → Type 0) (takes : Takes F) where
     condition_only MaybeExpr.Absent all = ok _
     condition_only (MaybeExpr.Present e) all = term_only F defines answers (columns_say scope) e all
 
-    as_input_only : (input : Input) (r : ResultColumn) → IsInput input → (G → F BareColumn) → Only F (as_input answers input r)
-    as_input_only input r is star = also_only (result r.name) (input.over_input r.term) (is.over star r.term)
+    as_input_only : (input : Input) (r : ResultColumn) → IsInput input → Only F (as_input answers input r)
+    as_input_only input r is = also_only (result r.name) (input.over_input r.term) (is.over r.term)
 
     module _ (input : Input) (is : IsInput input) (says : Says) (speaks : RowSpeaks says) where
-      all_only_of : (results : ResultTrees) → (HasStar results → starred scope ≡ [] → F WrongPlace) → (HasStars results → G → F BareColumn)
+      all_only_of : (results : ResultTrees) → (HasStar results → starred scope ≡ [] → F WrongPlace)
           → Each (IsFineStar F scope) (stars_in results)
           → Each (Deep (Placed defines answers scope behind)) (results_parts results)
           → ((part : ExprTree) → Contains (results_parts results) part → ¬ IsScalar part → ¬ IsAggregate part → ¬ HasOver part → F WrongPlace)
           → Only F (all_results answers scope input says results)
-      all_only_of ResultTrees.No_result starless bare stars all fits = ok _
-      all_only_of (ResultTrees.Result ResultTree.All rs) starless bare stars all fits =
+      all_only_of ResultTrees.No_result starless stars all fits = ok _
+      all_only_of (ResultTrees.Result ResultTree.All rs) starless stars all fits =
           both_only ◌++◌ (results_of answers scope input says ResultTree.All) (all_results answers scope input says rs)
           (followed_only (some_of WrongPlace (starred scope)) _ (some_only WrongPlace (starred scope) (starless HasStar.here))
-          (λ columns. all_only (as_input answers input) columns (λ r. as_input_only input r is (bare HasStars.all))))
-          (all_only_of rs (λ star. starless (HasStar.later star)) (λ star. bare (HasStars.later star)) stars (back [] (results_parts rs) all)
+          (λ columns. all_only (as_input answers input) columns (λ r. as_input_only input r is)))
+          (all_only_of rs (λ star. starless (HasStar.later star)) stars (back [] (results_parts rs) all)
           (λ q there. fits q (Contains-append_right [] (results_parts rs) q there)))
-      all_only_of (ResultTrees.Result (ResultTree.AllOf table) rs) starless bare stars all fits =
+      all_only_of (ResultTrees.Result (ResultTree.AllOf table) rs) starless stars all fits =
           both_only ◌++◌ (results_of answers scope input says (ResultTree.AllOf table)) (all_results answers scope input says rs)
           (followed_only (some_of UnknownColumn (starred_of table 0 scope)) _ (some_only UnknownColumn (starred_of table 0 scope) (first stars).is)
-          (λ columns. all_only (as_input answers input) columns (λ r. as_input_only input r is (bare HasStars.of))))
-          (all_only_of rs (λ star. starless (HasStar.later star)) (λ star. bare (HasStars.later star)) (rest stars) (back [] (results_parts rs) all)
+          (λ columns. all_only (as_input answers input) columns (λ r. as_input_only input r is)))
+          (all_only_of rs (λ star. starless (HasStar.later star)) (rest stars) (back [] (results_parts rs) all)
           (λ q there. fits q (Contains-append_right [] (results_parts rs) q there)))
-      all_only_of (ResultTrees.Result (ResultTree.Value e name) rs) starless bare stars all fits =
+      all_only_of (ResultTrees.Result (ResultTree.Value e name) rs) starless stars all fits =
           both_only ◌++◌ (results_of answers scope input says (ResultTree.Value e name)) (all_results answers scope input says rs)
           (also_only _ (term_of answers says e) (row_so says speaks e (front (parts e) (results_parts rs) all)
           (λ q there. fits q (Contains-append_left (parts e) (results_parts rs) q there))))
-          (all_only_of rs (λ star. starless (HasStar.later star)) (λ star. bare (HasStars.later star)) stars (back (parts e) (results_parts rs) all)
+          (all_only_of rs (λ star. starless (HasStar.later star)) stars (back (parts e) (results_parts rs) all)
           (λ q there. fits q (Contains-append_right (parts e) (results_parts rs) q there)))
 
     row_only : (distinct : Bool) (says : Says) → RowSpeaks says → (e : ExprTree) → (distinct ≡ true → F WrongPlace)
@@ -508,31 +383,29 @@ module _ (F : Fault → Type 0) (takes : Takes F) where
         if_only distinct (Err WrongPlace) _ (λ is. refused WrongPlace (rowless is))
         (also_only KeyTerm.term (term_of answers says e) (row_so says speaks e all fits))
 
-    grouped_gives : G → (by : List Term) (aggregates : List Aggregate) → BareBeside by
+    grouped_gives : (by : List Term) (aggregates : List Aggregate)
         → ((part : ExprTree) → Contains behind part → AreFound is_same_aggregate (aggregate_of answers (columns_say scope)) aggregates part ⊎ F WrongPlace)
         → (having : MaybeExpr) → Each (Deep (Placed defines answers scope behind)) (maybe_parts having)
         → ((part : ExprTree) → Contains (maybe_parts having) part → ¬ IsScalar part → ¬ IsAggregate part → F WrongPlace)
         → Gives F IsInput (grouped answers scope by aggregates having)
-    grouped_gives g by aggregates is_bare found having all fits =
+    grouped_gives by aggregates found having all fits =
         also_gives IsInput _ (condition_of answers (groups_say answers scope by aggregates) having)
-        (having_only (groups_say answers scope by aggregates) (groups_speak by aggregates found is_bare) having all fits)
-        (λ h. record { speaks = groups_speak by aggregates found is_bare; over = λ star t. or_bare_only (key_column by (Ok t)) (star g) })
+        (having_only (groups_say answers scope by aggregates) (groups_speak by aggregates found) having all fits)
+        (λ h. record { speaks = groups_speak by aggregates found; over = λ t. or_bare_only (key_column by (Ok t)) bare })
 
-    input_gives : (by : List Term) (aggregates : List Aggregate) → ((by ≡ [] → aggregates ≡ [] → ⊥) → G) → (G → BareBeside by)
+    input_gives : (by : List Term) (aggregates : List Aggregate)
         → ((part : ExprTree) → Contains behind part → AreFound is_same_aggregate (aggregate_of answers (columns_say scope)) aggregates part ⊎ F WrongPlace)
         → (having : MaybeExpr) → Each (Deep (Placed defines answers scope behind)) (maybe_parts having)
         → ((part : ExprTree) → Contains (maybe_parts having) part → ¬ IsScalar part → ¬ IsAggregate part → F WrongPlace)
         → Gives F IsInput (input_of answers scope by aggregates having)
-    input_gives [] [] groups is_bare found having all fits = record {
+    input_gives [] [] found having all fits = record {
       is = record {
         speaks = columns_speak (λ part there. either (found part there) (λ f. no_aggregate answers scope part f));
-        over = λ star t. ok t;
+        over = λ t. ok t;
       };
     }
-    input_gives [] (a ∷ aggregates) groups is_bare found having all fits =
-        let g : G = groups (λ none other. absurd cc) in grouped_gives g [] (a ∷ aggregates) (is_bare g) found having all fits
-    input_gives (t ∷ by) aggregates groups is_bare found having all fits =
-        let g : G = groups (λ none other. absurd cc) in grouped_gives g (t ∷ by) aggregates (is_bare g) found having all fits
+    input_gives [] (a ∷ aggregates) found having all fits = grouped_gives [] (a ∷ aggregates) found having all fits
+    input_gives (t ∷ by) aggregates found having all fits = grouped_gives (t ∷ by) aggregates found having all fits
 
     no_number_only : (number : Option ℤ) (t : Result Term Fault) → ((z : ℤ) → number ≡ Some z → F WrongPlace) → Only F t → Only F (no_number number t)
     no_number_only (Some z) t is o = refused WrongPlace (is z refl)
@@ -592,7 +465,6 @@ module _ (F : Fault → Type 0) (takes : Takes F) where
         in_results : Each (Deep (Placed defines answers scope behind)) (results_parts results)
         in_terms : Each (IsFineTerm (Placed defines answers scope behind) (names_of_results scope results)) (terms_in order)
         in_behind : Each (IsLoose (Placed defines answers scope behind)) behind
-        bare_stars : HasStars results → G → F BareColumn
         in_row : (part : ExprTree) → Contains (results_parts results ++ terms_parts order) part → ¬ IsScalar part → ¬ IsAggregate part → ¬ HasOver part
             → F WrongPlace
 
@@ -605,7 +477,7 @@ module _ (F : Fault → Type 0) (takes : Takes F) where
           → IsFine → Only F (shown answers scope distinct results order behind condition input defined calls says)
       shown_only condition input defined calls says is speaks fine =
           known_only (all_results answers scope input says results) _
-          (all_only_of input is says speaks results fine.nothing fine.bare_stars fine.stars fine.in_results
+          (all_only_of input is says speaks results fine.nothing fine.stars fine.in_results
           (λ q there. fine.in_row q (Contains-append_left (results_parts results) (terms_parts order) q there))) (λ columns given.
           checked_only (nat_le (length columns) max_columns) Limit _ (λ e.
           fine.narrow (subst (λ n. nat_le n max_columns ≡ false) (as_many input says columns given) e))
@@ -636,15 +508,12 @@ module _ (F : Fault → Type 0) (takes : Takes F) where
           (weaker (λ part of. loose_call input.says is.speaks defined named part of) fine.in_behind))
           (λ calls called. shown_only condition input defined calls (windows_say answers input.says defined input.width calls) is
           (windows_speak input is.speaks defined named calls
-          (λ part there. either known_or (λ laws.
-          among (all_found is_same_call (λ c. (laws.0.calls c c).1 refl) (call_of answers input.says defined) calls behind called) there)))
+          (λ part there. either takes.laws (λ equal.
+          among (all_found is_same_call (λ c. (equal.calls c c).1 refl) (call_of answers input.says defined) calls behind called) there)))
           fine)))
 
       select_only : (condition : MaybeExpr) (by : ExprTrees) (having : MaybeExpr) (windows : DefinitionTrees) → IsFine
           → ((e : ExprTree) (z : ℤ) → Contains (expressions by) e → IsNumber e z → F WrongPlace)
-          → ((keys : List Term) (aggregates : List Aggregate) → by_of answers scope by ≡ Ok keys
-          → firsts is_same_aggregate [] (filter_map (aggregate_of answers (columns_say scope)) behind) ≡ Ok aggregates → (keys ≡ [] → aggregates ≡ [] → ⊥) → G)
-          → ((keys : List Term) → by_of answers scope by ≡ Ok keys → G → BareBeside keys)
           → (are_distinct (window_names windows) ≡ false → F DuplicateName)
           → Each (Sound F defines answers (columns_say scope)) (maybe_parts condition)
           → Each (Sound F defines answers (columns_say scope)) (all_parts by) → Each (Deep (Placed defines answers scope behind)) (maybe_parts having)
@@ -652,7 +521,7 @@ module _ (F : Fault → Type 0) (takes : Takes F) where
           → ((part : ExprTree) → Contains (maybe_parts having ++ definitions_parts windows) part → ¬ IsScalar part → ¬ IsAggregate part → F WrongPlace)
           → Each (λ w. Only F (frame_of (frame_in w))) (defined_in windows) → window_names windows ≡ defines
           → Only F (select_of answers scope distinct results order behind condition by having windows)
-      select_only condition by having windows fine keyless groups is_bare apart in_condition in_by in_having in_windows in_groups frames same =
+      select_only condition by having windows fine keyless apart in_condition in_by in_having in_windows in_groups frames same =
           followed_only (condition_of answers (columns_say scope) condition) _ (condition_only condition in_condition) (λ test.
           known_only (by_of answers scope by) _ (by_only by in_by keyless) (λ keys keyed.
           known_only (firsts is_same_aggregate [] (filter_map (aggregate_of answers (columns_say scope)) behind)) _
@@ -661,9 +530,9 @@ module _ (F : Fault → Type 0) (takes : Takes F) where
           (λ aggregates gathered.
           followed_gives IsInput (λ _. Unit {0}) (input_of answers scope keys aggregates having)
           (behind_groups answers scope distinct results order behind windows test)
-          (input_gives keys aggregates (groups keys aggregates keyed gathered) (is_bare keys keyed)
-          (λ part there. either known_or (λ laws.
-          among (all_found is_same_aggregate (λ a. (laws.0.aggregates a a).1 refl) (aggregate_of answers (columns_say scope)) aggregates behind gathered)
+          (input_gives keys aggregates
+          (λ part there. either takes.laws (λ equal.
+          among (all_found is_same_aggregate (λ a. (equal.aggregates a a).1 refl) (aggregate_of answers (columns_say scope)) aggregates behind gathered)
           there))
           having in_having (λ q there. in_groups q (Contains-append_left (maybe_parts having) (definitions_parts windows) q there)))
           (λ input is. behind_only windows test input is fine apart in_windows
@@ -677,7 +546,7 @@ module _ (F : Fault → Type 0) (takes : Takes F) where
         → (is_distinct core ≡ true → (e : ExprTree) → Contains (terms_in order) e → IsNoNumber e → IsNoResult (names_of_results scope (results_in core)) e
         → F WrongPlace) → ((e : ExprTree) (z : ℤ) → Contains (groups_in core) e → IsNumber e z → F WrongPlace)
         → (nat_le (length (names_of_results scope (results_in core))) max_columns ≡ false → F Limit)
-        → Each (λ w. Only F (frame_of (frame_in w))) (defined_in (windows_in core)) → window_names (windows_in core) ≡ defines → IsFineBare F scope core order
+        → Each (λ w. Only F (frame_of (frame_in w))) (defined_in (windows_in core)) → window_names (windows_in core) ≡ defines → F BareColumn
         → Only F (core_of answers scope core order)
     core_only (CoreTree.Select distinct results from condition by having windows) order calls all in_terms stars apart in_order starless rowless keyless narrow
         frames same bare =
@@ -710,7 +579,7 @@ module _ (F : Fault → Type 0) (takes : Takes F) where
         }) in
         let whole_of : Each (Deep (Placed defines answers scope behind)) (r ++ h ++ d) =
         join (r ++ h) d (join r h (deep_results results placed_results) (deep_maybe having placed_having)) (deep_definitions windows placed_windows) in
-        select_only defines answers scope behind calls.placed (HasGroups (CoreTree.Select distinct results from condition by having windows) order) distinct results
+        select_only defines answers scope behind calls.placed bare distinct results
         order condition by having windows
         (record {
           stars = stars;
@@ -722,12 +591,7 @@ module _ (F : Fault → Type 0) (takes : Takes F) where
           in_terms = placed_terms;
           in_behind = join (r ++ h ++ d) o (loose whole_of) (loose_terms order placed_terms);
           in_row = calls.in_row;
-          bare_stars = bare.stars;
-        }) keyless (λ keys aggregates keyed gathered some. has_groups answers scope
-        (CoreTree.Select distinct results from condition by having windows) order by refl keys aggregates keyed gathered some)
-        (λ keys keyed g part there table name same t of none.
-        or_else bare_or (λ laws. bare_beside laws.0 laws.1 answers scope (CoreTree.Select distinct results from condition by having windows) order by refl
-        bare keys keyed g part there table name same t of none)) apart (plainly F defines answers scope c in_condition (front c b calls.in_plain))
+        }) keyless apart (plainly F defines answers scope c in_condition (front c b calls.in_plain))
         (plainly F defines answers scope b in_by (back c b calls.in_plain)) (deep_maybe having placed_having) (deep_definitions windows placed_windows)
         calls.in_groups frames same
       where

@@ -54,3 +54,8 @@ mod FrameLemmas
 mod FrameRefusedLemmas
 pub mod WindowLemmas
 pub mod WrongPlaceLemmas
+mod WiderLemmas
+mod BareLemmas
+mod BareTraceLemmas
+mod BareCoreLemmas
+pub mod BareRefusedLemmas

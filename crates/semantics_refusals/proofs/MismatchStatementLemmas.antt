@@ -118,7 +118,8 @@ no_names = record {
 
 others : (tables : List Table) (tree : StatementTree) → HasReasons IsOtherFault tables tree
 others tables tree = record {
-  takes = record { laws = inr (λ d. absurd cc, λ d. absurd cc) };
+  takes = record { laws = inr (λ d. absurd cc) };
+  bare_laws = inr (λ d. absurd cc);
   unknown_table = λ _ d. absurd cc;
   unknown_column = λ _ d. absurd cc;
   ambiguous = λ _ d. absurd cc;

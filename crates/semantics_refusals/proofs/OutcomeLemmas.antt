@@ -2,8 +2,8 @@
 use Rattle.std.proofs.Common.{◌≡◌, ◌⊎◌, inl, inr, Bool, true, false, if◌then◌else◌, List, [], ◌∷◌, Option, Some, None, Result, Ok, Err, refl}
 use Rattle.std.specs.List.{cons_option, filter_map}
 use Rattle.values.specs.declared.fault.Fault.{Fault}
-use Rattle.values.specs.declared.fault.Fault.TheVariants.{BareColumn, WrongPlace}
-use Rattle.semantics_names.specs.Laws.{NameIsColumn, SameIsEqual}
+use Rattle.values.specs.declared.fault.Fault.TheVariants.{WrongPlace}
+use Rattle.semantics_names.specs.Laws.{SameIsEqual}
 use Rattle.semantics_names.specs.Outcome.{also, both, checked, chosen, each, followed, found_or}
 use Rattle.semantics_names.specs.Statement.{firsts, once_more}
 use Rattle.semantics_names.specs.Places.{place_of}
@@ -21,9 +21,9 @@ pub record Gives (F : Fault → Type 0) {A : Type 0} (P : A → Type 0) (r : Res
 abbrev pub Only : (Fault → Type 0) → {A : Type 0} → Result A Fault → Type 0
 Only F r = Gives F (λ _. Unit {0}) r
 
--- it is known what is equal, and what names of columns stand for; or it holds of the faults that speak of these
+-- it is known what is equal, or it holds of the fault that speaks of it
 pub record Takes (F : Fault → Type 0) : Type 0 where
-  pub laws : (SameIsEqual × NameIsColumn) ⊎ (F WrongPlace × F BareColumn)
+  pub laws : SameIsEqual ⊎ F WrongPlace
 
 pub or_else : {A B : Type 0} → A ⊎ B → (A → B) → B
 or_else (inl a) f = f a

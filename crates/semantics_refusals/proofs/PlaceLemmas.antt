@@ -13,7 +13,7 @@ use Rattle.sql_reader_syntax.specs.declared.expr.Function.TheVariants as w
 use Rattle.semantics.specs.Query.{always, filtered, Aggregate, AggregateFunction, Window, WindowCall, WindowFunction}
 use Rattle.semantics_names.specs.Expression.{Answers, Says, term_of, terms_of}
 use Rattle.semantics_names.specs.Laws.{IsSameInAnyCase, IsScalar}
-use Rattle.semantics_names.specs.Outcome.{also, both, chosen, followed}
+use Rattle.semantics_names.specs.Outcome.{also, both, followed}
 use Rattle.semantics_names.specs.Parts.{all_parts, maybe_parts, over_parts, parts, terms_parts, window_parts}
 use Rattle.semantics_names.specs.Places.{Defined, aggregate, aggregate_call, aggregate_column, aggregate_named, aggregate_of, bare, beside_keys, call_column, call_of, columns_say, count_rows, defined_as, filter_of, frame_of, function_or, groups_say, key_column, key_or, of_term, over, over_call, ranking, ranking_unless, sorted, window, window_call, window_of, windows_say}
 use Rattle.semantics_names.specs.Scope.{Scope, column_of}
@@ -64,13 +64,13 @@ plainly F windows answers scope (x ∷ xs) all fits =
     }) (plainly F windows answers scope xs (rest all) (rest fits))
 
 module _ (F : Fault → Type 0) (takes : Takes F) (windows : List Name) where
-  bare_only : (r : Result Term Fault) → Only F r → ((t : Term) → r ≡ Ok t → F BareColumn) → Only F (bare r)
-  bare_only (Ok t) o is = refused BareColumn (is t refl)
+  bare_only : (r : Result Term Fault) → Only F r → F BareColumn → Only F (bare r)
+  bare_only (Ok t) o is = refused BareColumn is
   bare_only (Err fault) o is = record { is = o.is }
 
-  key_only : (key : Option Term) (otherwise : Result (Option Term) Fault) → (key ≡ None → Only F otherwise) → Only F (key_or key otherwise)
+  key_only : (key : Option Term) (otherwise : Result (Option Term) Fault) → Only F otherwise → Only F (key_or key otherwise)
   key_only (Some t) otherwise o = ok _
-  key_only None otherwise o = o refl
+  key_only None otherwise o = o
 
   column_from_only : (at : ℕ) (all : List Aggregate) (o : Option (Result Aggregate Fault)) → OnlySome F o → Only F (aggregate_column at all o)
   column_from_only at all None s = ok None
@@ -268,24 +268,16 @@ module _ (F : Fault → Type 0) (takes : Takes F) (windows : List Name) where
           call_column_only width calls (call_of answers says defined part) (says part) (call_only defined named part framed so) said
 
     beside_only : (scope : Scope) (by : List Term) (aggregates : List Aggregate) (part : ExprTree) → Only F (columns_say scope part)
-        → (IsAggregate part → Each (Sound F windows answers (columns_say scope)) (inside_call part))
-        → ((table : Option Name) (name : Name) → part ≡ ExprTree.Column table name → (t : Term) → column_of scope table name ≡ Ok t → F BareColumn)
+        → (IsAggregate part → Each (Sound F windows answers (columns_say scope)) (inside_call part)) → F BareColumn
         → Only F (beside_keys answers scope by aggregates part)
     beside_only scope by aggregates (ExprTree.Column table name) said so is =
-        bare_only (column_of scope table name) (also_back Some (column_of scope table name) said) (is table name refl)
+        bare_only (column_of scope table name) (also_back Some (column_of scope table name) said) is
     beside_only scope by aggregates part said so is =
         column_from_only (length by) aggregates (aggregate_of answers (columns_say scope) part) (aggregate_only (columns_say scope) part so)
 
     pub groups_only : (scope : Scope) (by : List Term) (aggregates : List Aggregate) (part : ExprTree) → Only F (columns_say scope part)
-        → (IsAggregate part → Each (Sound F windows answers (columns_say scope)) (inside_call part))
-        → ((table : Option Name) (name : Name) → part ≡ ExprTree.Column table name → (t : Term) → column_of scope table name ≡ Ok t
-        → key_column by (Ok t) ≡ None → F BareColumn) → Only F (groups_say answers scope by aggregates part)
+        → (IsAggregate part → Each (Sound F windows answers (columns_say scope)) (inside_call part)) → F BareColumn
+        → Only F (groups_say answers scope by aggregates part)
     groups_only scope by aggregates part said so is =
         key_only (key_column by (term_of answers (columns_say scope) part)) (beside_keys answers scope by aggregates part)
-        (λ none. beside_only scope by aggregates part said so (λ table name same t of.
-        is table name same t of (key_is by scope table name t of
-        (subst (λ part. key_column by (term_of answers (columns_say scope) part) ≡ None) same none))))
-      where
-        key_is : (by : List Term) (scope : Scope) (table : Option Name) (name : Name) (t : Term) → column_of scope table name ≡ Ok t
-            → key_column by (term_of answers (columns_say scope) (ExprTree.Column table name)) ≡ None → key_column by (Ok t) ≡ None
-        key_is by scope table name t of none = subst (λ r. key_column by (chosen (also Some r) (Err WrongPlace)) ≡ None) of none
+        (beside_only scope by aggregates part said so is)

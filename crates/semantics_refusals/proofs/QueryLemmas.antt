@@ -1,8 +1,8 @@
 -- A query by its names, or why it is none.
-use Rattle.std.proofs.Common.{◌≡◌, ◌⊎◌, inl, inr, true, false, ℕ, zero, suc, ℤ, List, [], ◌∷◌, ◌++◌, length, map, Option, Some, None, Result, Ok, Contains, nat_eq, nat_le, ap, refl, subst, arith}
+use Rattle.std.proofs.Common.{◌≡◌, ◌⊎◌, inl, inr, true, false, ℕ, zero, suc, ◌+◌, ℤ, List, [], ◌∷◌, ◌++◌, length, map, Option, Some, None, Result, Ok, Err, Contains, nat_eq, nat_le, ap, refl, subst, arith}
 use Rattle.std.specs.List.{cons_option, filter_map}
 use Rattle.values.specs.declared.fault.Fault.{Fault}
-use Rattle.values.specs.declared.fault.Fault.TheVariants.{ColumnCount, DuplicateName, Limit, WrongPlace}
+use Rattle.values.specs.declared.fault.Fault.TheVariants.{BareColumn, ColumnCount, DuplicateName, Limit, WrongPlace}
 use Rattle.sql_reader_syntax.specs.ExprTree.{CoreTree, ExprTree, FromTree, OnTree, QueryTree, SourceTree, TermTrees}
 use Rattle.sql_reader_syntax.specs.Tree.{Name}
 use Rattle.sql_reader_syntax.specs.declared.query.CompoundOperator.{CompoundOperator}
@@ -21,17 +21,18 @@ use Rattle.semantics_refusals.specs.Columns.{HasNames, Offers, Shows, names_of_r
 use Rattle.semantics_refusals.specs.Limits.{IsDeep}
 use Rattle.semantics_refusals.specs.UnknownColumns.{IsNamedAt, IsNoResult}
 use Rattle.semantics_refusals.specs.WrongPlaces.{HasNoRow, HasStar, IsNoNumber, IsNumber, groups_in}
-use Rattle.semantics_refusals.specs.Written.{BeginsFrom, BeginsQuery, HasQuery, IsDerived, IsOperand, IsSelect, StandsIn, names_of_sources, sources_in, spoken_in, stars_in, terms_in, windows_in}
-use Rattle.semantics_refusals.proofs.CoreLemmas.{IsFineBare, IsFineCore, IsFineOrder, IsFineStar, IsFineTerm, core_only, is_distinct, keys_only, no_row_only}
+use Rattle.semantics_refusals.specs.Written.{BeginsFrom, BeginsQuery, HasQuery, IsDerived, IsOperand, IsSelect, StandsIn, levels_around, names_of_sources, sources_in, spoken_in, stars_in, terms_in, windows_in}
+use Rattle.semantics_refusals.proofs.CoreLemmas.{IsFineCore, IsFineOrder, IsFineStar, IsFineTerm, core_only, is_distinct, keys_only, no_row_only}
 use Rattle.semantics_refusals.proofs.NameLemmas.{from_shows, listed_of, queried_names, query_names}
-use Rattle.semantics_refusals.proofs.OutcomeLemmas.{Only, Takes, also_only, checked_only, each_only, followed_only, known_only, ok, refused}
+use Rattle.semantics_refusals.proofs.OutcomeLemmas.{Only, Takes, also_only, checked_only, each_only, known_only, ok, refused}
 use Rattle.semantics_refusals.proofs.PartLemmas.{Each, among, back, each_itself, first, front, join, more, none, rest, weaker}
 use Rattle.semantics_refusals.proofs.SourceLemmas.{IsFineAnswer, IsFineColumn, IsFineJoin, IsFineSource, from_only, with_answers}
 use Rattle.semantics_refusals.proofs.TakenLemmas.{inside}
 use Rattle.semantics_refusals.proofs.TermLemmas.{Base, IsFineCall, frame_in}
+use Rattle.semantics_refusals.proofs.WiderLemmas.{OrBare, base_wider, core_wider, only_or, only_wider, or_bare_so, order_wider, star_wider, takes_wider, term_wider}
 
 -- what has to hold of a SELECT, so that of its fault this holds
-pub record IsFineSelect (F : Fault → Type 0) (known : List Known) (core : CoreTree) (by : TermTrees) : Type 0 where
+pub record IsFineSelect (F : Fault → Type 0) (known : List Known) (queries : QueryTree → Result Queried Fault) (core : CoreTree) (by : TermTrees) : Type 0 where
   pub sources : Each (IsFineSource F known) (sources_in (from_tree core))
   pub joins : (left : FromTree) (join : Join) (source : SourceTree) (on : OnTree) → BeginsFrom (FromTree.Joined left join source on) (from_tree core)
       → (scope : Scope) (called : Option Name) (columns : List Name) → Shows (listed_of known) left scope → Offers (listed_of known) source called columns
@@ -47,7 +48,9 @@ pub record IsFineSelect (F : Fault → Type 0) (known : List Known) (core : Core
   pub keyless : (e : ExprTree) (z : ℤ) → Contains (groups_in core) e → IsNumber e z → F WrongPlace
   pub on : Each (λ part. ¬ IsScalar part → F WrongPlace) (from_parts (from_tree core))
   pub calls : IsFineCore F core by
-  pub bare : (scope : Scope) → Shows (listed_of known) (from_tree core) scope → IsFineBare F scope core by
+  pub bare : (scope : Scope) → Shows (listed_of known) (from_tree core) scope → (inners : List Inner)
+      → each (inner_of known queries) (inner_trees core by) ≡ Ok inners
+      → core_of (answers_of known queries (map (λ (i : Inner). i.query) inners)) scope core by ≡ Err BareColumn → F BareColumn
   pub framed : Each (IsFineCall F (window_names (windows_in core))) (core_parts core by)
   pub frames : Each (λ w. Only F (frame_of (frame_in w))) (defined_in (windows_in core))
   pub members : (query : QueryTree) (part : ExprTree) (names : List Name) → Contains (core_parts core by) part
@@ -55,8 +58,8 @@ pub record IsFineSelect (F : Fault → Type 0) (known : List Known) (core : Core
       → HasNames (listed_of known) query names → nat_eq (length names) 1 ≡ false → F ColumnCount
 
 -- and of a query
-pub record IsFineQuery (F : Fault → Type 0) (known : List Known) (query : QueryTree) (order : TermTrees) : Type 0 where
-  pub selects : (core : CoreTree) (by : TermTrees) → IsSelect query order core by → IsFineSelect F known core by
+pub record IsFineQuery (F : Fault → Type 0) (known : List Known) (queries : QueryTree → Result Queried Fault) (query : QueryTree) (order : TermTrees) : Type 0 where
+  pub selects : (core : CoreTree) (by : TermTrees) → IsSelect query order core by → IsFineSelect F known queries core by
   pub in_order : (names : List Name) → HasNames (listed_of known) query names → IsFineOrder F order names
   pub rowless : (names : List Name) → HasNames (listed_of known) query names → HasNoRow query → (e : ExprTree) → Contains (terms_in order) e
       → IsNoNumber e → IsNoResult names e → F WrongPlace
@@ -96,7 +99,7 @@ distinct_rows (CoreTree.Select false results from condition by having windows) e
 
 module _ (F : Fault → Type 0) (takes : Takes F) (known : List Known) (queries : QueryTree → Result Queried Fault)
     (names : (tree : QueryTree) (q : Queried) → queries tree ≡ Ok q → HasNames (listed_of known) tree q.names) where
-  module _ (core : CoreTree) (by : TermTrees) (fine : IsFineSelect F known core by)
+  module _ (core : CoreTree) (by : TermTrees) (fine : IsFineSelect F known queries core by)
       (operands : (part : ExprTree) (inner : QueryTree) → Contains (core_parts core by) part → IsOperand part inner → Only F (queries inner)) where
     abbrev windows : List Name
     windows = window_names (windows_in core)
@@ -173,10 +176,10 @@ module _ (F : Fault → Type 0) (takes : Takes F) (known : List Known) (queries 
         → ((source : SourceTree) (query : QueryTree) → Contains (sources_in (from_tree core)) source → IsDerived source query → Only F (queries query))
         → Only F (single_of known queries core by)
     single_only in_order rowless derived =
-        followed_only (each (inner_of known queries) (inner_trees core by)) (with_inners known queries core by)
+        known_only (each (inner_of known queries) (inner_trees core by)) (with_inners known queries core by)
         (each_only (inner_of known queries) (inner_trees core by) (gathered (λ tree. Only F (inner_of known queries tree)) (core_parts core by)
         (weaker (λ part there tree e. inner_only part there tree e) (each_itself (core_parts core by)))))
-        (λ inners.
+        (λ inners are.
         let queries_of : List InnerQuery = map (λ (i : Inner). i.query) inners in
         let answers : Answers = answers_of known queries queries_of in
         let all = answers_only queries_of in
@@ -185,11 +188,22 @@ module _ (F : Fault → Type 0) (takes : Takes F) (known : List Known) (queries 
         (λ f taken.
         let shows = from_shows known queries names answers (from_tree core) f taken in
         also_only (single inners f) (core_of answers f.scope core by)
-        (core_only F takes windows answers f.scope core by fine.calls (with_answers F windows answers f.scope (spoken_in core) (fine.columns f.scope shows) ((in_spoken answers all).0))
-        (in_terms answers f.scope (names_of_results f.scope (results_in core)) by (fine.terms f.scope shows) ((in_spoken answers all).1))
-        (fine.stars f.scope shows) fine.windows (in_order (names_of_results f.scope (results_in core)) (HasNames.alone shows))
-        (fine.nothing f.scope shows) (λ d. rowless (names_of_results f.scope (results_in core)) (HasNames.alone shows) (distinct_rows core d)) fine.keyless
-        (fine.narrow f.scope shows) fine.frames refl (fine.bare f.scope shows))))
+        (only_or F (core_of answers f.scope core by)
+        (core_only (OrBare F) (takes_wider F (OrBare F) (or_bare_so F) takes) windows answers f.scope core by
+        (core_wider F (OrBare F) (or_bare_so F) core by fine.calls)
+        (weaker (λ part base. base_wider F (OrBare F) (or_bare_so F) windows answers f.scope part base)
+        (with_answers F windows answers f.scope (spoken_in core) (fine.columns f.scope shows) ((in_spoken answers all).0)))
+        (weaker (λ e is. term_wider F (OrBare F) (or_bare_so F) windows answers f.scope (names_of_results f.scope (results_in core)) e is)
+        (in_terms answers f.scope (names_of_results f.scope (results_in core)) by (fine.terms f.scope shows) ((in_spoken answers all).1)))
+        (weaker (λ table is. star_wider F (OrBare F) (or_bare_so F) f.scope table is) (fine.stars f.scope shows)) (λ d. inl (fine.windows d))
+        (order_wider F (OrBare F) (or_bare_so F) by (names_of_results f.scope (results_in core))
+        (in_order (names_of_results f.scope (results_in core)) (HasNames.alone shows)))
+        (λ star d. inl (fine.nothing f.scope shows star d))
+        (λ d e there plainly apart.
+        inl (rowless (names_of_results f.scope (results_in core)) (HasNames.alone shows) (distinct_rows core d) e there plainly apart))
+        (λ e z there is. inl (fine.keyless e z there is)) (λ d. inl (fine.narrow f.scope shows d))
+        (weaker (λ w o. only_wider F (OrBare F) (or_bare_so F) (frame_of (frame_in w)) o) fine.frames) refl (inr refl))
+        (λ d. fine.bare f.scope shows inners are d))))
 
   compounded_only : (order : TermTrees) (left : Queried) (operator : CompoundOperator) (s : Single)
       → (nat_eq (length left.names) (length s.core.names) ≡ false → F ColumnCount)
@@ -212,7 +226,7 @@ module _ (F : Fault → Type 0) (takes : Takes F) (known : List Known) (queries 
       StandsIn.operand other by inner part (IsSelect.before select) there is
   in_compound left operator core order (StandsIn.sorted inner part there is) = absurd (nothing_there part there)
 
-  query_only : (query : QueryTree) (order : TermTrees) → IsFineQuery F known query order
+  query_only : (query : QueryTree) (order : TermTrees) → IsFineQuery F known queries query order
       → ((inner : QueryTree) → StandsIn query order inner → Only F (queries inner))
       → Only F (query_of known queries query order)
   query_only (QueryTree.Core core) order fine stands =
@@ -241,10 +255,12 @@ module _ (F : Fault → Type 0) (takes : Takes F) (known : List Known) (queries 
       (fine.in_order l.names (HasNames.compound named)) (fine.rowless l.names (HasNames.compound named) HasNoRow.compound)))
 
 pub queried_only : (F : Fault → Type 0) (takes : Takes F) (deep : ℕ) (known : List Known) (query : QueryTree) (order : TermTrees)
-    → ((inner : QueryTree) (by : TermTrees) → HasQuery query order inner by → IsFineQuery F known inner by) → (IsDeep deep query order → F Limit)
-    → Only F (queried deep known query order)
+    → ((inner : QueryTree) (by : TermTrees) (has : HasQuery query order inner by) (more : ℕ) → suc (levels_around has + more) ≡ deep
+    → IsFineQuery F known (inside more known) inner by) → (IsDeep deep query order → F Limit) → Only F (queried deep known query order)
 queried_only F takes zero known query order fine deeply = refused Limit (deeply IsDeep.any)
 queried_only F takes (suc deep) known query order fine deeply =
-    query_only F takes known (inside deep known) (λ tree q is. queried_names deep known tree TermTrees.No_term q is) query order (fine query order HasQuery.own)
-    (λ inner stands. queried_only F takes deep known inner TermTrees.No_term (λ q by has. fine q by (HasQuery.inside inner stands has))
+    query_only F takes known (inside deep known) (λ tree q is. queried_names deep known tree TermTrees.No_term q is) query order
+    (fine query order HasQuery.own deep (omega arith))
+    (λ inner stands. queried_only F takes deep known inner TermTrees.No_term (λ q by has more same.
+    fine q by (HasQuery.inside inner stands has) more (omega (arith, same)))
     (λ is. deeply (IsDeep.inside inner stands is)))

@@ -1,8 +1,8 @@
 -- A statement that is refused by its names has what the fault says.
-use Rattle.std.proofs.Common.{◌≡◌, ◌∷◌, ◌++◌, Bool, true, false, if◌then◌else◌, inl, inr, ℕ, zero, suc, ℤ, pos, negsuc, ◌<◌, List, [], length, map, Option, Some, None, Result, Ok, Err, All, Contains, nat_eq, nat_le, ap, refl, sym, subst, ◌∙◌, arith}
+use Rattle.std.proofs.Common.{◌≡◌, ◌∷◌, ◌++◌, Bool, true, false, if◌then◌else◌, ◌⊎◌, inl, inr, ℕ, zero, suc, ◌+◌, ℤ, pos, negsuc, ◌<◌, List, [], length, map, Option, Some, None, Result, Ok, Err, All, Contains, nat_eq, nat_le, ap, refl, sym, subst, ◌∙◌, arith}
 use Rattle.std.specs.List.{list_any}
 use Rattle.std.proofs.lemmas.Bool.{eqb-false, leb-false}
-use Rattle.std.proofs.lemmas.List.Elements.{All-cons, All-nil}
+use Rattle.std.proofs.lemmas.List.Elements.{All-cons, All-nil, All-weaker}
 use Rattle.values.specs.declared.fault.Fault.{Fault}
 use Rattle.values.specs.declared.fault.Fault.TheVariants.{Ambiguous, BadFrame, BareColumn, ColumnCount, DuplicateName, Limit, UnknownColumn, UnknownTable, WrongPlace}
 use Rattle.semantics.specs.Query.{Source}
@@ -13,16 +13,17 @@ use Rattle.sql_reader_syntax.specs.declared.query.Edge as written_edge
 use Rattle.sql_reader_syntax.specs.declared.query.Edge.TheVariants as edges
 use Rattle.sql_reader_syntax.specs.declared.query.Join.{Join}
 use Rattle.semantics_names.specs.Expression.{InnerTree}
-use Rattle.semantics_names.specs.Laws.{AreDistinctInAnyCase, AreSameSources, IsSameInAnyCase, IsScalar}
-use Rattle.semantics_names.specs.Outcome.{found_or}
-use Rattle.semantics_names.specs.Parts.{core_parts, from_parts, inner_tree, on_parts, parts}
-use Rattle.semantics_names.specs.Places.{edge_of, frame_between, frame_of}
+use Rattle.semantics_names.specs.Laws.{AreDistinctInAnyCase, AreSameSources, ColumnsAreScalar, IsSameInAnyCase, IsScalar, NameIsColumn, SameIsEqual}
+use Rattle.semantics_names.specs.Outcome.{also, each, found_or}
+use Rattle.semantics_names.specs.Parts.{core_parts, from_parts, inner_tree, inner_trees, on_parts, parts}
+use Rattle.semantics_names.specs.Places.{edge_of, frame_between, frame_of, place_of}
+use Rattle.semantics_names.specs.Same.{is_same_inner}
 use Rattle.semantics_names.specs.Scope.{Scope, bare_term, column_of, is_bare}
 use Rattle.semantics_names.specs.Sources.{Known, is_same_source, known_as, shown_from, used}
-use Rattle.semantics_names.specs.Statement.{Queried, With, are_distinct, from_tree, item_columns, max_columns, max_levels, max_sources, named, named_at, queried, result, sources_of_body, starred, window_names, with_items}
+use Rattle.semantics_names.specs.Statement.{Inner, Queried, With, answer_at, answers_of, are_distinct, core_of, from_tree, inner_of, item_columns, max_columns, max_levels, max_sources, named, named_at, queried, result, sources_of_body, starred, window_names, with_items}
 use Rattle.semantics_names.specs.Typed.{Table, known_tables, typed_query}
 use Rattle.semantics_refusals.specs.BadFrames.{HasEdgeBelowZero, HasNoWindow, HasWindow, IsBelowZero, defined_in}
-use Rattle.semantics_refusals.specs.BareColumns.{HasBareColumn, MayHaveBareColumn}
+use Rattle.semantics_refusals.specs.BareColumns.{GroupsBarely, HasBareColumn}
 use Rattle.semantics_refusals.specs.Columns.{AreListed, HasNames, JoinsScopes, ListedTable, Offers, Shows, names_of_results, results_in}
 use Rattle.semantics_refusals.specs.Limits.{AreCounted, Counted, IsBeyondLimit, IsCounted, IsWide, MentionsLarge}
 use Rattle.semantics_refusals.specs.RepeatedNames.{HasRepeatedName, Repeats}
@@ -30,16 +31,20 @@ use Rattle.semantics_refusals.specs.UnevenColumns.{HasUnevenColumns, HasWideMemb
 use Rattle.semantics_refusals.specs.UnknownColumns.{HasAmbiguousColumn, HasUnknownColumn, InSelect, IsAmbiguous, IsNamedAt, IsNoResult, IsTwofold, IsUnknown, NamesColumn, NamesUnknownColumn}
 use Rattle.semantics_refusals.specs.UnknownSources.{HasUnknownSource, IsNoSource, NamesNoSource}
 use Rattle.semantics_refusals.specs.WrongPlaces.{GroupsByNumber, HasAnyWrongPlace, HasStar, HasWrongPlace, InQuery, IsNumber, Misplaces, MisplacesInGroups, SortsWrongly, StarsNothing, groups_in, plain_parts}
-use Rattle.semantics_refusals.specs.Written.{BeginsFrom, HasQuery, HasQueryWith, HasSelect, HasSelectWith, IsQueryOf, IsSelect, called_so, names_of_sources, sources_in, spoken_in, stars_in, terms_in, windows_in}
+use Rattle.semantics_refusals.specs.Written.{BeginsFrom, HasQuery, HasQueryWith, HasSelect, HasSelectWith, IsQueryOf, IsSelect, called_so, levels_around, names_of_sources, sources_in, spoken_in, stars_in, terms_in, windows_in}
+use Rattle.semantics_refusals.proofs.BareCoreLemmas.{core_bare}
+use Rattle.semantics_refusals.proofs.BareTraceLemmas.{IsAnswered}
 use Rattle.semantics_refusals.proofs.CountLemmas.{IsCountOf, known_counted, name_counted, queried_counts}
-use Rattle.semantics_refusals.proofs.CoreLemmas.{IsFineBare, IsFineCore, IsFineOrder, IsFineStar, IsFineTerm}
+use Rattle.semantics_refusals.proofs.CoreLemmas.{IsFineCore, IsFineOrder, IsFineStar, IsFineTerm}
 use Rattle.semantics_refusals.proofs.NameLemmas.{listed_of}
-use Rattle.semantics_refusals.proofs.OutcomeLemmas.{Only, Takes, both_only, checked_only, ok, refused}
+use Rattle.semantics_refusals.proofs.OutcomeLemmas.{Only, Takes, both_only, checked_only, ok, or_else, refused}
+use Rattle.semantics_refusals.proofs.OkLemmas.{IsGiven, each-ok, filtered}
 use Rattle.semantics_refusals.proofs.PartLemmas.{Each, each_itself, weaker}
 use Rattle.semantics_refusals.proofs.QueryLemmas.{IsFineQuery, IsFineSelect}
 use Rattle.semantics_refusals.proofs.ScopeLemmas.{Says, column_only, named_none, named_some, named_two, same_there, star_of_none, used_only}
 use Rattle.semantics_refusals.proofs.SourceLemmas.{IsFineColumn, IsFineJoin, IsFineSource}
 use Rattle.semantics_refusals.proofs.StatementLemmas.{IsFineStatement, known_gives, known_listed, named_only, typed_only}
+use Rattle.semantics_refusals.proofs.TakenLemmas.{inside}
 use Rattle.semantics_refusals.proofs.TermLemmas.{IsFineCall, frame_in}
 use Rattle.semantics_refusals.proofs.TypeLemmas.{TakesTypes}
 use Rattle.semantics_refusals.proofs.WithLemmas.{IsOther, items_back, no_items, tables_back}
@@ -55,7 +60,8 @@ pub record HasReasons (F : Fault → Type 0) (tables : List Table) (tree : State
   pub limit : IsBeyondLimit tables tree → F Limit
   pub frame : HasSelectWith tree HasNoWindow → F BadFrame
   pub wrong_place : HasAnyWrongPlace tables tree → F WrongPlace
-  pub bare_column : MayHaveBareColumn tables tree → F BareColumn
+  pub bare_laws : (SameIsEqual × NameIsColumn × ColumnsAreScalar) ⊎ F BareColumn
+  pub bare_column : HasBareColumn tables tree → F BareColumn
 
 offers_called : {listed : List ListedTable} {source : SourceTree} {called : Option Name} {columns : List Name} → Offers listed source called columns
     → called ≡ called_so source
@@ -99,7 +105,10 @@ above (suc m) many = (m, refl, omega (arith, many))
 module _ (F : Fault → Type 0) (tables : List Table) (tree : StatementTree) (says : Says F) (reasons : HasReasons F tables tree) where
   module _ (items : List ItemTree) (outer : QueryTree) (outer_order : TermTrees) (of : IsQueryOf tree items outer outer_order) (w : With)
       (begun : with_items (no_items (known_tables tables)) items ≡ Ok w) (query : QueryTree) (order : TermTrees)
-      (has : HasQuery outer outer_order query order) where
+      (has : HasQuery outer outer_order query order) (more : ℕ) (room : suc (levels_around has + more) ≡ max_levels) where
+    abbrev queries : QueryTree → Result Queried Fault
+    queries = inside more w.known
+
     here : (Is : List ItemTree → QueryTree → TermTrees → Type 0) → Is items query order → HasQueryWith tree Is
     here Is is = record { items = items; outer = outer; outer_order = outer_order; of = of; query = query; order = order; has = has; is = is }
 
@@ -317,15 +326,44 @@ module _ (F : Fault → Type 0) (tables : List Table) (tree : StatementTree) (sa
         in_row = λ part there apart loose over. misplaced (MisplacesInGroups.in_row part there apart loose over);
       }
 
-      bare_so : HasBareColumn (listed_of w.known) core by → F BareColumn
-      bare_so is = reasons.bare_column (here (InSelect tables HasBareColumn) (in_select HasBareColumn is))
-
-      fine_bare : (scope : Scope) → Shows (listed_of w.known) (from_tree core) scope → IsFineBare F scope core by
-      fine_bare scope shows = record {
-        columns = λ table name at shown groups there only apart.
-            bare_so (HasBareColumn.column scope table name at shown groups shows there only apart);
-        stars = λ stars groups. bare_so (HasBareColumn.star groups stars);
+      answered : (inners : List Inner) → each (inner_of w.known queries) (inner_trees core by) ≡ Ok inners
+          → Each (IsAnswered (answers_of w.known queries (map (λ (i : Inner). i.query) inners))) (core_parts core by)
+      answered inners are = record {
+        is = All-weaker (λ part. (tree : InnerTree) → inner_tree part ≡ Some tree → IsGiven (inner_of w.known queries tree))
+            (IsAnswered (answers_of w.known queries (map (λ (i : Inner). i.query) inners)))
+            (λ part given. record {
+              is = λ tree same.
+                  let (i, is) = given tree same in
+                  (_, ap (also (λ (i : Inner). answer_at (place_of is_same_inner i.query (map (λ (i : Inner). i.query) inners)))) is);
+            })
+            (core_parts core by)
+            (filtered (λ tree. IsGiven (inner_of w.known queries tree)) inner_tree (core_parts core by)
+            (each-ok (inner_of w.known queries) (inner_trees core by) inners are));
       }
+
+      fine_bare : (scope : Scope) → Shows (listed_of w.known) (from_tree core) scope → (inners : List Inner)
+          → each (inner_of w.known queries) (inner_trees core by) ≡ Ok inners
+          → core_of (answers_of w.known queries (map (λ (i : Inner). i.query) inners)) scope core by ≡ Err BareColumn → F BareColumn
+      fine_bare scope shows inners given e =
+          or_else reasons.bare_laws (λ laws.
+          let (groups, bare) =
+          core_bare laws.0 laws.1 laws.2 (answers_of w.known queries (map (λ (i : Inner). i.query) inners)) scope core by (answered inners given) e in
+          reasons.bare_column (record {
+            items = items;
+            outer = outer;
+            outer_order = outer_order;
+            of = of;
+            query = query;
+            order = order;
+            has = has;
+            is = in_select (GroupsBarely tables (levels_around has) items) (record {
+              scope = scope;
+              shows = shows;
+              operands = record { deep = more; left = room; w = w; mentioned = begun; inners = inners; are = given };
+              groups = groups;
+              bare = bare;
+            });
+          }))
 
       fine_framed : Each (IsFineCall F (window_names (windows_in core))) (core_parts core by)
       fine_framed =
@@ -353,7 +391,7 @@ module _ (F : Fault → Type 0) (tables : List Table) (tree : StatementTree) (sa
       fine_keyless e z there is =
           reasons.wrong_place (HasAnyWrongPlace.is (HasWrongPlace.group (at_select GroupsByNumber (record { e = e; z = z; written = there; is = is }))))
 
-      fine_select : IsFineSelect F w.known core by
+      fine_select : IsFineSelect F w.known queries core by
       fine_select = record {
         sources = fine_sources;
         joins = fine_join;
@@ -398,7 +436,7 @@ module _ (F : Fault → Type 0) (tables : List Table) (tree : StatementTree) (sa
       number = λ e z there is out. sorts (SortsWrongly.number names e z called there is out);
     }
 
-    fine_query : IsFineQuery F w.known query order
+    fine_query : IsFineQuery F w.known queries query order
     fine_query = record {
       selects = fine_select;
       in_order = fine_order;
@@ -433,7 +471,7 @@ module _ (F : Fault → Type 0) (tables : List Table) (tree : StatementTree) (sa
   fine_statement : IsFineStatement F reasons.takes tables tree
   fine_statement = record {
     items = λ e. says.repeated (map (λ (i : ItemTree). i.name) tree.items) e (λ apart. reasons.duplicate (HasRepeatedName.items apart));
-    queries = λ {items} {query} {order} of w begun inner by has. fine_query items query order of w begun inner by has;
+    queries = λ {items} {query} {order} of w begun inner by has more left. fine_query items query order of w begun inner by has more left;
     columns = λ i before after stand w begun names called. fine_item i before after stand w begun i.columns names called refl;
     deep = λ {items} {query} {order} of is. reasons.limit (IsBeyondLimit.levels items query order of is);
     sources = fine_size;

@@ -3,7 +3,7 @@ use Rattle.std.proofs.Common.{◌≡◌, ◌⊎◌, false, true≢false, ◌∙�
 use Rattle.values.specs.declared.fault.Fault.{Fault}
 use Rattle.sql_reader_syntax.specs.StatementTree.{StatementTree}
 use Rattle.sql_reader_syntax.specs.Tree.{Name}
-use Rattle.semantics_names.specs.Laws.{AmbiguousIsTwo, AreDistinctInAnyCase, DistinctIsSaid, NameIsColumn, SameIsEqual, UnknownIsNone}
+use Rattle.semantics_names.specs.Laws.{AmbiguousIsTwo, AreDistinctInAnyCase, ColumnsAreScalar, DistinctIsSaid, NameIsColumn, SameIsEqual, UnknownIsNone}
 use Rattle.semantics_names.specs.Statement.{Named, are_distinct, named}
 use Rattle.semantics_names.specs.Typed.{Table, column_types, known_tables, typed_query, with_types}
 use Rattle.semantics_refusals.specs.BadFrames.{HasBadFrame}
@@ -20,9 +20,8 @@ use Rattle.semantics_refusals.proofs.TypeLemmas.{TakesTypes}
 
 numbered : (tables : List Table) (tree : StatementTree) → HasReasons IsNameFault tables tree
 numbered tables tree = record {
-  takes = record {
-    laws = inr ((omega arith, omega arith), (omega arith, omega arith));
-  };
+  takes = record { laws = inr (omega arith, omega arith) };
+  bare_laws = inr (omega arith, omega arith);
   unknown_table = λ _. (omega arith, omega arith);
   unknown_column = λ _. (omega arith, omega arith);
   ambiguous = λ _. (omega arith, omega arith);
@@ -53,7 +52,7 @@ refusals_are_numbered tables tree fault (inr is) =
 
 -- what the definitions of names are known to say
 abbrev pub NameLaws : Type 0
-NameLaws = UnknownIsNone × AmbiguousIsTwo × DistinctIsSaid × SameIsEqual × NameIsColumn
+NameLaws = UnknownIsNone × AmbiguousIsTwo × DistinctIsSaid × SameIsEqual × NameIsColumn × ColumnsAreScalar
 
 apart_or : (said : DistinctIsSaid) (names : List Name) → are_distinct names ≡ false → ¬ AreDistinctInAnyCase names
 apart_or said names e apart = absurd (true≢false (sym ((said names).1 apart) ∙ e))
@@ -65,9 +64,10 @@ by_laws F laws = record {
   repeated = λ names e so. so (apart_or laws.2 names e);
 }
 
-reasons : SameIsEqual → NameIsColumn → (tables : List Table) (tree : StatementTree) → HasReasons (IsReason tables tree) tables tree
-reasons equal names tables tree = record {
-  takes = record { laws = inl (equal, names) };
+reasons : SameIsEqual → NameIsColumn → ColumnsAreScalar → (tables : List Table) (tree : StatementTree) → HasReasons (IsReason tables tree) tables tree
+reasons equal names scalars tables tree = record {
+  takes = record { laws = inl equal };
+  bare_laws = inl (equal, names, scalars);
   unknown_table = λ is. is;
   unknown_column = λ is. is;
   ambiguous = λ is. is;
@@ -94,5 +94,5 @@ refusals_have_reasons laws tables tree fault (inr is) =
         ⊎ ((n : Named) × (named (known_tables tables) tree ≡ Ok n) × (with_types (column_types tables) n ≡ Err fault)) → IsReason tables tree fault
     by (inl d) =
         fault_is (named (known_tables tables) tree) fault
-        (names_for_reasons (IsReason tables tree) tables tree (by_laws (IsReason tables tree) laws) (reasons laws.3 laws.4 tables tree)) d
+        (names_for_reasons (IsReason tables tree) tables tree (by_laws (IsReason tables tree) laws) (reasons laws.3 laws.4 laws.5 tables tree)) d
     by (inr (n, names, d)) = of_types n names d (fault_is (typed_query tables tree) fault (statement_only tables tree n names) is)

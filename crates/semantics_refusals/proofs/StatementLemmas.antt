@@ -1,5 +1,5 @@
 -- A statement by its names and types, or why it is no query.
-use Rattle.std.proofs.Common.{◌≡◌, false, ℕ, suc, List, [], ◌∷◌, ◌++◌, codes, length, map, Result, Ok, Err, All, append_assoc, append-nil, ap, refl, sym, subst, ◌∙◌, nat_eq, nat_le}
+use Rattle.std.proofs.Common.{◌≡◌, false, ℕ, suc, ◌+◌, List, [], ◌∷◌, ◌++◌, codes, length, map, Result, Ok, Err, All, append_assoc, append-nil, ap, refl, sym, subst, ◌∙◌, nat_eq, nat_le}
 use Rattle.std.proofs.lemmas.List.{map-append}
 use Rattle.values.specs.declared.fault.Fault.{Fault}
 use Rattle.values.specs.declared.fault.Fault.TheVariants.{ColumnCount, DuplicateName, Limit, UnknownTable, WrongPlace}
@@ -16,12 +16,13 @@ use Rattle.semantics_names.specs.Types.{body_types, query_types}
 use Rattle.semantics_names.proofs.OutcomeLemmas.{checked-ok, followed-ok}
 use Rattle.semantics_refusals.specs.Columns.{AreListed, HasNames, columns_or, schema_listed, table_listed, tables_listed}
 use Rattle.semantics_refusals.specs.Limits.{IsDeep}
-use Rattle.semantics_refusals.specs.Written.{HasQuery, IsQueryOf}
+use Rattle.semantics_refusals.specs.Written.{HasQuery, IsQueryOf, levels_around}
 use Rattle.semantics_refusals.proofs.EvenLemmas.{IsEvenBody, named_even, tables_even}
 use Rattle.semantics_refusals.proofs.NameLemmas.{listed_of, queried_names}
 use Rattle.semantics_refusals.proofs.OutcomeLemmas.{Gives, Only, Takes, also_only, checked_only, each_only, followed_only, known_only, ok}
 use Rattle.semantics_refusals.proofs.PartLemmas.{Each, weaker}
 use Rattle.semantics_refusals.proofs.QueryLemmas.{IsFineQuery, queried_only}
+use Rattle.semantics_refusals.proofs.TakenLemmas.{inside}
 use Rattle.semantics_refusals.proofs.TypeLemmas.{TakesTypes, body_only, query_only}
 use Rattle.semantics_refusals.proofs.WithLemmas.{IsOther, item_taken, no_items, unknown_is, unknown_none}
 
@@ -92,8 +93,8 @@ module _ (F : Fault → Type 0) (takes : Takes F) where
     pub record IsFineStatement : Type 0 where
       pub items : are_distinct (map (λ (i : ItemTree). i.name) tree.items) ≡ false → F DuplicateName
       pub queries : {items : List ItemTree} {query : QueryTree} {order : TermTrees} → IsQueryOf tree items query order → (w : With)
-          → with_items (no_items (known_tables tables)) items ≡ Ok w → (inner : QueryTree) (by : TermTrees) → HasQuery query order inner by
-          → IsFineQuery F w.known inner by
+          → with_items (no_items (known_tables tables)) items ≡ Ok w → (inner : QueryTree) (by : TermTrees) (has : HasQuery query order inner by) (more : ℕ)
+          → suc (levels_around has + more) ≡ max_levels → IsFineQuery F w.known (inside more w.known) inner by
       pub columns : (i : ItemTree) (before after : List ItemTree) → tree.items ≡ before ++ i ∷ after → (w : With)
           → with_items (no_items (known_tables tables)) before ≡ Ok w → (names : List Name) → HasNames (listed_of w.known) i.query names
           → Only F (item_columns i.columns names)

@@ -101,7 +101,7 @@ module _ (F : Fault → Type 0) where
   over_none : (v : WindowTree) → BehindTree.Behind MaybeExpr.Absent (OverTree.Over v) ≡ plain → ⊥
   over_none v same = absurd cc
 
-  called_only : (after : BehindTree) (name : written.Function) (items : List Term) (n : ℕ) → length items ≡ n
+  pub called_only : (after : BehindTree) (name : written.Function) (items : List Term) (n : ℕ) → length items ≡ n
       → (¬ ((after ≡ plain) × (is_scalar name ≡ true)) → F WrongPlace) → (takes name n ≡ false → F WrongPlace) → Only F (called after name items)
   called_only (BehindTree.Behind MaybeExpr.Absent OverTree.No_over) name items n size fits is =
       applied_only name items n size (λ apart. fits (λ both. apart both.1)) is

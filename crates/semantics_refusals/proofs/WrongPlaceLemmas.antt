@@ -59,7 +59,7 @@ module _ (names : List Name) (otherwise : ExprTree → Result KeyTerm Fault) whe
       by None same d = absurd cc
 
   -- any other is computed, where it isn't the name of a result column
-  computed : (e : ExprTree) → IsNoNumber e → IsNoResult names e → IsGiven (key_term names otherwise e) → IsGiven (otherwise e)
+  pub computed : (e : ExprTree) → IsNoNumber e → IsNoResult names e → IsGiven (key_term names otherwise e) → IsGiven (otherwise e)
   computed e plainly apart (k, made) = by (number_alone e) refl made
     where
       places : (name : Name) → e ≡ ExprTree.Column None name → (at : List ℕ) → named_at name 0 names ≡ at
@@ -142,7 +142,7 @@ module _ (answers : Answers) where
     measure_scalar _ _ filter m given = absurd m
 
     -- in an aggregate that is taken all is scalar
-    aggregate_scalar : (part : ExprTree) → IsAggregate part
+    pub aggregate_scalar : (part : ExprTree) → IsAggregate part
         → ((r : Result Aggregate Fault) → aggregate_of answers (columns_say scope) part ≡ Some r → IsGiven r) → Each IsScalar (inside_call part)
     aggregate_scalar (ExprTree.CountRows (BehindTree.Behind filter OverTree.No_over)) m given =
         let (a, e) = given _ refl in
@@ -204,7 +204,7 @@ module _ (answers : Answers) where
       over_given _ h given = tt
 
 -- a scalar function has no OVER
-scalar_over : (part : ExprTree) → IsScalar part → HasOver part → ⊥
+pub scalar_over : (part : ExprTree) → IsScalar part → HasOver part → ⊥
 scalar_over (ExprTree.CountRows after) scalar h = scalar
 scalar_over (ExprTree.Call function es (BehindTree.Behind filter OverTree.No_over)) scalar h = h
 scalar_over (ExprTree.Call function es (BehindTree.Behind filter (OverTree.OverName name))) scalar h = name_none filter name scalar.0

@@ -8,7 +8,7 @@ use Rattle.sql_reader_syntax.specs.declared.query.Join.TheVariants.{Inner}
 use Rattle.semantics_names.specs.RefusedExamples.{aggregate_in_where, alias_in_where, arms_of_two_types, bad_frame, bare, by_distance, distance_of_texts, group_by_signed_number, hidden_order, in_two_sources, item_in_itself, mismatch, no_buckets, order_out_of_range, other_type, outer_column, scalar_over, star_beside_aggregate, star_of_none, star_of_nothing, sum_behind_compound, twice, two_columns, two_named, two_of_one_name, undefined_window, uneven, uneven_item, unknown_column, unknown_table, untyped_item, unused_window, windows_of_one_name}
 use Rattle.semantics_names.specs.Worked.{by_term, call_over, called, id, item, name_alone, number, one, ordered, select, shown, statement, table, tables, window_by, with, with_item, without_from}
 use Rattle.semantics_refusals.specs.BadFrames.{HasBadFrame}
-use Rattle.semantics_refusals.specs.BareColumns.{MayHaveBareColumn}
+use Rattle.semantics_refusals.specs.BareColumns.{HasBareColumn}
 use Rattle.semantics_refusals.specs.Limits.{IsBeyondLimit}
 use Rattle.semantics_refusals.specs.Mismatches.{IsMistyped}
 use Rattle.semantics_refusals.specs.RepeatedNames.{HasRepeatedName}
@@ -73,7 +73,7 @@ ReasonsAreWritten =
     × HasAnyWrongPlace tables aggregate_in_where × HasAnyWrongPlace tables hidden_order × HasAnyWrongPlace tables order_out_of_range
     × HasAnyWrongPlace tables group_by_signed_number × HasAnyWrongPlace tables star_of_nothing × HasAnyWrongPlace tables sum_behind_compound
     × HasAnyWrongPlace tables scalar_over
-    × MayHaveBareColumn tables bare × MayHaveBareColumn tables star_beside_aggregate
+    × HasBareColumn tables bare × HasBareColumn tables star_beside_aggregate
     × IsBeyondLimit tables (ones 101) × IsBeyondLimit tables (statement (select (shown (number 1) ∷ []) (from_ones 64)))
     × IsBeyondLimit tables (statement (levels 100))
 

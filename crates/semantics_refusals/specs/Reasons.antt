@@ -5,7 +5,7 @@ use Rattle.values.specs.declared.fault.Fault.TheVariants as f
 use Rattle.sql_reader_syntax.specs.StatementTree.{StatementTree}
 use Rattle.semantics_names.specs.Typed.{IsNoQuery, Table}
 use Rattle.semantics_refusals.specs.BadFrames.{HasBadFrame}
-use Rattle.semantics_refusals.specs.BareColumns.{MayHaveBareColumn}
+use Rattle.semantics_refusals.specs.BareColumns.{HasBareColumn}
 use Rattle.semantics_refusals.specs.Limits.{IsBeyondLimit}
 use Rattle.semantics_refusals.specs.Mismatches.{IsMistyped}
 use Rattle.semantics_refusals.specs.RepeatedNames.{HasRepeatedName}
@@ -25,7 +25,7 @@ IsReason tables tree f.TypeMismatch = IsMistyped tables tree
 IsReason tables tree f.Limit = IsBeyondLimit tables tree
 IsReason tables tree f.BadFrame = HasBadFrame tables tree
 IsReason tables tree f.WrongPlace = HasAnyWrongPlace tables tree
-IsReason tables tree f.BareColumn = MayHaveBareColumn tables tree
+IsReason tables tree f.BareColumn = HasBareColumn tables tree
 IsReason tables tree _ = Unit {0}
 
 -- a statement that is refused by a fault has what the fault says

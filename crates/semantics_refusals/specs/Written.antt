@@ -1,5 +1,5 @@
 -- What is written in a statement: its SELECTs, however deep they stand, and the sources of their FROM. (SELECT; WITH clause)
-use Rattle.std.specs.Prelude.{◌≡◌, Bool, Contains, List, [], ◌∷◌, ◌++◌, map, Option}
+use Rattle.std.specs.Prelude.{◌≡◌, ℕ, suc, Bool, Contains, List, [], ◌∷◌, ◌++◌, map, Option}
 use Rattle.sql_reader_syntax.specs.ExprTree.{CoreTree, DefinitionTrees, ExprTree, ExprTrees, FromTree, MaybeExpr, OnTree, QueryTree, ResultTree, ResultTrees, SourceTree, TermTrees}
 use Rattle.sql_reader_syntax.specs.StatementTree.{ItemTree, StatementTree}
 use Rattle.sql_reader_syntax.specs.Tree.{Name}
@@ -86,6 +86,11 @@ pub data HasQuery : QueryTree → TermTrees → QueryTree → TermTrees → Type
   inside : {query : QueryTree} {order : TermTrees} {deep : QueryTree} {by : TermTrees} (inner : QueryTree)
       → StandsIn query order inner → HasQuery inner TermTrees.No_term deep by → HasQuery query order deep by
 
+-- how many queries stand around it
+abbrev pub levels_around : {query : QueryTree} {order : TermTrees} {deep : QueryTree} {by : TermTrees} → HasQuery query order deep by → ℕ
+levels_around HasQuery.own = 0
+levels_around (HasQuery.inside inner stands has) = suc (levels_around has)
+
 -- a query of a statement, and the items of WITH that stand before it, which alone it may mention
 pub data IsQueryOf (tree : StatementTree) : List ItemTree → QueryTree → TermTrees → Type 0 where
   item : (before : List ItemTree) (i : ItemTree) (after : List ItemTree) → tree.items ≡ before ++ i ∷ after
@@ -102,6 +107,17 @@ pub record HasQueryWith (tree : StatementTree) (Is : List ItemTree → QueryTree
   pub order : TermTrees
   pub has : HasQuery outer outer_order query order
   pub is : Is items query order
+
+-- the same, where it holds also of how many queries stand around it
+pub record HasQueryAt (tree : StatementTree) (Is : ℕ → List ItemTree → QueryTree → TermTrees → Type 0) : Type 0 where
+  pub items : List ItemTree
+  pub outer : QueryTree
+  pub outer_order : TermTrees
+  pub of : IsQueryOf tree items outer outer_order
+  pub query : QueryTree
+  pub order : TermTrees
+  pub has : HasQuery outer outer_order query order
+  pub is : Is (levels_around has) items query order
 
 -- one of the SELECTs of a query of which this holds
 pub record HasSelect (Is : List ItemTree → CoreTree → TermTrees → Type 0) (items : List ItemTree) (query : QueryTree) (order : TermTrees) : Type 0 where

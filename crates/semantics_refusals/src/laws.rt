@@ -34,6 +34,7 @@ pub fn refusals_have_reasons()
 {
     names_are_columns();
     names_are_distinct();
+    places_are_kept();
     same_is_equal();
 }
 
