@@ -6,8 +6,9 @@ use Rattle.values.specs.declared.fault.Fault.{Fault}
 use Rattle.values.specs.declared.fault.Fault.TheVariants.{DuplicateName, Limit, UnknownColumn, WrongPlace}
 use Rattle.values.specs.Datum.{null}
 use Rattle.expr.specs.Term.{Term, literal}
-use Rattle.semantics.specs.Query.{always, filtered, Aggregate, AggregateFunction, SortTerm, Window, WindowCall, WindowFunction}
+use Rattle.semantics.specs.Query.{always, filtered, Aggregate, AggregateFunction, KeyTerm, SortTerm, Window, WindowCall, WindowFunction}
 use Rattle.sql_reader_syntax.specs.ExprTree.{ArmTrees, BehindTree, CoreTree, DefinitionTrees, ExprTree, ExprTrees, MaybeExpr, OverTree, QueryTree, ResultTree, ResultTrees, TermTrees, WindowTree}
+use Rattle.sql_reader_syntax.specs.StatementTree.{ItemTree}
 use Rattle.sql_reader_syntax.specs.Tree.{Name}
 use Rattle.sql_reader_syntax.specs.declared.expr.Function as written
 use Rattle.sql_reader_syntax.specs.declared.expr.Function.TheVariants as w
@@ -18,15 +19,15 @@ use Rattle.semantics_names.specs.Parts.{inner_trees, parts_behind_groups}
 use Rattle.semantics_names.specs.Places.{Defined, aggregate, aggregate_call, aggregate_column, aggregate_named, aggregate_of, bare, beside_keys, call_column, call_of, columns_say, count_rows, filter_of, frame_of, function_or, groups_say, key_column, key_or, of_term, over, over_call, place_of, ranking, ranking_unless, sorted, window, window_call, window_of, windows_say}
 use Rattle.semantics_names.specs.Same.{is_same_aggregate, is_same_call, is_same_term}
 use Rattle.semantics_names.specs.Scope.{Scope, column_of}
-use Rattle.semantics_names.specs.Sources.{Sources}
+use Rattle.semantics_names.specs.Sources.{Known}
 use Rattle.semantics_names.specs.Statement.{CoreData, Inner, Input, Named, Queried, ResultColumn, Single, With, all_results, answers_of, are_distinct, as_input, behind_groups, by_of, condition_of, core_of, defined_of, finished, firsts, from_of, from_tree, group_term, grouping_of, inner_of, input_of, keys_of, max_columns, max_levels, named, on_row, or_bare, queried, query_of, result, results_of, single, single_of, some_of, starred, starred_of, window_names, with_inners, with_items}
 use Rattle.semantics_names.specs.Typed.{Table, column_types, known_tables, with_types}
 use Rattle.semantics_names.proofs.OneLemmas.{one_ok}
 use Rattle.semantics_names.proofs.OutcomeLemmas.{also-ok, both-ok, checked-ok, followed-ok}
 use Rattle.semantics_refusals.specs.BareColumns.{BareColumnIsRefused, HasBare, HasGroups, IsAfterGroups, IsBareIn, IsGroupExpression, IsGroupTerm, IsStarred, Operands, StandsOutside, after_in, arms_in, computed_in, definitions_in, directly_in, maybe_in, operand_answers, over_in, values_in, window_in}
-use Rattle.semantics_refusals.specs.Columns.{names_of_results, results_in}
+use Rattle.semantics_refusals.specs.Columns.{Shows, names_of_results}
 use Rattle.semantics_refusals.specs.UnknownColumns.{IsNoResult}
-use Rattle.semantics_refusals.specs.WrongPlaces.{IsAggregate, IsNumber, expressions, groups_in}
+use Rattle.semantics_refusals.specs.WrongPlaces.{IsAggregate, IsNoNumber, IsNumber, expressions, groups_in}
 use Rattle.semantics_refusals.specs.Written.{HasQuery, levels_around, terms_in}
 use Rattle.semantics_refusals.proofs.BareLemmas.{cases, head_or, keyed_is, no_element, place_column, place_group_term}
 use Rattle.semantics_refusals.proofs.CoreToldLemmas.{keys_given}
@@ -306,3 +307,229 @@ module _ (equal : SameIsEqual) (answers : Answers) (scope : Scope) (core : CoreT
           by_call u (Some r) so known =
               let (c, of, same) = also-ok _ r (Some u) known in
               operand_refuted (among (call_taken answers said defined e c (so ∙ ap Some of)) there)
+
+-- ---- one SELECT
+
+module _ (answers : Answers) (scope : Scope) (input : Input) (says : Says) where
+  some_columns : (fault : Fault) (columns others : List ResultColumn) → some_of fault columns ≡ Ok others → columns ≡ others
+  some_columns fault [] others e = absurd cc
+  some_columns fault (c ∷ cs) others e = cc
+
+  star_taken : (fault : Fault) (columns others : List ResultColumn) → followed (some_of fault columns) (each (as_input answers input)) ≡ Ok others
+      → (r : ResultColumn) → Contains columns r → IsGiven (input.over_input r.term)
+  star_taken fault columns others e r there =
+      let (shown, is, rest) = followed-ok (some_of fault columns) (each (as_input answers input)) others e in
+      let all : Each (λ r. IsGiven (as_input answers input r)) shown = record { is = each-ok (as_input answers input) shown others rest } in
+      let (c, made) = among all (subst (λ columns. Contains columns r) (some_columns fault columns shown is) there) in
+      let (t, of, same) = also-ok (result r.name) (input.over_input r.term) c made in (t, of)
+
+  -- what is known of result columns that are taken
+  record AreTaken (results : ResultTrees) : Type 0 where
+    values : Each (λ x. IsGiven (term_of answers says x)) (values_in results)
+    stars : (r : ResultColumn) → IsStarred scope r results → IsGiven (input.over_input r.term)
+
+  results_taken : (results : ResultTrees) (columns : List ResultColumn) → all_results answers scope input says results ≡ Ok columns → AreTaken results
+  results_taken ResultTrees.No_result columns e = record { values = none; stars = λ r starred. elim starred [ ] }
+  results_taken (ResultTrees.Result ResultTree.All rs) columns e =
+      let (shown, others, is, rest, same) =
+      both-ok ◌++◌ (results_of answers scope input says ResultTree.All) (all_results answers scope input says rs) columns e in
+      let later = results_taken rs others rest in
+      record { values = later.values; stars = by shown is later.stars }
+    where
+      by : (shown : List ResultColumn) → results_of answers scope input says ResultTree.All ≡ Ok shown
+          → ((r : ResultColumn) → IsStarred scope r rs → IsGiven (input.over_input r.term))
+          → (r : ResultColumn) → IsStarred scope r (ResultTrees.Result ResultTree.All rs) → IsGiven (input.over_input r.term)
+      by shown is later r (IsStarred.all there) = star_taken WrongPlace (starred scope) shown is r there
+      by shown is later r (IsStarred.later starred) = later r starred
+  results_taken (ResultTrees.Result (ResultTree.AllOf table) rs) columns e =
+      let (shown, others, is, rest, same) =
+      both-ok ◌++◌ (results_of answers scope input says (ResultTree.AllOf table)) (all_results answers scope input says rs) columns e in
+      let later = results_taken rs others rest in
+      record { values = later.values; stars = by shown is later.stars }
+    where
+      by : (shown : List ResultColumn) → results_of answers scope input says (ResultTree.AllOf table) ≡ Ok shown
+          → ((r : ResultColumn) → IsStarred scope r rs → IsGiven (input.over_input r.term))
+          → (r : ResultColumn) → IsStarred scope r (ResultTrees.Result (ResultTree.AllOf table) rs) → IsGiven (input.over_input r.term)
+      by shown is later r (IsStarred.of there) = star_taken UnknownColumn (starred_of table 0 scope) shown is r there
+      by shown is later r (IsStarred.later starred) = later r starred
+  results_taken (ResultTrees.Result (ResultTree.Value x name) rs) columns e =
+      let (shown, others, is, rest, same) =
+      both-ok ◌++◌ (results_of answers scope input says (ResultTree.Value x name)) (all_results answers scope input says rs) columns e in
+      let later = results_taken rs others rest in
+      let (t, of, made) = also-ok _ (term_of answers says x) shown is in
+      record { values = more x (values_in rs) (t, of) later.values; stars = by later.stars }
+    where
+      by : ((r : ResultColumn) → IsStarred scope r rs → IsGiven (input.over_input r.term))
+          → (r : ResultColumn) → IsStarred scope r (ResultTrees.Result (ResultTree.Value x name) rs) → IsGiven (input.over_input r.term)
+      by later r (IsStarred.later starred) = later r starred
+
+definitions_taken : (answers : Answers) (says : Says) (windows : DefinitionTrees) (ds : List Defined) → defined_of answers says windows ≡ Ok ds
+    → Each (λ x. IsGiven (term_of answers says x)) (definitions_in windows)
+definitions_taken answers says DefinitionTrees.No_definition ds e = none
+definitions_taken answers says (DefinitionTrees.Definition name v windows) ds e =
+    let (made, rest, is, last, same) = both-ok _ (window_of answers says v) (defined_of answers says windows) ds e in
+    join (window_in v) (definitions_in windows) (window_taken answers says v made is) (definitions_taken answers says windows rest last)
+
+condition_taken : (answers : Answers) (says : Says) (condition : MaybeExpr) (t : Term) → condition_of answers says condition ≡ Ok t
+    → Each (λ x. IsGiven (term_of answers says x)) (maybe_in condition)
+condition_taken answers says MaybeExpr.Absent t e = none
+condition_taken answers says (MaybeExpr.Present x) t e = one (t, e)
+
+-- what GROUP BY has are terms of it
+keys_some : (answers : Answers) (scope : Scope) (groups : ExprTrees) (keys : List Term) → by_of answers scope groups ≡ Ok keys → (e : ExprTree)
+    → Contains (expressions groups) e → keys ≡ [] → ⊥
+keys_some answers scope ExprTrees.No_more keys e x there none = no_element x there
+keys_some answers scope (ExprTrees.More y others) keys e x there none =
+    let (u, us, first, last, same) = both-ok ◌∷◌ (group_term answers scope y) (by_of answers scope others) keys e in
+    let both : u ∷ us ≡ [] = same ∙ none in absurd cc
+
+abbrev over_groups : Answers → Scope → List Term → List Aggregate → Term → Input
+over_groups answers scope keys aggregates h = record {
+  says = groups_say answers scope keys aggregates;
+  over_input = λ t. or_bare (key_column keys (Ok t));
+  width = length keys + length aggregates;
+  grouping = Some (grouping_of keys aggregates h);
+}
+
+-- a SELECT with keys or aggregates is computed over groups
+over_groups_is : (answers : Answers) (scope : Scope) (keys : List Term) (aggregates : List Aggregate) (having : MaybeExpr) (input : Input)
+    → (keys ≡ [] → aggregates ≡ [] → ⊥) → input_of answers scope keys aggregates having ≡ Ok input
+    → (h : Term) × (condition_of answers (groups_say answers scope keys aggregates) having ≡ Ok h) × (over_groups answers scope keys aggregates h ≡ input)
+over_groups_is answers scope [] [] having input some e = absurd (some refl refl)
+over_groups_is answers scope [] (a ∷ aggregates) having input some e =
+    also-ok (over_groups answers scope [] (a ∷ aggregates)) (condition_of answers (groups_say answers scope [] (a ∷ aggregates)) having) input e
+over_groups_is answers scope (t ∷ keys) aggregates having input some e =
+    also-ok (over_groups answers scope (t ∷ keys) aggregates) (condition_of answers (groups_say answers scope (t ∷ keys) aggregates) having) input e
+
+row_given : (answers : Answers) (says : Says) (distinct : Bool) (e : ExprTree) → IsGiven (on_row answers distinct says e) → IsGiven (term_of answers says e)
+row_given answers says true e (k, d) = absurd cc
+row_given answers says false e (k, d) = let (t, is, same) = also-ok KeyTerm.term (term_of answers says e) k d in (t, is)
+
+or_bare_some : (key : Option Term) → IsGiven (or_bare key) → (t : Term) × (key ≡ Some t)
+or_bare_some None (t, e) = absurd cc
+or_bare_some (Some u) (t, e) = (u, refl)
+
+core_refuted : SameIsEqual → (answers : Answers) (scope : Scope) (core : CoreTree) (order : TermTrees) (c : CoreData)
+    → core_of answers scope core order ≡ Ok c → HasGroups core order → HasBare answers scope core order → ⊥
+core_refuted equal answers scope (CoreTree.Select distinct results from condition groups having windows) order c e grouped has =
+    let core : CoreTree = CoreTree.Select distinct results from condition groups having windows in
+    let behind = parts_behind_groups core order in
+    let (test, is, others) = followed-ok (condition_of answers (columns_say scope) condition) _ c e in
+    let (keys, keyed, rest) = followed-ok (by_of answers scope groups) _ c others in
+    let (aggregates, gathered, last) =
+    followed-ok (firsts is_same_aggregate [] (filter_map (aggregate_of answers (columns_say scope)) behind)) _ c rest in
+    let (input, given, all) =
+    followed-ok (input_of answers scope keys aggregates having) (behind_groups answers scope distinct results order behind windows test) c last in
+    let (h, having_is, same) =
+    over_groups_is answers scope keys aggregates having input (some keys aggregates keyed gathered grouped) given in
+    let over : Input = over_groups answers scope keys aggregates h in
+    let on : behind_groups answers scope distinct results order behind windows test over ≡ Ok c =
+    subst (λ input. behind_groups answers scope distinct results order behind windows test input ≡ Ok c) (sym same) all in
+    let (apart, further) = checked-ok (are_distinct (window_names windows)) DuplicateName _ c on in
+    let (defined, are_defined, next) = followed-ok (defined_of answers over.says windows) _ c further in
+    let (calls, called, end) = followed-ok (firsts is_same_call [] (filter_map (call_of answers over.says defined) behind)) _ c next in
+    let says = windows_say answers over.says defined over.width calls in
+    let (columns, shown, after) = followed-ok (all_results answers scope over says results) _ c end in
+    let (few, sorting) = checked-ok (nat_le (length columns) max_columns) Limit _ c after in
+    let (sort, sorted, made) =
+    also-ok (finished distinct test over.grouping defined calls columns) (keys_of (names_in columns) (on_row answers distinct says) order) c sorting in
+    let taken_results = results_taken answers scope over says results columns shown in
+    by keys keyed aggregates defined over.width calls taken_results.values (condition_taken answers over.says having h having_is)
+    (definitions_taken answers over.says windows defined are_defined)
+    (λ x there plainly apart.
+    row_given answers says distinct x (computed (names_in columns) (on_row answers distinct says) x plainly
+    (subst (λ titles. IsNoResult titles x) (sym (all_names answers over scope says results columns shown)) apart)
+    (among (keys_given (names_in columns) (on_row answers distinct says) order sort sorted) there)))
+    taken_results.stars has
+  where
+    some : (keys : List Term) (aggregates : List Aggregate) → by_of answers scope groups ≡ Ok keys
+        → firsts is_same_aggregate [] (filter_map (aggregate_of answers (columns_say scope)) (parts_behind_groups (CoreTree.Select distinct results from condition groups having windows) order)) ≡ Ok aggregates
+        → HasGroups (CoreTree.Select distinct results from condition groups having windows) order → keys ≡ [] → aggregates ≡ [] → ⊥
+    some keys aggregates keyed gathered (HasGroups.key x there) no_key no_aggregate = keys_some answers scope groups keys keyed x there no_key
+    some keys aggregates keyed gathered (HasGroups.aggregate part there m) no_key no_aggregate =
+        let (r, is) = aggregate_some answers (columns_say scope) part m in
+        let found =
+        among (all_found is_same_aggregate (λ a. (equal.aggregates a a).1 refl) (aggregate_of answers (columns_say scope)) aggregates
+        (parts_behind_groups (CoreTree.Select distinct results from condition groups having windows) order) gathered) there in
+        let (a, same, p) = found.is r is in
+        subst (λ aggregates. IsPlace (place_of is_same_aggregate a aggregates)) no_aggregate p
+
+    by : (keys : List Term) → by_of answers scope groups ≡ Ok keys → (aggregates : List Aggregate) (defined : List Defined) (width : ℕ) (calls : List WindowCall)
+        → Each (λ x. IsGiven (term_of answers (windows_say answers (groups_say answers scope keys aggregates) defined width calls) x)) (values_in results)
+        → Each (λ x. IsGiven (term_of answers (groups_say answers scope keys aggregates) x)) (maybe_in having)
+        → Each (λ x. IsGiven (term_of answers (groups_say answers scope keys aggregates) x)) (definitions_in windows)
+        → ((x : ExprTree) → Contains (terms_in order) x → IsNoNumber x → IsNoResult (names_of_results scope results) x
+        → IsGiven (term_of answers (windows_say answers (groups_say answers scope keys aggregates) defined width calls) x))
+        → ((r : ResultColumn) → IsStarred scope r results → IsGiven (or_bare (key_column keys (Ok r.term))))
+        → HasBare answers scope (CoreTree.Select distinct results from condition groups having windows) order → ⊥
+    by keys keyed aggregates defined width calls values filtered_groups defines terms stars (HasBare.star r starred apart) =
+        let (t, is) = or_bare_some (key_column keys (Ok r.term)) (stars r starred) in
+        apart (place_group_term equal answers scope (CoreTree.Select distinct results from condition groups having windows) groups refl keys keyed r.term (place_column 0 (place_of is_same_term r.term keys) t is))
+    by keys keyed aggregates defined width calls values filtered_groups defines terms stars (HasBare.column x (IsAfterGroups.sorted there apart) b) =
+        let (t, is) = terms x there (λ z number. number_outside b.outside z number) apart in
+        windows_refuted equal answers scope (CoreTree.Select distinct results from condition groups having windows) groups refl keys keyed aggregates b.table b.name defined width calls b.outside t is
+    by keys keyed aggregates defined width calls values filtered_groups defines terms stars (HasBare.column x (IsAfterGroups.computed there) b) =
+        cases (Contains-append_cases (values_in results ++ maybe_in having) (definitions_in windows) x there)
+        (λ front.
+        cases (Contains-append_cases (values_in results) (maybe_in having) x front)
+        (λ value.
+        let (t, is) = among values value in
+        windows_refuted equal answers scope (CoreTree.Select distinct results from condition groups having windows) groups refl keys keyed aggregates b.table b.name defined width calls b.outside t is)
+        (λ filter.
+        let (t, is) = among filtered_groups filter in
+        groups_refuted equal answers scope (CoreTree.Select distinct results from condition groups having windows) groups refl keys keyed aggregates b.table b.name b.outside t is))
+        (λ window.
+        let (t, is) = among defines window in
+        groups_refuted equal answers scope (CoreTree.Select distinct results from condition groups having windows) groups refl keys keyed aggregates b.table b.name b.outside t is)
+
+-- ---- the statement
+
+-- a query that stands in one that is taken is taken, with as many levels left
+all_taken_at : (known : List Known) (deep : ℕ) {query : QueryTree} {order : TermTrees} {inner : QueryTree} {by : TermTrees}
+    (has : HasQuery query order inner by) (q : Queried) → queried deep known query order ≡ Ok q
+    → (more : ℕ) × (suc (levels_around has + more) ≡ deep) × IsGiven (query_of known (inside more known) inner by)
+all_taken_at known zero has q e = absurd cc
+all_taken_at known (suc deep) HasQuery.own q e = (deep, omega arith, (q, e))
+all_taken_at known (suc deep) (HasQuery.inside inner stands has) q e =
+    let (p, is) = inner_taken known (inside deep known) stands q e in
+    let (more, left, given) = all_taken_at known deep has p is in (more, omega (arith, left), given)
+
+-- the answers are those by which it is taken
+answers_same : {tables : List Table} {levels : ℕ} {items : List ItemTree} {core : CoreTree} {by : TermTrees} (o : Operands tables levels items core by)
+    (w : With) (more : ℕ) (inners : List Inner) → o.w ≡ w → o.deep ≡ more
+    → each (inner_of w.known (inside more w.known)) (inner_trees core by) ≡ Ok inners
+    → operand_answers o ≡ answers_with w.known (inside more w.known) inners
+answers_same {core = core} {by = by} o w more inners alike levels are =
+    let given : each (inner_of w.known (inside more w.known)) (inner_trees core by) ≡ Ok o.inners =
+    subst₂ (λ (w : With) deep. each (inner_of w.known (inside deep w.known)) (inner_trees core by) ≡ Ok o.inners) alike levels o.are in
+    let same : o.inners ≡ inners = one_ok o.inners inners (each (inner_of w.known (inside more w.known)) (inner_trees core by)) given are in
+    ap₂ (λ (w : With) deep. answers_with w.known (inside deep w.known) o.inners) alike levels
+    ∙ ap (λ inners. answers_with w.known (inside more w.known) inners) same
+
+pub bare_column_is_refused : SameIsEqual → BareColumnIsRefused
+bare_column_is_refused equal tables tree n has e =
+    let (found, names, so) = followed-ok (named (known_tables tables) tree) (with_types (column_types tables)) n e in
+    let (w, begun, (q, is)) = query_taken (known_tables tables) tree found has.of names in
+    let (more, left, (p, taken)) = all_taken_at w.known max_levels has.has q is in
+    let here = has.is in
+    let (s, single_is) = single_in w.known (inside more w.known) here.select p taken in
+    let (inners, are, rest) =
+    followed-ok (each (inner_of w.known (inside more w.known)) (inner_trees here.core here.by)) (with_inners w.known (inside more w.known) here.core here.by) s
+    single_is in
+    let answers : Answers = answers_with w.known (inside more w.known) inners in
+    let (f, sources, last) = followed-ok (from_of w.known (inside more w.known) answers (from_tree here.core)) _ s rest in
+    let (c, made, same) = also-ok (single inners f) (core_of answers f.scope here.core here.by) s last in
+    let groups = here.is in
+    let levels : groups.operands.deep ≡ more = level (levels_around has.has) groups.operands.deep more groups.operands.left left in
+    let alike : groups.operands.w ≡ w =
+    one_ok groups.operands.w w (with_items (no_items (known_tables tables)) has.items) groups.operands.mentioned begun in
+    let answered : operand_answers groups.operands ≡ answers = answers_same groups.operands w more inners alike levels are in
+    let shown : groups.scope ≡ f.scope =
+    shows_one w.known (inside more w.known) (same_inside w.known more) answers
+    (subst (λ listed. Shows listed (from_tree here.core) groups.scope) (listed_same tables here.are w begun) groups.shows) f sources in
+    core_refuted equal answers f.scope here.core here.by c made groups.groups
+    (subst (λ scope. HasBare answers scope here.core here.by) shown
+    (subst (λ answers. HasBare answers groups.scope here.core here.by) answered groups.bare))
+  where
+    level : (levels deep more : ℕ) → suc (levels + deep) ≡ max_levels → suc (levels + more) ≡ max_levels → deep ≡ more
+    level levels deep more one other = omega (arith, one, other)

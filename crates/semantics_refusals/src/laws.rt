@@ -1,5 +1,6 @@
 //! What holds of the definitions alone.
 ghost use Rattle.semantics_refusals.specs.BadFrames.{BadFrameIsRefused};
+ghost use Rattle.semantics_refusals.specs.BareColumns.{BareColumnIsRefused};
 ghost use Rattle.semantics_refusals.specs.Examples.{NothingIsWritten, ReasonsAreWritten};
 ghost use Rattle.semantics_refusals.specs.Limits.{BeyondLimitIsRefused};
 ghost use Rattle.semantics_refusals.specs.Mismatches.{MistypedIsMismatch, MistypedIsRefused};
@@ -48,12 +49,14 @@ pub fn reasons_refuse()
     ensures limit { BeyondLimitIsRefused }
     ensures frame { BadFrameIsRefused }
     ensures place { WrongPlaceIsRefused }
+    ensures bare { BareColumnIsRefused }
     ensures mistyped { MistypedIsRefused }
     ensures mismatch { MistypedIsMismatch }
 {
     names_are_columns();
     names_are_distinct();
     places_are_kept();
+    same_is_equal();
     typed_is_taken();
 }
 

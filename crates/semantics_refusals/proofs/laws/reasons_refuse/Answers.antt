@@ -1,3 +1,4 @@
+use Rattle.semantics_refusals.proofs.BareRefusedLemmas as groups
 use Rattle.semantics_refusals.proofs.LimitLemmas as limits
 use Rattle.semantics_refusals.proofs.MistypedFaultLemmas as faults
 use Rattle.semantics_refusals.proofs.MistypedQueryLemmas as types
@@ -32,6 +33,9 @@ returns-clause-frame c = windows.bad_frame_is_refused c.places_are_kept.ensures.
 
 pub returns-clause-place : goal.returns-clause-place
 returns-clause-place c = places.wrong_place_is_refused c.places_are_kept.ensures.scalar
+
+pub returns-clause-bare : goal.returns-clause-bare
+returns-clause-bare c = groups.bare_column_is_refused c.same_is_equal.ensures
 
 pub returns-clause-mistyped : goal.returns-clause-mistyped
 returns-clause-mistyped c = types.mistyped_is_refused c.typed_is_taken.ensures
