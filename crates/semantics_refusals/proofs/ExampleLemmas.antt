@@ -6,16 +6,18 @@ use Rattle.values.specs.declared.fault.Fault.TheVariants as f
 use Rattle.sql_reader_syntax.specs.ExprTree.{CoreTree, DefinitionTrees, ExprTree, ExprTrees, MaybeExpr, QueryTree, SourceTree, TermTrees}
 use Rattle.sql_reader_syntax.specs.StatementTree.{ItemTree, StatementTree}
 use Rattle.sql_reader_syntax.specs.Tree.{Name}
-use Rattle.semantics_names.specs.Laws.{AmbiguousIsTwo, ColumnsAreScalar, DistinctIsSaid, TypedIsTaken, UnknownIsNone}
+use Rattle.semantics_names.specs.Laws.{AmbiguousIsTwo, ColumnsAreScalar, DistinctIsSaid, SameIsEqual, TypedIsTaken, UnknownIsNone}
 use Rattle.semantics_names.specs.Parts.{core_parts, terms_parts}
 use Rattle.semantics_names.specs.RefusedExamples.{RefusedFrames, RefusedNames, RefusedPlaces, RefusedTypes, aggregate_in_where, alias_in_where, arms_of_two_types, bad_frame, bare, distance_of_texts, group_by_signed_number, hidden_order, in_two_sources, item_in_itself, mismatch, no_buckets, order_out_of_range, other_type, outer_column, scalar_over, star_beside_aggregate, star_of_none, star_of_nothing, sum_behind_compound, twice, two_columns, two_named, two_of_one_name, undefined_window, uneven, uneven_item, unknown_column, unknown_table, untyped_item, unused_window, windows_of_one_name}
 use Rattle.semantics_names.specs.Statement.{Named, from_tree}
 use Rattle.semantics_names.specs.Typed.{typed_query}
 use Rattle.semantics_names.specs.Worked.{by_term, called, id, item as item_alone, name_alone, number, results_of, select, shown, statement, tables}
-use Rattle.semantics_refusals.specs.Examples.{NothingIsWritten, ReasonsAreWritten, distance_of_numbers, from_ones, item_before_its_own, items_of_items, levels, of_null_alone, ones, sorted_by_alias}
+use Rattle.semantics_refusals.specs.BareColumns.{HasBareColumn}
+use Rattle.semantics_refusals.specs.Examples.{BareColumnsAreWritten, NoColumnIsBare, NothingIsWritten, ReasonsAreWritten, bare_in_having, bare_in_order, bare_in_over, bare_in_sum, bare_in_window, beside_aggregate, distance_of_numbers, from_ones, in_aggregate, in_aggregate_over, in_group_expression, in_other_letters, in_result, in_same_query, item_before_its_own, items_of_items, levels, of_null_alone, ones, sorted_by_alias, star_of_groups, star_of_more}
 use Rattle.semantics_refusals.specs.Reasons.{IsReason}
 use Rattle.semantics_refusals.specs.UnknownColumns.{HasLooseHaving}
 use Rattle.semantics_refusals.specs.Written.{HasQuery, HasSelect, IsDerived, IsLooseHaving, IsOperand, IsQueryOf, IsSelect, StandsIn, sources_in}
+use Rattle.semantics_refusals.proofs.BareRefusedLemmas.{bare_column_is_refused}
 use Rattle.semantics_refusals.proofs.LimitLemmas.{beyond_limit_is_refused}
 use Rattle.semantics_refusals.proofs.MistypedQueryLemmas.{mistyped_is_refused}
 use Rattle.semantics_refusals.proofs.RefusalLemmas.{NameLaws, refusals_have_reasons}
@@ -62,11 +64,22 @@ reasons_are_written laws names types frames places = (
   reason laws star_of_nothing f.WrongPlace places.14,
   reason laws sum_behind_compound f.WrongPlace places.15,
   reason laws scalar_over f.WrongPlace places.7,
-  reason laws bare f.BareColumn places.0,
-  reason laws star_beside_aggregate f.BareColumn places.1,
   reason laws (ones 101) f.Limit refl,
   reason laws (statement (select (shown (number 1) ∷ []) (from_ones 64))) f.Limit refl,
   reason laws (statement (levels 100)) f.Limit refl,
+)
+
+pub bare_columns_are_written : NameLaws → RefusedPlaces → BareColumnsAreWritten
+bare_columns_are_written laws places = (
+  reason laws bare f.BareColumn places.0,
+  reason laws beside_aggregate f.BareColumn refl,
+  reason laws bare_in_having f.BareColumn refl,
+  reason laws bare_in_order f.BareColumn refl,
+  reason laws bare_in_window f.BareColumn refl,
+  reason laws bare_in_over f.BareColumn refl,
+  reason laws bare_in_sum f.BareColumn refl,
+  reason laws star_beside_aggregate f.BareColumn places.1,
+  reason laws star_of_more f.BareColumn refl,
 )
 
 taken : (r : Result Named Fault) → is_ok r ≡ true → (n : Named) × (r ≡ Ok n)
@@ -160,3 +173,17 @@ nothing_is_written none two said typed scalars =
       λ has. beyond_limit_is_refused tables (statement (select (shown (number 1) ∷ []) (from_ones 63))) j has sources,
       λ has. beyond_limit_is_refused tables (statement (levels 64)) l has deep,
     )
+
+pub no_column_is_bare : SameIsEqual → NoColumnIsBare
+no_column_is_bare equal = (
+  none in_aggregate refl,
+  none in_aggregate_over refl,
+  none in_group_expression refl,
+  none in_other_letters refl,
+  none in_same_query refl,
+  none in_result refl,
+  none star_of_groups refl,
+)
+  where
+    none : (tree : StatementTree) → is_ok (typed_query tables tree) ≡ true → ¬ HasBareColumn tables tree
+    none tree e has = let (n, is) = taken (typed_query tables tree) e in bare_column_is_refused equal tables tree n has is

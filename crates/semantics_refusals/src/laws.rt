@@ -1,7 +1,7 @@
 //! What holds of the definitions alone.
 ghost use Rattle.semantics_refusals.specs.BadFrames.{BadFrameIsRefused};
 ghost use Rattle.semantics_refusals.specs.BareColumns.{BareColumnIsRefused};
-ghost use Rattle.semantics_refusals.specs.Examples.{NothingIsWritten, ReasonsAreWritten};
+ghost use Rattle.semantics_refusals.specs.Examples.{BareColumnsAreWritten, NoColumnIsBare, NothingIsWritten, ReasonsAreWritten};
 ghost use Rattle.semantics_refusals.specs.Limits.{BeyondLimitIsRefused};
 ghost use Rattle.semantics_refusals.specs.Mismatches.{MistypedIsMismatch, MistypedIsRefused};
 ghost use Rattle.semantics_refusals.specs.Reasons.{RefusalsHaveReasons};
@@ -74,6 +74,8 @@ pub fn spelt_statements_are_refused()
 pub fn reasons_are_written()
     ensures reasons { ReasonsAreWritten }
     ensures nothing { NothingIsWritten }
+    ensures bare { BareColumnsAreWritten }
+    ensures unbare { NoColumnIsBare }
 {
     names_are_columns();
     names_are_distinct();

@@ -10,3 +10,12 @@ returns-clause-reasons c =
 pub returns-clause-nothing : goal.returns-clause-nothing
 returns-clause-nothing c =
     examples.nothing_is_written c.names_are_columns.ensures.none c.names_are_columns.ensures.two c.names_are_distinct.ensures.names c.typed_is_taken.ensures c.places_are_kept.ensures.scalar
+
+pub returns-clause-bare : goal.returns-clause-bare
+returns-clause-bare c =
+    examples.bare_columns_are_written
+    (c.names_are_columns.ensures.none, c.names_are_columns.ensures.two, c.names_are_distinct.ensures.names, c.same_is_equal.ensures, c.names_are_columns.ensures.one, c.places_are_kept.ensures.scalar)
+    c.refused_statements.ensures.places
+
+pub returns-clause-unbare : goal.returns-clause-unbare
+returns-clause-unbare c = examples.no_column_is_bare c.same_is_equal.ensures
