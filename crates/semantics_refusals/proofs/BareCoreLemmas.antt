@@ -630,8 +630,8 @@ module _ (equal : SameIsEqual) (names : NameIsColumn) (scalars : ColumnsAreScala
         starry r there d = (
           groups,
           HasBare.star r there (λ g.
-          column_place 0 (place_of is_same_term r.term keys) (group_term_place equal answers scope core written refl keys keyed r.term g)
-          (or_bare-err (key_column keys (Ok r.term)) d)),
+              column_place 0 (place_of is_same_term r.term keys) (group_term_place equal answers scope core written refl keys keyed r.term g)
+              (or_bare-err (key_column keys (Ok r.term)) d)),
         )
 
         lifted : Each (λ q. HasOver q → IsBareIn answers scope core q → IsBareCore) behind

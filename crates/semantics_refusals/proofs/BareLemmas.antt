@@ -102,9 +102,11 @@ module _ (equal : SameIsEqual) (answers : Answers) (scope : Scope) where
           → (IsPlace (place_of is_same_term t us)
           → (key : ExprTree) × Contains (expressions others) key × (term_of answers (columns_say scope) key ≡ Ok t))
           → (key : ExprTree) × Contains (x ∷ expressions others) key × (term_of answers (columns_say scope) key ≡ Ok t)
-      by u us first true so q rest =
-          (x, head x (expressions others),
-          subst (λ u. term_of answers (columns_say scope) x ≡ Ok u) (sym ((equal.terms t u).0 so)) (group_told answers scope x u first))
+      by u us first true so q rest = (
+        x,
+        head x (expressions others),
+        subst (λ u. term_of answers (columns_say scope) x ≡ Ok u) (sym ((equal.terms t u).0 so)) (group_told answers scope x u first),
+      )
       by u us first false so q rest =
           let (key, there, is) = rest (place_back (place_of is_same_term t us) q) in (key, next x (expressions others) key there, is)
 

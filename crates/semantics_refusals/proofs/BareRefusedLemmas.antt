@@ -1,5 +1,5 @@
 -- A statement in which a column is bare is no query.
-use Rattle.std.proofs.Common.{◌≡◌, ◌⊎◌, inl, inr, Bool, true, false, ℕ, zero, suc, ◌+◌, ℤ, pos, List, [], ◌∷◌, ◌++◌, length, map, Option, Some, None, Result, Ok, Err, Contains, nat_le, ap, ap₂, refl, sym, subst, subst₂, ◌∙◌, arith}
+use Rattle.std.proofs.Common.{◌≡◌, ◌⊎◌, inl, inr, Bool, true, false, ℕ, zero, suc, ◌+◌, ℤ, pos, List, [], ◌∷◌, ◌++◌, length, Option, Some, None, Result, Ok, Err, Contains, nat_le, ap, ap₂, refl, sym, subst, subst₂, ◌∙◌, arith}
 use Rattle.std.specs.List.{filter_map}
 use Rattle.std.proofs.lemmas.List.Elements.{Contains-append_cases}
 use Rattle.values.specs.declared.fault.Fault.{Fault}
@@ -20,18 +20,18 @@ use Rattle.semantics_names.specs.Places.{Defined, aggregate, aggregate_call, agg
 use Rattle.semantics_names.specs.Same.{is_same_aggregate, is_same_call, is_same_term}
 use Rattle.semantics_names.specs.Scope.{Scope, column_of}
 use Rattle.semantics_names.specs.Sources.{Known}
-use Rattle.semantics_names.specs.Statement.{CoreData, Inner, Input, Named, Queried, ResultColumn, Single, With, all_results, answers_of, are_distinct, as_input, behind_groups, by_of, condition_of, core_of, defined_of, finished, firsts, from_of, from_tree, group_term, grouping_of, inner_of, input_of, keys_of, max_columns, max_levels, named, on_row, or_bare, queried, query_of, result, results_of, single, single_of, some_of, starred, starred_of, window_names, with_inners, with_items}
+use Rattle.semantics_names.specs.Statement.{CoreData, Inner, Input, Queried, ResultColumn, With, all_results, are_distinct, as_input, behind_groups, by_of, condition_of, core_of, defined_of, finished, firsts, from_of, from_tree, group_term, grouping_of, inner_of, input_of, keys_of, max_columns, max_levels, named, on_row, or_bare, queried, query_of, result, results_of, single, some_of, starred, starred_of, window_names, with_inners, with_items}
 use Rattle.semantics_names.specs.Typed.{Table, column_types, known_tables, with_types}
 use Rattle.semantics_names.proofs.OneLemmas.{one_ok}
 use Rattle.semantics_names.proofs.OutcomeLemmas.{also-ok, both-ok, checked-ok, followed-ok}
-use Rattle.semantics_refusals.specs.BareColumns.{BareColumnIsRefused, HasBare, HasGroups, IsAfterGroups, IsBareIn, IsGroupExpression, IsGroupTerm, IsStarred, Operands, StandsOutside, after_in, arms_in, computed_in, definitions_in, directly_in, maybe_in, operand_answers, over_in, values_in, window_in}
+use Rattle.semantics_refusals.specs.BareColumns.{BareColumnIsRefused, HasBare, HasGroups, IsAfterGroups, IsGroupExpression, IsStarred, Operands, StandsOutside, after_in, arms_in, definitions_in, directly_in, maybe_in, operand_answers, over_in, values_in, window_in}
 use Rattle.semantics_refusals.specs.Columns.{Shows, names_of_results}
 use Rattle.semantics_refusals.specs.UnknownColumns.{IsNoResult}
 use Rattle.semantics_refusals.specs.WrongPlaces.{IsAggregate, IsNoNumber, IsNumber, expressions, groups_in}
 use Rattle.semantics_refusals.specs.Written.{HasQuery, levels_around, terms_in}
 use Rattle.semantics_refusals.proofs.BareLemmas.{cases, head_or, keyed_is, no_element, place_column, place_group_term}
 use Rattle.semantics_refusals.proofs.CoreToldLemmas.{keys_given}
-use Rattle.semantics_refusals.proofs.NameLemmas.{all_names, listed_of, names_in}
+use Rattle.semantics_refusals.proofs.NameLemmas.{all_names, names_in}
 use Rattle.semantics_refusals.proofs.OkLemmas.{IsGiven, each-ok}
 use Rattle.semantics_refusals.proofs.PartLemmas.{Each, among, join, more, none, one, weaker}
 use Rattle.semantics_refusals.proofs.PlacedLemmas.{IsPlace, aggregate_is, aggregate_some, all_found}

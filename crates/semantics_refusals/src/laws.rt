@@ -28,8 +28,8 @@ pub fn refusals_are_numbered()
 /// a name that stands twice, or more columns, levels or sources than there may be, this is written somewhere in it; where it is
 /// refused because types don't agree, some operator in it has no type over operands that each have one, an expression is of another
 /// type than its place wants, or columns that a compound joins are of different types; where it is because of a frame, OVER names no
-/// window there, or the frame of a call can't be; and where it is because of a wrong place, a call, a number or `*` is where it may
-/// not be, or because of a bare column, a SELECT with groups names a column that GROUP BY doesn't, or has `*`.
+/// window there, or the frame of a call can't be; where it is because of a wrong place, a call, a number or `*` is where it may not
+/// be; and where it is because of a bare column, in a SELECT with groups one is outside aggregates and expressions of GROUP BY.
 pub fn refusals_have_reasons()
     ensures { RefusalsHaveReasons }
 {
@@ -70,7 +70,7 @@ pub fn spelt_statements_are_refused()
     names_are_columns();
 }
 
-/// Statements over two tables in which it is written, and such in which nothing of it is.
+/// Statements over two tables in which it is written, and such in which nothing of it is; in some a column is bare, and in some none.
 pub fn reasons_are_written()
     ensures reasons { ReasonsAreWritten }
     ensures nothing { NothingIsWritten }
