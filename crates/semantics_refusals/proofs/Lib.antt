@@ -59,3 +59,4 @@ mod BareLemmas
 mod BareTraceLemmas
 mod BareCoreLemmas
 pub mod BareRefusedLemmas
+pub mod AlikeLemmas

@@ -12,6 +12,7 @@ pub mod Limits
 pub mod BadFrames
 pub mod WrongPlaces
 pub mod BareColumns
+pub mod Alike
 pub mod Reasons
 pub mod Examples
 pub mod TypeExamples

@@ -1,4 +1,5 @@
 //! What holds of the definitions alone.
+ghost use Rattle.semantics_refusals.specs.Alike.{AlikeIsOfGroupBy};
 ghost use Rattle.semantics_refusals.specs.BadFrames.{BadFrameIsRefused};
 ghost use Rattle.semantics_refusals.specs.BareColumns.{BareColumnIsRefused};
 ghost use Rattle.semantics_refusals.specs.Examples.{BareColumnsAreWritten, NoColumnIsBare, NothingIsWritten, ReasonsAreWritten};
@@ -58,6 +59,14 @@ pub fn reasons_refuse()
     places_are_kept();
     same_is_equal();
     typed_is_taken();
+}
+
+/// An expression that is written like one of GROUP BY is one of it: the operators are the same, and the names stand for the same
+/// columns.
+pub fn alike_expressions_are_grouped()
+    ensures { AlikeIsOfGroupBy }
+{
+    names_are_columns();
 }
 
 /// In a statement that tokens spell HAVING stands behind GROUP BY alone, however deep, so that one with an unknown column or an
