@@ -3,7 +3,7 @@ use Rattle.std.proofs.Common.{◌≡◌, ◌∷◌, ℕ, List, Some, Result, Ok,
 use Rattle.values.specs.declared.fault.Fault.{Fault}
 use Rattle.values.specs.declared.fault.Fault.TheVariants.{WrongPlace}
 use Rattle.expr.specs.Term.{Term}
-use Rattle.sql_reader_syntax.specs.ExprTree.{ArmTrees, ExprTree, ExprTrees, MaybeExpr, QueryTree}
+use Rattle.sql_reader_syntax.specs.ExprTree.{ArmTrees, ExprTree, ExprTrees, MaybeExpr}
 use Rattle.sql_reader_syntax.specs.declared.expr.PrefixOperator.TheVariants as prefixes
 use Rattle.semantics_names.specs.Expression.{Answers, InnerTree, among_answer, among_items, arms_of, between_bounds, binary, called, case, operand_of, otherwise_of, postfix, prefix, term_of, terms_of}
 use Rattle.semantics_names.specs.Laws.{NameIsColumn}

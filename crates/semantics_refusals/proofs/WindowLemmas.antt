@@ -11,12 +11,11 @@ use Rattle.sql_reader_syntax.specs.ExprTree.{BehindTree, CoreTree, DefinitionTre
 use Rattle.sql_reader_syntax.specs.StatementTree.{ItemTree}
 use Rattle.sql_reader_syntax.specs.Tree.{Name}
 use Rattle.sql_reader_syntax.specs.declared.query.Edge as written_edge
-use Rattle.sql_reader_syntax.specs.declared.query.Frame as written_frame
 use Rattle.semantics_names.specs.Expression.{Answers, Says, term_of, terms_of}
 use Rattle.semantics_names.specs.Laws.{ColumnsAreScalar, IsSameInAnyCase, IsScalar, TypedIsTaken}
 use Rattle.semantics_names.specs.Outcome.{both, found_or}
 use Rattle.semantics_names.specs.Parts.{all_parts, core_parts, definitions_parts, from_parts, maybe_parts, on_parts, parts, parts_behind_groups, results_parts, terms_parts}
-use Rattle.semantics_names.specs.Places.{Defined, aggregate_of, call_of, columns_say, defined_as, edge_of, frame_between, frame_of, over, sorted, window, window_call, window_of}
+use Rattle.semantics_names.specs.Places.{Defined, aggregate_of, call_of, columns_say, defined_as, edge_of, frame_between, frame_of, sorted, window, window_call, window_of}
 use Rattle.semantics_names.specs.Same.{is_same_aggregate, is_same_call}
 use Rattle.semantics_names.specs.Scope.{Scope}
 use Rattle.semantics_names.specs.Sources.{Known, Sources, joined, joined_on, kind_of, shown_from}
