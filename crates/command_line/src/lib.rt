@@ -1,5 +1,6 @@
-//! What a command line asks for. It promises that the cache is to keep between one page and as many as it may. The one module
-//! is `args`. It is apart from `shell` because its parser's types are dear to let go, and nothing of them is needed there.
+//! What a command line asks for. It promises that the cache is to keep a page at least, and no more than may be. The one
+//! module is `args`. It is apart from `shell` since it takes long to prove what drops its parser's types: `shell` has
+//! none of them.
 #![tactic(auto)]
 
 mod args;
