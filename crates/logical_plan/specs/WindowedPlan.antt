@@ -1,9 +1,10 @@
 -- What a plan of windows has. (Window Functions)
-use Rattle.std.specs.Prelude.{◌≡◌, ◌++◌, ℕ, List, length}
+use Rattle.std.specs.Prelude.{◌≡◌, ◌++◌, ℕ, List, length, map}
 use Rattle.std.specs.List.{AllZip}
 use Rattle.values.specs.Database.{Database}
 use Rattle.values.specs.Datum.{Datum}
 use Rattle.values.specs.Row.{Row}
+use Rattle.semantics.specs.OneTable.{shown}
 use Rattle.semantics.specs.Query.{WindowCall}
 use Rattle.logical_plan.specs.Plan.{PlanData, rows_of, windowed}
 
@@ -13,7 +14,7 @@ pub record IsExtended (count : ℕ) (row whole : Row) : Type 0 where
   pub size : length values ≡ count
   pub whole_is : whole ≡ row ++ values
 
--- its rows are those below, in their order, each with a value behind it for each call
+-- its rows are these values of those below, in their order, each with a value behind it for each call
 abbrev pub WindowedInOrder : Type 0
-WindowedInOrder = (w : Datum) (db : Database) (below : PlanData) (calls : List WindowCall)
-    → AllZip (IsExtended (length calls)) (rows_of w db below) (rows_of w db (windowed below calls))
+WindowedInOrder = (w : Datum) (db : Database) (below : PlanData) (places : List ℕ) (calls : List WindowCall)
+    → AllZip (IsExtended (length calls)) (map (shown places) (rows_of w db below)) (rows_of w db (windowed below places calls))

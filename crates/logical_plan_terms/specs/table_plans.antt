@@ -3,3 +3,4 @@ pub mod TableJoins
 pub mod Parted
 pub mod Planned
 pub mod Laws
+pub mod Ordered

@@ -1,5 +1,5 @@
 -- From what the run of a query writes to its answer over the image.
-use Rattle.std.proofs.Common.{◌≡◌, ◌≢◌, ◌∙◌, inl, inr, ◌-◌, arith, false, ℕ, zero, suc, IsTrue, All, List, [], ◌∷◌, ◌++◌, length, map, Option, Some, None, sym, refl, ap, subst}
+use Rattle.std.proofs.Common.{◌≡◌, ◌≢◌, ◌∙◌, inl, inr, ◌-◌, arith, false, ℕ, zero, suc, IsTrue, All, List, [], ◌∷◌, ◌++◌, length, map, Option, Some, None, sym, refl, ap, subst, ◌+◌}
 use Rattle.std.specs.List.{AllZip}
 use Rattle.std.proofs.lemmas.List.Elements.{All-append, All-cons, All-map, All-nil, All-weaker}
 use Rattle.values.specs.Database.{Database}
@@ -27,7 +27,7 @@ use Rattle.operators_runs.specs.inner_rows.Runnable.{IsRunnableBody}
 use Rattle.operators_runs.specs.inner_rows.Work.{body_work}
 use Rattle.operators_runs.specs.nested_runs.Steps.{IsPermitted}
 use Rattle.operators_runs.specs.nested_runs.Writes.{HasPlanOver, IsNestedCause, WritesBeginning, WritesPermitted}
-use Rattle.logical_plan.specs.Plan.{once}
+use Rattle.logical_plan.specs.Plan.{once, TreeSizes}
 use Rattle.schema_tables.specs.table_copies.Whole.{all_tables}
 use Rattle.schema_tables.specs.ColumnTypes.{column_types, types_of}
 use Rattle.schema_tables.specs.TableData.{ColumnData, TableData, schema_table}
@@ -37,6 +37,8 @@ use Rattle.operators_scan.specs.Coming.{IsStoredSource}
 use Rattle.logical_plan.specs.answers.Sources.{SourceData, of_table, sources_of}
 use Rattle.operators_scan.proofs.StepLemmas.{tables_alone}
 use Rattle.integrity.specs.Checked.{FoundData, IsCheckFault}
+use Rattle.schema.specs.indexes.IndexData.{IndexData}
+use Rattle.integrity_trees.specs.declared.tree_walk.counts.TreeCounts.{TreeCounts}
 use Rattle.integrity.specs.Denotes.{Denotes}
 use Rattle.integrity.proofs.DenotesLemmas.{HasDatabase, IsStoredAs, database_of}
 use Rattle.operators_scan.specs.scan.Coming.{Asks, size_of}
@@ -121,13 +123,14 @@ query_hits on query e over (inr hits) = hits.1
 
 module _ (pages : Pages) where
   -- the trees of the tables, and their rows
-  sizes_of : (tables : List TableData) (rows : List (List Row)) → AllZip (IsStoredAs pages) tables rows → List ℕ
+  sizes_of : (tables : List TableData) (rows : List (List Row)) → AllZip (IsStoredAs pages) tables rows → List TreeSizes
   sizes_of [] [] all = []
   sizes_of [] (first ∷ rows) all = absurd all
   sizes_of (table ∷ tables) [] all = absurd all
-  sizes_of (table ∷ tables) (first ∷ rows) all = size_of pages table all.0.stored.levels ∷ sizes_of tables rows all.1
+  sizes_of (table ∷ tables) (first ∷ rows) all =
+      record { pages = size_of pages table all.0.stored.levels; depth = all.0.stored.levels + 1; fetch = 0 } ∷ sizes_of tables rows all.1
 
-  abbrev basis : Datum → List Row → List (List Row) → List ℕ → Basis
+  abbrev basis : Datum → List Row → List (List Row) → List TreeSizes → Basis
   basis w schema rows sizes = record { w = w; db = record { schema = schema; tables = rows }; sizes = sizes; local = false; plan = once }
 
   stored_at : (w : Datum) (schema : List Row) (tables : List TableData) (rows : List (List Row)) (all : AllZip (IsStoredAs pages) tables rows)
@@ -275,10 +278,10 @@ module _ (pager : PagerState) (tables : List TableData) (query : QueryData) (typ
   }
 
 -- From what a run promises to what the engine's run does.
-module _ (pager : PagerState) (tables : List TableData) (counts : FoundData) (prepared : PreparedData) (ready : IsReady pager tables)
+module _ (pager : PagerState) (tables : List TableData) (indexes : List IndexData) (schema_tree : TreeCounts) (counts : FoundData) (prepared : PreparedData) (ready : IsReady pager tables)
     (is : IsPreparedFor tables prepared) where
   abbrev engine : EngineState
-  engine = record { pager = pager; tables = tables; found = counts }
+  engine = record { pager = pager; tables = tables; indexes = indexes; schema_tree = schema_tree; found = counts }
 
   pub stored : IsTrue pager.source.steady → All (IsStoredSource (pages_seen pager)) (sources_over tables)
   stored steady =

@@ -2,7 +2,7 @@
 use Rattle.std.specs.Prelude.{◌<◌, All, ℕ, List, [], length}
 use Rattle.std.specs.List.{AllZip}
 use Rattle.values.specs.declared.value.Ty.{Ty}
-use Rattle.logical_plan.specs.answers.Sources.{HasColumns, SourceData, sources_of}
+use Rattle.logical_plan.specs.answers.Sources.{HasColumns, SourceData, sources_of, stored_of}
 use Rattle.schema_tables.specs.ColumnTypes.{column_types}
 use Rattle.schema_tables.specs.TableData.{TableData}
 
@@ -16,4 +16,4 @@ HaveColumns catalog sources = AllZip HasColumnsOf catalog sources
 
 -- tables alone have the columns of their types
 abbrev pub TablesHaveColumns : Type 0
-TablesHaveColumns = (tables : List TableData) → HaveColumns (column_types tables) (sources_of tables [])
+TablesHaveColumns = (tables : List TableData) → HaveColumns (column_types tables) (sources_of (stored_of tables []) [])

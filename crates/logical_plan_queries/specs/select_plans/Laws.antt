@@ -10,6 +10,7 @@ use Rattle.semantics.specs.Hits.{FromHits, SelectHits, order_terms}
 use Rattle.semantics.specs.Query.{From, Key, QueryData, Select, select}
 use Rattle.semantics.specs.Typed.{HasTypes, IsTyped}
 use Rattle.logical_plan.specs.answers.Sources.{IsPlanOf, SourceData}
+use Rattle.access_plans.specs.PlanView.{SelectData}
 use Rattle.logical_plan_terms.specs.Over.{StandsOver}
 use Rattle.logical_plan.specs.Plan.{Hits, PlanData, ReachesOverflow, rows_of}
 use Rattle.logical_plan.specs.answers.Permitted.{SeesRows}
@@ -30,22 +31,22 @@ of_select from s order limit offset = record { body = select from s; order = ord
 
 -- where the tables hold what FROM says of them, the rows on which the SELECT computes its result columns, in some order
 abbrev pub MadeHasRows : Type 0
-MadeHasRows = (w : Datum) (db : Database) (input : Input) (s : Select) (order : List Key) (plan : PlanData) (es : List Term)
-    → IsServedFrom (input_from input) → IsWideOf db (input_from input) s → IsMadeOver input s order plan es → SeesRows w db (input_from input) s plan es
+MadeHasRows = (w : Datum) (db : Database) (sources : List SourceData) (chosen : SelectData) (input : Input) (s : Select) (order : List Key) (plan : PlanData) (es : List Term)
+    → IsServedFrom (input_from input) → IsWideOf db (input_from input) s → IsMadeOver sources chosen input s order plan es → SeesRows w db (input_from input) s plan es
 
 -- what the plan reaches, or its result columns and what stands for other terms reach on its rows, the SELECT hits
 abbrev pub MadeIsHit : Type 0
-MadeIsHit = (w : Datum) (db : Database) (input : Input) (s : Select) (order : List Key) (terms : List Term) (plan : PlanData) (es us : List Term)
-    → IsServedFrom (input_from input) → IsWideOf db (input_from input) s → (made : IsMadeOver input s order plan es)
+MadeIsHit = (w : Datum) (db : Database) (sources : List SourceData) (chosen : SelectData) (input : Input) (s : Select) (order : List Key) (terms : List Term) (plan : PlanData) (es us : List Term)
+    → IsServedFrom (input_from input) → IsWideOf db (input_from input) s → (made : IsMadeOver sources chosen input s order plan es)
     → AllZip (StandsOver made.columns 0) us terms → PlanReaches w db plan (es ++ us)
     → FromHits w db (answers_in w db (input_from input)) (input_from input) false ⊎ SelectHits w db (input_from input) s terms
 
 -- where it is typed over a catalog, the sources and columns of the plan are some of those that have this one's columns
 abbrev pub MadeIsOver : Type 0
 MadeIsOver = (catalog : List (List Ty)) (sources : List SourceData) → HaveColumns catalog sources
-    → (input : Input) (s : Select) (order : List Key) (limit : Option ℤ) (offset : ℤ) (plan : PlanData) (es : List Term)
+    → (chosen : SelectData) (input : Input) (s : Select) (order : List Key) (limit : Option ℤ) (offset : ℤ) (plan : PlanData) (es : List Term)
     → IsServedFrom (input_from input) → IsTyped catalog (of_select (input_from input) s order limit offset)
-    → IsMadeOver input s order plan es → IsPlanOf sources plan
+    → IsMadeOver sources chosen input s order plan es → IsPlanOf sources plan
 
 -- behind groups and windows a typed SELECT names values of the rows alone that it is computed on
 abbrev pub TypedIsOfRows : Type 0

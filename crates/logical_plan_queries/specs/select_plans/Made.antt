@@ -9,7 +9,10 @@ use Rattle.logical_plan.specs.Plan.{PlanData}
 use Rattle.logical_plan_queries.specs.select_plans.Read.{IsReadOf}
 use Rattle.logical_plan_terms.specs.declared.table_plans.inputs.Input.{Input}
 use Rattle.logical_plan_terms.specs.table_plans.Input.{input_from}
-use Rattle.logical_plan_terms.specs.table_plans.Planned.{IsPlanOver}
+use Rattle.logical_plan_terms.specs.table_plans.Ordered.{IsOrderedOver, those_at}
+use Rattle.access_plans.specs.PlanView.{SelectData}
+use Rattle.logical_plan.specs.answers.Sources.{SourceData}
+use Rattle.std.specs.List.{range_with_len}
 use Rattle.logical_plan_terms.specs.window_plans.Windowed.{IsWindowedOver, windowed_columns}
 
 -- the terms of groups, where there are some, stand over the columns that are read of the rows below
@@ -28,18 +31,19 @@ IsOverRows read (Some g) below known plan = (known ≡ group_columns g) × IsGro
 abbrev pub IsOverWindows : List WindowCall → List ℕ → PlanData → List ℕ → PlanData → Type 0
 IsOverWindows [] taken below known plan = (known ≡ taken) × (plan ≡ below)
 IsOverWindows (call ∷ calls) taken below known plan =
-    (known ≡ windowed_columns (length taken) (call ∷ calls)) × IsWindowedOver 0 (call ∷ calls) below plan
+    (known ≡ windowed_columns (length taken) (call ∷ calls)) × ((places : List ℕ) × (those_at taken places ≡ range_with_len 0 (length taken)) × IsWindowedOver 0 (call ∷ calls) places below plan)
 
 -- a plan of FROM and WHERE, one of the rows that windows take over it, one of the rows that result columns are computed on over that,
 -- and result columns over these
-pub record IsMadeOver (input : Input) (s : Select) (order : List Key) (plan : PlanData) (es : List Term) : Type 0 where
+pub record IsMadeOver (sources : List SourceData) (chosen : SelectData) (input : Input) (s : Select) (order : List Key) (plan : PlanData) (es : List Term) : Type 0 where
   pub read : List ℕ
   pub are_read : IsReadOf (input_from input) s order read
   pub below : PlanData
-  pub below_is : IsPlanOver input read s.condition below
+  pub shows : List ℕ
+  pub below_is : IsOrderedOver sources chosen input read s.condition shows below
   pub taken : List ℕ
   pub inputs : PlanData
-  pub inputs_are : IsOverRows read s.grouping below taken inputs
+  pub inputs_are : IsOverRows shows s.grouping below taken inputs
   pub columns : List ℕ
   pub rows_are : IsOverWindows s.windows taken inputs columns plan
   pub columns_are : AllZip (StandsOver columns 0) es s.columns

@@ -42,8 +42,8 @@ CallIsItself inner call whole = (answers : List (List Datum)) → length answers
 abbrev pub CallsAreThemselves : ℕ → List WindowCall → List WindowCall → Type 0
 CallsAreThemselves inner calls wholes = (answers : List (List Datum)) → length answers ≤ inner → calls ≡ map (mapped_call (filled answers)) wholes
 
--- the rows of a plan with the values of these calls behind them
-pub record IsWindowedOver (inner : ℕ) (wholes : List WindowCall) (below plan : PlanData) : Type 0 where
+-- these values of the rows of a plan with those of these calls behind them
+pub record IsWindowedOver (inner : ℕ) (wholes : List WindowCall) (places : List ℕ) (below plan : PlanData) : Type 0 where
   pub calls : List WindowCall
   pub calls_are : CallsAreThemselves inner calls wholes
-  pub plan_is : plan ≡ windowed below calls
+  pub plan_is : plan ≡ windowed below places calls

@@ -1,5 +1,5 @@
 //! What holds of the definitions alone.
-ghost use Rattle.logical_plan_terms.specs.table_plans.Laws.{ColumnsAreHit, ColumnsAreParted, ColumnsSay, OnIsOver, PlanHasBag, PlanHasRows, PlanIsHit};
+ghost use Rattle.logical_plan_terms.specs.table_plans.Laws.{ColumnsAreHit, ColumnsAreParted, ColumnsSay, OnIsOver, PlanHasBag, PlanIsHit};
 
 /// Columns in their order are parted before each table.
 pub fn columns_are_parted()
@@ -11,10 +11,9 @@ pub fn conditions_are_over()
     ensures { OnIsOver }
 {}
 
-/// The plan of a SELECT's FROM and WHERE has the rows of FROM that WHERE keeps, as they are seen, in the order in which the tables
-/// are nested; and what it reaches the SELECT can reach.
+/// The plan of a SELECT's FROM and WHERE has the rows of FROM that WHERE keeps, as they are seen, in some order; and what it reaches the
+/// SELECT can reach.
 pub fn plan_has_rows()
-    ensures rows { PlanHasRows }
     ensures bag { PlanHasBag }
     ensures hits { PlanIsHit }
 {}

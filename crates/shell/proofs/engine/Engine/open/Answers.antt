@@ -43,9 +43,8 @@ returns-in-Ok-with_schema_table-clause-outcome g c = record {
       let now : IsTrue c.in_ok-pager.pager.state.source.steady = ap (λ s. s.source.steady) opened ∙ steady in
       let header : c.in_ok-pager.pager.state.header ≡ header_of c.in_ok-pager.pager.state.source.bytes = search rules in
       let checked = checked_data c.in-Ok.checked in
-      subst (λ (q : Pages). HasFound q checked.tables (found_data checked)) (pages_opened _ _ _ _ opened header) (record {
+      subst (λ (q : Pages). HasFound q checked.tables checked.indexes (found_data checked)) (pages_opened _ _ _ _ opened header) (record {
         schema = (c.in-Ok.ensures.outcome.catalog now).0;
-        indexes = checked.indexes;
         catalog = (c.in-Ok.ensures.outcome.catalog now).1;
         are = c.in-Ok.ensures.outcome.found now;
       });
