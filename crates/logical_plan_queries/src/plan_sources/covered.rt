@@ -14,7 +14,7 @@ use values::Value;
 fn is_nest_over(tables: &[Table], kept: &[Vec<Vec<Value>>], nested: &Nested) -> bool
     ensures { IsTrue result ↔ IsNestOf (sources_of tables.now kept.now) (nested_data nested.now) }
 {
-    has_place(tables, kept, nested.table, nested.columns.as_slice())
+    nested.search.is_none() && has_place(tables, kept, nested.table, nested.columns.as_slice())
 }
 
 fn is_plan_over(tables: &[Table], kept: &[Vec<Vec<Value>>], plan: &Plan) -> bool
