@@ -40,4 +40,4 @@ plan_data (Filter' p below tests) = kept (plan_data below) (map term tests.items
 plan_data (NestedLoop' p left nested) = joined (plan_data left) (nested_data nested)
 plan_data (OuterJoin' p left f) = flagged (plan_data left) (flagged_data f)
 plan_data (Aggregate' p below terms) = grouped (plan_data below) (group_terms_data terms)
-plan_data (Window' p below calls) = windowed (plan_data below) (map call_of calls.items)
+plan_data (Window' p below places calls) = windowed (plan_data below) places.items (map call_of calls.items)

@@ -32,4 +32,4 @@ IsPlanOf sources (kept below tests) = IsPlanOf sources below
 IsPlanOf sources (joined left nest) = IsPlanOf sources left × IsNestOf sources nest
 IsPlanOf sources (flagged left f) = IsPlanOf sources left × IsNestOf sources f.nest
 IsPlanOf sources (grouped below terms) = IsPlanOf sources below
-IsPlanOf sources (windowed below calls) = IsPlanOf sources below
+IsPlanOf sources (windowed below places calls) = IsPlanOf sources below

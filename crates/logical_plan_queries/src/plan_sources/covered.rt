@@ -30,7 +30,7 @@ fn is_plan_over(tables: &[Table], kept: &[Vec<Vec<Value>>], plan: &Plan) -> bool
             is_plan_over(tables, kept, left) && is_nest_over(tables, kept, &flagged.nested)
         }
         Plan::Aggregate(below, _) => is_plan_over(tables, kept, below),
-        Plan::Window(below, _) => is_plan_over(tables, kept, below),
+        Plan::Window(below, _, _) => is_plan_over(tables, kept, below),
     }
 }
 
