@@ -1,5 +1,5 @@
 -- The examples, computed.
-use Rattle.std.proofs.Common.{◌≡◌, false, [], ◌∷◌, map, refl}
+use Rattle.std.proofs.Common.{◌≡◌, false, [], ◌∷◌, map, refl, None}
 use Rattle.values.specs.Datum.{Datum}
 use Rattle.expr.specs.declared.operations.kinds.Comparison.TheVariants.{Eq, Lt}
 use Rattle.expr.specs.Conjuncts.{conjuncts}
@@ -56,7 +56,7 @@ module _ (w : Datum) where
 
 pub emptied_is_planned : IsJoinPlan (0 ∷ 5 ∷ 6 ∷ []) emptied_from (conjuncts emptied_where) emptied
 emptied_is_planned = record {
-  below = flagged (joined ids (record { table = 1; columns = []; tests = never ∷ []; padded = false })) (record { nest = sale_of 1 false; before = 1 });
+  below = flagged (joined ids (record { table = 1; columns = []; tests = never ∷ []; padded = false; search = None })) (record { nest = sale_of 1 false; before = 1 });
   tests = compare Lt (column 2) (literal (whole 5)) ∷ [];
   plan_is = refl;
   tests_are = (λ o row. refl, tt);
@@ -64,7 +64,7 @@ emptied_is_planned = record {
     at = 1;
     width = 2;
     source_is = refl;
-    left = joined ids (record { table = 1; columns = []; tests = never ∷ []; padded = false });
+    left = joined ids (record { table = 1; columns = []; tests = never ∷ []; padded = false; search = None });
     columns = 0 ∷ 1 ∷ [];
     tests = compare Eq (column 0) (column 1) ∷ [];
     plan_is = refl;

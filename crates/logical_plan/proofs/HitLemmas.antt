@@ -19,6 +19,7 @@ use Rattle.semantics.specs.Query.{Select, only, table}
 use Rattle.semantics.proofs.HitLemmas.{term_reaches}
 use Rattle.logical_plan.specs.Plan.{Hits, ReachesOverflow, are_true, rows_of, table_rows}
 use Rattle.logical_plan.specs.Stands.{AreTestsOf, IsSplitCondition, OneTableHits, condition_of, one_table, tested_once}
+use Rattle.logical_plan.proofs.SearchLemmas.{test_reached}
 
 -- some element, by what holds of each place
 pub any_held : {X : Type 0} (P : X → Type 0) (xs : List X) → Any P xs → (x : X) × Contains xs x × P x
@@ -111,7 +112,8 @@ module _ (w : Datum) (db : Database) (s : Select) (terms : List Term) (at width 
 
   hits_are : Hits w db (one_table at columns constants tests) → SelectHits w db (only (table at width)) s terms
   hits_are (inl before) = of_constants (once_hits constants before)
-  hits_are (inr here) =
+  hits_are (inr reached) =
+      let here = test_reached w db (tested_once constants) (record { table = at; columns = columns; tests = tests; padded = false; search = None }) refl reached in
       let l = any_held (λ l. Any (λ r. ReachesOverflow tests (l ++ r)) (map (shown columns) (table_rows db at))) (rows_of w db (tested_once constants)) here in
       let r = any_held (λ r. ReachesOverflow tests (l.0 ++ r)) (map (shown columns) (table_rows db at)) l.2 in
       let row = from_map (shown columns) (table_rows db at) r.0 r.1 in

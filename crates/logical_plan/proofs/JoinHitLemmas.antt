@@ -21,6 +21,7 @@ use Rattle.logical_plan.specs.Plan.{Hits, NestedData, PlanData, ReachesOverflow,
 use Rattle.logical_plan.specs.Stands.{AreTestsOf, tested, tested_once}
 use Rattle.logical_plan.proofs.HitLemmas.{any_held, any_here, conjunct_reached, from_map, reach_among, stands_reach}
 use Rattle.logical_plan.proofs.JoinLemmas.{before_within, choice_width, early_rows, early_tables, says_left, seen_is, shown_beside, turned_are_choices, wide_before}
+use Rattle.logical_plan.proofs.SearchLemmas.{test_reached}
 
 -- where an expression reaches one, its term does
 pub terms_reach : (here row : Row) (es ts : List Term) → AllZip (λ e t. exact e here ≡ exact t row) es ts → ReachesOverflow es here → ReachesOverflow ts row
@@ -105,9 +106,10 @@ module _ (w : Datum) (db : Database) where
     nested_hits : (left : PlanData)
         → rows_of w db left ≡ map (seen from (columns_before (from_width from) read)) (filter (are_true w early) (rows_in_turn w db (with_answers w []) from))
         → (Hits w db left → Told from early)
-        → Hits w db (p.joined left (record { table = at; columns = columns; tests = tests; padded = false })) → Told whole conditions
+        → Hits w db (p.joined left (record { table = at; columns = columns; tests = tests; padded = false; search = None })) → Told whole conditions
     nested_hits left rows_are before (inl hits) = before_hits (before hits)
-    nested_hits left rows_are before (inr here) =
+    nested_hits left rows_are before (inr reached) =
+        let here = test_reached w db left (record { table = at; columns = columns; tests = tests; padded = false; search = None }) refl reached in
         let first = columns_before (from_width from) read in
         let ls = filter (are_true w early) (rows_in_turn w db (with_answers w []) from) in
         let l = any_held (λ l. Any (λ r. ReachesOverflow tests (l ++ r)) (map (shown columns) (table_rows db at))) (rows_of w db left) here in
@@ -130,7 +132,7 @@ module _ (w : Datum) (db : Database) where
     padded = joined from JoinKind.left (table at width) on
 
     abbrev nest : NestedData
-    nest = record { table = at; columns = columns; tests = tests; padded = true }
+    nest = record { table = at; columns = columns; tests = tests; padded = true; search = None }
 
     -- the join without conditions above it
     bare_plan : IsEarlyPlan read padded early (p.joined left nest)
@@ -212,7 +214,7 @@ module _ (w : Datum) (db : Database) where
 
     join_hits_here : (Hits w db left → Told from early) → Hits w db (p.joined left nest) → Told padded conditions
     join_hits_here before (inl hits) = before_padded (before hits)
-    join_hits_here before (inr here) = join_hits_on here
+    join_hits_here before (inr reached) = join_hits_on (test_reached w db left nest refl reached)
 
     padded_hits : (Hits w db left → Told from early) → (some : List Term) → some ≡ above → Hits w db (tested some (p.joined left nest)) → Told padded conditions
     padded_hits before [] is hits = join_hits_here before hits

@@ -1,5 +1,5 @@
 -- A plan of inner and LEFT joins has the rows of FROM on which conditions are true.
-use Rattle.std.proofs.Common.{◌≡◌, ◌∙◌, ◌&&◌, ◌||◌, ◌+◌, ◌<◌, inl, inr, All, Bool, true, false, cond, flat_map, ℕ, zero, suc, List, [], ◌∷◌, ◌++◌, length, map, unwrap_or, Option, Some, refl, sym, ap, subst, arith, if◌then◌else◌}
+use Rattle.std.proofs.Common.{◌≡◌, ◌∙◌, ◌&&◌, ◌||◌, ◌+◌, ◌<◌, inl, inr, All, Bool, true, false, cond, flat_map, ℕ, zero, suc, List, [], ◌∷◌, ◌++◌, length, map, unwrap_or, Option, Some, refl, sym, ap, subst, arith, if◌then◌else◌, None}
 use Rattle.std.specs.Prelude.{⊤, nat_lt}
 use Rattle.std.specs.List.{filter}
 use Rattle.std.proofs.lemmas.Bool.{ltb-true}
@@ -396,7 +396,7 @@ module _ (w : Datum) (db : Database) where
       (sym of.source_is)
   early_rows (joined from JoinKind.left source on) read conditions plan wide of =
       ap (rows_of w db) of.plan_is
-      ∙ rows_tested of.above (p.joined of.left (record { table = of.at; columns = of.columns; tests = of.tests; padded = true }))
+      ∙ rows_tested of.above (p.joined of.left (record { table = of.at; columns = of.columns; tests = of.tests; padded = true; search = None }))
       ∙ ap (λ lefts. filter (are_true w of.above)
       (flat_map (λ l. or_alone true (l ++ nulls (length of.columns)) (beside w of.tests l (map (shown of.columns) (table_rows db of.at)))) lefts))
       (rows_before from read of.left (filter (are_true w of.early) (rows_in_turn w db value_of from)) (early_rows from (columns_before (from_width from) read) of.early of.left (wide_before db from wide) of.before))

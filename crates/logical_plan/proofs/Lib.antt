@@ -1,6 +1,8 @@
 pub mod StandLemmas
 pub mod RowLemmas
 pub mod WhereLemmas
+pub mod SearchLemmas
+pub mod PromiseLemmas
 pub mod HitLemmas
 pub mod ExampleLemmas
 pub mod TurnLemmas

@@ -6,7 +6,7 @@ use Rattle.values.specs.Row.{Row}
 use Rattle.expr.specs.Meaning.{eval}
 use Rattle.semantics.specs.Times.{times}
 use Rattle.semantics.specs.Windows.{call_value, numbered_after}
-use Rattle.logical_plan.specs.Plan.{rows_of}
+use Rattle.logical_plan.specs.Plan.{rows_of, shown_rows}
 use Rattle.logical_plan.specs.WindowedPlan.{IsExtended, WindowedInOrder}
 
 extended : (count : ℕ) (values : Row × ℕ → Row) → ((r : Row × ℕ) → length (values r) ≡ count) → (before rows : List Row)
@@ -18,6 +18,6 @@ extended count values size before (row ∷ rows) =
     (first, extended count values size (row ∷ before) rows)
 
 pub windowed_in_order : WindowedInOrder
-windowed_in_order w db below calls =
-    extended (length calls) (λ r. map (call_value (eval w) w (rows_of w db below) r) calls)
-    (λ r. length-map calls (call_value (eval w) w (rows_of w db below) r)) [] (rows_of w db below)
+windowed_in_order w db below places calls =
+    let rows = shown_rows places (rows_of w db below) in
+    extended (length calls) (λ r. map (call_value (eval w) w rows r) calls) (λ r. length-map calls (call_value (eval w) w rows r)) [] rows

@@ -1,5 +1,5 @@
 -- What a plan of tables that are joined as they are written hits, FROM and conditions hit.
-use Rattle.std.proofs.Common.{◌≡◌, ◌⊎◌, ◌+◌, ◌||◌, inl, inr, Any, Bool, Contains, true, false, refl, ℕ, List, [], ◌∷◌, ◌++◌, length, map, sym, subst}
+use Rattle.std.proofs.Common.{◌≡◌, ◌⊎◌, ◌+◌, ◌||◌, inl, inr, Any, Bool, Contains, true, false, refl, ℕ, List, [], ◌∷◌, ◌++◌, length, map, sym, subst, None}
 use Rattle.std.proofs.lemmas.List.Elements.{All-contains}
 use Rattle.values.specs.Database.{Database}
 use Rattle.values.specs.Datum.{Datum}
@@ -18,12 +18,17 @@ use Rattle.logical_plan.proofs.HitLemmas.{any_held, conjunct_reached, from_map, 
 use Rattle.logical_plan.proofs.JoinHitLemmas.{Told}
 use Rattle.logical_plan.proofs.JoinLemmas.{choice_width, rows_before, shown_beside, turned_are_choices, value_of, wide_before}
 use Rattle.logical_plan.proofs.WrittenLemmas.{written_rows, written_tables}
+use Rattle.logical_plan.proofs.SearchLemmas.{test_reached}
 
 module _ (w : Datum) (db : Database) where
   hits_by : (kind : JoinKind) (left : PlanData) (before at : ℕ) (columns : List ℕ) (tests : List Term) → Hits w db (joined_by kind left before at columns tests)
       → Hits w db left ⊎ ReachesBeside tests (rows_of w db left) (map (shown columns) (table_rows db at))
-  hits_by inner left before at columns tests hits = hits
-  hits_by JoinKind.left left before at columns tests hits = hits
+  hits_by inner left before at columns tests (inl hits) = inl hits
+  hits_by inner left before at columns tests (inr reached) =
+      inr (test_reached w db left (record { table = at; columns = columns; tests = tests; padded = false; search = None }) refl reached)
+  hits_by JoinKind.left left before at columns tests (inl hits) = inl hits
+  hits_by JoinKind.left left before at columns tests (inr reached) =
+      inr (test_reached w db left (record { table = at; columns = columns; tests = tests; padded = true; search = None }) refl reached)
   hits_by right left before at columns tests hits = hits
   hits_by full left before at columns tests hits = hits
 

@@ -1,5 +1,5 @@
 -- Plans over the two tables of the examples of queries, with their rows and their work.
-use Rattle.std.specs.Prelude.{Bool, ℕ, true, false, List, [], ◌∷◌, codes}
+use Rattle.std.specs.Prelude.{Bool, ℕ, true, false, List, [], ◌∷◌, codes, None}
 use Rattle.expr.specs.declared.operations.kinds.Comparison.TheVariants.{Eq, Lt}
 use Rattle.expr.specs.Term.{Term, column, compare, literal}
 use Rattle.values.specs.Datum.{null, text}
@@ -7,12 +7,12 @@ use Rattle.values.specs.Row.{Row}
 use Rattle.semantics.specs.Examples.{aggregate_of, default_frame, item, over, sale, whole}
 use Rattle.semantics.specs.Query.{AggregateFunction, From, WindowFunction, always, inner, only, right}
 use Rattle.semantics.specs.Query as q
-use Rattle.logical_plan.specs.Plan.{NestedData, PlanData, flagged, joined, kept, once, windowed}
+use Rattle.logical_plan.specs.Plan.{NestedData, PlanData, TreeSizes, flagged, joined, kept, once, windowed}
 use Rattle.logical_plan.specs.Stands.{one_table}
 
 -- the tables have trees of so many pages
-abbrev pub example_sizes : List ℕ
-example_sizes = 5 ∷ 3 ∷ []
+abbrev pub example_sizes : List TreeSizes
+example_sizes = record { pages = 5; depth = 2; fetch = 0 } ∷ record { pages = 3; depth = 2; fetch = 0 } ∷ []
 
 -- qty = 7, of all columns and of those that are read
 abbrev pub is_seven : ℕ → Term
@@ -31,7 +31,7 @@ nothing_kept = one_table 0 (0 ∷ 2 ∷ []) (compare Lt (literal (whole 2)) (lit
 
 -- FROM item, sale WHERE qty = 7 AND item = id AND n < 5, of which id, qty, item and n are read
 abbrev pub sold : PlanData
-sold = kept (joined sevens (record { table = 1; columns = 0 ∷ 1 ∷ []; tests = compare Eq (column 2) (column 0) ∷ []; padded = false }))
+sold = kept (joined sevens (record { table = 1; columns = 0 ∷ 1 ∷ []; tests = compare Eq (column 2) (column 0) ∷ []; padded = false; search = None }))
     (compare Lt (column 3) (literal (whole 5)) ∷ [])
 
 abbrev pub sold_rows : List Row
@@ -40,11 +40,12 @@ sold_rows = (whole 3 ∷ whole 7 ∷ whole 3 ∷ whole 2 ∷ []) ∷ []
 -- FROM item LEFT JOIN sale ON item = id AND n < 6, of which id, item and n are read: of the item with two sales one has so
 -- few, and two items have none
 abbrev pub padded : PlanData
-padded = joined (joined once (record { table = 0; columns = 0 ∷ []; tests = []; padded = false })) (record {
+padded = joined (joined once (record { table = 0; columns = 0 ∷ []; tests = []; padded = false; search = None })) (record {
   table = 1;
   columns = 0 ∷ 1 ∷ [];
   tests = compare Eq (column 1) (column 0) ∷ compare Lt (column 2) (literal (whole 6)) ∷ [];
   padded = true;
+  search = None;
 })
 
 abbrev pub padded_rows : List Row
@@ -55,11 +56,11 @@ padded_rows =
 
 -- the ids of items
 abbrev pub ids : PlanData
-ids = joined once (record { table = 0; columns = 0 ∷ []; tests = always ∷ []; padded = false })
+ids = joined once (record { table = 0; columns = 0 ∷ []; tests = always ∷ []; padded = false; search = None })
 
 -- sales behind the values of a row, of which the first is compared with the item of a sale
 abbrev pub sale_of : ℕ → Bool → NestedData
-sale_of before padded = record { table = 1; columns = 0 ∷ 1 ∷ []; tests = compare Eq (column 0) (column before) ∷ []; padded = padded }
+sale_of before padded = record { table = 1; columns = 0 ∷ 1 ∷ []; tests = compare Eq (column 0) (column before) ∷ []; padded = padded; search = None }
 
 -- FROM item RIGHT JOIN sale ON item.id = sale.item, of which id, item and n are read: of four sales one is of no item
 abbrev pub right_from : From
@@ -97,7 +98,7 @@ emptied_where = compare Lt (column 6) (literal (whole 5))
 
 abbrev pub emptied : PlanData
 emptied =
-    kept (flagged (joined ids (record { table = 1; columns = []; tests = never ∷ []; padded = false })) (record { nest = sale_of 1 false; before = 1 }))
+    kept (flagged (joined ids (record { table = 1; columns = []; tests = never ∷ []; padded = false; search = None })) (record { nest = sale_of 1 false; before = 1 }))
     (compare Lt (column 2) (literal (whole 5)) ∷ [])
 
 abbrev pub emptied_rows : List Row
@@ -105,9 +106,9 @@ emptied_rows = (null ∷ whole 3 ∷ whole 2 ∷ []) ∷ (null ∷ whole 9 ∷ w
 
 -- ---- windows
 
--- sum(qty) OVER (ORDER BY qty) beside each item, in the table's order
+-- sum(qty) OVER (ORDER BY qty) beside each item, in the table's order; qty is read first, and stands behind the other columns
 abbrev pub summed : PlanData
-summed = windowed (joined once (record { table = 0; columns = 0 ∷ 1 ∷ 2 ∷ []; tests = []; padded = false })) (record {
+summed = windowed (joined once (record { table = 0; columns = 2 ∷ 0 ∷ 1 ∷ []; tests = []; padded = false; search = None })) (1 ∷ 2 ∷ 0 ∷ []) (record {
   window = over (column 2) default_frame;
   function = WindowFunction.aggregate (aggregate_of AggregateFunction.sum (column 2));
 } ∷ [])

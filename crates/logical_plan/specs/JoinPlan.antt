@@ -1,7 +1,7 @@
 -- The plan of a FROM of tables. Where all joins are inner and LEFT joins, it tests each condition as soon as its columns are read;
 -- where one is a RIGHT or FULL JOIN, it tests each where it is written.
 -- (SELECT, "Determination of input data", "WHERE clause filtering")
-use Rattle.std.specs.Prelude.{◌≡◌, ◌+◌, ◌<◌, ◌⊎◌, ◌||◌, ⊤, true, false, All, Bool, ℕ, List, [], ◌∷◌, ◌++◌, filter, flat_map, length, map, nat_lt, Option, IsPermutation}
+use Rattle.std.specs.Prelude.{◌≡◌, ◌+◌, ◌<◌, ◌⊎◌, ◌||◌, ⊤, true, false, All, Bool, ℕ, List, [], ◌∷◌, ◌++◌, filter, flat_map, length, map, nat_lt, Option, IsPermutation, None}
 use Rattle.std.specs.List.{AllZip}
 use Rattle.values.specs.Database.{Database}
 use Rattle.values.specs.Datum.{Datum}
@@ -56,7 +56,7 @@ pub record IsNestedPlan (Before : List Term → PlanData → Type 0) (read : Lis
   pub left : PlanData
   pub columns : List ℕ
   pub tests : List Term
-  pub plan_is : plan ≡ p.joined left (record { table = at; columns = columns; tests = tests; padded = false })
+  pub plan_is : plan ≡ p.joined left (record { table = at; columns = columns; tests = tests; padded = false; search = None })
   pub read_is : read ≡ columns_before (from_width from) read ++ map (λ c. from_width from + c) columns
   pub early : List Term
   pub late : List Term
@@ -77,7 +77,7 @@ pub record IsPaddedPlan (Before : List Term → PlanData → Type 0) (read : Lis
   pub columns : List ℕ
   pub tests : List Term
   pub above : List Term
-  pub plan_is : plan ≡ tested above (p.joined left (record { table = at; columns = columns; tests = tests; padded = true }))
+  pub plan_is : plan ≡ tested above (p.joined left (record { table = at; columns = columns; tests = tests; padded = true; search = None }))
   pub read_is : read ≡ columns_before (from_width from) read ++ map (λ c. from_width from + c) columns
   pub early : List Term
   pub late : List Term
@@ -107,7 +107,7 @@ IsEarlyPlan read (with_inner from query) conditions plan = ⊥
 -- a table behind a plan, by a join of this kind, before which rows of so many values are read
 abbrev pub joined_by : JoinKind → PlanData → ℕ → ℕ → List ℕ → List Term → PlanData
 joined_by kind left before at columns tests =
-    by (pads_left kind) (record { table = at; columns = columns; tests = tests; padded = pads_right kind })
+    by (pads_left kind) (record { table = at; columns = columns; tests = tests; padded = pads_right kind; search = None })
   where
     by : Bool → NestedData → PlanData
     by false nest = p.joined left nest

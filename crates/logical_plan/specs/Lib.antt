@@ -1,5 +1,6 @@
 pub mod Plan
 pub mod PlanView
+pub mod Searches
 pub mod Stands
 pub mod Examples
 pub mod JoinPlan

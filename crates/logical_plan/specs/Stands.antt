@@ -1,5 +1,5 @@
 -- The plan of a SELECT's FROM and WHERE. (SELECT, "Determination of input data" and "WHERE clause filtering")
-use Rattle.std.specs.Prelude.{◌≡◌, ◌<◌, All, ℕ, List, [], ◌∷◌, ◌++◌, false, if◌then◌else◌, map, Option, IsPermutation}
+use Rattle.std.specs.Prelude.{◌≡◌, ◌<◌, All, ℕ, List, [], ◌∷◌, ◌++◌, false, if◌then◌else◌, map, Option, IsPermutation, None}
 use Rattle.std.specs.List.{AllZip, range_with_len}
 use Rattle.values.specs.Database.{Database}
 use Rattle.values.specs.Datum.{Datum}
@@ -14,7 +14,7 @@ use Rattle.semantics.specs.Hits.{SelectHits, where_rows}
 use Rattle.semantics.specs.OneTable.{shown}
 use Rattle.semantics.specs.Query.{From, Select, only, table}
 use Rattle.semantics.specs.Valuation.{kept, with_answers}
-use Rattle.logical_plan.specs.Plan.{Hits, PlanData, are_true, joined, once, rows_of, table_size, work}
+use Rattle.logical_plan.specs.Plan.{Hits, PlanData, are_true, joined, once, rows_of, table_size, work, TreeSizes}
 
 -- An expression over the columns that are read is one over all of them: both are the same on each row, also in whether
 -- they have a value.
@@ -49,7 +49,7 @@ tested_once tests = tested tests once
 -- The plan of one table: what needs no column is tested before the table is read.
 abbrev pub one_table : ℕ → List ℕ → List Term → List Term → PlanData
 one_table at columns constants tests =
-    joined (tested_once constants) (record { table = at; columns = columns; tests = tests; padded = false })
+    joined (tested_once constants) (record { table = at; columns = columns; tests = tests; padded = false; search = None })
 
 -- a SELECT's condition, where its inner queries have been answered
 abbrev pub condition_of : Datum → Database → From → Select → Term
@@ -81,5 +81,5 @@ OneTableHits = (w : Datum) (db : Database) (s : Select) (terms : List Term) (at 
 
 -- its work is the pages of the table's tree, and nothing where what needs no column isn't true
 abbrev pub OneTableWorks : Type 0
-OneTableWorks = (w : Datum) (db : Database) (sizes : List ℕ) (at : ℕ) (columns : List ℕ) (constants tests : List Term)
+OneTableWorks = (w : Datum) (db : Database) (sizes : List TreeSizes) (at : ℕ) (columns : List ℕ) (constants tests : List Term)
     → work w db sizes (one_table at columns constants tests) ≡ (if are_true w constants [] then table_size sizes at else 0)

@@ -10,6 +10,7 @@ ghost use Rattle.semantics.specs.Valuation.{kept};
 ghost use Rattle.logical_plan.specs.Examples.{emptied, emptied_from, emptied_rows, emptied_where, example_sizes, full_sold, full_sold_rows, is_seven, nothing_kept, padded, padded_rows, right_from, right_sold, right_sold_rows, sevens, sevens_rows, sold, sold_rows, summed, summed_rows};
 ghost use Rattle.logical_plan.specs.JoinPlan.{InnerInTurn, IsJoinPlan, JoinHits, JoinIsBag, JoinIsWhere};
 ghost use Rattle.logical_plan.specs.Plan.{rows_of, work};
+ghost use Rattle.logical_plan.specs.Searches.{SearchesLeaveOut};
 ghost use Rattle.logical_plan.specs.WindowedPlan.{WindowedInOrder};
 ghost use Rattle.logical_plan.specs.Stands.{KeptIsWhere, NothingIsWhere, OneTableHits, OneTableIsWhere, OneTableWorks, StandsFor, StandsForItself};
 
@@ -46,9 +47,15 @@ pub fn inner_joins_are_in_turn()
     ensures { InnerInTurn }
 {}
 
-/// The rows of a plan of windows are those of the plan below, in their order, each with a value behind it for each call.
+/// The rows of a plan of windows are those of the plan below, in their order: of each the values at the plan's places, and a value behind
+/// them for each call.
 pub fn windowed_rows_are_in_order()
     ensures { WindowedInOrder }
+{}
+
+/// Where each bound of a search is one of the conditions of its table, it leaves out only rows on which these aren't all true.
+pub fn searches_leave_out()
+    ensures { SearchesLeaveOut }
 {}
 
 /// A table of four rows, whose third column is compared and may be NULL; a condition that is false without a row; a

@@ -4,6 +4,28 @@ use expr::Expr;
 use resolver_terms::WindowCall;
 use windows_groups::GroupTerms;
 
+/// An end of the range that a search lets through of a column. (SELECT, "WHERE clause filtering"; The SQLite Query Optimizer Overview,
+/// "WHERE Clause Analysis")
+#[derive(Drop)]
+pub struct Edge {
+    /// What the column is compared with, over the values of the rows before the table.
+    pub value: Expr,
+    /// Whether the value itself lies outside.
+    pub strict: bool,
+}
+
+/// A search of a table: it leaves out only rows on which the conditions that are tested of them aren't all true.
+#[derive(Drop)]
+pub struct Search {
+    /// The columns of the key by which it goes, by their places in the table.
+    pub key: Vec<usize>,
+    /// What the first of these equal, over the values of the rows before the table.
+    pub equal: Vec<Expr>,
+    /// The range of the column of the key after these.
+    pub lower: Option<Edge>,
+    pub upper: Option<Edge>,
+}
+
 /// A table that is read behind the rows before it. (SELECT, "Determination of input data")
 #[derive(Drop)]
 pub struct Nested {
@@ -15,6 +37,8 @@ pub struct Nested {
     pub tests: Vec<Expr>,
     /// Whether a row before the table that meets none of its rows stands beside NULLs.
     pub padded: bool,
+    /// The search by which the table is read, or none where it is read whole.
+    pub search: Option<Search>,
 }
 
 /// A table that a RIGHT or FULL JOIN puts behind the rows before it: it is read once, and tells of each of its rows whether one
@@ -41,6 +65,6 @@ pub enum Plan {
     OuterJoin(Box<Plan>, OuterTable),
     /// A row for each group of rows: what they are gathered by, and then the aggregates.
     Aggregate(Box<Plan>, GroupTerms),
-    /// Rows with the values of calls over windows behind them. (Window Functions)
-    Window(Box<Plan>, Vec<WindowCall>),
+    /// The values of rows at these places, in their order, with the values of calls over windows behind them. (Window Functions)
+    Window(Box<Plan>, Vec<usize>, Vec<WindowCall>),
 }

@@ -1,5 +1,5 @@
 -- The plan of SELECTs that operators join, or of one, in no order or in that of result columns.
-use Rattle.std.proofs.Common.{◌≤◌, inl, ℕ, List, IfOk, MatchOption, Option, Some, None, Result, Ok, Err, arith}
+use Rattle.std.proofs.Common.{◌≤◌, inl, List, IfOk, MatchOption, Option, Some, None, Result, Ok, Err, arith}
 use Rattle.values.specs.Database.{Database}
 use Rattle.values.specs.Datum.{Datum}
 use Rattle.values.specs.declared.value.Ty.{Ty}
@@ -20,6 +20,7 @@ use Rattle.logical_plan_queries.proofs.ServedLemmas.{not_each}
 use Rattle.logical_plan_queries.specs.select_plans.Columns.{HaveColumns}
 use Rattle.logical_plan_queries.specs.select_plans.Read.{IsWideOf}
 use Rattle.logical_plan.specs.answers.Sources.{SourceData}
+use Rattle.logical_plan.specs.Plan.{TreeSizes}
 
 -- what holds of each arm where its tables hold what FROM says of them
 each_told : (db : Database) (Is : From → Select → ArmData → Type 0) → ((from : From) (s : Select) (arm : ArmData) → IsWideOf db from s → IsArmFor from s arm → Is from s arm)
@@ -39,7 +40,7 @@ module _ (catalog : List (List Ty)) (sources : List SourceData) (have : HaveColu
       (each_over body types left typed.0 of.0, of.2.over catalog sources have types typed.1)
 
 -- each asks for no more pages than its SELECT may
-each_few : (w : Datum) (db : Database) (sizes : List ℕ) (body : Body) (arms : ArmsData) → AreWideFor db body → AreArmsOf IsArmFor body arms
+each_few : (w : Datum) (db : Database) (sizes : List TreeSizes) (body : Body) (arms : ArmsData) → AreWideFor db body → AreArmsOf IsArmFor body arms
     → work_of_arms w db sizes arms ≤ selects_work w db sizes body
 each_few w db sizes (select from s) (one arm) wide of = of.few w db sizes wide
 each_few w db sizes (select from s) (joined left other arm) wide of = absurd of

@@ -15,7 +15,7 @@ use Rattle.semantics.specs.Typed.{IsTyped}
 use Rattle.semantics.proofs.OneTableLemmas.{scan_is_permitted}
 use Rattle.semantics_names.specs.Sources.{kind_of}
 use Rattle.expr.specs.View.{term}
-use Rattle.logical_plan.specs.Plan.{table_size}
+use Rattle.logical_plan.specs.Plan.{table_size, TreeSizes}
 use Rattle.logical_plan.specs.answers.Sources.{SourceData}
 use Rattle.logical_plan_terms.specs.table_plans.Input.{from_of}
 use Rattle.logical_plan_terms.specs.table_plans.Planned.{on_terms}
@@ -74,7 +74,7 @@ module _ (from : From) (s : Select) (order : List Key) (limit : Option ℤ) (off
       (subst (Permits w db (columns_of_table at width places)) (sym is) (scan_is_permitted w db at width places))
 
   -- one table is read once
-  scan_few : (w : Datum) (db : Database) (sizes : List ℕ) (at width : ℕ) → from ≡ only (table at width)
+  scan_few : (w : Datum) (db : Database) (sizes : List TreeSizes) (at width : ℕ) → from ≡ only (table at width)
       → table_size sizes at ≤ from_work w db sizes (values_over w db from) from
   scan_few w db sizes at width from_is =
       subst (λ (from : From). table_size sizes at ≤ from_work w db sizes (values_over w db from) from) (sym from_is) (omega arith)
@@ -105,7 +105,7 @@ module _ (from : From) (s : Select) (order : List Key) (limit : Option ℤ) (off
         let same : made.width ≡ length source.1 = source.3.1 in
         let long : from_width from ≡ length source.1 = omega (arith, wide, same) in
         let nest = columns_at catalog sources have at source.1 places source.3.0 (subst (λ n. All (λ c. c < n) places) long (places_within (from_width from) places named)) in
-        record { table = nest.0; columns = nest.1 }
+        record { table = nest.0; columns = nest.1; scanned = refl }
 
 -- the plan of a query's SELECT is one of the query
 module _ (query : QueryData) (from : From) (s : Select) (order : List Key) (limit : Option ℤ) (offset : ℤ) (p : PlannedData)

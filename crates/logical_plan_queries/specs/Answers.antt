@@ -1,5 +1,5 @@
 -- What a plan answers, what it may ask for and what it reaches. (SELECT)
-use Rattle.std.specs.Prelude.{◌≡◌, ◌≤◌, [], false, ℕ, List, map}
+use Rattle.std.specs.Prelude.{◌≡◌, ◌≤◌, [], false, ℕ, List, map, None}
 use Rattle.values.specs.Database.{Database}
 use Rattle.values.specs.Datum.{Datum}
 use Rattle.values.specs.Row.{Row}
@@ -9,7 +9,7 @@ use Rattle.semantics.specs.Hits as meaning
 use Rattle.semantics.specs.OneTable.{shown}
 use Rattle.semantics.specs.Query.{Body, QueryData}
 use Rattle.semantics.specs.Typed.{IsTyped}
-use Rattle.logical_plan.specs.Plan.{table_rows, table_size}
+use Rattle.logical_plan.specs.Plan.{table_rows, table_size, TreeSizes}
 use Rattle.logical_plan.specs.answers.Answers.{AnswerData, IsAnswer, answer_data}
 use Rattle.logical_plan.specs.answers.Arms.{ArePlannedOver, ArmsHit, work_of_arms}
 use Rattle.logical_plan.specs.answers.Sources.{IsNestOf, SourceData}
@@ -34,7 +34,7 @@ IsAnswerOf w db (columns at places) rows = rows ≡ map (shown places) (table_ro
 IsAnswerOf w db (answer a) rows = IsAnswer w db a rows
 
 -- how many pages it may ask for, where the trees of the tables have so many
-abbrev pub work_of : Datum → Database → List ℕ → PlannedData → ℕ
+abbrev pub work_of : Datum → Database → List TreeSizes → PlannedData → ℕ
 work_of w db sizes (columns at places) = table_size sizes at
 work_of w db sizes (answer a) = work_of_arms w db sizes a.arms
 
@@ -53,11 +53,11 @@ AreWideFor db (Body.compound body operator from s) = AreWideFor db body × IsWid
 pub record IsPlanFor (query : QueryData) (planned : PlannedData) : Type 0 where
   pub permits : (w : Datum) (db : Database) (rows : List Row) → AreWideFor db query.body → IsAnswerOf w db planned rows → Permits w db query rows
   pub hits : (w : Datum) (db : Database) → AreWideFor db query.body → HitsOf w db planned → meaning.Hits w db query
-  pub few : (w : Datum) (db : Database) (sizes : List ℕ) → AreWideFor db query.body → work_of w db sizes planned ≤ selects_work w db sizes query.body
+  pub few : (w : Datum) (db : Database) (sizes : List TreeSizes) → AreWideFor db query.body → work_of w db sizes planned ≤ selects_work w db sizes query.body
 
 -- its sources and their columns are some of these
 abbrev pub IsPlannedOver : List SourceData → PlannedData → Type 0
-IsPlannedOver sources (columns at places) = IsNestOf sources (record { table = at; columns = places; tests = []; padded = false })
+IsPlannedOver sources (columns at places) = IsNestOf sources (record { table = at; columns = places; tests = []; padded = false; search = None })
 IsPlannedOver sources (answer a) = ArePlannedOver sources a.arms
 
 -- where the query is typed over a catalog, these are some of any sources that have its columns

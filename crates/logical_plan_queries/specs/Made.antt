@@ -11,7 +11,7 @@ use Rattle.semantics.specs.Hits.{FromHits, SelectHits, order_terms}
 use Rattle.semantics.specs.Query.{From, Key, KeyTerm, QueryData, Select, always, only, select, table}
 use Rattle.semantics.specs.Typed.{IsTyped}
 use Rattle.logical_plan_terms.specs.Over.{StandsOver}
-use Rattle.logical_plan.specs.Plan.{work}
+use Rattle.logical_plan.specs.Plan.{work, TreeSizes}
 use Rattle.logical_plan.specs.answers.Answers.{AnswerData, OrderData}
 use Rattle.logical_plan.specs.answers.Arms.{ArmData, ArmHits, one}
 use Rattle.logical_plan.specs.answers.Permitted.{AreArmsOf, ArePlacesOf, AreResults, IsOrderOf, IsOrderedArmOf}
@@ -85,7 +85,7 @@ pub record IsOrderedArmFor (order : List Key) (from : From) (s : Select) (arm : 
   pub is_arm : (w : Datum) (db : Database) → IsWideOf db from s → IsOrderedArmOf w db order from s arm o
   pub hits : (w : Datum) (db : Database) → IsWideOf db from s → ArmHits w db arm
       → FromHits w db (answers_in w db from) from false ⊎ SelectHits w db from s (order_terms order)
-  pub few : (w : Datum) (db : Database) (sizes : List ℕ) → IsWideOf db from s → work w db sizes arm.plan ≤ from_work w db sizes (values_over w db from) from
+  pub few : (w : Datum) (db : Database) (sizes : List TreeSizes) → IsWideOf db from s → work w db sizes arm.plan ≤ from_work w db sizes (values_over w db from) from
   pub over : (catalog : List (List Ty)) (sources : List SourceData) → HaveColumns catalog sources → (limit : Option ℤ) (offset : ℤ)
       → IsTyped catalog (of_select from s order limit offset) → IsPlanOf sources arm.plan
 

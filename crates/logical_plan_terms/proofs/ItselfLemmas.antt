@@ -34,7 +34,7 @@ held_below n at (k, within, same) =
     let place = get_or-range_with_len 0 n k at short in
     omega (arith, short, place, same)
 
-place_itself : (read : List ℕ) (at : ℕ) → AreWhole read → Contains read at → place_in read at ≡ at
+pub place_itself : (read : List ℕ) (at : ℕ) → AreWhole read → Contains read at → place_in read at ≡ at
 place_itself read at whole held =
     let below : at < length read = held_below (length read) at (subst (λ columns. Contains columns at) whole held) in
     let zero_low : 0 ≤ at = omega arith in

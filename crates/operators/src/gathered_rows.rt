@@ -2,6 +2,8 @@
 ghost use Rattle.std.specs.Prelude.{◌≡◌, ◌<◌, ◌^◌, IfOk, IsTrue, OnSome, length, map};
 ghost use Rattle.values.specs.Datum.{datum_of};
 ghost use Rattle.values.specs.Row.{rows_data};
+ghost use Rattle.semantics.specs.OneTable.{shown};
+ghost use Rattle.semantics.specs.Sequence.{value_at};
 ghost use Rattle.operators.specs.Left.{GivesFirst, TakesFirstOut};
 
 use std::alloc::{AllocError, Global};
@@ -60,13 +62,28 @@ impl GatheredRows {
     }
 }
 
-/// A copy of a row, with room for this many more values.
-pub(crate) fn row_copy(alloc: Global, row: &[Value], more: usize) -> Result<Vec<Value>, AllocError>
-    ensures { IfOk result (λ copied. map datum_of copied.items ≡ map datum_of row.now) }
+/// A copy of the value at a place of a row, and NULL past its end.
+fn value_copy(alloc: Global, row: &[Value], at: usize) -> Result<Value, AllocError>
+    ensures { IfOk result (λ value. datum_of value ≡ value_at (map datum_of row.now) at) }
 {
-    let mut copied = Vec::with_capacity(alloc, row.len().saturating_add(more))?;
-    for value in row {
-        copied.push(value.as_ref().to_value(alloc)?)?;
+    match row.get(at) {
+        Some(value) => value.as_ref().to_value(alloc),
+        None => Ok(Value::Null),
+    }
+}
+
+/// Copies of the values of a row at these places, in their order, with room for this many more values.
+pub(crate) fn row_copy(
+    alloc: Global,
+    row: &[Value],
+    places: &[usize],
+    more: usize,
+) -> Result<Vec<Value>, AllocError>
+    ensures { IfOk result (λ copied. map datum_of copied.items ≡ shown places.now (map datum_of row.now)) }
+{
+    let mut copied = Vec::with_capacity(alloc, places.len().saturating_add(more))?;
+    for at in places {
+        copied.push(value_copy(alloc, row, *at)?)?;
     }
     Ok(copied)
 }

@@ -1,5 +1,5 @@
 -- From what the run of a query writes to its answer over the image.
-use Rattle.std.proofs.Common.{◌≡◌, ◌≢◌, ◌∙◌, inl, inr, ◌-◌, arith, false, ℕ, zero, suc, IsTrue, All, List, [], ◌∷◌, ◌++◌, length, map, Option, Some, None, sym, refl, ap, subst}
+use Rattle.std.proofs.Common.{◌≡◌, ◌≢◌, ◌∙◌, inl, inr, ◌-◌, arith, false, ℕ, zero, suc, IsTrue, All, List, [], ◌∷◌, ◌++◌, length, map, Option, Some, None, sym, refl, ap, subst, ◌+◌}
 use Rattle.std.specs.List.{AllZip}
 use Rattle.std.proofs.lemmas.List.Elements.{All-append, All-cons, All-map, All-nil, All-weaker}
 use Rattle.values.specs.Database.{Database}
@@ -27,7 +27,7 @@ use Rattle.operators_runs.specs.inner_rows.Runnable.{IsRunnableBody}
 use Rattle.operators_runs.specs.inner_rows.Work.{body_work}
 use Rattle.operators_runs.specs.nested_runs.Steps.{IsPermitted}
 use Rattle.operators_runs.specs.nested_runs.Writes.{HasPlanOver, IsNestedCause, WritesBeginning, WritesPermitted}
-use Rattle.logical_plan.specs.Plan.{once}
+use Rattle.logical_plan.specs.Plan.{once, TreeSizes}
 use Rattle.schema_tables.specs.table_copies.Whole.{all_tables}
 use Rattle.schema_tables.specs.ColumnTypes.{column_types, types_of}
 use Rattle.schema_tables.specs.TableData.{ColumnData, TableData, schema_table}
@@ -121,13 +121,14 @@ query_hits on query e over (inr hits) = hits.1
 
 module _ (pages : Pages) where
   -- the trees of the tables, and their rows
-  sizes_of : (tables : List TableData) (rows : List (List Row)) → AllZip (IsStoredAs pages) tables rows → List ℕ
+  sizes_of : (tables : List TableData) (rows : List (List Row)) → AllZip (IsStoredAs pages) tables rows → List TreeSizes
   sizes_of [] [] all = []
   sizes_of [] (first ∷ rows) all = absurd all
   sizes_of (table ∷ tables) [] all = absurd all
-  sizes_of (table ∷ tables) (first ∷ rows) all = size_of pages table all.0.stored.levels ∷ sizes_of tables rows all.1
+  sizes_of (table ∷ tables) (first ∷ rows) all =
+      record { pages = size_of pages table all.0.stored.levels; depth = all.0.stored.levels + 1; fetch = 0 } ∷ sizes_of tables rows all.1
 
-  abbrev basis : Datum → List Row → List (List Row) → List ℕ → Basis
+  abbrev basis : Datum → List Row → List (List Row) → List TreeSizes → Basis
   basis w schema rows sizes = record { w = w; db = record { schema = schema; tables = rows }; sizes = sizes; local = false; plan = once }
 
   stored_at : (w : Datum) (schema : List Row) (tables : List TableData) (rows : List (List Row)) (all : AllZip (IsStoredAs pages) tables rows)

@@ -10,7 +10,7 @@ use Rattle.expr.specs.View.{term}
 use Rattle.semantics.specs.Query.{Operator}
 use Rattle.semantics.specs.Valuation.{term_values}
 use Rattle.semantics_names.specs.Statement.{operator_of}
-use Rattle.logical_plan.specs.Plan.{Hits, PlanData, ReachesOverflow, rows_of, work}
+use Rattle.logical_plan.specs.Plan.{Hits, PlanData, ReachesOverflow, rows_of, work, TreeSizes}
 use Rattle.logical_plan.specs.PlanView.{plan_data}
 use Rattle.windows_groups.specs.distinct_rows.Firsts.{firsts}
 use Rattle.logical_plan.specs.answers.Joined.{joined_rows}
@@ -54,7 +54,7 @@ module _ (w : Datum) (db : Database) where
   rows_of_arms (joined left operator arm) = joined_rows operator (rows_of_arms left) (arm_rows arm)
 
   -- how many pages the arms may ask for, where the trees of the tables have so many
-  abbrev pub work_of_arms : List ℕ → ArmsData → ℕ
+  abbrev pub work_of_arms : List TreeSizes → ArmsData → ℕ
   work_of_arms sizes (one arm) = work w db sizes arm.plan
   work_of_arms sizes (joined left operator arm) = work_of_arms sizes left + work w db sizes arm.plan
 

@@ -1,5 +1,5 @@
 -- What plans read, and that they read some of it.
-use Rattle.std.specs.Prelude.{All, List, Some, Vec, length, map, slice_get, ℕ, ⊤, ◌++◌, ◌<◌, ◌≡◌}
+use Rattle.std.specs.Prelude.{All, List, None, Some, Vec, length, map, slice_get, ℕ, ⊤, ◌++◌, ◌<◌, ◌≡◌}
 use Rattle.std.specs.Global.{Global}
 use Rattle.values.specs.Row.{Row, rows_data}
 use Rattle.values.specs.declared.value.Value.{Value}
@@ -20,10 +20,11 @@ abbrev pub HasColumns : SourceData → List ℕ → Type 0
 HasColumns (of_table table) columns = All (λ at. at < length table.columns) columns
 HasColumns (of_rows rows) columns = ⊤
 
--- what a plan reads is one of the sources, with columns that this has
+-- what a plan reads is one of the sources, with columns that this has; no plan reads it by a search yet
 pub record IsNestOf (sources : List SourceData) (nest : NestedData) : Type 0 where
   pub table : nest.table < length sources
   pub columns : (source : SourceData) → slice_get sources nest.table ≡ Some source → HasColumns source nest.columns
+  pub scanned : nest.search ≡ None
 
 abbrev pub IsPlanOf : List SourceData → PlanData → Type 0
 IsPlanOf sources once = ⊤
@@ -31,4 +32,4 @@ IsPlanOf sources (kept below tests) = IsPlanOf sources below
 IsPlanOf sources (joined left nest) = IsPlanOf sources left × IsNestOf sources nest
 IsPlanOf sources (flagged left f) = IsPlanOf sources left × IsNestOf sources f.nest
 IsPlanOf sources (grouped below terms) = IsPlanOf sources below
-IsPlanOf sources (windowed below calls) = IsPlanOf sources below
+IsPlanOf sources (windowed below places calls) = IsPlanOf sources below

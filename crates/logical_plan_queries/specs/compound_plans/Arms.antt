@@ -1,5 +1,5 @@
 -- Which SELECTs that operators join have plans, and what these are. (SELECT, "Compound Select Statements")
-use Rattle.std.specs.Prelude.{◌≤◌, ℕ, List, []}
+use Rattle.std.specs.Prelude.{◌≤◌, List, []}
 use Rattle.values.specs.Database.{Database}
 use Rattle.values.specs.Datum.{Datum}
 use Rattle.values.specs.declared.value.Ty.{Ty}
@@ -7,7 +7,7 @@ use Rattle.semantics.specs.Body.{values_over}
 use Rattle.semantics.specs.Query.{Body, From, Select, compound, select}
 use Rattle.semantics.specs.Typed.{BodyHasTypes}
 use Rattle.logical_plan.specs.answers.Sources.{IsPlanOf, SourceData}
-use Rattle.logical_plan.specs.Plan.{work}
+use Rattle.logical_plan.specs.Plan.{work, TreeSizes}
 use Rattle.logical_plan.specs.answers.Arms.{ArmData}
 use Rattle.logical_plan.specs.answers.Permitted.{HitsWithin, IsArmOf}
 use Rattle.logical_plan_queries.specs.select_plans.Columns.{HaveColumns}
@@ -30,6 +30,6 @@ AreServed (compound body operator from s) = AreServed body × IsServedArm from s
 pub record IsArmFor (from : From) (s : Select) (arm : ArmData) : Type 0 where
   pub is_arm : (w : Datum) (db : Database) → IsWideOf db from s → IsArmOf w db from s arm
   pub hits : (w : Datum) (db : Database) → IsWideOf db from s → HitsWithin w db from s arm
-  pub few : (w : Datum) (db : Database) (sizes : List ℕ) → IsWideOf db from s → work w db sizes arm.plan ≤ from_work w db sizes (values_over w db from) from
+  pub few : (w : Datum) (db : Database) (sizes : List TreeSizes) → IsWideOf db from s → work w db sizes arm.plan ≤ from_work w db sizes (values_over w db from) from
   pub over : (catalog : List (List Ty)) (sources : List SourceData) → HaveColumns catalog sources → (types : List Ty) → BodyHasTypes catalog (select from s) types
       → IsPlanOf sources arm.plan

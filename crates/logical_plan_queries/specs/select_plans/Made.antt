@@ -10,7 +10,7 @@ use Rattle.logical_plan_queries.specs.select_plans.Read.{IsReadOf}
 use Rattle.logical_plan_terms.specs.declared.table_plans.inputs.Input.{Input}
 use Rattle.logical_plan_terms.specs.table_plans.Input.{input_from}
 use Rattle.logical_plan_terms.specs.table_plans.Planned.{IsPlanOver}
-use Rattle.logical_plan_terms.specs.window_plans.Windowed.{IsWindowedOver, windowed_columns}
+use Rattle.logical_plan_terms.specs.window_plans.Windowed.{IsWindowedOver, windowed_columns, written_places}
 
 -- the terms of groups, where there are some, stand over the columns that are read of the rows below
 abbrev pub StandsOverRows : List ℕ → Option Grouping → Type 0
@@ -24,11 +24,11 @@ IsOverRows read None below known plan = (known ≡ read) × (plan ≡ below)
 IsOverRows read (Some g) below known plan = (known ≡ group_columns g) × IsGroupedOver read 0 g below plan
 
 -- over such a plan, the plan of the rows that result columns are computed on, and the columns of these: it is the same, or that with
--- the values of calls over windows behind each row
+-- the values of calls over windows behind each row, whose columns then stand in the order in which they are written
 abbrev pub IsOverWindows : List WindowCall → List ℕ → PlanData → List ℕ → PlanData → Type 0
 IsOverWindows [] taken below known plan = (known ≡ taken) × (plan ≡ below)
 IsOverWindows (call ∷ calls) taken below known plan =
-    (known ≡ windowed_columns (length taken) (call ∷ calls)) × IsWindowedOver 0 (call ∷ calls) below plan
+    (known ≡ windowed_columns (length taken) (call ∷ calls)) × IsWindowedOver 0 (call ∷ calls) (written_places taken) below plan
 
 -- a plan of FROM and WHERE, one of the rows that windows take over it, one of the rows that result columns are computed on over that,
 -- and result columns over these

@@ -14,7 +14,7 @@ use values::Value;
 fn is_nest_over(tables: &[Table], kept: &[Vec<Vec<Value>>], nested: &Nested) -> bool
     ensures { IsTrue result ↔ IsNestOf (sources_of tables.now kept.now) (nested_data nested.now) }
 {
-    has_place(tables, kept, nested.table, nested.columns.as_slice())
+    nested.search.is_none() && has_place(tables, kept, nested.table, nested.columns.as_slice())
 }
 
 fn is_plan_over(tables: &[Table], kept: &[Vec<Vec<Value>>], plan: &Plan) -> bool
@@ -30,7 +30,7 @@ fn is_plan_over(tables: &[Table], kept: &[Vec<Vec<Value>>], plan: &Plan) -> bool
             is_plan_over(tables, kept, left) && is_nest_over(tables, kept, &flagged.nested)
         }
         Plan::Aggregate(below, _) => is_plan_over(tables, kept, below),
-        Plan::Window(below, _) => is_plan_over(tables, kept, below),
+        Plan::Window(below, _, _) => is_plan_over(tables, kept, below),
     }
 }
 

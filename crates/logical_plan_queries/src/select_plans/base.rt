@@ -1,6 +1,7 @@
 //! What a SELECT computes on the rows of FROM, on those of groups, or on either with the values of windows,
 //! whatever becomes of its result rows.
-ghost use Rattle.std.specs.Prelude.{◌≡◌, ◌≢◌, [], All, IfOk, MatchOption, map, option_map, ⊤};
+ghost use Rattle.std.specs.Prelude.{◌≡◌, ◌==◌, ◌≢◌, [], All, IfOk, MatchOption, map, option_map, position, ⊤};
+ghost use Rattle.expr.specs.Leaves.{place_in};
 ghost use Rattle.expr.specs.View.{term};
 ghost use Rattle.semantics.specs.Hits.{order_terms};
 ghost use Rattle.logical_plan_terms.specs.Over.{AreWhole};
@@ -10,7 +11,7 @@ ghost use Rattle.logical_plan_queries.specs.select_plans.Served.{AreOfRows};
 ghost use Rattle.resolver_terms.specs.SelectView.{call_of, grouping_of, key_of, select_of};
 ghost use Rattle.logical_plan_terms.specs.table_plans.TableJoins.{AreTableJoins};
 ghost use Rattle.logical_plan_terms.specs.table_plans.Input.{input_from};
-ghost use Rattle.logical_plan_terms.specs.window_plans.Windowed.{IsOverCall};
+ghost use Rattle.logical_plan_terms.specs.window_plans.Windowed.{IsOverCall, written_places};
 
 use crate::select_plans::columns::{columns_read, push_places};
 use expr::Expr;
@@ -34,6 +35,20 @@ pub struct Base {
     pub read: Vec<usize>,
     pub plan: Plan,
     pub columns: Vec<Expr>,
+}
+
+/// The place of a column among those that are read, if it is one of them.
+fn place_among(read: &[usize], column: usize) -> Option<usize>
+    ensures { result ≡ position (λ at. at == column) read.now }
+{
+    read.iter().position(|at| *at == column)
+}
+
+/// The place of a column among those that are read, or the place after them.
+fn place_of(read: &[usize], column: usize) -> usize
+    ensures { result ≡ place_in read.now column }
+{
+    place_among(read, column).unwrap_or(read.len())
 }
 
 /// The rows that windows take, or result columns where there are none, over a plan of FROM and WHERE of which these columns are read:
@@ -62,6 +77,17 @@ fn rows_over(
     Ok(Some(Rows { read, plan }))
 }
 
+/// Where each column stands among these, in the order in which they are written.
+fn places_written(alloc: Global, read: &[usize]) -> Result<Vec<usize>, AllocError>
+    ensures { IfOk result (λ places. places.items ≡ written_places read.now) }
+{
+    let mut places = Vec::with_capacity(alloc, read.len())?;
+    for column in 0..read.len() {
+        places.push(place_of(read, column))?;
+    }
+    Ok(places)
+}
+
 /// The rows that result columns are computed on, over those that windows take, of which each column is known where there are windows:
 /// the same, or these with the values of the calls behind them. There are none where a call names another column. (Window Functions)
 fn windows_over(
@@ -81,7 +107,8 @@ fn windows_over(
         mut read,
         plan: below,
     } = taken;
-    let windowed = windowed_over(alloc, read.as_slice(), 0, calls, below)?;
+    let places = places_written(alloc, read.as_slice())?;
+    let windowed = windowed_over(alloc, read.as_slice(), 0, calls, places, below)?;
     let plan = match windowed {
         None => return Ok(None),
         Some(plan) => plan,

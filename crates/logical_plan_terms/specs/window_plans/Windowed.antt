@@ -3,6 +3,7 @@ use Rattle.std.specs.Prelude.{◌≡◌, ◌≤◌, ◌+◌, All, ℕ, List, len
 use Rattle.std.specs.List.{range_with_len}
 use Rattle.values.specs.Datum.{Datum}
 use Rattle.expr.specs.Filled.{filled}
+use Rattle.expr.specs.Leaves.{place_in}
 use Rattle.semantics.specs.Hits.{function_terms}
 use Rattle.semantics.specs.Query.{Aggregate, SortTerm, Window, WindowCall, WindowFunction}
 use Rattle.logical_plan_terms.specs.Over.{IsOver}
@@ -12,6 +13,10 @@ use Rattle.semantics.specs.Mapped.{mapped_aggregate, mapped_call, mapped_functio
 -- the places of the values of a row of so many values, and of those of calls behind them
 abbrev pub windowed_columns : ℕ → List WindowCall → List ℕ
 windowed_columns width calls = range_with_len 0 (width + length calls)
+
+-- where each column stands among these, in the order in which they are written
+abbrev pub written_places : List ℕ → List ℕ
+written_places read = map (place_in read) (range_with_len 0 (length read))
 
 -- PARTITION BY and ORDER BY stand over the columns that are read
 pub record IsOverWindow (columns : List ℕ) (inner : ℕ) (window : Window) : Type 0 where
@@ -42,8 +47,8 @@ CallIsItself inner call whole = (answers : List (List Datum)) → length answers
 abbrev pub CallsAreThemselves : ℕ → List WindowCall → List WindowCall → Type 0
 CallsAreThemselves inner calls wholes = (answers : List (List Datum)) → length answers ≤ inner → calls ≡ map (mapped_call (filled answers)) wholes
 
--- the rows of a plan with the values of these calls behind them
-pub record IsWindowedOver (inner : ℕ) (wholes : List WindowCall) (below plan : PlanData) : Type 0 where
+-- the values of the rows of a plan at these places, with those of these calls behind them
+pub record IsWindowedOver (inner : ℕ) (wholes : List WindowCall) (places : List ℕ) (below plan : PlanData) : Type 0 where
   pub calls : List WindowCall
   pub calls_are : CallsAreThemselves inner calls wholes
-  pub plan_is : plan ≡ windowed below calls
+  pub plan_is : plan ≡ windowed below places calls

@@ -65,6 +65,7 @@ fn plan_behind(
         columns,
         tests: parts.here,
         padded,
+        search: None,
     };
     let joined = Plan::NestedLoop(Box::new(alloc, left)?, nested);
     let plan = kept(alloc, joined, parts.above)?;

@@ -2,7 +2,7 @@
 ghost use Rattle.std.specs.Prelude.{◌≡◌, IfOk, MatchOption, map, ⊤};
 ghost use Rattle.std.specs.List.{list_any};
 ghost use Rattle.expr.specs.View.{term};
-ghost use Rattle.semantics.specs.Joins.{pads_left, pads_right};
+ghost use Rattle.semantics.specs.Joins.{pads_left};
 ghost use Rattle.semantics_names.specs.Sources.{kind_of};
 ghost use Rattle.logical_plan.specs.JoinPlan.{IsWritten, joined_by};
 ghost use Rattle.logical_plan.specs.PlanView.{plan_data};
@@ -13,6 +13,7 @@ ghost use Rattle.logical_plan_terms.specs.table_plans.Planned.{AreOnOver};
 use crate::conjuncts_over;
 use crate::table_plans::columns::{columns_behind, columns_left};
 use crate::table_plans::inputs::JoinedTable;
+use expr::Expr;
 use logical_plan::{Nested, OuterTable, Plan};
 use std::alloc::{AllocError, Global};
 
@@ -23,19 +24,26 @@ pub(crate) fn some_flagged(tables: &[JoinedTable]) -> bool
     tables.iter().any(|table| table.is_flagged())
 }
 
-/// A table behind a plan before which rows of so many values are read.
+/// A table behind a plan before which rows of so many values are read, with these columns and these tests; it is read whole.
 fn joined(
     alloc: Global,
     last: &JoinedTable,
     left: Plan,
-    nested: Nested,
+    columns: Vec<usize>,
+    on: Vec<Expr>,
     before: usize,
 ) -> Result<Plan, AllocError>
-    requires { nested.padded ≡ pads_right (kind_of last.now.join) }
     ensures { IfOk result (λ plan. plan_data plan
-        ≡ joined_by (kind_of last.now.join) (plan_data left) before nested.table nested.columns.items (map term nested.tests.items)) }
+        ≡ joined_by (kind_of last.now.join) (plan_data left) before last.now.table columns.items (map term on.items)) }
 {
     let left = Box::new(alloc, left)?;
+    let nested = Nested {
+        table: last.table,
+        columns,
+        tests: on,
+        padded: last.is_padded(),
+        search: None,
+    };
     if last.is_flagged() {
         return Ok(Plan::OuterJoin(left, OuterTable { nested, before }));
     }
@@ -67,12 +75,6 @@ pub(crate) fn written_behind(
         None => return Ok(None),
         Some(left) => left,
     };
-    let nested = Nested {
-        table: last.table,
-        columns,
-        tests: on,
-        padded: last.is_padded(),
-    };
-    let plan = joined(alloc, last, left, nested, first.len())?;
+    let plan = joined(alloc, last, left, columns, on, first.len())?;
     Ok(Some(plan))
 }

@@ -33,19 +33,20 @@ fn calls_over(
     Ok(Some(over))
 }
 
-/// The rows of a plan, of which each value is known by its place, with the values of calls over windows behind them, beside so many
-/// inner queries. There is none exactly where an expression of a call names another column, or the answer of one of these queries.
+/// The values of the rows of a plan at these places, of which each is known by where it then stands, with the values of calls over windows
+/// behind them, beside so many inner queries. There is none exactly where an expression of a call names another column, or the answer of one of these queries.
 /// (Window Functions)
 pub fn windowed_over(
     alloc: Global,
     columns: &[usize],
     inner: usize,
     calls: &[WindowCall],
+    places: Vec<usize>,
     below: Plan,
 ) -> Result<Option<Plan>, AllocError>
     requires { AreWhole columns.now }
     ensures over { IfOk result (λ plan. MatchOption plan (¬ All (IsOverCall columns.now inner) (map call_of calls.now)) (λ _. ⊤)) }
-    ensures plan { IfOk result (λ plan. MatchOption plan ⊤ (λ plan. IsWindowedOver inner (map call_of calls.now) (plan_data below) (plan_data plan))) }
+    ensures plan { IfOk result (λ plan. MatchOption plan ⊤ (λ plan. IsWindowedOver inner (map call_of calls.now) places.items (plan_data below) (plan_data plan))) }
 {
     let over = calls_over(alloc, columns, inner, calls)?;
     let calls = match over {
@@ -53,5 +54,5 @@ pub fn windowed_over(
         Some(calls) => calls,
     };
     let below = Box::new(alloc, below)?;
-    Ok(Some(Plan::Window(below, calls)))
+    Ok(Some(Plan::Window(below, places, calls)))
 }

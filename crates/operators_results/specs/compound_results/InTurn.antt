@@ -8,7 +8,7 @@ use Rattle.btree.specs.image.Pages.{Pages}
 use Rattle.logical_plan.specs.answers.Sources.{SourceData}
 use Rattle.expr.specs.View.{term}
 use Rattle.semantics.specs.Query.{union_all}
-use Rattle.logical_plan.specs.Plan.{PlanData, work}
+use Rattle.logical_plan.specs.Plan.{PlanData, TreeSizes, work}
 use Rattle.operators_loops.specs.Basis.{Basis}
 use Rattle.operators.specs.Left.{plan_of, steps}
 use Rattle.operators_results.specs.Coming.{IsComing}
@@ -43,7 +43,7 @@ module _ (w : Datum) (db : Database) where
   rows_from rows (results ∷ behind) = rows_from rows behind ++ arm_rows w db (arm_of results)
 
   -- so many pages, and those of the arms behind
-  abbrev pub work_from : List ℕ → ℕ → List Results → ℕ
+  abbrev pub work_from : List TreeSizes → ℕ → List Results → ℕ
   work_from sizes here [] = here
   work_from sizes here (results ∷ behind) = work_from sizes here behind + work w db sizes (plan_of results.op)
 

@@ -74,6 +74,33 @@ pub(crate) fn put_rows<S: Source>(
     Ok(())
 }
 
+/// Which rows of a set are equal to one of those that a stream still has to give. None of these is kept.
+fn marks_met<S: Source>(
+    alloc: Global,
+    pager: &mut Pager<S>,
+    sources: &Sources<'_>,
+    results: &mut Results,
+    set: &IndexSet<Row>,
+) -> Result<Vec<bool>, Fault>
+    requires roots { All (IsRooted pager.old.state.header) sources.now }
+    requires planned { IsPlanOf sources.now (plan_of results.old.op) }
+    ensures rows { WhereSteady pager.old.state (λ pages. (on : Basis) (rest : List RowData) (ahead : ℕ) → AreStored pages sources.now on
+        → IsComing pages sources.now on results.old rest ahead
+        → MatchResult result
+        (λ marks. (marks.items ≡ map (has_row rest) set.now.keys) × Asks on.local pager.old.state ahead pager.new.state 0)
+        (IsResultCause on (map term results.old.columns.items))) }
+    ensures reads { ReadsRows result pager.old.state pager.new.state }
+{
+    let mut marks = no_marks(alloc, set)?;
+    let mut row = Vec::new(alloc);
+    'rows: while results.next(alloc, pager, sources, &mut row)? {
+        let met = Row::from(row);
+        mark_row(set, &met, &mut marks);
+        row = met.into_values();
+    }
+    Ok(marks)
+}
+
 /// Which rows of a set are equal to one of the rows that are still to come. None of these is kept.
 pub(crate) fn met_rows<S: Source>(
     alloc: Global,
@@ -92,12 +119,5 @@ pub(crate) fn met_rows<S: Source>(
     ensures reads { ReadsRows result pager.old.state pager.new.state }
 {
     let mut results = results;
-    let mut marks = no_marks(alloc, set)?;
-    let mut row = Vec::new(alloc);
-    'rows: while results.next(alloc, pager, sources, &mut row)? {
-        let met = Row::from(row);
-        mark_row(set, &met, &mut marks);
-        row = met.into_values();
-    }
-    Ok(marks)
+    marks_met(alloc, pager, sources, &mut results, set)
 }

@@ -23,6 +23,36 @@ use std::alloc::Global;
 use values::Fault;
 use windows_groups::{DistinctInOrder, FirstInOrder, ResultKey};
 
+/// The rows that SELECTs still have to give, of which the first in order are kept.
+fn push_coming<S: Source>(
+    alloc: Global,
+    pager: &mut Pager<S>,
+    sources: &Sources<'_>,
+    arms: &mut ArmsInTurn,
+    order: &[ResultKey],
+    first: &mut FirstInOrder,
+) -> Result<(), Fault>
+    requires roots { All (IsRooted pager.old.state.header) sources.now }
+    requires planned { ArePlannedOver sources.now (arms_of arms.old) }
+    ensures rows { WhereSteady pager.old.state (λ pages. (on : Basis) (rest : List Row) (ahead : ℕ) → AreStored pages sources.now on
+        → AreComing pages sources.now on arms.old rest ahead
+        → MatchResult result
+        (λ _. ((all : List Row) → KeepsFirst order.now first.old all → KeepsFirst order.now first.new (all ++ rest))
+        × Asks on.local pager.old.state ahead pager.new.state 0)
+        (IsArmsCause on (arms_of arms.old))) }
+    ensures most { first.new.most ≡ first.old.most }
+    ensures few { FewAreKept first.old → OnOk result (FewAreKept first.new) }
+    ensures reads { ReadsRows result pager.old.state pager.new.state }
+{
+    let mut row = Vec::new(alloc);
+    'rows: while arms.next(alloc, pager, sources, &mut row)? {
+        row = first.push(alloc, order, row)?;
+        // So that a row that is kept has no more memory than its values.
+        row.clear();
+    }
+    Ok(())
+}
+
 /// The rows that are still to come of SELECTs, of which the first in order are kept.
 pub(crate) fn push_arms<S: Source>(
     alloc: Global,
@@ -45,13 +75,7 @@ pub(crate) fn push_arms<S: Source>(
     ensures reads { ReadsRows result pager.old.state pager.new.state }
 {
     let mut arms = arms;
-    let mut row = Vec::new(alloc);
-    'rows: while arms.next(alloc, pager, sources, &mut row)? {
-        row = first.push(alloc, order, row)?;
-        // So that a row that is kept has no more memory than its values.
-        row.clear();
-    }
-    Ok(())
+    push_coming(alloc, pager, sources, &mut arms, order, first)
 }
 
 /// The rows that are still to come, of which the first different ones in order are kept. Its faults are those of an operator.

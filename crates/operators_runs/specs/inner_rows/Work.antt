@@ -6,9 +6,10 @@ use Rattle.values.specs.Datum.{Datum}
 use Rattle.logical_plan_queries.specs.compound_plans.Work.{from_work}
 use Rattle.semantics.specs.Body.{values_over}
 use Rattle.semantics.specs.Query.{Body, From, InnerQuery, Source, compound, derived, exists, joined, nothing, schema, select, table, values_of, with_inner}
+use Rattle.logical_plan.specs.Plan.{TreeSizes}
 
 -- where the trees of the tables have so many
-module _ (w : Datum) (db : Database) (sizes : List ℕ) where
+module _ (w : Datum) (db : Database) (sizes : List TreeSizes) where
   abbrev mutual
     -- those that the rows of a source which is no table ask for
     pub kept_work : Source → ℕ

@@ -4,11 +4,12 @@ use Rattle.values.specs.Datum.{Datum}
 use Rattle.semantics_rewrites.specs.materialized_queries.Examples.{two_selects}
 use Rattle.semantics.specs.Examples.{below_padded, items, right_join, sold, unsold}
 use Rattle.semantics.specs.Query.{QueryData}
+use Rattle.logical_plan.specs.Plan.{TreeSizes}
 use Rattle.operators_runs.specs.inner_rows.Work.{body_work}
 
 -- the tree of item, which has four rows, has three pages, and that of sale five
-abbrev pub worked_sizes : List ℕ
-worked_sizes = 3 ∷ 5 ∷ []
+abbrev pub worked_sizes : List TreeSizes
+worked_sizes = record { pages = 3; depth = 2; fetch = 0 } ∷ record { pages = 5; depth = 2; fetch = 0 } ∷ []
 
 -- a query, and as many pages
 pub record WorkedPages : Type 0 where

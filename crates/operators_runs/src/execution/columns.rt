@@ -38,6 +38,7 @@ fn plan_of(alloc: Global, table: usize, places: &[usize]) -> Result<Plan, AllocE
         columns: Vec::from_slice(alloc, places)?,
         tests: Vec::new(alloc),
         padded: false,
+        search: None,
     };
     let once = Box::new(alloc, Plan::SingleRow)?;
     Ok(Plan::NestedLoop(once, nested))

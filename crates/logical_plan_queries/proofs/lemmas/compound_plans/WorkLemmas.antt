@@ -16,7 +16,7 @@ use Rattle.semantics.specs.Query.{From, Grouping, JoinKind, Key, Select, Source,
 use Rattle.semantics.specs.Valuation.{with_answers}
 use Rattle.logical_plan.specs.JoinPlan.{AreWideBefore, IsEarlyPlan, IsJoinPlan, IsPlanBy, IsWritten, columns_before, has_right, joined_by, rows_in_turn, seen}
 use Rattle.logical_plan.specs.Plan as p
-use Rattle.logical_plan.specs.Plan.{NestedData, PlanData, are_true, rows_of, table_size, work}
+use Rattle.logical_plan.specs.Plan.{NestedData, PlanData, are_true, rows_of, table_size, work, TreeSizes}
 use Rattle.logical_plan.specs.Stands.{tested}
 use Rattle.logical_plan.proofs.JoinLemmas.{AreTables, early_rows, early_tables, no_answers, value_of, wide_before}
 use Rattle.logical_plan.proofs.TurnLemmas.{turned}
@@ -46,7 +46,7 @@ join_tables from read conditions plan of = by_kind (has_right from) of
     by_kind false of = early_tables from read conditions plan of
     by_kind true of = written_tables from read of.below of.below_is
 
-module _ (w : Datum) (db : Database) (sizes : List ℕ) where
+module _ (w : Datum) (db : Database) (sizes : List TreeSizes) where
   work_tested : (tests : List Term) (plan : PlanData) → work w db sizes (tested tests plan) ≡ work w db sizes plan
   work_tested [] plan = refl
   work_tested (test ∷ tests) plan = refl
@@ -95,7 +95,7 @@ module _ (w : Datum) (db : Database) (sizes : List ℕ) where
   early_work (joined from JoinKind.left source on) read conditions plan wide of =
       let first = columns_before (from_width from) read in
       let before = wide_before db from wide in
-      let nest : NestedData = record { table = of.at; columns = of.columns; tests = of.tests; padded = true } in
+      let nest : NestedData = record { table = of.at; columns = of.columns; tests = of.tests; padded = true; search = None } in
       let is : work w db sizes plan ≡ work w db sizes (p.joined of.left nest) = ap (work w db sizes) of.plan_is ∙ work_tested of.above (p.joined of.left nest) in
       subst (λ (s : Source). work w db sizes plan ≤ bound (joined from JoinKind.left s on)) (sym of.source_is)
       (subst (λ (n : ℕ). n ≤ bound (joined from JoinKind.left (table of.at of.width) on)) (sym is)

@@ -38,9 +38,11 @@ use Rattle.logical_plan_terms.specs.declared.table_plans.inputs.Input.{Input}
 use Rattle.logical_plan_terms.proofs.lemmas.table_plans.HitLemmas.{columns_are_hit, plan_is_hit}
 use Rattle.logical_plan_terms.proofs.lemmas.table_plans.RowLemmas.{columns_say, plan_has_bag}
 use Rattle.logical_plan_terms.specs.window_plans.Laws.{HasTaken, windows_take}
-use Rattle.logical_plan_terms.specs.window_plans.Windowed.{IsWindowedOver, windowed_columns}
+use Rattle.logical_plan_terms.specs.window_plans.Windowed.{IsWindowedOver, windowed_columns, written_places}
 use Rattle.logical_plan_terms.proofs.lemmas.window_plans.HitLemmas.{windowed_columns_are_hit, windowed_is_hit}
 use Rattle.logical_plan_terms.proofs.lemmas.window_plans.RowLemmas.{windowed_has_rows, windowed_say}
+use Rattle.logical_plan_terms.proofs.lemmas.window_plans.SeenLemmas.{shown_same, written_whole}
+use Rattle.logical_plan_queries.proofs.lemmas.select_plans.PlaceLemmas.{places_whole}
 
 -- A plan has, in some order, what is seen of the rows that result columns are computed on. An expression over these columns of it
 -- says of what is seen of a row what its term says of the row. What the plan reaches, and what such expressions for the result
@@ -52,9 +54,9 @@ pub record IsBase (w : Datum) (db : Database) (from : From) (s : Select) (column
   pub plan_hits : (terms : List Term) → Hits w db plan → FromHits w db (answers_in w db from) from false ⊎ SelectHits w db from s terms
   pub column_hits : (terms es : List Term) → AllZip (StandsOver columns 0) es (s.columns ++ terms) → Any (ReachesOverflow es) (rows_of w db plan) → SelectHits w db from s terms
 
--- A plan has, in some order, the rows that windows take, of so many values; and what it reaches the SELECT can reach.
+-- A plan has, in some order, the rows that windows take, of so many values, in their places; and what it reaches the SELECT can reach.
 record IsInput (w : Datum) (db : Database) (from : From) (s : Select) (width : ℕ) (plan : PlanData) : Type 0 where
-  taken : HasTaken w db from s 0 plan
+  taken : HasTaken w db from s 0 (range_with_len 0 width) plan
   wide : All (λ (row : Row). length row ≡ width) (windows_take w db from s)
   plan_hits : (terms : List Term) → Hits w db plan → FromHits w db (answers_in w db from) from false ⊎ SelectHits w db from s terms
 
@@ -107,15 +109,15 @@ where_wide w db from s inner wide =
 -- ---- windows
 
 windowed_base : (w : Datum) (db : Database) (from : From) (s : Select) (width : ℕ) (below plan : PlanData) → IsInput w db from s width below
-    → IsWindowedOver 0 s.windows below plan → IsBase w db from s (windowed_columns width s.windows) plan
+    → IsWindowedOver 0 s.windows (range_with_len 0 width) below plan → IsBase w db from s (windowed_columns width s.windows) plan
 windowed_base w db from s width below plan input over = record {
   seen = λ row. row;
   rows_are =
       subst (λ (rows : List Row). IsPermutation rows (rows_of w db plan)) (sym (map-identity (computed_rows w db from s)))
-      (windowed_has_rows w db from s 0 below plan input.taken over);
+      (windowed_has_rows w db from s 0 (range_with_len 0 width) below plan input.taken over);
   says = λ e t stands o row held. windowed_say w db from s width 0 e t input.taken.few input.wide stands o row held;
-  plan_hits = λ terms hits. windowed_is_hit w db from s terms 0 below plan input.taken over (input.plan_hits terms) hits;
-  column_hits = λ terms es stand any. windowed_columns_are_hit w db from s terms es width 0 below plan input.taken input.wide over stand any;
+  plan_hits = λ terms hits. windowed_is_hit w db from s terms 0 (range_with_len 0 width) below plan input.taken over (input.plan_hits terms) hits;
+  column_hits = λ terms es stand any. windowed_columns_are_hit w db from s terms es width 0 (range_with_len 0 width) below plan input.taken input.wide over stand any;
 }
 
 module _ (w : Datum) (db : Database) (s : Select) (input : Input) (inner : AreTableJoins (input_from input)) (wide : AreWideBefore db (input_from input))
@@ -171,12 +173,15 @@ module _ (w : Datum) (db : Database) (s : Select) (input : Input) (inner : AreTa
   plain_input none all_wide all =
       let long = where_wide w db from s inner all_wide in
       let take : windows_take w db from s ≡ whole = ap (λ grouping. grouped (values_over w db from) w grouping whole) none in
-      let same : map (seen input read) whole ≡ whole = ap (λ columns. map (seen input columns) whole) all ∙ all_seen from whole long in record {
+      let same : map (seen input read) whole ≡ whole = ap (λ columns. map (seen input columns) whole) all ∙ all_seen from whole long in
+      let all_long = subst (All (λ (row : Row). length row ≡ from_width from)) (sym take) long in record {
         taken = record {
           few = few_answers;
-          rows_are = subst (λ (rows : List Row). IsPermutation rows (rows_of w db below)) (same ∙ sym take) has_where;
+          rows_are =
+              shown_same (from_width from) (windows_take w db from s) (rows_of w db below) all_long
+              (subst (λ (rows : List Row). IsPermutation rows (rows_of w db below)) (same ∙ sym take) has_where);
         };
-        wide = subst (All (λ (row : Row). length row ≡ from_width from)) (sym take) long;
+        wide = all_long;
         plan_hits = λ terms hits. plan_is_hit w db s terms input read below wide below_is hits;
       }
 
@@ -185,15 +190,17 @@ module _ (w : Datum) (db : Database) (s : Select) (input : Input) (inner : AreTa
       → IsInput w db from s (length g.by + length g.aggregates) plan
   group_input g plan is over =
       let value = values_over w db from in
-      let take : windows_take w db from s ≡ group_rows_kept w db from s g = ap (λ grouping. grouped value w grouping whole) is in record {
+      let take : windows_take w db from s ≡ group_rows_kept w db from s g = ap (λ grouping. grouped value w grouping whole) is in
+      let all_long =
+      subst (All (λ (row : Row). length row ≡ length g.by + length g.aggregates)) (sym take)
+      (All-filter (holds_on value g.having) (λ (row : Row). length row ≡ length g.by + length g.aggregates) (group_rows value w g whole) (rows_wide value w g whole)) in record {
         taken = record {
           few = few_answers;
           rows_are =
-              subst (λ (rows : List Row). IsPermutation rows (rows_of w db plan)) (sym take) (grouped_has_rows w db from s g read 0 below plan sees_where over);
+              shown_same (length g.by + length g.aggregates) (windows_take w db from s) (rows_of w db plan) all_long
+              (subst (λ (rows : List Row). IsPermutation rows (rows_of w db plan)) (sym take) (grouped_has_rows w db from s g read 0 below plan sees_where over));
         };
-        wide =
-            subst (All (λ (row : Row). length row ≡ length g.by + length g.aggregates)) (sym take)
-            (All-filter (holds_on value g.having) (λ (row : Row). length row ≡ length g.by + length g.aggregates) (group_rows value w g whole) (rows_wide value w g whole));
+        wide = all_long;
         plan_hits = λ terms hits.
             grouped_is_hit w db from s g terms read 0 below plan is sees_where over (plan_is_hit w db s terms input read below wide below_is) hits;
       }
@@ -203,8 +210,10 @@ module _ (w : Datum) (db : Database) (s : Select) (input : Input) (inner : AreTa
       → IsInput w db from s width inputs → taken ≡ range_with_len 0 width → IsOverWindows (call ∷ calls) taken inputs columns plan → IsBase w db from s columns plan
   over_input width call calls taken columns inputs plan is given places over =
       let long : length taken ≡ width = ap length places ∙ length-range_with_len 0 width in
+      let written : written_places taken ≡ range_with_len 0 width = written_whole taken (places_whole taken width places) ∙ places in
       subst (λ cs. IsBase w db from s cs plan) (sym (over.0 ∙ (λ i. windowed_columns (long i) (sym is i))))
-      (windowed_base w db from s width inputs plan given (subst (λ calls. IsWindowedOver 0 calls inputs plan) (sym is) over.1))
+      (windowed_base w db from s width inputs plan given (subst (λ calls. IsWindowedOver 0 calls (range_with_len 0 width) inputs plan) (sym is)
+      (subst (λ (cs : List ℕ). IsWindowedOver 0 (call ∷ calls) cs inputs plan) written over.1)))
 
   pub base_of : (terms : List Term) (taken columns : List ℕ) (inputs plan : PlanData) → IsReadBy (reads_all s.windows s.grouping) from terms read
       → IsWideBy (reads_all s.windows s.grouping) db from → IsOverRows read s.grouping below taken inputs → IsOverWindows s.windows taken inputs columns plan

@@ -56,15 +56,15 @@ module _ (catalog : List (List Ty)) (sources : List SourceData) (have : HaveColu
       let nest = nest_over m source of.at of.width typed.1 read of.columns of.source_is typed.3 within of.read_is in
       subst (IsPlanOf sources) (sym of.plan_is) (
         early_over from answers typed.0 typed.2 (columns_before m read) (before_within m read) of.early of.left of.before,
-        record { table = nest.0; columns = nest.1 },
+        record { table = nest.0; columns = nest.1; scanned = refl },
       )
   early_over (joined from JoinKind.left source on) answers types typed read within conditions plan of =
       let m = from_width from in
       let nest = nest_over m source of.at of.width typed.1 read of.columns of.source_is typed.3 within of.read_is in
       subst (IsPlanOf sources) (sym of.plan_is)
-      (tested_of sources of.above (PlanData.joined of.left (record { table = of.at; columns = of.columns; tests = of.tests; padded = true })) (
+      (tested_of sources of.above (PlanData.joined of.left (record { table = of.at; columns = of.columns; tests = of.tests; padded = true; search = None })) (
         early_over from answers typed.0 typed.2 (columns_before m read) (before_within m read) of.early of.left of.before,
-        record { table = nest.0; columns = nest.1 },
+        record { table = nest.0; columns = nest.1; scanned = refl },
       ))
   early_over (joined from right source on) answers types typed read within conditions plan of = absurd of
   early_over (joined from full source on) answers types typed read within conditions plan of = absurd of
@@ -74,10 +74,10 @@ module _ (catalog : List (List Ty)) (sources : List SourceData) (have : HaveColu
   joined_over : (kind : JoinKind) (left : PlanData) (before at : ℕ) (columns : List ℕ) (tests : List Term) → IsPlanOf sources left
       → IsColumnsAt sources at columns
       → IsPlanOf sources (joined_by kind left before at columns tests)
-  joined_over inner left before at columns tests of nest = (of, record { table = nest.0; columns = nest.1 })
-  joined_over JoinKind.left left before at columns tests of nest = (of, record { table = nest.0; columns = nest.1 })
-  joined_over right left before at columns tests of nest = (of, record { table = nest.0; columns = nest.1 })
-  joined_over full left before at columns tests of nest = (of, record { table = nest.0; columns = nest.1 })
+  joined_over inner left before at columns tests of nest = (of, record { table = nest.0; columns = nest.1; scanned = refl })
+  joined_over JoinKind.left left before at columns tests of nest = (of, record { table = nest.0; columns = nest.1; scanned = refl })
+  joined_over right left before at columns tests of nest = (of, record { table = nest.0; columns = nest.1; scanned = refl })
+  joined_over full left before at columns tests of nest = (of, record { table = nest.0; columns = nest.1; scanned = refl })
 
   written_over : (from : From) → (answers types : List Ty) → FromHasTypes catalog answers from types
       → (read : List ℕ) → All (λ c. c < from_width from) read → (plan : PlanData) → IsWritten read from plan → IsPlanOf sources plan

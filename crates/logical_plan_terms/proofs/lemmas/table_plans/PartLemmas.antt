@@ -1,5 +1,5 @@
 -- Columns and conditions, parted before a table.
-use Rattle.std.proofs.Common.{◌≡◌, ◌∙◌, ◌&&◌, ◌+◌, ◌<◌, ◌≤◌, All, Bool, true, false, cond, not, ℕ, suc, List, [], ◌∷◌, ◌++◌, length, map, IsPermutation, refl, sym, ap, subst, arith}
+use Rattle.std.proofs.Common.{◌≡◌, ◌∙◌, ◌&&◌, ◌+◌, ◌<◌, ◌≤◌, All, Bool, true, false, cond, not, ℕ, suc, List, [], ◌∷◌, ◌++◌, length, map, IsPermutation, refl, sym, ap, subst, arith, None}
 use Rattle.std.specs.Prelude.{nat_lt}
 use Rattle.std.specs.List.{AllPairs, AllZip, filter, list_all}
 use Rattle.std.proofs.lemmas.Bool.{le-leb, le-ltb, lt-leb, lt-ltb, ltb-false, ltb-true}
@@ -218,12 +218,12 @@ module _ (from : From) (at width : ℕ) (on : Term) (read columns : List ℕ)
       → AreTestsOf read ons (conjuncts (filled [] on)) → AreTestsOf read tests conditions → ArePlaced (pads_right kind) count ons tests before here above
       → ((some : List Term) → AreTestsOf first before some → IsEarlyPlan first from some left)
       → IsEarlyPlan read (joined from kind (table at width) on) conditions
-      (tested above (p.joined left (record { table = at; columns = columns; tests = here; padded = pads_right kind })))
+      (tested above (p.joined left (record { table = at; columns = columns; tests = here; padded = pads_right kind; search = None })))
   placed_behind inner early conditions ons tests before here above left on_are tests_are placed left_is =
       let both = AllZip-both (StandsFor read) ons tests (conjuncts (filled [] on)) conditions on_are tests_are in
       let d = divided (conjuncts (filled [] on) ++ conditions) (ons ++ tests) before here both placed.0 in
       subst (λ (es : List Term). IsEarlyPlan read (joined from inner (table at width) on) conditions
-      (tested es (p.joined left (record { table = at; columns = columns; tests = here; padded = false })))) (sym placed.1)
+      (tested es (p.joined left (record { table = at; columns = columns; tests = here; padded = false; search = None })))) (sym placed.1)
       (record {
         at = at;
         width = width;

@@ -13,28 +13,28 @@ use Rattle.semantics.specs.Times.{times}
 use Rattle.semantics.specs.Valuation.{Valuation}
 use Rattle.semantics.specs.Windows.{call_value, numbered_after, windowed}
 use Rattle.semantics.proofs.GroupLemmas.{windowed-same}
-use Rattle.logical_plan.specs.Plan.{PlanData, rows_of}
+use Rattle.logical_plan.specs.Plan.{PlanData, rows_of, shown_rows}
 use Rattle.semantics.specs.Mapped.{mapped_call}
 use Rattle.semantics_rewrites.proofs.lemmas.schema_sources.MappedLemmas.{windowed_mapped}
 use Rattle.logical_plan_terms.proofs.lemmas.window_plans.SeenLemmas.{shown_whole}
 use Rattle.logical_plan_terms.specs.window_plans.Laws.{HasTaken, WindowedHasRows, WindowedSay, windows_take}
 use Rattle.logical_plan_terms.specs.window_plans.Windowed.{IsWindowedOver}
 
-module _ (w : Datum) (db : Database) (from : From) (s : Select) (inner : ℕ) (below plan : PlanData)
-    (has : HasTaken w db from s inner below) (over : IsWindowedOver inner s.windows below plan) where
+module _ (w : Datum) (db : Database) (from : From) (s : Select) (inner : ℕ) (places : List ℕ) (below plan : PlanData)
+    (has : HasTaken w db from s inner places below) (over : IsWindowedOver inner s.windows places below plan) where
   -- the calls of the plan, and their values on the rows below
   pub calls_filled : over.calls ≡ map (mapped_call (filled (answers_in w db from))) s.windows
   calls_filled = over.calls_are (answers_in w db from) has.few
 
-  pub rows_windowed : rows_of w db plan ≡ windowed (values_over w db from) w s.windows (rows_of w db below)
+  pub rows_windowed : rows_of w db plan ≡ windowed (values_over w db from) w s.windows (shown_rows places (rows_of w db below))
   rows_windowed =
-      ap (rows_of w db) over.plan_is ∙ ap (λ calls. windowed (eval w) w calls (rows_of w db below)) calls_filled
-      ∙ windowed_mapped (eval w) (filled (answers_in w db from)) w s.windows (rows_of w db below)
+      ap (rows_of w db) over.plan_is ∙ ap (λ calls. windowed (eval w) w calls (shown_rows places (rows_of w db below))) calls_filled
+      ∙ windowed_mapped (eval w) (filled (answers_in w db from)) w s.windows (shown_rows places (rows_of w db below))
 
 pub windowed_has_rows : WindowedHasRows
-windowed_has_rows w db from s inner below plan has over =
-    subst (IsPermutation (computed_rows w db from s)) (sym (rows_windowed w db from s inner below plan has over))
-    (windowed-same (values_over w db from) w s.windows (windows_take w db from s) (rows_of w db below) has.rows_are)
+windowed_has_rows w db from s inner places below plan has over =
+    subst (IsPermutation (computed_rows w db from s)) (sym (rows_windowed w db from s inner places below plan has over))
+    (windowed-same (values_over w db from) w s.windows (windows_take w db from s) (shown_rows places (rows_of w db below)) has.rows_are)
 
 -- ---- how many values the rows have
 

@@ -13,7 +13,7 @@ use Rattle.btree.specs.image.Pages.{Pages, WhereSteady, pages_seen}
 use Rattle.logical_plan.specs.answers.Sources.{SourceData}
 use Rattle.expr.specs.View.{term}
 use Rattle.semantics.specs.Query.{union_all}
-use Rattle.logical_plan.specs.Plan.{PlanData, work}
+use Rattle.logical_plan.specs.Plan.{PlanData, work, TreeSizes}
 use Rattle.logical_plan.specs.PlanView.{plan_data}
 use Rattle.operators_scan.specs.scan.Coming.{Asks}
 use Rattle.operators_scan.proofs.lemmas.scan.ComingLemmas.{Asks-then}
@@ -80,7 +80,7 @@ module _ (w : Datum) (db : Database) where
   rows_next rows [] next = refl
   rows_next rows (results ∷ behind) next = ap (λ all. all ++ arm_rows w db (arm_of results)) (rows_next rows behind next)
 
-  module _ (sizes : List ℕ) where
+  module _ (sizes : List TreeSizes) where
     pub work_is : (before : ArmsData) (behind : List Results) → work_of_arms w db sizes (arms_from before behind) ≡ work_from w db sizes (work_of_arms w db sizes before) behind
     work_is before [] = refl
     work_is before (results ∷ behind) = ap (λ n. n + work w db sizes (plan_of results.op)) (work_is before behind)

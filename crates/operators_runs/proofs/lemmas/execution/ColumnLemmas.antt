@@ -67,5 +67,6 @@ module _ (w : Datum) (db : Database) (at : ℕ) (places : List ℕ) where
   -- and it reaches nothing
   pub columns_reach_none : PlanReaches w db (columns_plan at places) (map column (range_with_len 0 (length places))) → ⊥
   columns_reach_none (inl (inl none)) = none
-  columns_reach_none (inl (inr any)) = let none = any.4.4.2 in omega (arith, none)
+  columns_reach_none (inl (inr (inl any))) = let none = any.4.4.2 in omega (arith, none)
+  columns_reach_none (inl (inr (inr any))) = let none = any.4.2 in omega (arith, none)
   columns_reach_none (inr any) = none_reached (range_with_len 0 (length places)) any.1 any.4

@@ -18,6 +18,7 @@ use Rattle.operators_scan.specs.Coming.{HasRows, IsRooted}
 use Rattle.logical_plan.specs.answers.Sources.{SourceData, of_rows, of_table, sources_of}
 use Rattle.operators_runs.specs.inner_rows.InnerView.{kept_rows}
 use Rattle.operators_runs.specs.inner_rows.Over.{AreSaid, KeptAreStored}
+use Rattle.logical_plan.specs.Plan.{TreeSizes, table_size}
 
 -- lists of rows as they are kept
 abbrev pub Lists : Type 0
@@ -35,8 +36,8 @@ some_same a b e = cc
 -- ---- their rows
 
 module _ (pages : Pages) (local : Bool) where
-  abbrev Holds : List (List Row) → List ℕ → ℕ → SourceData → Type 0
-  Holds rows sizes at source = HasRows pages source local (slice_index_or rows at []) (slice_index_or sizes at 0)
+  abbrev Holds : List (List Row) → List TreeSizes → ℕ → SourceData → Type 0
+  Holds rows sizes at source = HasRows pages source local (slice_index_or rows at []) (table_size sizes at)
 
   kept_hold : (kept : Lists) (at : ℕ) (source : SourceData) → slice_get (behind kept) at ≡ Some source → Holds (kept_rows kept) [] at source
   kept_hold [] at source found = absurd cc
@@ -44,14 +45,14 @@ module _ (pages : Pages) (local : Bool) where
       subst (λ (s : SourceData). Holds (kept_rows (rows ∷ kept)) [] zero s) (some_same (of_rows (rows_data rows.items)) source found) (refl, refl)
   kept_hold (rows ∷ kept) (suc at) source found = kept_hold kept at source found
 
-  abbrev no_sizes : List ℕ
+  abbrev no_sizes : List TreeSizes
   no_sizes = []
 
   take_none : (n : ℕ) → take n no_sizes ≡ no_sizes
   take_none zero = refl
   take_none (suc n) = refl
 
-  all_hold : (tables : List TableData) (kept : Lists) (rows : List (List Row)) (sizes : List ℕ) → length rows ≡ length tables
+  all_hold : (tables : List TableData) (kept : Lists) (rows : List (List Row)) (sizes : List TreeSizes) → length rows ≡ length tables
       → ((at : ℕ) (source : SourceData) → slice_get (map of_table tables) at ≡ Some source → Holds rows sizes at source)
       → (at : ℕ) (source : SourceData) → slice_get (map of_table tables ++ behind kept) at ≡ Some source
       → Holds (rows ++ kept_rows kept) (take (length tables) sizes) at source
@@ -61,7 +62,7 @@ module _ (pages : Pages) (local : Bool) where
   all_hold (t ∷ tables) kept (r ∷ rows) [] long stored zero source found = stored zero source found
   all_hold (t ∷ tables) kept (r ∷ rows) (n ∷ sizes) long stored zero source found = stored zero source found
   all_hold (t ∷ tables) kept (r ∷ rows) [] long stored (suc at) source found =
-      subst (λ (ns : List ℕ). Holds (rows ++ kept_rows kept) ns at source) (take_none (length tables))
+      subst (λ (ns : List TreeSizes). Holds (rows ++ kept_rows kept) ns at source) (take_none (length tables))
       (all_hold tables kept rows [] (omega (arith, long)) (λ k s is. stored (suc k) s is) at source found)
   all_hold (t ∷ tables) kept (r ∷ rows) (n ∷ sizes) long stored (suc at) source found =
       all_hold tables kept rows sizes (omega (arith, long)) (λ k s is. stored (suc k) s is) at source found

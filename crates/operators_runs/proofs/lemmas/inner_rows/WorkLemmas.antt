@@ -18,13 +18,13 @@ use Rattle.semantics.specs.Body.{SameTables, answer_of, from_rows, values_over}
 use Rattle.semantics.specs.Joins.{pads_left}
 use Rattle.semantics.specs.Query.{Body, From, InnerQuery, Source, compound, derived, joined, nothing, schema, select, table, with_inner}
 use Rattle.semantics.specs.Valuation.{Valuation}
-use Rattle.logical_plan.specs.Plan.{table_size}
+use Rattle.logical_plan.specs.Plan.{table_size, TreeSizes}
 use Rattle.semantics_rewrites.specs.schema_sources.Within.{IsBodyWithin, IsFromWithin}
 use Rattle.operators_runs.specs.inner_rows.Work.{body_work, inner_work, kept_work, parts_work, query_work}
 
 -- ---- the queries in a query as a list
 
-module _ (w : Datum) (db : Database) (sizes : List ℕ) where
+module _ (w : Datum) (db : Database) (sizes : List TreeSizes) where
   one_source : (source : Source) → sum_by (kept_work w db sizes) (kept_source source) ≡ kept_work w db sizes source
   one_source (table at width) = refl
   one_source schema = refl
@@ -60,24 +60,24 @@ module _ (w : Datum) (db : Database) (sizes : List ℕ) where
 
 -- ---- the same query without the queries in it
 
-size_front : (n : ℕ) (sizes : List ℕ) (at : ℕ) → table_size (take n sizes) at ≤ table_size sizes at
+size_front : (n : ℕ) (sizes : List TreeSizes) (at : ℕ) → table_size (take n sizes) at ≤ table_size sizes at
 size_front zero sizes at = omega arith
 size_front (suc n) [] at = omega arith
 size_front (suc n) (size ∷ sizes) zero = omega arith
 size_front (suc n) (size ∷ sizes) (suc at) = size_front n sizes at
 
-size_behind : (n : ℕ) (sizes : List ℕ) (at : ℕ) → n ≤ at → table_size (take n sizes) at ≡ 0
+size_behind : (n : ℕ) (sizes : List TreeSizes) (at : ℕ) → n ≤ at → table_size (take n sizes) at ≡ 0
 size_behind zero sizes at behind = refl
 size_behind (suc n) [] at behind = refl
 size_behind (suc n) (size ∷ sizes) zero behind = absurd (omega (arith, behind))
 size_behind (suc n) (size ∷ sizes) (suc at) behind = size_behind n sizes at (omega (arith, behind))
 
-module _ (w : Datum) (db : Database) (kept : List Source) (others : Database) (same : SameTables others (with_kept w db kept)) (sizes : List ℕ) where
+module _ (w : Datum) (db : Database) (kept : List Source) (others : Database) (same : SameTables others (with_kept w db kept)) (sizes : List TreeSizes) where
   abbrev count : ℕ
   count = length db.tables
 
   -- of the tables alone
-  abbrev front : List ℕ
+  abbrev front : List TreeSizes
   front = take count sizes
 
   pages_fewer : (place : ℕ) (source : Source) → count ≤ place → source_pages front (materialized_source place source) ≤ source_pages sizes source

@@ -1,4 +1,4 @@
-use Rattle.std.proofs.Common.{◌≡◌, ◌∙◌, ◌-◌, ◌<◌, Bool, [], List, ℕ, ap, length, map, rules, subst, sym, take, arith}
+use Rattle.std.proofs.Common.{◌≡◌, ◌∙◌, ◌-◌, ◌<◌, Bool, [], List, ℕ, ap, length, map, rules, subst, sym, take, arith, None}
 use Rattle.std.proofs.lemmas.List.{length-take}
 use Rattle.semantics.specs.Joins.{pads_right}
 use Rattle.semantics.specs.Query.{from_width, joined, table}
@@ -83,7 +83,7 @@ returns-clause-plan t c = λ conditions stand.
     (subst (IsEarlyPlan read (joined before kind (table last.table last.width) (term last.condition.now)) conditions)
     (sym
     (c.in_ok-plan-2.ensures
-    ∙ ap (λ (b : Bool). tested above (p.joined (plan_data c.in_ok-new.field-0.value) (record { table = last.table; columns = columns; tests = here; padded = b }))) padded))
+    ∙ ap (λ (b : Bool). tested above (p.joined (plan_data c.in_ok-new.field-0.value) (record { table = last.table; columns = columns; tests = here; padded = b; search = None }))) padded))
     (placed_behind before last.table last.width (term last.condition.now) read columns
     (split c.args.tables.now last c.in-len1-up.len_at_least c.last-item.is read c.requires.parted).0 c.in_ok-columns.ensures
     kind (none_right c.args.tables.now last c.in-len1-up.len_at_least c.last-item.is c.requires.early).1 conditions ons tests early here above (plan_data c.in_ok-new.field-0.value) (on [] (omega arith)) stand

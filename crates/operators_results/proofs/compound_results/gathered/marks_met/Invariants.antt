@@ -5,7 +5,7 @@ use Rattle.operators.specs.Left.{plan_of, steps}
 use Rattle.operators_results.specs.Coming.{IsComing}
 use Rattle.operators_results.proofs.lemmas.sorted_results.GatherLemmas.{Gathering}
 use Rattle.logical_plan.specs.answers.Joined.{has_row}
-use Rattle.operators_results.proofs.compound_results.gathered.met_rows.Given as goal
+use Rattle.operators_results.proofs.compound_results.gathered.marks_met.Given as goal
 
 abbrev pub invariant-rows : goal.invariant-rows
 invariant-rows g l = record {

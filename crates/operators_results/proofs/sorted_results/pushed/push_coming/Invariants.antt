@@ -7,7 +7,7 @@ use Rattle.windows_groups.specs.FirstView.{FewAreKept, KeepsFirst}
 use Rattle.operators_results.proofs.lemmas.sorted_results.GatherLemmas.{Gathering}
 use Rattle.logical_plan.specs.answers.Arms.{ArePlannedOver, ArmsHit}
 use Rattle.operators_results.specs.compound_results.InTurn.{AreComing, arms_of, turn_steps}
-use Rattle.operators_results.proofs.sorted_results.pushed.push_arms.Given as goal
+use Rattle.operators_results.proofs.sorted_results.pushed.push_coming.Given as goal
 
 abbrev pub invariant-rows : goal.invariant-rows
 invariant-rows g l = record {
