@@ -1,14 +1,17 @@
 -- The first of the entries that are to come of a search, and those after it.
-use Rattle.std.proofs.Common.{◌≡◌, ◌∙◌, ◌+◌, ◌<◌, ◌≤◌, ℕ, ℤ, Bool, true, false, List, [], ◌∷◌, drop, Option, None, Some, MatchResult, Result, Ok, Err, Global, is_some, refl, sym, ap, subst, arith}
+use Rattle.std.proofs.Common.{◌≡◌, ◌∙◌, ◌+◌, ◌<◌, ℕ, ℤ, All, Bool, Contains, true, false, List, [], ◌∷◌, drop, Option, None, Some, MatchResult, Result, Ok, Err, Global, is_some, refl, sym, ap, subst, arith}
 use Rattle.std.specs.Prelude.{IfOk, IfSome}
 use Rattle.std.specs.List.{AllZip}
 use Rattle.std.specs.Cow.{cow_slice_items}
 use Rattle.std.specs.Option.{ok_or, option_map}
+use Rattle.std.proofs.lemmas.List.Elements.{All-contains, All-drop, All-head}
+use Rattle.records_searches.specs.declared.finders.RowFinder.{RowFinder}
+use Rattle.records_searches.specs.declared.finders.RowFinder.TheVariants as by
 use Rattle.std.specs.declared.borrow.CowSlice.{CowSlice}
 use Rattle.values.specs.Datum.{Datum, int}
+use Rattle.values.specs.Row.{Row}
 use Rattle.btree.specs.declared.image.kind.TreeKind.TheVariants as kind
 use Rattle.btree.specs.declared.image.kind.Level.TheVariants.{Leaf}
-use Rattle.btree.specs.image.Broken.{HasRowid}
 use Rattle.values.specs.declared.fault.Fault.{Fault}
 use Rattle.values.specs.declared.fault.Fault.TheVariants.{Changed}
 use Rattle.pager.specs.Calls.{IsReadFault}
@@ -32,8 +35,8 @@ use Rattle.btree_cursor.specs.key_ranges.Ranges.{Range}
 use Rattle.btree_cursor.proofs.lemmas.index_entries.EntryLemmas.{has_chain, record_read}
 use Rattle.schema_tables.specs.TableData.{RowKeyData, TableData}
 use Rattle.records_tables.specs.Tables.{IsAnyRow, StoresAnyRow, kind_of}
-use Rattle.records_searches.specs.Coming.{AreToCome, GivesCell, GivesFound, HoldsRowOf, LeadsToIf, run_of}
-use Rattle.records_searches.specs.Entries.{EntryData, HasRecordAt, IsEntryIn, IsRowEntry, IsTableEntry, SearchedData, kind_in, of_index, of_table}
+use Rattle.records_searches.specs.Coming.{AreToCome, GivesFound, HasNoChains, LeadsToIf, places_in, run_of}
+use Rattle.records_searches.specs.Entries.{EntryData, HasRecordAt, IsEntryIn, IsRowEntry, IsTableEntry, LeadsTo, SearchedData, kind_by, kind_in, of_index, of_table}
 use Rattle.records_searches.specs.declared.finders.RowIndex.{RowIndex}
 use Rattle.records_searches.specs.Meets.{GivesBytes, meets_range}
 use Rattle.records_searches.proofs.BudgetLemmas.{at_moved}
@@ -54,6 +57,13 @@ first_of searched pages cell [] all zip here = absurd (let e : Some cell ≡ Non
 first_of searched pages cell (place ∷ places) [] zip here = absurd zip
 first_of searched pages cell (place ∷ places) (entry ∷ more) zip here =
     record { place = place; entry = entry; more = more; all_are = refl; is = zip.0; at = here }
+
+local_of : (searched : SearchedData) (pages : Pages) (levels : ℕ) → HasNoChains searched pages levels → (cell : CellData) (places : List Place)
+    → All (Contains (places_in searched pages levels)) places → IsEntry pages (kind_in searched) places (Some cell) → cell.payload.overflow ≡ None
+local_of searched pages levels none cell [] within here = absurd (let e : Some cell ≡ None = here in cc)
+local_of searched pages levels none cell (place ∷ places) within here =
+    All-contains (λ place. (cell : CellData) → IsEntryAt pages (kind_in searched) place cell → cell.payload.overflow ≡ None) (places_in searched pages levels) place none
+    (All-head (Contains (places_in searched pages levels)) place places within) cell here
 
 none_of : (searched : SearchedData) (pages : Pages) (places : List Place) (all : List EntryData) → AllZip (IsEntryIn searched pages) places all
     → IsEntry pages (kind_in searched) places None → all ≡ []
@@ -78,6 +88,10 @@ test range entry = meets_range range entry.values
 module _ (searched : SearchedData) (pages : Pages) (levels : ℕ) (range : Range) (cursor : Cursor) (entries : List EntryData) (t : AreToCome searched pages levels range cursor entries) where
   pub come_first : (cell : CellData) → IsEntry pages (kind_in searched) t.places (Some cell) → IsFirstIn searched pages cell t.all
   come_first cell here = first_of searched pages cell t.places t.all t.each here
+
+  -- no page of a chain is read for it, where no cell of the tree has one
+  pub come_local : HasNoChains searched pages levels → (cell : CellData) → IsEntry pages (kind_in searched) t.places (Some cell) → cell.payload.overflow ≡ None
+  come_local none cell here = local_of searched pages levels none cell t.places t.within here
 
   -- there is none
   pub come_none : IsEntry pages (kind_in searched) t.places None → entries ≡ []
@@ -128,9 +142,30 @@ module _ (searched : SearchedData) (pages : Pages) (levels : ℕ) (range : Range
         asked = asked;
         budget = budget;
         at = at;
+        within = All-drop (Contains (places_in searched pages levels)) 1 t.places t.within;
         each = dropped searched pages t.places rest.0 rest.1 (subst (λ (l : List EntryData). AllZip (IsEntryIn searched pages) t.places l) rest.2 t.each);
         are = rest.3;
       }
+
+-- the row that an entry of an index leads to is looked up in a tree of its table's kind
+pub leads_kind : (pages : Pages) (table : TableData) (finder : RowFinder) (values : List Datum) (row : Row) → LeadsTo pages table finder values row
+    → kind_by finder ≡ kind_of table.key
+leads_kind pages table (by.Rowid at) values row leads = sym leads.2.kind_is
+leads_kind pages table (by.Key places) values row leads = sym leads.1.kind_is
+
+first_leads : (table : TableData) (index : RowIndex) (pages : Pages) (places : List Place) (head : EntryData) (more : List EntryData)
+    → AllZip (IsEntryIn (of_index table index) pages) places (head ∷ more) → LeadsTo pages table index.finder head.values head.row
+first_leads table index pages [] head more zip = absurd zip
+first_leads table index pages (place ∷ places) head more zip = zip.0.leads
+
+-- where one is to come
+pub come_kind : (table : TableData) (index : RowIndex) (pages : Pages) (levels : ℕ) (range : Range) (cursor : Cursor) (first : EntryData) (later : List EntryData)
+    → AreToCome (of_index table index) pages levels range cursor (first ∷ later) → kind_by index.finder ≡ kind_of table.key
+come_kind table index pages levels range cursor first later t =
+    let rest = later_of range first later t.all t.are in
+    leads_kind pages table index.finder rest.0.values rest.0.row
+    (first_leads table index pages t.places rest.0 rest.1
+    (subst (λ (l : List EntryData). AllZip (IsEntryIn (of_index table index) pages) t.places l) rest.2 t.each))
 
 -- ---- a row of a table
 

@@ -1,5 +1,5 @@
 -- A position among the rows of a table, as a key of one column is.
-use Rattle.std.proofs.Common.{◌≡◌, ◌∙◌, ◌≤◌, ◌+◌, ℕ, ℤ, negsuc, ◌<ℤ◌, Bool, true, false, List, [], ◌∷◌, ◌++◌, get_or, length, map, Option, None, Some, refl, sym, ap, subst, arith, length-append}
+use Rattle.std.proofs.Common.{◌≡◌, ◌∙◌, ◌≤◌, ℕ, ℤ, negsuc, ◌<ℤ◌, Bool, true, false, List, [], ◌∷◌, ◌++◌, get_or, length, map, Option, None, Some, refl, sym, ap, subst, arith, length-append}
 use Rattle.std.specs.Ordering.{MatchOrdering, int_cmp, ordering_reverse, ordering_then}
 use Rattle.std.specs.declared.cmp.Ordering.{Ordering}
 use Rattle.std.specs.declared.cmp.Ordering.TheVariants.{Less, Equal, Greater}
@@ -10,7 +10,7 @@ use Rattle.values.specs.Order.{datum_cmp}
 use Rattle.values.specs.declared.value.Value.{Value}
 use Rattle.btree.specs.image.Search.{comes_before, row_before}
 use Rattle.records_searches.specs.RowCuts.{IsRowid}
-use Rattle.btree_cursor.specs.key_ranges.Ranges.{Cut, Edge, Range, behind_values, bounded_columns, direction, first_cut, from_cut, is_before, key_cmp, stands_before, width}
+use Rattle.btree_cursor.specs.key_ranges.Ranges.{Edge, Range, bounded_columns, direction, first_cut, from_cut, is_before, stands_before, width}
 
 then_nothing : (o : Ordering) → ordering_then o Equal ≡ o
 then_nothing Less = refl

@@ -1,5 +1,5 @@
 -- The row that an entry of an index leads to.
-use Rattle.std.proofs.Common.{◌≡◌, ◌∙◌, ◌+◌, ◌<◌, ◌≤◌, ℕ, zero, suc, ℤ, Bool, List, [], ◌∷◌, ◌++◌, drop, get_or, length, map, take, slice_get, Option, None, Some, refl, sym, ap, subst, arith}
+use Rattle.std.proofs.Common.{◌≡◌, ◌∙◌, ◌+◌, ◌<◌, ◌≤◌, ℕ, zero, suc, ℤ, List, [], ◌∷◌, ◌++◌, drop, get_or, length, map, take, slice_get, Option, None, Some, refl, sym, ap, subst, arith}
 use Rattle.std.specs.Prelude.{◌↔◌, All, IfNone, IfSome, find, slice_index_or}
 use Rattle.std.proofs.lemmas.List.{map_push, take_more, take_all}
 use Rattle.std.proofs.lemmas.List.Elements.{All-get_or}
@@ -19,7 +19,7 @@ use Rattle.btree_cursor.specs.declared.cursor.found.Found.{Found}
 use Rattle.btree_cursor.specs.cursor.Found.{IsFoundIn, IsRowWith, agrees, place_found}
 use Rattle.btree_cursor.specs.cursor.Search.{HasRowWith, IsSearchable, IsSearchableIndex}
 use Rattle.schema_tables.specs.TableData.{TableData}
-use Rattle.records_tables.specs.Tables.{StoresAnyRow, kind_of}
+use Rattle.records_tables.specs.Tables.{StoresAnyRow}
 use Rattle.records_tables.proofs.FieldLemmas.{unread_none, unread_read}
 use Rattle.records_searches.specs.Coming.{HoldsRowOf}
 use Rattle.records_searches.specs.Entries.{IsRowOfKey, IsRowOfRowid, values_at}

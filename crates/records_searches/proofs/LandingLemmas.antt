@@ -1,7 +1,8 @@
 -- The entries that are to come where a search has led to.
-use Rattle.std.proofs.Common.{◌≡◌, ◌∙◌, ◌≤◌, ◌+◌, ℕ, ℤ, Bool, true, false, cond, List, [], ◌∷◌, ◌++◌, length, map, Option, None, Some, refl, sym, ap, subst, arith}
-use Rattle.std.specs.Prelude.{All}
+use Rattle.std.proofs.Common.{◌≡◌, ◌∙◌, ◌≤◌, ℕ, ℤ, Bool, true, false, cond, List, [], ◌∷◌, ◌++◌, length, map, Option, None, Some, refl, sym, ap, subst, arith}
+use Rattle.std.specs.Prelude.{All, Contains}
 use Rattle.std.specs.List.{AllZip}
+use Rattle.std.proofs.lemmas.List.Elements.{All-contains_itself, All-weaker, Contains-append_right}
 use Rattle.values.specs.Datum.{Datum, int}
 use Rattle.btree.specs.declared.image.kind.TreeKind.{TreeKind}
 use Rattle.btree.specs.declared.image.kind.TreeKind.TheVariants.{Table, Index}
@@ -22,8 +23,8 @@ use Rattle.btree_cursor.specs.key_ranges.Runs.{Ascend}
 use Rattle.btree_cursor.proofs.lemmas.key_ranges.RangeLemmas.{null_meets_nothing}
 use Rattle.schema_tables.specs.TableData.{RowKeyData, TableData}
 use Rattle.records_tables.specs.Tables.{kind_of}
-use Rattle.records_searches.specs.Coming.{AreOpened, AreToCome, run_of}
-use Rattle.records_searches.specs.Entries.{AreWide, EntryData, HoldsEntries, HoldsIndexEntries, HoldsKeyEntries, HoldsRowEntries, HoldsTableEntries, IsEntryIn, IsIndexEntry, IsKeyEntry, IsRowEntry, IsTableEntry, SearchedData, entries_in, entry_values, kind_in, of_index, of_table}
+use Rattle.records_searches.specs.Coming.{AreOpened, AreToCome, places_in, run_of}
+use Rattle.records_searches.specs.Entries.{AreWide, EntryData, HoldsEntries, HoldsIndexEntries, HoldsKeyEntries, HoldsRowEntries, HoldsTableEntries, IsEntryIn, IsKeyEntry, IsRowEntry, IsTableEntry, SearchedData, entries_in, entry_values, kind_in, of_index, of_table, root_in}
 use Rattle.records_searches.specs.Meets.{meets_range}
 use Rattle.records_searches.specs.RowCuts.{IsRowid, row_comes_before}
 use Rattle.records_searches.specs.Sought.{IsCursorAt, IsEntryLanding, IsRowLanding}
@@ -36,6 +37,12 @@ use Rattle.records_searches.proofs.ZipLemmas.{AreParts, all_front, all_rest, par
 
 -- ---- of any tree
 
+-- the last of these places are among them
+later_within : (all front rest : List Place) → all ≡ front ++ rest → All (Contains all) rest
+later_within all front rest is =
+    All-weaker (Contains rest) (Contains all) (λ place there. subst (λ (l : List Place). Contains l place) (sym is) (Contains-append_right front rest place there)) rest
+    (All-contains_itself rest)
+
 module _ (searched : SearchedData) (pages : Pages) (levels : ℕ) (range : Range) (sound : has_null range ≡ false) (descends : List Bool) (entries : List EntryData)
     (wide : AreWide range entries) (ascend : Ascend descends (map entry_values entries)) where
   -- an entry comes before the range, or doesn't
@@ -43,7 +50,8 @@ module _ (searched : SearchedData) (pages : Pages) (levels : ℕ) (range : Range
   EntryAnswers answer entry = Answers entry_values descends range answer entry
 
   module _ (front rest : List Place) (parts : AreParts (IsEntryIn searched pages) front rest entries)
-      (before : All (EntryAnswers true) parts.first) (after : All (EntryAnswers false) parts.later) where
+      (before : All (EntryAnswers true) parts.first) (after : All (EntryAnswers false) parts.later)
+      (within : All (Contains (places_in searched pages levels)) rest) where
     run_is : entries_in range entries ≡ run_of range parts.later
     run_is =
         let both = subst (λ (l : List EntryData). AreWide range l) parts.are wide in
@@ -63,6 +71,7 @@ module _ (searched : SearchedData) (pages : Pages) (levels : ℕ) (range : Range
       asked = asked;
       budget = at.0;
       at = at.1;
+      within = within;
       each = parts.rest_zip;
       are = run_is;
     }
@@ -114,18 +123,20 @@ module _ (pages : Pages) (table : TableData) (levels : ℕ) (range : Range) (sou
       → IsCursorAt pages (kind_in (of_table table)) levels cursor places asked
   at_table cursor places asked at = subst (λ (k : RowKeyData). IsCursorAt pages (kind_of k) levels cursor places asked) (sym key_is) at
 
-  row_opened : (front rest : List Place) (parts : AreParts IsHere front rest entries) → All (RowAnswers true) parts.first → All (RowAnswers false) parts.later
+  row_opened : (front rest : List Place) → Rows ≡ front ++ rest → (parts : AreParts IsHere front rest entries) → All (RowAnswers true) parts.first → All (RowAnswers false) parts.later
       → (cursor : Option Cursor) (asked : ℕ) → IsCursorAt pages Table levels cursor rest asked → AreOpened (of_table table) pages levels range cursor (entries_in range entries)
-  row_opened front rest parts before after cursor asked at =
+  row_opened front rest all_is parts before after cursor asked at =
       opened (of_table table) pages levels range sound [] entries wide holds.ascend front rest
-      (parts_weaker IsHere (IsEntryIn (of_table table) pages) in_table front rest entries parts) before after cursor asked (at_table cursor rest asked at)
+      (parts_weaker IsHere (IsEntryIn (of_table table) pages) in_table front rest entries parts) before after
+      (subst (λ (k : RowKeyData). All (Contains (places_under pages (kind_of k) levels table.root)) rest) (sym key_is) (later_within Rows front rest all_is))
+      cursor asked (at_table cursor rest asked at)
 
   pub row_landing : (cut : RowCut) → IsCutOf range cut → (cursor : Option Cursor) (asked : ℕ) → IsRowLanding cut pages levels table.root cursor asked
       → AreOpened (of_table table) pages levels range cursor (entries_in range entries)
   row_landing (At rowid behind) law cursor asked sought =
       let split = sought.split in
       let parts = zip_parts IsHere sought.front sought.rest entries (subst (λ (l : List Place). AllZip IsHere l entries) split.all_is all_here) in
-      row_opened sought.front sought.rest parts
+      row_opened sought.front sought.rest split.all_is parts
       (zip_over IsHere (IsCellThat (HasRowid pages) (row_before behind rowid) pages Table true) (RowAnswers true)
       (λ place entry that here. by_sought behind rowid true law place entry that here.0 here.1) sought.front parts.first split.come_before parts.front_zip)
       (zip_over IsHere (IsCellThat (HasRowid pages) (row_before behind rowid) pages Table false) (RowAnswers false)
@@ -139,7 +150,7 @@ module _ (pages : Pages) (table : TableData) (levels : ℕ) (range : Range) (sou
 -- ---- of a tree of entries
 
 module _ (searched : SearchedData) (pages : Pages) (levels root : ℕ) (range : Range) (sound : has_null range ≡ false) (descends : List Bool) (entries : List EntryData)
-    (wide : AreWide range entries) (ascend : Ascend descends (map entry_values entries)) (values : Place → List Datum) (kind_is : kind_in searched ≡ Index)
+    (wide : AreWide range entries) (ascend : Ascend descends (map entry_values entries)) (values : Place → List Datum) (kind_is : kind_in searched ≡ Index) (root_is : root_in searched ≡ root)
     (each : AllZip (IsEntryIn searched pages) (places_under pages Index levels root) entries)
     (values_are : map values (places_under pages Index levels root) ≡ map entry_values entries) where
   -- an entry with the values of its place
@@ -170,6 +181,9 @@ module _ (searched : SearchedData) (pages : Pages) (levels root : ℕ) (range : 
       split.come_before parts.front_zip)
       (zip_over IsSeen (IsCellThat IsAtPlace Before pages Index false) (Answers entry_values descends range false) (answers false) sought.rest parts.later
       split.do_not parts.rest_zip)
+      (subst (λ (k : TreeKind). All (Contains (places_under pages k levels (root_in searched))) sought.rest) (sym kind_is)
+      (subst (λ (n : ℕ). All (Contains (places_under pages Index levels n)) sought.rest) (sym root_is)
+      (later_within (places_under pages Index levels root) sought.front sought.rest split.all_is)))
       (Some cursor) asked
       (sought.leads.0, subst (λ (k : TreeKind). IsAt pages k levels cursor sought.rest asked sought.leads.0) (sym kind_is) sought.leads.1)
 
@@ -178,7 +192,7 @@ pub key_landing : (pages : Pages) (table : TableData) (levels : ℕ) (range : Ra
     → (entries : List EntryData) (holds : HoldsKeyEntries pages table levels entries) → AreWide range entries → (cursor : Cursor) (asked : ℕ)
     → IsEntryLanding pages [] holds.values levels table.root range cursor asked → AreToCome (of_table table) pages levels range cursor (entries_in range entries)
 key_landing pages table levels range sound key key_is entries holds wide cursor asked sought =
-    entry_landing (of_table table) pages levels table.root range sound [] entries wide holds.ascend holds.values (ap kind_of key_is)
+    entry_landing (of_table table) pages levels table.root range sound [] entries wide holds.ascend holds.values (ap kind_of key_is) refl
     (zip_weaker (IsKeyEntry pages table) (IsEntryIn (of_table table) pages)
     (λ place entry is. subst (λ (k : RowKeyData). IsTableEntry k pages table place entry) (sym key_is) is) (places_under pages Index levels table.root) entries holds.each)
     holds.values_are cursor asked sought
@@ -189,7 +203,7 @@ pub index_landing : (pages : Pages) (table : TableData) (index : RowIndex) (leve
     → IsEntryLanding pages index.descends.items holds.values levels index.root range cursor asked
     → AreToCome (of_index table index) pages levels range cursor (entries_in range entries)
 index_landing pages table index levels range sound entries holds wide cursor asked sought =
-    entry_landing (of_index table index) pages levels index.root range sound index.descends.items entries wide holds.ascend holds.values refl holds.each
+    entry_landing (of_index table index) pages levels index.root range sound index.descends.items entries wide holds.ascend holds.values refl refl holds.each
     holds.values_are cursor asked sought
 
 -- ---- a bound that is NULL

@@ -1,5 +1,5 @@
 -- Each row of a stored table is the one that its rowid leads to.
-use Rattle.std.proofs.Common.{◌≡◌, ◌<◌, ◌≤◌, ◌<ℤ◌, ⊎_elim, ℕ, ℤ, zero, suc, Contains, List, [], ◌∷◌, slice_get, Option, Some, refl, sym, ◌∙◌, ap, subst, arith}
+use Rattle.std.proofs.Common.{◌≡◌, ◌<◌, ◌≤◌, ◌<ℤ◌, ⊎_elim, ℕ, ℤ, zero, suc, Contains, List, [], ◌∷◌, slice_get, Option, Some, sym, ◌∙◌, ap, subst, arith}
 use Rattle.std.proofs.lemmas.Bool.{cases_eq, cases_lt}
 use Rattle.std.proofs.lemmas.Int.{ints}
 use Rattle.values.specs.Row.{Row}

@@ -1,5 +1,5 @@
 -- Values that are put over others.
-use Rattle.std.proofs.Common.{◌≡◌, ◌∙◌, ◌+◌, ◌<◌, ℕ, zero, suc, List, [], ◌∷◌, ◌++◌, length, map, replicate, set, take, Result, Ok, Err, refl, sym, ap, arith}
+use Rattle.std.proofs.Common.{◌≡◌, ◌∙◌, ◌+◌, ◌<◌, ℕ, zero, suc, List, [], ◌∷◌, ◌++◌, length, map, replicate, set, take, Result, Ok, Err, refl, sym, ap}
 use Rattle.std.specs.Prelude.{IfOk, OnOk, slice_set}
 use Rattle.std.proofs.lemmas.List.{map-set, map_push, take_more_set}
 use Rattle.values.specs.Datum.{Datum, datum_of, null}

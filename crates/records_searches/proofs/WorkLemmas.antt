@@ -1,5 +1,5 @@
 -- How many pages a search asks for, and where an entry has what it leads to its row by.
-use Rattle.std.proofs.Common.{◌≡◌, ◌∙◌, ◌+◌, ◌*◌, ◌≤◌, ◌||◌, ℕ, ℤ, zero, suc, Bool, true, false, All, List, [], ◌∷◌, ◌++◌, length, map, slice_get, nat_eq, Some, refl, sym, ap, subst, arith}
+use Rattle.std.proofs.Common.{◌≡◌, ◌∙◌, ◌+◌, ◌*◌, ◌≤◌, ℕ, ℤ, zero, suc, Bool, true, false, All, List, [], ◌∷◌, ◌++◌, length, map, slice_get, nat_eq, Some, refl, sym, ap, arith}
 use Rattle.std.specs.Prelude.{slice_index_or}
 use Rattle.std.proofs.lemmas.List.Elements.{All-head, All-tail}
 use Rattle.values.specs.Datum.{Datum, int, null}

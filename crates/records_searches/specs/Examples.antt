@@ -1,5 +1,5 @@
 -- Rows of CREATE TABLE item(id INTEGER PRIMARY KEY, qty INT) STRICT, as an index of `qty` lists them, ascending and descending.
-use Rattle.std.specs.Prelude.{Bool, true, false, ℕ, pos, List, [], ◌∷◌, map, Option, None, Some}
+use Rattle.std.specs.Prelude.{Bool, ℕ, pos, List, [], ◌∷◌, map, Option, None, Some}
 use Rattle.values.specs.Datum.{Datum, null, int}
 use Rattle.values.specs.Row.{Row}
 use Rattle.btree_cursor.specs.key_ranges.Ranges.{Edge, Range}

@@ -1,5 +1,5 @@
 -- The values of the bounds of a search, as they lie in memory. (The SQLite Query Optimizer Overview, "WHERE Clause Analysis")
-use Rattle.std.specs.Prelude.{◌≡◌, Bool, true, false, List, length, Option, None, Some, option_map, replicate}
+use Rattle.std.specs.Prelude.{◌≡◌, Bool, true, false, length, Option, None, Some, option_map, replicate}
 use Rattle.values.specs.Datum.{Datum, datum_of, null}
 use Rattle.btree_cursor.specs.key_ranges.Ranges.{Edge, Range}
 use Rattle.records_searches.specs.declared.ranges.BoundKind.{BoundKind}

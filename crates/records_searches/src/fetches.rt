@@ -2,11 +2,12 @@
 ghost use Rattle.std.specs.Prelude.{◌≡◌, ◌≢◌, ◌⊎◌, ◌<◌, ◌≤◌, ℤ, All, IfErr, IfNone, IfSome, List, MatchResult, Some, length, map, slice_get};
 ghost use Rattle.values.specs.Datum.{Datum, datum_of, datum_of_ref, int};
 ghost use Rattle.values.specs.Row.{Row};
-ghost use Rattle.pager.specs.Calls.{IsReadFault, ReadsPages};
+ghost use Rattle.pager.specs.Calls.{IsReadFault, ReadsPages, ReadsTreePages};
 ghost use Rattle.records.specs.Record.{IsRecord};
 ghost use Rattle.btree.specs.declared.image.kind.TreeKind.TheVariants as kind;
 ghost use Rattle.btree.specs.image.Pages.{WhereSteady};
 ghost use Rattle.btree_cursor.specs.cursor.Found.{AsksOneWay};
+ghost use Rattle.btree_cursor.specs.cursor.Search.{IsUnchainedIndex};
 ghost use Rattle.schema_tables.specs.TableData.{TableData};
 ghost use Rattle.records_searches.specs.Coming.{HoldsRowOf, IsSearchFault};
 ghost use Rattle.records_searches.specs.Entries.{IsRowOfKey, IsRowOfRowid, LeadsTo, kind_by, values_at};
@@ -60,7 +61,7 @@ fn row_by_rowid<S: Source>(
         → MatchResult result (λ found. HoldsRowOf pages table found row) IsReadFault) }
     ensures only { IfErr result IsSearchFault }
     ensures asks { AsksOneWay pager.old.state pager.new.state kind.Table root }
-    ensures reads { ReadsPages result pager.old.state pager.new.state }
+    ensures reads { ReadsTreePages result pager.old.state pager.new.state }
 {
     let Some(rowid) = int_at(bytes, at) else {
         return Err(Fault::Changed);
@@ -104,6 +105,8 @@ fn row_by_key<S: Source>(
         → MatchResult result (λ found. HoldsRowOf pages table found row) IsReadFault) }
     ensures only { IfErr result IsSearchFault }
     ensures asks { AsksOneWay pager.old.state pager.new.state kind.Index root }
+    ensures unchained { WhereSteady pager.old.state (λ pages. IsUnchainedIndex pages root
+        → pager.new.state.chained ≡ pager.old.state.chained) }
     ensures reads { ReadsPages result pager.old.state pager.new.state }
 {
     put_key(alloc, bytes, places, key)?;
@@ -130,6 +133,8 @@ pub(crate) fn row_of_entry<S: Source>(
         → MatchResult result (λ found. HoldsRowOf pages table.now found row) IsReadFault) }
     ensures only { IfErr result IsSearchFault }
     ensures asks { AsksOneWay pager.old.state pager.new.state (kind_by finder.now) table.now.root }
+    ensures unchained { WhereSteady pager.old.state (λ pages. (kind_by finder.now ≡ kind.Index → IsUnchainedIndex pages table.now.root)
+        → pager.new.state.chained ≡ pager.old.state.chained) }
     ensures reads { ReadsPages result pager.old.state pager.new.state }
 {
     let root = table.root();

@@ -1,18 +1,20 @@
 //! The rows of a table, or the entries of an index, that meet a range, one by one.
-ghost use Rattle.std.specs.Prelude.{◌≡◌, ◌*◌, ◌+◌, ◌≤◌, ◌<◌, ◌∷◌, ℕ, false, true, IfErr, IfNone, IfOk, IfSome, List, MatchResult, None, Ok, option_map};
+ghost use Rattle.std.specs.Prelude.{◌≡◌, ◌*◌, ◌+◌, ◌≤◌, ◌<◌, ◌∷◌, ℕ, suc, false, true, IfErr, IfNone, IfOk, IfSome, List, MatchResult, None, Ok, option_map};
 ghost use Rattle.values.specs.Datum.{Datum};
 ghost use Rattle.values.specs.Row.{Row};
 ghost use Rattle.pager.specs.Calls.{IsReadFault, ReadsChainPages, ReadsPages, ReadsTreePages};
+ghost use Rattle.btree.specs.declared.image.kind.TreeKind.TheVariants.{Index};
 ghost use Rattle.btree.specs.image.Pages.{WhereSteady};
+ghost use Rattle.btree.specs.image.Shape.{most_levels};
 ghost use Rattle.btree.specs.Views.{cell_data};
 ghost use Rattle.btree_cursor.specs.cursor.Found.{AsksOneWay};
 ghost use Rattle.btree_cursor.specs.index_entries.Entries.{HasRecord};
-ghost use Rattle.btree_cursor.specs.cursor.Left.{steps_left};
+ghost use Rattle.btree_cursor.specs.cursor.Left.{steps_left, worth};
 ghost use Rattle.btree_cursor.specs.cursor.Search.{IsUnchainedIndex};
 ghost use Rattle.btree_cursor.specs.key_ranges.Ranges.{Range, has_null};
 ghost use Rattle.btree_cursor.specs.key_ranges.View.{range as key_range};
 ghost use Rattle.schema_tables.specs.TableData.{TableData};
-ghost use Rattle.records_searches.specs.Coming.{AreOpened, AreToCome, GivesCell, GivesFound, IsSearchFault, LeadsToIf};
+ghost use Rattle.records_searches.specs.Coming.{AreOpened, AreToCome, GivesCell, GivesFound, HasLocalKeys, HasNoChains, IsSearchFault, LeadsToIf};
 ghost use Rattle.records_searches.specs.Entries.{AreWide, EntryData, HoldsEntries, LeadsTo, SearchedData, entries_in, kind_by, of_index, of_table};
 ghost use Rattle.records_searches.specs.Work.{GoesStraight, depth_of};
 
@@ -58,7 +60,10 @@ pub fn first_of_table<S: Source>(
         → AreWide range.now entries → GoesStraight table.now.key range.now entries
         → IfOk result (λ cursor. pager.new.state.asked ≤ pager.old.state.asked + depth_of levels)) }
     ensures null { has_null range.now ≡ true → (result ≡ Ok None) × (pager.new.state ≡ pager.old.state) }
+    ensures few { IfOk result (λ cursor. IfSome cursor (λ cursor. steps_left cursor < worth (suc most_levels))) }
     ensures only { IfErr result IsSearchFault }
+    ensures unchained { WhereSteady pager.old.state (λ pages. HasLocalKeys pages table.now
+        → pager.new.state.chained ≡ pager.old.state.chained) }
     ensures reads { ReadsPages result pager.old.state pager.new.state }
 {
     let Some(bounds) = bounds_of(range) else {
@@ -88,6 +93,7 @@ pub fn first_of_index<S: Source>(
         → MatchResult result (λ cursor. AreOpened (of_index table index.now) pages levels range.now cursor (entries_in range.now entries)
         × (pager.new.state.asked ≤ pager.old.state.asked + (levels + 1))) IsReadFault) }
     ensures null { has_null range.now ≡ true → (result ≡ Ok None) × (pager.new.state ≡ pager.old.state) }
+    ensures few { IfOk result (λ cursor. IfSome cursor (λ cursor. steps_left cursor < worth (suc most_levels))) }
     ensures only { IfErr result IsSearchFault }
     ensures unchained { WhereSteady pager.old.state (λ pages. IsUnchainedIndex pages index.now.root
         → pager.new.state.chained ≡ pager.old.state.chained) }
@@ -114,6 +120,12 @@ pub fn table_row<'c, S: Source>(
         → MatchResult result (λ cell. GivesCell pages table.now entries (option_map cell_data cell)) IsReadFault) }
     ensures more { IfOk result (λ found. IfSome found (λ cell. 0 < steps_left cursor.now)) }
     ensures only { IfErr result IsSearchFault }
+    ensures local { WhereSteady pager.old.state (λ pages. (levels : ℕ) (entries : List EntryData)
+        → AreToCome (of_table table.now) pages levels range.now cursor.now entries → HasNoChains (of_table table.now) pages levels
+        → pager.new.state ≡ pager.old.state) }
+    ensures flat { WhereSteady pager.old.state (λ pages. (levels : ℕ) (entries : List EntryData)
+        → AreToCome (of_table table.now) pages levels range.now cursor.now entries → HasNoChains (of_table table.now) pages levels
+        → IfOk result (λ found. IfSome found (λ cell. cell.payload.overflow ≡ None))) }
     ensures reads { ReadsChainPages result pager.old.state pager.new.state }
 {
     let Some(cell) = cell_at(cursor)? else {
@@ -142,6 +154,9 @@ fn entry_row<S: Source>(
     ensures only { IfErr result IsSearchFault }
     ensures asks { AsksOneWay pager.old.state pager.new.state (kind_by index.now.finder) table.now.root }
     ensures end { IfOk result (λ found. IfNone found (pager.new.state.asked ≡ pager.old.state.asked)) }
+    ensures unchained { cell.now.payload.overflow ≡ None
+        → WhereSteady pager.old.state (λ pages. (kind_by index.now.finder ≡ Index → IsUnchainedIndex pages table.now.root)
+        → pager.new.state.chained ≡ pager.old.state.chained) }
     ensures reads { ReadsPages result pager.old.state pager.new.state }
 {
     let Some(bytes) = bytes_in_range(alloc, pager, cell, &range.key_range())? else {
@@ -170,6 +185,9 @@ pub fn index_row<S: Source>(
     ensures only { IfErr result IsSearchFault }
     ensures asks { AsksOneWay pager.old.state pager.new.state (kind_by index.now.finder) table.now.root }
     ensures end { IfOk result (λ found. IfNone found (pager.new.state.asked ≡ pager.old.state.asked)) }
+    ensures unchained { WhereSteady pager.old.state (λ pages. (levels : ℕ) (entries : List EntryData)
+        → AreToCome (of_index table.now index.now) pages levels range.now cursor.now entries → HasNoChains (of_index table.now index.now) pages levels
+        → HasLocalKeys pages table.now → pager.new.state.chained ≡ pager.old.state.chained) }
     ensures reads { ReadsPages result pager.old.state pager.new.state }
 {
     let Some(cell) = cell_at(cursor)? else {

@@ -1,9 +1,11 @@
 //! A cursor at the first row or entry that doesn't come before a range.
-ghost use Rattle.std.specs.Prelude.{◌≡◌, ◌*◌, ◌+◌, ◌≤◌, ℕ, ℤ, false, IfErr, IfOk, List, MatchResult, Option};
+ghost use Rattle.std.specs.Prelude.{◌≡◌, ◌*◌, ◌+◌, ◌<◌, ◌≤◌, ℕ, ℤ, suc, false, IfErr, IfOk, IfSome, List, MatchResult, Option};
 ghost use Rattle.values.specs.Datum.{Datum};
 ghost use Rattle.pager.specs.Calls.{IsReadFault, ReadsPages, ReadsTreePages};
 ghost use Rattle.btree.specs.image.Pages.{WhereSteady};
+ghost use Rattle.btree.specs.image.Shape.{most_levels};
 ghost use Rattle.btree.specs.image.Tree.{Place};
+ghost use Rattle.btree_cursor.specs.cursor.Left.{steps_left, worth};
 ghost use Rattle.btree_cursor.specs.cursor.Search.{HasRowWith, IsSearchable, IsSearchableIndex, IsUnchainedIndex};
 ghost use Rattle.btree_cursor.specs.key_ranges.Ranges.{has_null};
 ghost use Rattle.btree_cursor.specs.key_ranges.View.{range};
@@ -46,6 +48,7 @@ fn row_after<S: Source>(
         × (pager.new.state.asked ≤ pager.old.state.asked + (2 * levels + 1))) IsReadFault) }
     ensures direct { WhereSteady pager.old.state (λ pages. (levels : ℕ) (rowid : ℤ) → IsSearchable pages levels root → cut ≡ RowCut.At rowid false
         → HasRowWith pages levels root rowid → IfOk result (λ cursor. pager.new.state.asked ≤ pager.old.state.asked + (levels + 1))) }
+    ensures few { IfOk result (λ cursor. IfSome cursor (λ cursor. steps_left cursor < worth (suc most_levels))) }
     ensures reads { ReadsTreePages result pager.old.state pager.new.state }
 {
     match cut {
@@ -72,6 +75,7 @@ pub(crate) fn row_in_range<S: Source>(
     ensures direct { WhereSteady pager.old.state (λ pages. (table : TableData) (levels : ℕ) (entries : List EntryData)
         → table.root ≡ root → HoldsRowEntries pages table levels entries → AreWide (range bounds.now) entries → IsForOneKey (range bounds.now) entries
         → IfOk result (λ cursor. pager.new.state.asked ≤ pager.old.state.asked + (levels + 1))) }
+    ensures few { IfOk result (λ cursor. IfSome cursor (λ cursor. steps_left cursor < worth (suc most_levels))) }
     ensures only { IfErr result IsSearchFault }
     ensures reads { ReadsTreePages result pager.old.state pager.new.state }
 {
@@ -94,6 +98,7 @@ pub(crate) fn entry_in_range<S: Source>(
         → IsSearchableIndex pages descends.now values levels root
         → MatchResult result (λ cursor. IsEntryLanding pages descends.now values levels root (range bounds.now) cursor pager.new.state.asked
         × (pager.new.state.asked ≤ pager.old.state.asked + (levels + 1))) IsReadFault) }
+    ensures few { IfOk result (λ cursor. steps_left cursor < worth (suc most_levels)) }
     ensures only { IfErr result IsSearchFault }
     ensures unchained { WhereSteady pager.old.state (λ pages. IsUnchainedIndex pages root
         → pager.new.state.chained ≡ pager.old.state.chained) }

@@ -1,4 +1,4 @@
-use Rattle.std.proofs.Common.{◌≡◌, false, refl, rules, true}
+use Rattle.std.proofs.Common.{◌≡◌, false, rules, true}
 use Rattle.std.proofs.lemmas.Result.{err_from_is_err_and}
 use Rattle.std.specs.Cow.{cow_slice_items}
 use Rattle.btree_cursor.specs.key_ranges.View.{range}

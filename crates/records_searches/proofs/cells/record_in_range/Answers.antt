@@ -1,7 +1,5 @@
 use Rattle.std.proofs.Common.{◌∙◌}
 use Rattle.std.proofs.lemmas.Result.{err_from_is_err_and}
-use Rattle.std.specs.Cow.{cow_slice_items}
-use Rattle.std.specs.Option.{option_map}
 use Rattle.btree_cursor.specs.key_ranges.View.{range}
 use Rattle.records_searches.proofs.ComingLemmas.{met_if}
 use Rattle.records_searches.proofs.cells.record_in_range.Goals as goal

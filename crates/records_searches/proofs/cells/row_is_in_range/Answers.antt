@@ -1,4 +1,4 @@
-use Rattle.std.proofs.Common.{◌≡◌, ◌∙◌, sym, subst}
+use Rattle.std.proofs.Common.{sym, subst}
 use Rattle.btree.specs.Views.{cell_data}
 use Rattle.btree.specs.image.Pages.{pages_seen}
 use Rattle.btree.specs.image.Tree.{IsEntryAt}

@@ -1,4 +1,4 @@
-use Rattle.std.proofs.Common.{◌≡◌, ◌∷◌, [], None, Some, Ok, sym, ◌∙◌, ap}
+use Rattle.std.proofs.Common.{◌≡◌, None, Some, sym, ◌∙◌}
 use Rattle.records_searches.proofs.cells.rowid_in_range.Goals as goal
 
 pub returns-in-None-clause-met : goal.returns-in-None-clause-met

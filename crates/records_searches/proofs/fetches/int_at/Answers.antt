@@ -1,6 +1,6 @@
 use Rattle.std.proofs.Common.{slice_get, rules, w64, SFits}
 use Rattle.std.proofs.lemmas.Int.{to_z-of_z}
-use Rattle.values.specs.Datum.{datum_of_ref, int}
+use Rattle.values.specs.Datum.{int}
 use Rattle.btree_cursor.proofs.lemmas.index_entries.KeyLemmas.{IfNone-always}
 use Rattle.records_searches.proofs.FetchLemmas.{not_number, past_none}
 use Rattle.records_searches.proofs.fetches.int_at.Goals as goal

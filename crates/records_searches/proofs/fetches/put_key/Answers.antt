@@ -1,4 +1,4 @@
-use Rattle.std.proofs.Common.{◌≡◌, ◌∙◌, ◌≤◌, ◌<◌, ◌+◌, length, map, take, arith, ap, rules}
+use Rattle.std.proofs.Common.{◌≡◌, ◌∙◌, ◌+◌, length, map, take, arith, ap, rules}
 use Rattle.values.specs.Datum.{datum_of, datum_of_ref}
 use Rattle.records_searches.proofs.FetchLemmas.{key_all, key_more, no_field}
 use Rattle.records_searches.proofs.fetches.put_key.Goals as goal

@@ -1,4 +1,4 @@
-use Rattle.std.proofs.Common.{◌≡◌, ◌<◌, ◌≤◌, All, List, length, map, take}
+use Rattle.std.proofs.Common.{◌≡◌, ◌≤◌, List, length, map, take}
 use Rattle.values.specs.Datum.{Datum, datum_of}
 use Rattle.records.specs.Record.{IsRecord}
 use Rattle.records_searches.specs.Entries.{values_at}

@@ -1,4 +1,4 @@
-use Rattle.std.proofs.Common.{sym}
+use Rattle.std.proofs.Common.{refl, sym}
 use Rattle.records_searches.proofs.fetches.row_of_entry.Goals as goal
 
 pub returns-in-Rowid-clause-row : goal.returns-in-Rowid-clause-row
@@ -16,3 +16,6 @@ returns-in-Key-clause-row g c = λ steady values row is leads.
 
 pub returns-in-Key-clause-asks : goal.returns-in-Key-clause-asks
 returns-in-Key-clause-asks g c = rw (c.in-Key.is, ← c.root-root.ensures) c.row_by_key.ensures.asks
+
+pub returns-in-Key-clause-unchained : goal.returns-in-Key-clause-unchained
+returns-in-Key-clause-unchained g c = rw (c.in-Key.is, ← c.root-root.ensures) (λ steady local. c.row_by_key.ensures.unchained steady (local refl))

@@ -1,4 +1,4 @@
-use Rattle.std.proofs.Common.{◌≡◌, ◌+◌, ◌<◌, length, suc, true, false, arith, rules}
+use Rattle.std.proofs.Common.{◌≡◌, ◌+◌, ◌<◌, length, true, false, arith, rules}
 use Rattle.btree_cursor.specs.key_ranges.View.{edge_option}
 use Rattle.btree_cursor.proofs.lemmas.index_entries.KeyLemmas.{IfNone-always}
 use Rattle.records_searches.proofs.MeetsLemmas.{decided, none_at_all, none_at_all_if, one_passed, rest_decides_if}

@@ -1,4 +1,4 @@
-use Rattle.std.proofs.Common.{◌≡◌, ◌∙◌, ◌&&◌, [], ◌∷◌, IsTrue, List, None, Option, true, false, ap, refl, rules, subst, sym}
+use Rattle.std.proofs.Common.{◌≡◌, ◌∙◌, ◌&&◌, [], IsTrue, List, false, ap, refl, subst, sym}
 use Rattle.values.specs.Datum.{Datum, datum_of_ref}
 use Rattle.records.specs.Fields.{AreUnread, Unread}
 use Rattle.btree_cursor.specs.key_ranges.Ranges.{is_above, is_below, meets}

@@ -1,8 +1,10 @@
-use Rattle.std.proofs.Common.{◌≡◌, false, refl, rules, subst, sym, true}
+use Rattle.std.proofs.Common.{◌≡◌, ◌∙◌, ap, false, rules, subst, sym, true}
 use Rattle.std.proofs.lemmas.Result.{err_from_is_err_and}
+use Rattle.pager.specs.PagerState.{PagerState}
 use Rattle.btree.specs.image.Pages.{Pages}
 use Rattle.btree.proofs.SeenLemmas.{same_pages, still_steady}
 use Rattle.records.specs.Record.{IsRecord}
+use Rattle.btree_cursor.specs.cursor.Search.{IsUnchainedIndex}
 use Rattle.btree_cursor.specs.key_ranges.Ranges.{Range}
 use Rattle.records_searches.specs.Meets.{meets_range}
 use Rattle.records_searches.specs.Coming.{HoldsRowOf}
@@ -39,3 +41,17 @@ returns-clause-row g c = λ steady values row has leads.
           (c.in_ok-found.ensures.row (still_steady _ _ stays steady) values row is
           (subst (λ (q : Pages). LeadsTo q c.args.table.now c.args.index.now.finder values row) (sym (same_pages _ _ stays)) leads)),
     )
+
+pub returns-in_err-found-clause-unchained : goal.returns-in_err-found-clause-unchained
+returns-in_err-found-clause-unchained g c = λ none steady local.
+    let stays = c.bytes_in_range.ensures.reads.chains.image in
+    c.in_err-found.ensures.unchained (still_steady _ _ stays steady)
+    (λ kind. subst (λ (q : Pages). IsUnchainedIndex q c.args.table.now.root) (sym (same_pages _ _ stays)) (local kind))
+    ∙ ap (λ (p : PagerState). p.chained) (c.bytes_in_range.ensures.local none)
+
+pub returns-clause-unchained : goal.returns-clause-unchained
+returns-clause-unchained g c = λ none steady local.
+    let stays = c.bytes_in_range.ensures.reads.chains.image in
+    c.in_ok-found.ensures.unchained (still_steady _ _ stays steady)
+    (λ kind. subst (λ (q : Pages). IsUnchainedIndex q c.args.table.now.root) (sym (same_pages _ _ stays)) (local kind))
+    ∙ ap (λ (p : PagerState). p.chained) (c.bytes_in_range.ensures.local none)

@@ -1,4 +1,4 @@
-use Rattle.std.proofs.Common.{◌≡◌, ◌≤◌, ◌+◌, arith, false, subst, sym}
+use Rattle.std.proofs.Common.{◌≡◌, arith, false, subst, sym}
 use Rattle.std.proofs.lemmas.Result.{err_from_is_err_and}
 use Rattle.btree_cursor.specs.key_ranges.Ranges.{Range, has_null}
 use Rattle.btree_cursor.specs.key_ranges.View.{range as key_range}

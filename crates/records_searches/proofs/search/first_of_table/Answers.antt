@@ -1,10 +1,11 @@
-use Rattle.std.proofs.Common.{◌≡◌, ◌≤◌, ◌+◌, ◌*◌, ℕ, [], arith, false, subst, sym}
+use Rattle.std.proofs.Common.{◌≡◌, ℕ, [], ap, arith, false, subst, sym}
 use Rattle.std.proofs.lemmas.Result.{err_from_is_err_and}
 use Rattle.btree.specs.image.Pages.{pages_seen}
-use Rattle.btree_cursor.specs.cursor.Search.{IsSearchableIndex}
+use Rattle.btree_cursor.specs.cursor.Search.{IsSearchableIndex, IsUnchainedIndex}
 use Rattle.btree_cursor.specs.key_ranges.Ranges.{Range, has_null}
 use Rattle.btree_cursor.specs.key_ranges.View.{range as key_range}
 use Rattle.schema_tables.specs.TableData.{RowKeyData}
+use Rattle.records_tables.specs.Tables.{kind_of}
 use Rattle.records_searches.specs.Sought.{IsEntryLanding}
 use Rattle.records_searches.specs.Work.{GoesStraight}
 use Rattle.records_searches.proofs.LandingLemmas.{key_landing, none_in, table_entries}
@@ -64,3 +65,15 @@ returns-in_ok-cursor-in-Primary-clause-direct g c = λ steady levels entries hol
     let lands = c.in_ok-cursor-in-Primary.ensures.lands steady levels has.values
     (subst (λ (n : ℕ). IsSearchableIndex (pages_seen c.args.pager.now.state) [] has.values levels n) (sym c.root-root.ensures) has.searchable) in
     lands.1
+
+pub returns-in_err-cursor-in-Primary-clause-unchained : goal.returns-in_err-cursor-in-Primary-clause-unchained
+returns-in_err-cursor-in-Primary-clause-unchained g c = λ steady keys.
+    let key = sym (rw c.in-Primary.is at c.key.ensures.same) in
+    c.in_err-cursor-in-Primary.ensures.unchained steady
+    (subst (λ (n : ℕ). IsUnchainedIndex (pages_seen c.args.pager.now.state) n) (sym c.root-root.ensures) (keys (ap kind_of key)))
+
+pub returns-in_ok-cursor-in-Primary-clause-unchained : goal.returns-in_ok-cursor-in-Primary-clause-unchained
+returns-in_ok-cursor-in-Primary-clause-unchained g c = λ steady keys.
+    let key = sym (rw c.in-Primary.is at c.key.ensures.same) in
+    c.in_ok-cursor-in-Primary.ensures.unchained steady
+    (subst (λ (n : ℕ). IsUnchainedIndex (pages_seen c.args.pager.now.state) n) (sym c.root-root.ensures) (keys (ap kind_of key)))

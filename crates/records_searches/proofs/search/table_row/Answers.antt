@@ -1,11 +1,11 @@
-use Rattle.std.proofs.Common.{◌≡◌, ◌∙◌, false, true, refl, rules, subst, sym}
+use Rattle.std.proofs.Common.{◌≡◌, ◌∙◌, false, true, rules, subst, sym}
 use Rattle.btree_cursor.specs.key_ranges.Ranges.{Range}
 use Rattle.std.proofs.lemmas.Result.{err_from_is_err_and}
 use Rattle.btree.specs.Views.{cell_data}
 use Rattle.records_searches.specs.Coming.{run_of}
 use Rattle.records_searches.specs.Entries.{of_table}
 use Rattle.records_searches.specs.Meets.{meets_range}
-use Rattle.records_searches.proofs.ComingLemmas.{come_first, come_in, come_none, come_out, row_at}
+use Rattle.records_searches.proofs.ComingLemmas.{come_first, come_in, come_local, come_none, come_out, row_at}
 use Rattle.records_searches.proofs.search.table_row.Goals as goal
 
 pub returns-in_err-cell-clause-rows : goal.returns-in_err-cell-clause-rows
@@ -47,3 +47,26 @@ returns-clause-rows g c = λ steady levels entries t.
 
 pub returns-clause-more : goal.returns-clause-more
 returns-clause-more g c = rw c.in-Some.is at c.in_ok-cell.ensures.more
+
+pub returns-in_err-met-clause-local : goal.returns-in_err-met-clause-local
+returns-in_err-met-clause-local g c = λ steady levels entries t none.
+    let here = rw c.in-Some.is at (c.in_ok-cell.ensures.entry _ _ _ _ _ _ t.at) in
+    c.row_is_in_range.ensures.local
+    (come_local (of_table c.args.table.now) _ levels c.args.range.now c.args.cursor.now entries t none (cell_data c.in-Some.cell) here)
+
+pub returns-then-not-met-clause-local : goal.returns-then-not-met-clause-local
+returns-then-not-met-clause-local g c = λ steady levels entries t none.
+    let here = rw c.in-Some.is at (c.in_ok-cell.ensures.entry _ _ _ _ _ _ t.at) in
+    c.row_is_in_range.ensures.local
+    (come_local (of_table c.args.table.now) _ levels c.args.range.now c.args.cursor.now entries t none (cell_data c.in-Some.cell) here)
+
+pub returns-clause-local : goal.returns-clause-local
+returns-clause-local g c = λ steady levels entries t none.
+    let here = rw c.in-Some.is at (c.in_ok-cell.ensures.entry _ _ _ _ _ _ t.at) in
+    c.row_is_in_range.ensures.local
+    (come_local (of_table c.args.table.now) _ levels c.args.range.now c.args.cursor.now entries t none (cell_data c.in-Some.cell) here)
+
+pub returns-clause-flat : goal.returns-clause-flat
+returns-clause-flat g c = λ steady levels entries t none.
+    let here = rw c.in-Some.is at (c.in_ok-cell.ensures.entry _ _ _ _ _ _ t.at) in
+    come_local (of_table c.args.table.now) _ levels c.args.range.now c.args.cursor.now entries t none (cell_data c.in-Some.cell) here

@@ -1,4 +1,4 @@
-use Rattle.std.proofs.Common.{◌+◌, List, subst}
+use Rattle.std.proofs.Common.{◌+◌, subst}
 use Rattle.btree.specs.declared.image.kind.TreeKind.TheVariants.{Index}
 use Rattle.btree.specs.image.Entries.{IsAtPlace}
 use Rattle.btree.specs.image.Pages.{pages_seen}

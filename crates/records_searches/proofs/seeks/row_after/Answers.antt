@@ -1,4 +1,4 @@
-use Rattle.std.proofs.Common.{◌≡◌, ◌∙◌, ◌+◌, ℤ, false, rules, subst, sym, w64, SFits}
+use Rattle.std.proofs.Common.{◌∙◌, ◌+◌, ℤ, false, rules, subst, sym, w64, SFits}
 use Rattle.std.proofs.lemmas.Int.{to_z-of_z}
 use Rattle.btree.specs.image.Pages.{pages_seen}
 use Rattle.btree.specs.image.Shape.{size_under}
