@@ -13,3 +13,10 @@ pub mod KeyLemmas
 pub mod UnbrokenLemmas
 pub mod DenotesLemmas
 pub mod TreesLemmas
+pub mod LevelLemmas
+pub mod SearchedTableLemmas
+pub mod KeyRowLemmas
+pub mod SearchedIndexLemmas
+pub mod BeginLemmas
+pub mod SearchedLemmas
+pub mod OneEntryLemmas

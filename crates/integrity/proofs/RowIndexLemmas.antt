@@ -1,5 +1,5 @@
 -- The rows of the indexes that were checked, in the order of their entries.
-use Rattle.std.proofs.Common.{◌≡◌, All, Contains, List, [], ◌∷◌}
+use Rattle.std.proofs.Common.{All, Contains, List, [], ◌∷◌}
 use Rattle.std.specs.List.{AllZip}
 use Rattle.std.proofs.lemmas.List.Elements.{All-head, All-tail}
 use Rattle.values.specs.Row.{Row}

@@ -5,3 +5,4 @@ pub mod Keys
 pub mod Used
 pub mod Checked
 pub mod CheckedView
+pub mod Searched

@@ -6,7 +6,8 @@
 //!
 //! The modules, in the order in which data passes them: `trees` (those of all tables, and the schema's rows),
 //! `index_trees` (each index alone), `entries` (those of each index, compared with the rows of its table),
-//! `keys` (those of tables without rowids), `checked` (the whole image) and `laws`.
+//! `keys` (those of tables without rowids), `checked` (the whole image), `laws`, and `searched` (what the check
+//! leaves for searches).
 #![tactic(auto)]
 
 mod checked;
@@ -14,6 +15,7 @@ mod entries;
 mod index_trees;
 mod keys;
 pub mod laws;
+pub mod searched;
 mod trees;
 
 pub use checked::{Checked, check};
