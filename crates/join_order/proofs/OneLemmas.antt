@@ -1,13 +1,17 @@
--- There is one least order at most.
-use Rattle.std.proofs.Common.{◌≡◌, ℕ, List, [], ◌∷◌, false, inl, inr, refl, sym, ap, ◌∙◌, arith, subst}
+-- There is one least order at most, and a walk over all orders shows it.
+use Rattle.std.proofs.Common.{◌≡◌, ℕ, List, [], ◌∷◌, false, inl, inr, refl, sym, ap, ◌∙◌, arith, subst, None, Some}
 use Rattle.std.specs.Ordering.{is_gt, nat_cmp, ordering_reverse, ordering_then}
 use Rattle.std.proofs.lemmas.Cmp.{nat_cmp_total}
 use Rattle.std.specs.Cmp.Lexicographic.{slice_cmp}
 use Rattle.std.specs.declared.cmp.Ordering.{Ordering}
 use Rattle.std.specs.declared.cmp.Ordering.TheVariants.{Less, Equal, Greater}
 use Rattle.std.proofs.lemmas.Bool.Decides.{nat_tests}
-use Rattle.join_order.specs.Orders.{IsTakenBefore, OneLeastOrder}
-use Rattle.join_order.proofs.LeastLemmas.{AtMost}
+use Rattle.join_order.specs.Orders.{IsLeastOrder, IsTakenBefore, OneLeastOrder}
+use Rattle.join_order.specs.Cost.{Prices}
+use Rattle.join_order.specs.Examples.{WorkedChain, chain_price}
+use Rattle.join_order.specs.Walk.{keep_all, ways}
+use Rattle.join_order.proofs.LeastLemmas.{AtMost, least-kept}
+use Rattle.join_order.proofs.WayLemmas.{order-is-way, way-is-order, ways-ascend}
 
 nat_same : (x y : ℕ) → nat_cmp x y ≡ Equal → x ≡ y
 nat_same x y h = grind (arith, nat_tests)
@@ -35,7 +39,19 @@ pub one_least_order : OneLeastOrder
 one_least_order price count places others one other = by-cost (one.least others other.order) (other.least places one.order)
   where
     by-cost : IsTakenBefore price places others → IsTakenBefore price others places → places ≡ others
-    by-cost (inl less) (inl more) = absurd (omega (arith, less, more))
-    by-cost (inl less) (inr same) = absurd (omega (arith, less, same.0))
-    by-cost (inr same) (inl more) = absurd (omega (arith, more, same.0))
-    by-cost (inr same) (inr back) = same_places places others same.1 back.1
+    by-cost (inl few) (inl more) = absurd (omega (arith, few, more))
+    by-cost (inl few) (inr many) = absurd (omega (arith, few, many.0))
+    by-cost (inr many) (inl more) = absurd (omega (arith, more, many.0))
+    by-cost (inr (many, inl less)) (inr (also, inl more)) = absurd (omega (arith, less, more))
+    by-cost (inr (many, inl less)) (inr (also, inr same)) = absurd (omega (arith, less, same.0))
+    by-cost (inr (many, inr same)) (inr (also, inl more)) = absurd (omega (arith, more, same.0))
+    by-cost (inr (many, inr same)) (inr (also, inr back)) = same_places places others same.1 back.1
+
+-- what a walk over all orders keeps is the least
+pub walked-least : (price : Prices) (count : ℕ) (places : List ℕ) → keep_all price None (ways count count []) ≡ Some places → IsLeastOrder price count places
+walked-least price count places kept =
+    let h = least-kept price (ways count count []) places (ways-ascend count count []) kept in
+    record { order = way-is-order count places h.0; least = λ others is. h.1 others (order-is-way count others is) }
+
+pub worked_chain : WorkedChain
+worked_chain = (refl, refl, refl, refl, walked-least chain_price 3 (0 ∷ 1 ∷ 2 ∷ []) refl)
