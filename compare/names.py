@@ -310,7 +310,7 @@ def problem(connection: sqlite3.Connection, path: Path, writer: Writer, text: st
     """What is wrong with what the program and SQLite say of a statement."""
     number, refuses = WRONG[writer.wrong] if writer.wrong and writer.is_wrong else (0, False)
     answer = run(path, text)
-    is_taken = answer.status == 0 or answer.fault() in (29, 50)
+    is_taken = answer.status == 0 or answer.fault() == 50
     if (not is_taken) if not number else answer.fault() != number:
         return f"{answer}; wanted {number or 'an answer'} ({writer.wrong if number else 'nothing wrong'})"
     return "" if refuses is None or (refuses and writer.is_in_item) else sqlite_problem(connection, text, refuses)

@@ -12,7 +12,6 @@ from program import Tally, fault_line, refusal_problem, run
 from recipes import make_file
 from sound import answer_problem
 
-NOT_YET = fault_line(29)
 LEFT_OUT = fault_line(22, "x")
 ITEM = """CREATE TABLE item(id INTEGER PRIMARY KEY, name TEXT NOT NULL) STRICT;
     INSERT INTO item VALUES (1, 'bolt'), (2, 'nut');"""
@@ -82,12 +81,6 @@ NONSENSE = (
     *("SELECT # FROM item", "SELECT , FROM item", "SELECT id,, name FROM item", "SELECT (* FROM item"),
     *("SELECT * FROM item)", "SELECT * FROM item ; ;x", "SELECT * FROM 'item", 'SELECT * FROM "item', "SELECT * FROM [item"),
     *("SELECT * FROM `item", "/* SELECT * FROM item", "\ufeffSELECT * FROM item", "SELECT\u00a0* FROM item"),
-)
-
-# Statements that aren't served yet, one of each kind.
-STATEMENTS = (
-    *("EXPLAIN QUERY PLAN SELECT * FROM item", "EXPLAIN QUERY PLAN SELECT rank() OVER (ORDER BY id) FROM item"),
-    *("EXPLAIN QUERY PLAN SELECT * FROM (SELECT * FROM item)", "EXPLAIN QUERY PLAN WITH w AS (SELECT 1) SELECT * FROM w"),
 )
 
 # Texts that take much to read, and are too deep or none.
@@ -227,8 +220,6 @@ def try_texts(tally: Tally, path: Path) -> None:
         answer = run(path, text)
         refused = answer.fault() == 30 and answer.out == b""
         tally.add(f"the text {text!r}", "" if refused else f"{answer}; wanted fault 30")
-    for text in STATEMENTS:
-        tally.add(f"the text {text!r}", refusal_problem(run(path, text), NOT_YET))
     for text in HARD:
         answer = run(path, text)
         refused = answer.fault() in (30, 38) and answer.out == b""

@@ -500,9 +500,22 @@ REFUSED = {
     f"{SEVEN_SOURCES} SELECT 1 FROM {MENTIONS} WHERE 1 IN (SELECT 1 FROM gift)": 38,
     "SELECT 1 FROM (SELECT 1 IN (SELECT 1 FROM t))": 31,
     "EXPLAIN QUERY PLAN SELECT nothing FROM item": 32,
-    # What isn't served yet.
-    "EXPLAIN QUERY PLAN SELECT name FROM item": 29,
-    "EXPLAIN QUERY PLAN SELECT name FROM item WHERE id IN (SELECT n FROM sale)": 29,
+}
+
+# Statements with EXPLAIN QUERY PLAN, and their plans.
+PLANS = {
+    "SELECT name FROM item": "SCAN item\n",
+    "SELECT name FROM ITEM AS i WHERE 0": "SCAN item AS i\n",
+    "SELECT 1": "CONSTANT ROW\n",
+    "SELECT type FROM sqlite_master m": "SCAN sqlite_schema AS m\n",
+    "SELECT name FROM item WHERE id IN (SELECT n FROM sale)": "SCAN item\nSUBQUERY\n  SCAN sale\n",
+    "SELECT 1 UNION SELECT id FROM item ORDER BY 1 LIMIT 2": "CONSTANT ROW\nUNION\nSCAN item\nORDER BY\nLIMIT\n",
+    "SELECT * FROM (SELECT DISTINCT name FROM item) AS d": "MATERIALIZE d\n  SCAN item\n  DISTINCT\n",
+    "WITH w AS (SELECT count(*) AS c FROM item) SELECT * FROM w LEFT JOIN (SELECT 1) ON 1": (
+        "MATERIALIZE w\n  SCAN item\n  AGGREGATE\nMATERIALIZE (subquery) LEFT\n  CONSTANT ROW\n"
+    ),
+    "SELECT rank() OVER (ORDER BY id), sum(id) OVER (ORDER BY id), count(*) OVER () FROM item": "SCAN item\nWINDOW\nWINDOW\n",
+    "SELECT name, count(*) FROM item GROUP BY name": "SCAN item\nGROUP BY\n",
 }
 
 # Statements that stop where an operation leaves 64 bits, and the lines before it.

@@ -21,7 +21,7 @@ from oracle import Reader
 from pages import INTERIOR, cell_places, number_at
 from program import TOP, Run, Tally, build, fault_line, refusal_problem, run
 from recipes import make_file
-from shop import ANSWERS, CACHED, HEADED, ITEM, NO_STATEMENTS, REFUSED, SHOP, STOPPED
+from shop import ANSWERS, CACHED, HEADED, ITEM, NO_STATEMENTS, PLANS, REFUSED, SHOP, STOPPED
 from writer import WIDTHS, Field, Tree, Value, Writer, integer, record, stored, varint
 
 IMAGES = TOP / "crates" / "images" / "out" / "images"
@@ -242,6 +242,8 @@ def try_answers(trial: Trial) -> None:
             trial.answered(f"page size {size}", [sql], wanted)
         for sql, wanted in HEADED.items():
             trial.answered(f"page size {size}", ["--header", "--cache", "1", sql], wanted)
+        for sql, lines in PLANS.items():
+            trial.answered(f"page size {size}", ["--header", f"EXPLAIN QUERY PLAN {sql}"], lines)
         for sql, number in REFUSED.items():
             for words in ([], ["--header"]):
                 answer = run(*words, trial.path, sql)

@@ -38,7 +38,7 @@ PROGRAMS = ("engines", "images", "second_engine", "seleq", "texts")
 # The scripts of compare/ that ask the built program.
 OURS = (
     *("worked", "conditions", "interrupted", "sessions", "agreement", "catalogs", "searches", "ranges", "linked"),
-    *("statements", "nested", "joins", "windows", "names"),
+    *("statements", "nested", "joins", "windows", "names", "plans", "plan_runs"),
 )
 # The kit's command.
 RT = ["python3", "-B", str(TOP / "gate" / "command.py")]

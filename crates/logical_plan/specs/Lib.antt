@@ -1,6 +1,7 @@
 pub mod Plan
 pub mod PlanView
 pub mod Searches
+pub mod Promised
 pub mod Stands
 pub mod Examples
 pub mod JoinPlan

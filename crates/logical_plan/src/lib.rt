@@ -6,16 +6,21 @@
 //! and that an answer over a plan of the rows on which a SELECT computes its result columns is one that the
 //! query permits.
 //!
-//! The modules, in the order in which data passes them: `plan` (the trees of plans), `copies` (of what is
-//! read of a table), `laws`, and `answers` (what a query answers: result columns over the rows of plans, with DISTINCT, compound operators, ORDER BY,
-//! LIMIT and OFFSET).
+//! The modules, in the order in which data passes them: `stored` (tables and indexes, which plans read),
+//! `conditions` (those that are as good as none), `plan` (the trees of plans), `copies` (of what is read of a
+//! table), `laws`, and `answers` (what a query answers: result columns over the rows of plans, with DISTINCT,
+//! compound operators, ORDER BY, LIMIT and OFFSET).
 #![tactic(auto)]
 
 mod answers;
+mod conditions;
 mod copies;
 pub mod laws;
 mod plan;
+mod stored;
 
 pub use answers::{Answer, Arm, Arms, Order};
+pub use conditions::is_always;
 pub use copies::copy_nested;
 pub use plan::{Edge, Nested, OuterTable, Plan, Search};
+pub use stored::{Stored, StoredIndex};

@@ -29,9 +29,9 @@ pub struct Search {
 /// A table that is read behind the rows before it. (SELECT, "Determination of input data")
 #[derive(Drop)]
 pub struct Nested {
-    /// The table's place in the catalog.
+    /// The place of what is read among the sources: of a table, or of an index, which has rows of its table in an order of its own.
     pub table: usize,
-    /// The places of the columns that are read.
+    /// The places of the columns that are read, in the table.
     pub columns: Vec<usize>,
     /// The conditions that are tested of a row before the table beside one of the table.
     pub tests: Vec<Expr>,
@@ -65,6 +65,6 @@ pub enum Plan {
     OuterJoin(Box<Plan>, OuterTable),
     /// A row for each group of rows: what they are gathered by, and then the aggregates.
     Aggregate(Box<Plan>, GroupTerms),
-    /// The values of rows at these places, in their order, with the values of calls over windows behind them. (Window Functions)
+    /// Rows of these values of those below, in this order, with the values of calls over windows after them. (Window Functions)
     Window(Box<Plan>, Vec<usize>, Vec<WindowCall>),
 }

@@ -1,5 +1,5 @@
 -- The plan of one SELECT in the order of any terms.
-use Rattle.std.proofs.Common.{◌≡◌, ◌≤◌, inr, ℕ, false, List, [], ◌∷◌, sym, subst}
+use Rattle.std.proofs.Common.{◌≡◌, inr, ℕ, false, List, [], ◌∷◌, sym, subst}
 use Rattle.std.specs.List.{AllZip}
 use Rattle.values.specs.Database.{Database}
 use Rattle.values.specs.Datum.{Datum}
@@ -13,17 +13,18 @@ use Rattle.semantics.specs.Typed.{IsTyped}
 use Rattle.logical_plan_terms.specs.Over.{StandsOver}
 use Rattle.logical_plan.specs.Plan.{PlanData}
 use Rattle.logical_plan.specs.answers.Answers.{AnswerData, OrderData}
-use Rattle.logical_plan.specs.answers.Arms.{ArePlannedOver, ArmData, ArmsData, ArmsHit, one, work_of_arms}
+use Rattle.access_plans.specs.PlanView.{SelectData}
+use Rattle.logical_plan.specs.answers.Arms.{ArePlannedOver, ArmData, ArmsHit}
+use Rattle.logical_plan.specs.answers.Sources.{SourceData, sources_of}
 use Rattle.logical_plan.specs.answers.Permitted.{IsKeyOver, KeySaysOf}
 use Rattle.logical_plan.proofs.lemmas.answers.PermittedLemmas.{answer_is_permitted}
 use Rattle.logical_plan_queries.specs.Answers.{AreWideFor, IsPlanFor, IsPlannedAsTyped, PlannedData}
 use Rattle.logical_plan_queries.specs.Made.{IsOrderOver, IsOrderedArmFor, IsPutInOrder, KeyStandsOver, KeyTermStandsOver}
-use Rattle.logical_plan_queries.specs.compound_plans.Work.{selects_work}
+use Rattle.logical_plan_queries.specs.select_plans.Columns.{AreOfTheirTables, AreScannedFor}
 use Rattle.logical_plan_queries.specs.select_plans.Laws.{PlanReaches}
 use Rattle.logical_plan_queries.specs.select_plans.Made.{IsMadeOver}
 use Rattle.logical_plan_queries.specs.select_plans.Read.{IsWideOf}
 use Rattle.logical_plan_queries.specs.select_plans.Served.{AreOfRows, IsServedFrom, IsServedSelect}
-use Rattle.logical_plan_queries.proofs.lemmas.compound_plans.WorkLemmas.{made_work}
 use Rattle.logical_plan_queries.proofs.lemmas.select_plans.BaseLemmas.{IsBase}
 use Rattle.logical_plan_queries.proofs.lemmas.select_plans.MadeLemmas.{has_rows, made_base, made_is_hit, zip_append}
 use Rattle.logical_plan_queries.proofs.lemmas.select_plans.OverLemmas.{plan_over}
@@ -64,12 +65,13 @@ module _ (w : Datum) (db : Database) (from : From) (s : Select) (shown : List �
   keys_say (k ∷ keys) (q ∷ order) all = (record { by = key_says k.by q.by all.0.by; direction = all.0.direction }, keys_say keys order all.1)
 
 -- a plan over what the SELECT stands on
-ordered_over : (input : Input) (s : Select) (order : List Key) (es : List Term) (arm : ArmData) (o : OrderData) → IsServedFrom (input_from input)
-    → (made : IsMadeOver input s order arm.plan es) → IsOrderOver made.columns order es arm.columns o → arm.distinct ≡ false → s.distinct ≡ false
-    → IsOrderedArmFor order (input_from input) s arm o
-ordered_over input s order es arm o inner made placed all all_of = record {
-  is_arm = λ w db wide.
-      let base = made_base w db input s order arm.plan es inner wide made in record {
+ordered_over : (stored : List SourceData) → AreOfTheirTables stored → (chosen : SelectData) (input : Input) (s : Select) (order : List Key) (es : List Term) (arm : ArmData)
+    (o : OrderData) → IsServedFrom (input_from input)
+    → (made : IsMadeOver stored chosen input s order arm.plan es) → IsOrderOver made.columns order es arm.columns o → arm.distinct ≡ false → s.distinct ≡ false
+    → IsOrderedArmFor stored order (input_from input) s arm o
+ordered_over stored theirs chosen input s order es arm o inner made placed all all_of = record {
+  is_arm = λ w db wide indexed.
+      let base = made_base w db stored chosen input s order arm.plan es inner wide indexed made in record {
         all = all_of;
         columns = es;
         keys = placed.keys;
@@ -77,33 +79,33 @@ ordered_over input s order es arm o inner made placed all all_of = record {
         keys_are = keys_say w db (input_from input) s made.columns arm.plan base placed.keys order placed.stand;
         arm_is = record { all = all; columns_are = placed.wide_is; places = placed.places; hidden = placed.hidden };
       };
-  hits = λ w db wide hits.
-      made_is_hit w db input s order (order_terms order) arm.plan es (order_terms placed.keys) inner wide made
+  hits = λ w db wide indexed hits.
+      made_is_hit w db stored chosen input s order (order_terms order) arm.plan es (order_terms placed.keys) inner wide indexed made
       (order_stands made.columns placed.keys order placed.stand)
       (subst (λ (wide : List Term). PlanReaches w db arm.plan wide) placed.wide_is hits);
-  few = λ w db sizes wide. made_work w db sizes input s order arm.plan es wide made;
-  over = λ catalog sources have limit offset typed.
-      plan_over catalog sources have input s inner order limit offset arm.plan es typed made;
+  over = λ catalog lists have scanned limit offset typed.
+      plan_over catalog stored lists theirs have chosen input s inner scanned order limit offset arm.plan es typed made;
 }
 
-pub ordered_for : (from : From) (input : Input) (s : Select) (order : List Key) (es : List Term) (arm : ArmData) (o : OrderData) → from ≡ input_from input
-    → IsServedFrom (input_from input) → (made : IsMadeOver input s order arm.plan es) → IsOrderOver made.columns order es arm.columns o → arm.distinct ≡ false
-    → s.distinct ≡ false → IsOrderedArmFor order from s arm o
-ordered_for from input s order es arm o same inner made placed all all_of =
-    subst (λ (f : From). IsOrderedArmFor order f s arm o) (sym same) (ordered_over input s order es arm o inner made placed all all_of)
+pub ordered_for : (stored : List SourceData) → AreOfTheirTables stored → (chosen : SelectData) (from : From) (input : Input) (s : Select) (order : List Key)
+    (es : List Term) (arm : ArmData) (o : OrderData) → from ≡ input_from input → IsServedFrom (input_from input)
+    → (made : IsMadeOver stored chosen input s order arm.plan es) → IsOrderOver made.columns order es arm.columns o → arm.distinct ≡ false
+    → s.distinct ≡ false → IsOrderedArmFor stored order from s arm o
+ordered_for stored theirs chosen from input s order es arm o same inner made placed all all_of =
+    subst (λ (f : From). IsOrderedArmFor stored order f s arm o) (sym same) (ordered_over stored theirs chosen input s order es arm o inner made placed all all_of)
 
 -- there is none where something else than values of the rows is named that it is computed on
 pub not_of_rows : (from : From) (input : Input) (s : Select) (terms : List Term) → from ≡ input_from input → ¬ AreOfRows (input_from input) s terms
     → ¬ IsServedSelect from s terms
 not_of_rows from input s terms same none served = none (subst (λ (f : From). AreOfRows f s terms) same served.named)
 
-module _ (query : QueryData) (a : AnswerData) (made : IsPutInOrder query a) where
+module _ (stored : List SourceData) (query : QueryData) (a : AnswerData) (made : IsPutInOrder stored query a) where
   wide_of : (db : Database) → AreWideFor db query.body → IsWideOf db made.from made.s
   wide_of db wide = subst (AreWideFor db) made.body wide
 
-  pub ordered_is_plan : IsPlanFor query (PlannedData.answer a)
+  pub ordered_is_plan : IsPlanFor stored query (PlannedData.answer a)
   ordered_is_plan = record {
-    permits = λ w db rows wide is.
+    permits = λ w db rows wide indexed is.
         answer_is_permitted w db query a rows
         (inr (record {
           from = made.from;
@@ -113,21 +115,18 @@ module _ (query : QueryData) (a : AnswerData) (made : IsPutInOrder query a) wher
           body = made.body;
           arms = made.arms;
           order_is = made.order_is;
-          arm_is = made.arm_is.is_arm w db (wide_of db wide);
+          arm_is = made.arm_is.is_arm w db (wide_of db wide) indexed;
           limit = made.limit_is;
           offset = made.offset_is;
         }))
         is;
-    hits = λ w db wide hits.
+    hits = λ w db wide indexed hits.
         subst (λ (b : Body). meaning.HitsOrdered w db query.order b) (sym made.body)
-        (made.arm_is.hits w db (wide_of db wide) (subst (ArmsHit w db) made.arms hits));
-    few = λ w db sizes wide.
-        subst (λ (arms : ArmsData). work_of_arms w db sizes arms ≤ selects_work w db sizes query.body) (sym made.arms)
-        (subst (λ (b : Body). work_of_arms w db sizes (one made.arm) ≤ selects_work w db sizes b) (sym made.body) (made.arm_is.few w db sizes (wide_of db wide)));
+        (made.arm_is.hits w db (wide_of db wide) indexed (subst (ArmsHit w db) made.arms hits));
   }
 
-  pub ordered_is_over : IsPlannedAsTyped query (PlannedData.answer a)
-  ordered_is_over catalog sources have typed =
-      subst (ArePlannedOver sources) (sym made.arms)
-      (made.arm_is.over catalog sources have query.limit query.offset
+  pub ordered_is_over : IsPlannedAsTyped stored query (PlannedData.answer a)
+  ordered_is_over catalog lists have scanned typed =
+      subst (ArePlannedOver (sources_of stored lists)) (sym made.arms)
+      (made.arm_is.over catalog lists have (subst (AreScannedFor (sources_of stored lists)) made.body scanned) query.limit query.offset
       (subst (λ (b : Body). IsTyped catalog (record { body = b; order = query.order; limit = query.limit; offset = query.offset })) made.body typed))

@@ -1,5 +1,5 @@
 -- Columns of one table alone.
-use Rattle.std.proofs.Common.{◌≡◌, ◌∙◌, ◌+◌, ◌<◌, ◌≤◌, All, ℕ, ℤ, List, [], ◌∷◌, ◌++◌, get_or, IfSome, length, map, None, Option, Some, refl, sym, ap, subst, arith}
+use Rattle.std.proofs.Common.{◌≡◌, ◌∙◌, ◌+◌, ◌<◌, All, ℕ, ℤ, List, [], ◌∷◌, ◌++◌, get_or, IfSome, length, map, None, Option, Some, refl, sym, ap, subst, arith}
 use Rattle.std.proofs.lemmas.List.Elements.{All-cons, All-head, All-nil, All-tail}
 use Rattle.values.specs.Database.{Database}
 use Rattle.values.specs.Datum.{Datum}
@@ -8,15 +8,13 @@ use Rattle.values.specs.declared.value.Ty.{Ty}
 use Rattle.expr.specs.Columns.{columns_of}
 use Rattle.expr.specs.Term.{column}
 use Rattle.semantics.specs.Answer.{Permits}
-use Rattle.semantics.specs.Body.{values_over}
 use Rattle.semantics.specs.Hits.{order_terms}
 use Rattle.semantics.specs.Query.{From, Key, QueryData, Select, always, columns_of_table, from_width, inner, joined, nothing, only, select, table}
 use Rattle.semantics.specs.Typed.{IsTyped}
 use Rattle.semantics.proofs.OneTableLemmas.{scan_is_permitted}
 use Rattle.semantics_names.specs.Sources.{kind_of}
 use Rattle.expr.specs.View.{term}
-use Rattle.logical_plan.specs.Plan.{table_size, TreeSizes}
-use Rattle.logical_plan.specs.answers.Sources.{SourceData}
+use Rattle.logical_plan.specs.answers.Sources.{SourceData, sources_of}
 use Rattle.logical_plan_terms.specs.table_plans.Input.{from_of}
 use Rattle.logical_plan_terms.specs.table_plans.Planned.{on_terms}
 use Rattle.logical_plan_terms.specs.table_plans.TableJoins.{AreTableJoins}
@@ -25,8 +23,7 @@ use Rattle.logical_plan_terms.proofs.PlacedLemmas.{All-front}
 use Rattle.logical_plan_queries.specs.Answers.{IsAnswerOf, IsPlanFor, IsPlannedAsTyped, IsPlannedOver, PlannedData, answer, columns, planned_data}
 use Rattle.logical_plan_queries.specs.declared.planned.Planned.{Planned}
 use Rattle.logical_plan_queries.specs.Made.{IsBare, IsScan}
-use Rattle.logical_plan_queries.specs.compound_plans.Work.{from_work}
-use Rattle.logical_plan_queries.specs.select_plans.Columns.{HaveColumns}
+use Rattle.logical_plan_queries.specs.select_plans.Columns.{AreScannedFor, AreScannedIn, HaveColumns}
 use Rattle.logical_plan_queries.specs.select_plans.Laws.{of_select}
 use Rattle.logical_plan_queries.specs.select_plans.Read.{reads_all, row_terms, select_terms}
 use Rattle.logical_plan_queries.proofs.lemmas.select_plans.ColumnLemmas.{columns_at}
@@ -73,21 +70,15 @@ module _ (from : From) (s : Select) (order : List Key) (limit : Option ℤ) (off
       subst (λ (q : QueryData). Permits w db q rows) same
       (subst (Permits w db (columns_of_table at width places)) (sym is) (scan_is_permitted w db at width places))
 
-  -- one table is read once
-  scan_few : (w : Datum) (db : Database) (sizes : List TreeSizes) (at width : ℕ) → from ≡ only (table at width)
-      → table_size sizes at ≤ from_work w db sizes (values_over w db from) from
-  scan_few w db sizes at width from_is =
-      subst (λ (from : From). table_size sizes at ≤ from_work w db sizes (values_over w db from) from) (sym from_is) (omega arith)
-
-  scan_is_plan : (p : PlannedData) → IsScan from s order limit offset p → IsPlanFor query p
-  scan_is_plan (columns at places) made = record {
-    permits = λ w db rows wide is. scan_permits w db at made.width places rows made.from_is made.bare made.columns_are is;
-    hits = λ w db wide none. absurd none;
-    few = λ w db sizes wide. scan_few w db sizes at made.width made.from_is;
+  scan_is_plan : (stored : List SourceData) (p : PlannedData) → IsScan from s order limit offset p → IsPlanFor stored query p
+  scan_is_plan stored (columns at places) made = record {
+    permits = λ w db rows wide indexed is. scan_permits w db at made.width places rows made.from_is made.bare made.columns_are is;
+    hits = λ w db wide indexed none. absurd none;
   }
-  scan_is_plan (answer a) made = absurd made
+  scan_is_plan stored (answer a) made = absurd made
 
-  module _ (catalog : List (List Ty)) (sources : List SourceData) (have : HaveColumns catalog sources) (typed : IsTyped catalog query) where
+  module _ (catalog : List (List Ty)) (sources : List SourceData) (have : HaveColumns catalog sources) (scanned : AreScannedIn sources from)
+      (typed : IsTyped catalog query) where
     scan_over : (p : PlannedData) → IsScan from s order limit offset p → IsPlannedOver sources p
     scan_over (answer a) made = absurd made
     scan_over (columns at places) made =
@@ -105,7 +96,7 @@ module _ (from : From) (s : Select) (order : List Key) (limit : Option ℤ) (off
         let same : made.width ≡ length source.1 = source.3.1 in
         let long : from_width from ≡ length source.1 = omega (arith, wide, same) in
         let nest = columns_at catalog sources have at source.1 places source.3.0 (subst (λ n. All (λ c. c < n) places) long (places_within (from_width from) places named)) in
-        record { table = nest.0; columns = nest.1; scanned = refl }
+        record { table = nest.0; columns = nest.1; read = (subst (AreScannedIn sources) made.from_is scanned).1 }
 
 -- the plan of a query's SELECT is one of the query
 module _ (query : QueryData) (from : From) (s : Select) (order : List Key) (limit : Option ℤ) (offset : ℤ) (p : PlannedData)
@@ -114,11 +105,13 @@ module _ (query : QueryData) (from : From) (s : Select) (order : List Key) (limi
   same : of_select from s order limit offset ≡ query
   same = λ i. record { body = sym body i; order = order_is i; limit = limit_is i; offset = offset_is i }
 
-  pub columns_plan : IsPlanFor query p
-  columns_plan = subst (λ (q : QueryData). IsPlanFor q p) same (scan_is_plan from s order limit offset p made)
+  pub columns_plan : (stored : List SourceData) → IsPlanFor stored query p
+  columns_plan stored = subst (λ (q : QueryData). IsPlanFor stored q p) same (scan_is_plan from s order limit offset stored p made)
 
-  pub columns_over : IsPlannedAsTyped query p
-  columns_over catalog sources have typed = scan_over from s order limit offset catalog sources have (subst (IsTyped catalog) (sym same) typed) p made
+  pub columns_over : (stored : List SourceData) → IsPlannedAsTyped stored query p
+  columns_over stored catalog lists have scanned typed =
+      scan_over from s order limit offset catalog (sources_of stored lists) have (subst (AreScannedFor (sources_of stored lists)) body scanned)
+      (subst (IsTyped catalog) (sym same) typed) p made
 
 -- where there is one
 pub scan_told : (Made P : PlannedData → Type 0) (planned : Option Planned) → ((p : PlannedData) → Made p → P p) → IfSome planned (λ p. Made (planned_data p))

@@ -1,9 +1,11 @@
 -- What a plan answers, what it may ask for and what it reaches. (SELECT)
-use Rattle.std.specs.Prelude.{◌≡◌, ◌≤◌, [], false, ℕ, List, map, None}
+use Rattle.std.specs.Prelude.{◌≡◌, [], false, ℕ, List, map, None, Vec}
+use Rattle.std.specs.Global.{Global}
 use Rattle.values.specs.Database.{Database}
 use Rattle.values.specs.Datum.{Datum}
 use Rattle.values.specs.Row.{Row}
 use Rattle.values.specs.declared.value.Ty.{Ty}
+use Rattle.values.specs.declared.value.Value.{Value}
 use Rattle.semantics.specs.Answer.{Permits}
 use Rattle.semantics.specs.Hits as meaning
 use Rattle.semantics.specs.OneTable.{shown}
@@ -12,9 +14,9 @@ use Rattle.semantics.specs.Typed.{IsTyped}
 use Rattle.logical_plan.specs.Plan.{table_rows, table_size, TreeSizes}
 use Rattle.logical_plan.specs.answers.Answers.{AnswerData, IsAnswer, answer_data}
 use Rattle.logical_plan.specs.answers.Arms.{ArePlannedOver, ArmsHit, work_of_arms}
-use Rattle.logical_plan.specs.answers.Sources.{IsNestOf, SourceData}
-use Rattle.logical_plan_queries.specs.compound_plans.Work.{selects_work}
-use Rattle.logical_plan_queries.specs.select_plans.Columns.{HaveColumns}
+use Rattle.logical_plan_queries.specs.select_plans.Made.{AreIndexesOf}
+use Rattle.logical_plan.specs.answers.Sources.{IsNestOf, SourceData, sources_of}
+use Rattle.logical_plan_queries.specs.select_plans.Columns.{AreScannedFor, HaveColumns}
 use Rattle.logical_plan_queries.specs.select_plans.Read.{IsWideOf}
 use Rattle.logical_plan_queries.specs.declared.planned.Planned.{Planned}
 use Rattle.logical_plan_queries.specs.declared.planned.Planned.TheVariants as p
@@ -49,18 +51,18 @@ abbrev pub AreWideFor : Database → Body → Type 0
 AreWideFor db (Body.select from s) = IsWideOf db from s
 AreWideFor db (Body.compound body operator from s) = AreWideFor db body × IsWideOf db from s
 
--- what it answers the query permits, what it reaches the query can reach, and it asks for no more pages than the query's SELECTs may
-pub record IsPlanFor (query : QueryData) (planned : PlannedData) : Type 0 where
-  pub permits : (w : Datum) (db : Database) (rows : List Row) → AreWideFor db query.body → IsAnswerOf w db planned rows → Permits w db query rows
-  pub hits : (w : Datum) (db : Database) → AreWideFor db query.body → HitsOf w db planned → meaning.Hits w db query
-  pub few : (w : Datum) (db : Database) (sizes : List TreeSizes) → AreWideFor db query.body → work_of w db sizes planned ≤ selects_work w db sizes query.body
+-- over these tables and indexes, what it answers the query permits, and what it reaches the query can reach
+pub record IsPlanFor (stored : List SourceData) (query : QueryData) (planned : PlannedData) : Type 0 where
+  pub permits : (w : Datum) (db : Database) (rows : List Row) → AreWideFor db query.body → AreIndexesOf db stored → IsAnswerOf w db planned rows
+      → Permits w db query rows
+  pub hits : (w : Datum) (db : Database) → AreWideFor db query.body → AreIndexesOf db stored → HitsOf w db planned → meaning.Hits w db query
 
 -- its sources and their columns are some of these
 abbrev pub IsPlannedOver : List SourceData → PlannedData → Type 0
 IsPlannedOver sources (columns at places) = IsNestOf sources (record { table = at; columns = places; tests = []; padded = false; search = None })
 IsPlannedOver sources (answer a) = ArePlannedOver sources a.arms
 
--- where the query is typed over a catalog, these are some of any sources that have its columns
-abbrev pub IsPlannedAsTyped : QueryData → PlannedData → Type 0
-IsPlannedAsTyped query planned = (catalog : List (List Ty)) (sources : List SourceData) → HaveColumns catalog sources → IsTyped catalog query
-    → IsPlannedOver sources planned
+-- where the query is typed over a catalog, these are some of those that have its columns: what is stored, and lists of rows after it
+abbrev pub IsPlannedAsTyped : List SourceData → QueryData → PlannedData → Type 0
+IsPlannedAsTyped stored query planned = (catalog : List (List Ty)) (lists : List (Vec (Vec Value Global) Global)) → HaveColumns catalog (sources_of stored lists)
+    → AreScannedFor (sources_of stored lists) query.body → IsTyped catalog query → IsPlannedOver (sources_of stored lists) planned

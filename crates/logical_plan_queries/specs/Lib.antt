@@ -6,3 +6,4 @@ pub mod Laws
 pub mod select_plans
 pub mod compound_plans
 pub mod plan_sources
+pub mod Opens

@@ -9,7 +9,8 @@ ghost use Rattle.expr.specs.View.{term};
 
 use crate::Planned;
 use expr::Expr;
-use logical_plan_terms::{input_of, is_always};
+use logical_plan::is_always;
+use logical_plan_terms::input_of;
 use resolver_bodies::Tables;
 use resolver_terms::{Key, Select};
 use sql_reader_syntax::Join;

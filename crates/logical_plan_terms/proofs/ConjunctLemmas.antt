@@ -16,7 +16,7 @@ use Rattle.logical_plan_terms.proofs.PlacedLemmas.{AreOver, Over, first, later, 
 
 -- ---- conjuncts
 
-conjuncts-placed : (read : List ℕ) (t : Term) → conjuncts (placed read t) ≡ map (placed read) (conjuncts t)
+pub conjuncts-placed : (read : List ℕ) (t : Term) → conjuncts (placed read t) ≡ map (placed read) (conjuncts t)
 conjuncts-placed read = leaves_conjuncts (place_in read) unanswered unanswered
 
 -- none names an answer
@@ -38,7 +38,7 @@ module _ (read : List ℕ) (inner : ℕ) where
     answers_are = All-append (λ at. inner ≤ at) us vs left.answers_are right.answers_are;
   }
 
-  conjuncts_over : (t : Term) → OverTerm t → All OverTerm (conjuncts t)
+  pub conjuncts_over : (t : Term) → OverTerm t → All OverTerm (conjuncts t)
   conjuncts_over (and a b) h =
       All-append OverTerm (conjuncts a) (conjuncts b)
       (conjuncts_over a (first read inner (columns_of a) (columns_of b) (answers_of a) (answers_of b) h))

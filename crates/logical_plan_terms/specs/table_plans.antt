@@ -2,4 +2,9 @@ pub mod Input
 pub mod TableJoins
 pub mod Parted
 pub mod Planned
+pub mod Implied
 pub mod Laws
+pub mod Ordered
+pub mod Example
+pub mod Built
+pub mod PromisedLaws

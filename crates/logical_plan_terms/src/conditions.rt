@@ -1,5 +1,7 @@
 //! A condition, split at AND.
-ghost use Rattle.std.specs.Prelude.{All, IfOk, MatchOption, map, ⊤};
+ghost use Rattle.std.specs.Prelude.{◌≡◌, All, IfOk, MatchOption, map, ⊤};
+ghost use Rattle.expr.specs.Conjuncts.{conjuncts};
+ghost use Rattle.expr.specs.Filled.{placed};
 ghost use Rattle.expr.specs.Names.{IsAnswered};
 ghost use Rattle.logical_plan_terms.specs.Over.{AreTestsOver, IsOver};
 ghost use Rattle.expr.specs.View.{term};
@@ -20,6 +22,7 @@ pub fn conjuncts_over(
         (λ _. IsOver read.now inner (term condition.now))) }
     ensures stand { IfOk result (λ es. MatchOption es ⊤
         (λ es. AreTestsOver read.now inner (map term es.items) (term condition.now))) }
+    ensures terms { IfOk result (λ es. MatchOption es ⊤ (λ es. map term es.items ≡ conjuncts (placed read.now (term condition.now)))) }
     ensures answered { IfOk result (λ es. MatchOption es ⊤ (λ es. All IsAnswered (map term es.items))) }
 {
     if !is_over(alloc, read, inner, condition)? {

@@ -22,5 +22,5 @@ pub use conditions::conjuncts_over;
 pub use group_plans::{columns_of_groups, grouped_over, push_group_columns};
 pub use names::{push_columns_of_all, read_columns};
 pub use over::{expr_over, exprs_over};
-pub use table_plans::{Input, JoinedTable, input_of, is_always, plan_of};
+pub use table_plans::{Input, JoinedTable, TablePlan, input_of, plan_of};
 pub use window_plans::windowed_over;

@@ -41,10 +41,11 @@ impl Drop for OpenImage {
 impl Model for OpenImage {
     ghost use Rattle.std.specs.Coded.{codes};
     ghost use Rattle.opened_images.specs.Held.{ImageState, coded_slot};
+    ghost use Rattle.shell.specs.State.{coded_check};
 
     ghost Value = { ImageState };
 
-    ghost coded = { Prim.hlevel (codes, coded_slot) };
+    ghost coded = { Prim.hlevel (codes, coded_slot, coded_check) };
 
     ghost view = { λ i. record { session = i.session; slot = i.slot; reply = i.reply } };
 }

@@ -1,4 +1,5 @@
 pub mod Slices
 pub mod Coming
+pub mod Promised
 pub mod distinct_results
 pub mod compound_results

@@ -10,6 +10,7 @@ ghost use Rattle.logical_plan.specs.Plan.{rows_of, work};
 ghost use Rattle.logical_plan.specs.PlanView.{plan_data};
 ghost use Rattle.operators_loops.specs.Basis.{AreStored, Basis, GivesRowOrNone, ReadsRows};
 ghost use Rattle.operators.specs.Left.{plan_of, steps};
+ghost use Rattle.logical_plan.specs.Promised.{ArePromised};
 ghost use Rattle.operators_results.specs.Coming.{IsComing, IsResultCause, SameSelection};
 ghost use Rattle.operators_results.specs.Slices.{sliced};
 ghost use Rattle.logical_plan.specs.answers.Arms.{result_rows};
@@ -39,7 +40,7 @@ impl Results {
     pub fn open(alloc: Global, arm: &Arm, slice: LimitOffset) -> Result<Results, AllocError>
         ensures plan { IfOk result (λ results. plan_of results.op ≡ plan_data arm.now.plan) }
         ensures columns { IfOk result (λ results. map term results.columns.items ≡ map term arm.now.columns.items) }
-        ensures rows { IfOk result (λ results. (pages : Pages) (sources : List SourceData) (on : Basis) → on.plan ≡ plan_data arm.now.plan
+        ensures rows { IfOk result (λ results. (pages : Pages) (sources : List SourceData) (on : Basis) → on.plan ≡ plan_data arm.now.plan → ArePromised on.w on.db on.plan
             → IsComing pages sources on results (sliced slice (result_rows on.w (map term arm.now.columns.items) (rows_of on.w on.db on.plan)))
             (work on.w on.db on.sizes on.plan)) }
     {
@@ -58,7 +59,7 @@ impl Results {
     pub fn of_all(alloc: Global, arm: &Arm) -> Result<Results, AllocError>
         ensures plan { IfOk result (λ results. plan_of results.op ≡ plan_data arm.now.plan) }
         ensures columns { IfOk result (λ results. map term results.columns.items ≡ map term arm.now.columns.items) }
-        ensures rows { IfOk result (λ results. (pages : Pages) (sources : List SourceData) (on : Basis) → on.plan ≡ plan_data arm.now.plan
+        ensures rows { IfOk result (λ results. (pages : Pages) (sources : List SourceData) (on : Basis) → on.plan ≡ plan_data arm.now.plan → ArePromised on.w on.db on.plan
             → IsComing pages sources on results (result_rows on.w (map term arm.now.columns.items) (rows_of on.w on.db on.plan))
             (work on.w on.db on.sizes on.plan)) }
     {

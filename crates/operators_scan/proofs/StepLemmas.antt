@@ -1,5 +1,5 @@
 -- The steps of a cursor over what stands at a place, and the tables alone.
-use Rattle.std.proofs.Common.{◌≡◌, ◌<◌, ◌≤◌, ℕ, zero, suc, List, [], ◌∷◌, append-nil, map, slice_get, Some, sym, subst, arith}
+use Rattle.std.proofs.Common.{◌≡◌, ◌<◌, ◌≤◌, ℕ, zero, suc, List, [], ◌∷◌, append-nil, ◌∙◌, ◌++◌, map, slice_get, Some, sym, subst, arith}
 use Rattle.std.proofs.lemmas.List.Sums.{sum_by-cons}
 use Rattle.std.proofs.lemmas.Option.{get_or_from_slice_get, same_Some}
 use Rattle.logical_plan.specs.answers.Sources.{SourceData, of_rows, of_table}
@@ -7,7 +7,7 @@ use Rattle.operators_scan.specs.Coming.{OpenedAreFew, TablesAlone, most_steps, s
 use Rattle.operators_scan.specs.declared.rows.SourceCursor.{SourceCursor}
 
 pub tables_alone : TablesAlone
-tables_alone tables = append-nil (map of_table tables)
+tables_alone tables = append-nil (map of_table tables ++ []) ∙ append-nil (map of_table tables)
 
 pub opened_are_few : OpenedAreFew
 opened_are_few [] at source found = absurd cc

@@ -1,7 +1,7 @@
 //! What holds of the definitions alone.
 ghost use Rattle.operators_scan.specs.Coming.{OpenedAreFew, TablesAlone};
 
-/// Without kept rows, what is read of is the tables of the catalog.
+/// Without indexes and kept rows, what is read of is the tables of the catalog.
 pub fn tables_alone()
     ensures { TablesAlone }
 {}

@@ -22,6 +22,8 @@ use Rattle.schema_tables.specs.table_copies.Whole.{all_tables}
 use Rattle.schema_tables.specs.ColumnTypes.{column_types}
 use Rattle.schema_tables.specs.TableData.{TableData}
 use Rattle.integrity.specs.Checked.{FoundData}
+use Rattle.schema.specs.indexes.IndexData.{IndexData}
+use Rattle.integrity_trees.specs.declared.tree_walk.counts.TreeCounts.{TreeCounts}
 use Rattle.shell.specs.Prepared.{IsPlannedFor, IsPreparedFor, RunsFor, with_schema_over}
 use Rattle.shell.specs.PreparedView.{PreparedData}
 use Rattle.shell.specs.State.{EngineState, IsReady, sources_over}
@@ -75,11 +77,11 @@ asks_more local old new ahead most left asks within = record {
   chains = λ unchained. asks.chains unchained;
 }
 
-module _ (pager : PagerState) (tables : List TableData) (counts : FoundData) (ready : IsReady pager tables) (query : QueryData) (given : List Row)
+module _ (pager : PagerState) (tables : List TableData) (indexes : List IndexData) (schema_tree : TreeCounts) (counts : FoundData) (ready : IsReady pager tables) (query : QueryData) (given : List Row)
     (typed : IsTyped (column_types tables) query) (new : EngineState) (image : SameImage pager new.pager) (same : new.tables ≡ tables)
     (was statement : Statement) where
   abbrev engine : EngineState
-  engine = record { pager = pager; tables = tables; found = counts }
+  engine = record { pager = pager; tables = tables; indexes = indexes; schema_tree = schema_tree; found = counts }
 
   abbrev over : QueryData
   over = with_schema_over tables query

@@ -6,3 +6,6 @@ pub mod PreparedLemmas
 pub mod ServedLemmas
 pub mod AheadLemmas
 pub mod SteppedLemmas
+pub mod IndexLemmas
+pub mod SearchLemmas
+pub mod SourceLemmas

@@ -1,18 +1,16 @@
 -- What was made of a statement whose names are resolved.
-use Rattle.std.proofs.Common.{◌≡◌, ◌∙◌, inl, inr, refl, true, ℕ, List, length, Option, Some, None, ap, sym, subst}
+use Rattle.std.proofs.Common.{◌≡◌, ◌∙◌, inl, ℕ, List, length, Option, Some, None, ap, sym, subst}
 use Rattle.values.specs.declared.fault.Fault.{Fault}
-use Rattle.values.specs.declared.fault.Fault.TheVariants.{NoMemory, NotYet}
+use Rattle.values.specs.declared.fault.Fault.TheVariants.{NoMemory}
 use Rattle.semantics.specs.Query.{QueryData}
 use Rattle.semantics.specs.Typed.{IsTyped}
 use Rattle.semantics_names.specs.Statement.{Named}
 use Rattle.logical_plan_queries.specs.Answers.{IsPlanFor, IsPlannedAsTyped, PlannedData}
-use Rattle.resolver.specs.Resolved.{Resolves}
 use Rattle.logical_plan_queries.proofs.lemmas.select_plans.ColumnLemmas.{tables_have_columns}
 use Rattle.schema_tables.specs.table_copies.Whole.{all_tables}
 use Rattle.schema_tables.specs.ColumnTypes.{column_types}
 use Rattle.schema_tables.specs.TableData.{TableData}
-use Rattle.sql_reader.specs.StatementTexts.{IsAllowed, IsRefusedStatement, SpellsStatement}
-use Rattle.sql_reader_syntax.specs.StatementTree.{StatementTree}
+use Rattle.sql_reader.specs.StatementTexts.{IsRefusedStatement}
 use Rattle.semantics_rewrites.specs.schema_sources.Settled.{settled}
 use Rattle.shell.proofs.SettledLemmas.{typed_over}
 use Rattle.shell.specs.Prepared.{IsPlannedAs, IsPlannedFor, IsPreparedFor, RefusesText, RunsFor, with_schema_over}
@@ -48,13 +46,3 @@ prepared_for tables prepared named place last typed same with_schema_is runs =
 -- memory ran out
 pub unprepared : (tables : List TableData) (text : List ℕ) (e : Fault) → e ≡ NoMemory → RefusesText tables text e
 unprepared tables text e is = inl (subst (λ (f : Fault). IsRefusedStatement text f) (sym is) tt)
-
--- it is only to be explained
-pub unexplained : (tables : List TableData) (text : List ℕ) (tree : StatementTree) (named : Named) → SpellsStatement text tree → IsAllowed text tree
-    → Resolves tables tree named → tree.explain ≡ true → RefusesText tables text NotYet
-unexplained tables text tree named spelt within resolves explained = inr (inr (record {
-  named = named;
-  spells = record { tree = tree; spelt = spelt; within = within; resolves = resolves };
-  explained = explained;
-  fault_is = refl;
-}))

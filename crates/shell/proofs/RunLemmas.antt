@@ -37,6 +37,8 @@ use Rattle.operators_scan.specs.Coming.{IsStoredSource}
 use Rattle.logical_plan.specs.answers.Sources.{SourceData, of_table, sources_of}
 use Rattle.operators_scan.proofs.StepLemmas.{tables_alone}
 use Rattle.integrity.specs.Checked.{FoundData, IsCheckFault}
+use Rattle.schema.specs.indexes.IndexData.{IndexData}
+use Rattle.integrity_trees.specs.declared.tree_walk.counts.TreeCounts.{TreeCounts}
 use Rattle.integrity.specs.Denotes.{Denotes}
 use Rattle.integrity.proofs.DenotesLemmas.{HasDatabase, IsStoredAs, database_of}
 use Rattle.operators_scan.specs.scan.Coming.{Asks, size_of}
@@ -276,10 +278,10 @@ module _ (pager : PagerState) (tables : List TableData) (query : QueryData) (typ
   }
 
 -- From what a run promises to what the engine's run does.
-module _ (pager : PagerState) (tables : List TableData) (counts : FoundData) (prepared : PreparedData) (ready : IsReady pager tables)
+module _ (pager : PagerState) (tables : List TableData) (indexes : List IndexData) (schema_tree : TreeCounts) (counts : FoundData) (prepared : PreparedData) (ready : IsReady pager tables)
     (is : IsPreparedFor tables prepared) where
   abbrev engine : EngineState
-  engine = record { pager = pager; tables = tables; found = counts }
+  engine = record { pager = pager; tables = tables; indexes = indexes; schema_tree = schema_tree; found = counts }
 
   pub stored : IsTrue pager.source.steady → All (IsStoredSource (pages_seen pager)) (sources_over tables)
   stored steady =

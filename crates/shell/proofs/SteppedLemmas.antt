@@ -24,6 +24,8 @@ use Rattle.sql_reader_syntax.specs.StatementTree.{StatementTree}
 use Rattle.schema_tables.specs.ColumnTypes.{column_types}
 use Rattle.schema_tables.specs.TableData.{TableData}
 use Rattle.integrity.specs.Checked.{FoundData}
+use Rattle.schema.specs.indexes.IndexData.{IndexData}
+use Rattle.integrity_trees.specs.declared.tree_walk.counts.TreeCounts.{TreeCounts}
 use Rattle.shell.specs.Prepared.{IsPreparedFor, with_schema_over}
 use Rattle.shell.specs.PreparedView.{PreparedData}
 use Rattle.shell.specs.State.{EngineState, IsReady, sources_over}
@@ -122,10 +124,10 @@ stands_kept old new query statement given image tables stands = record {
 
 -- ---- a step
 
-module _ (pager : PagerState) (tables : List TableData) (counts : FoundData) (ready : IsReady pager tables) (query : QueryData) (given : List Row)
+module _ (pager : PagerState) (tables : List TableData) (indexes : List IndexData) (schema_tree : TreeCounts) (counts : FoundData) (ready : IsReady pager tables) (query : QueryData) (given : List Row)
     (typed : IsTyped (column_types tables) query) where
   abbrev engine : EngineState
-  engine = record { pager = pager; tables = tables; found = counts }
+  engine = record { pager = pager; tables = tables; indexes = indexes; schema_tree = schema_tree; found = counts }
 
   abbrev over : QueryData
   over = with_schema_over tables query

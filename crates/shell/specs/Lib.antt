@@ -5,3 +5,4 @@ pub mod Run
 pub mod Prepared
 pub mod Served
 pub mod Stepped
+pub mod Indexes

@@ -14,7 +14,6 @@ use Rattle.shell.specs.Answer.{PrintsAnswer, PrintsBeginning}
 use Rattle.shell.specs.Prepared.{with_schema_over}
 use Rattle.shell.specs.PreparedView.{PreparedData}
 use Rattle.shell.specs.State.{EngineState, sources_over}
-use Rattle.schema_tables.specs.table_copies.Whole.{all_tables}
 
 -- of tables of which this is said, a run took no more pages than the work of what is run, and none of overflow chains where
 -- no cell has one
@@ -34,8 +33,8 @@ pub record TookOnce (on : Basis) (query : QueryData) (report : Report) : Type 0 
 pub record HasRun (old new : EngineState) (prepared : PreparedData) (before after : SinkFacts) (report : Report) : Type 0 where
   pub answer : IsTrue old.pager.source.steady → PrintsAnswer old.pager.source.bytes old.tables prepared.query report.rows before after
   pub few : IsTrue old.pager.source.steady → (planned : PlannedData) → prepared.planned ≡ Some planned → (on : Basis)
-      → AreStored (pages_of old.pager.source.bytes) (sources_over old.tables) on → TookFew on planned report
-  pub each_once : IsTrue old.pager.source.steady → (on : Basis) → AreSaid (pages_of old.pager.source.bytes) (all_tables old.tables) on
+      → AreStored (pages_of old.pager.source.bytes) (sources_over old) on → TookFew on planned report
+  pub each_once : IsTrue old.pager.source.steady → (on : Basis) → AreSaid (pages_of old.pager.source.bytes) (sources_over old) on
       → TookOnce on (with_schema_over old.tables prepared.query) report
   pub asked : report.asked ≡ new.pager.asked - old.pager.asked
   pub chained : report.chained ≡ new.pager.chained - old.pager.chained

@@ -24,7 +24,9 @@ use Rattle.operators_scan.specs.scan.Coming.{Asks}
 use Rattle.resolver_bodies.specs.NamedView.{query_data}
 use Rattle.sql_reader.specs.StatementTexts.{IsRefusedStatement}
 use Rattle.sql_reader_syntax.specs.Tree.{Name}
-use Rattle.schema_tables.specs.table_copies.Whole.{all_tables}
+use Rattle.access_plans.specs.PlanView.{plan_data}
+use Rattle.access_plans.specs.Plans as p
+use Rattle.logical_plan.specs.answers.Sources.{SourceData}
 use Rattle.schema_tables.specs.ColumnTypes.{column_types}
 use Rattle.schema_tables.specs.TableData.{TableData}
 use Rattle.shell.specs.Answer.{IsAnswerOver, OverTables}
@@ -66,12 +68,12 @@ abbrev pub IsUnstarted : List TableData → List ℕ → Fault → Type 0
 IsUnstarted tables text fault = IsRefusedStatement text fault ⊎ (IsUnresolved tables text fault ⊎ IsExplained tables text fault)
 
 -- what a statement reads is some of these tables and, behind them, the schema's own
-abbrev pub IsSteppedOver : List TableData → Statement → Type 0
-IsSteppedOver tables statement = IsQueryOver (sources_over tables) statement.run
+abbrev pub IsSteppedOver : List SourceData → Statement → Type 0
+IsSteppedOver sources statement = IsQueryOver sources statement.run
 
 -- how many steps it may still take, over any source
-abbrev pub rows_ahead : List TableData → Statement → ℕ
-rows_ahead tables statement = steps_ahead (sources_over tables) statement.run
+abbrev pub rows_ahead : List SourceData → Statement → ℕ
+rows_ahead sources statement = steps_ahead sources statement.run
 
 -- its last row was given, or it failed
 abbrev pub HasEnded : Statement → Type 0
@@ -92,7 +94,7 @@ IsStepFault statement fault = IsOperatorFault fault ⊎ ((fault ≡ Finished) ×
 -- what is run of a query over a steady source has given these rows
 abbrev pub HasRunGiven : EngineState → QueryData → QueryRun → List Row → Type 0
 HasRunGiven engine query run given =
-    IsTrue engine.pager.source.steady → HasGivenOf (pages_seen engine.pager) (all_tables engine.tables) (with_schema_over engine.tables query) run given
+    IsTrue engine.pager.source.steady → HasGivenOf (pages_seen engine.pager) (sources_over engine) (with_schema_over engine.tables query) run given
 
 -- a statement of this query that hasn't ended has given these rows: over a steady source what is run for it has given them
 pub record HasGivenSoFar (engine : EngineState) (query : QueryData) (statement : Statement) (given : List Row) : Type 0 where
@@ -101,18 +103,18 @@ pub record HasGivenSoFar (engine : EngineState) (query : QueryData) (statement :
   pub gave : HasRunGiven engine query statement.run given
 
 -- of tables of which this is said, a statement of a query may still ask for no more pages than these, whatever else asks for pages in between
-pub record MayAsk (image : List ℕ) (tables : List TableData) (on : Basis) (query : QueryData) (statement : Statement) (most : ℕ) : Type 0 where
+pub record MayAsk (engine : EngineState) (on : Basis) (query : QueryData) (statement : Statement) (most : ℕ) : Type 0 where
   pub ahead : ℕ
-  pub is_ahead : IsAhead (pages_of image) (all_tables tables) on (with_schema_over tables query) statement.run ahead
+  pub is_ahead : IsAhead (pages_of engine.pager.source.bytes) (sources_over engine) on (with_schema_over engine.tables query) statement.run ahead
   pub within : ahead ≤ most
 
 -- Of the pages that a statement may still ask for, a step asks for some, and the others are left for the steps behind it, whatever is said
 -- of the tables that are stored, the schema's own behind them; and for none of overflow chains where no cell has one.
 abbrev pub StaysWithin : EngineState → EngineState → QueryData → Statement → Statement → Result (Option Row) Fault → Type 0
-StaysWithin old new query was statement result = IsTrue old.pager.source.steady → (on : Basis) → AreSaid (pages_of old.pager.source.bytes) (all_tables old.tables) on
-    → (most : ℕ) → MayAsk old.pager.source.bytes old.tables on query was most
+StaysWithin old new query was statement result = IsTrue old.pager.source.steady → (on : Basis) → AreSaid (pages_of old.pager.source.bytes) (sources_over old) on
+    → (most : ℕ) → MayAsk old on query was most
     → IfOk result (λ found. (left : ℕ) × Asks on.local old.pager most new.pager left
-    × OnSome found (MayAsk new.pager.source.bytes new.tables on query statement left))
+    × OnSome found (MayAsk new on query statement left))
 
 -- the plan of a query that was prepared was opened
 pub record IsPlanOpened (planned : Option PlannedData) (running : Execution) : Type 0 where
@@ -125,16 +127,16 @@ pub record IsQueryOpened (settled : QueryData) (planned : Option PlannedData) (w
   pub unplanned : planned ≡ None
   pub waits_is : waits ≡ settled
 
-abbrev pub IsRunOf : QueryData → Option PlannedData → QueryRun → Type 0
-IsRunOf settled planned (Planned running) = IsPlanOpened planned running
-IsRunOf settled planned (Nested waits) = IsQueryOpened settled planned (query_data waits)
-IsRunOf settled planned (Gathered left) = ⊥
-IsRunOf settled planned Ended = ⊥
+abbrev pub IsRunOf : QueryData → p.Plan → Option PlannedData → QueryRun → Type 0
+IsRunOf settled chosen planned (Planned running) = IsPlanOpened planned running
+IsRunOf settled chosen planned (Nested waits plan) = IsQueryOpened settled planned (query_data waits) × (plan_data plan ≡ chosen)
+IsRunOf settled chosen planned (Gathered left) = ⊥
+IsRunOf settled chosen planned Ended = ⊥
 
 -- what is run of a query that was prepared was opened, with the names of its result columns
 pub record IsStartedFor (prepared : PreparedData) (started : Started) : Type 0 where
   pub names : map (λ name. string_bytes name) started.names.items ≡ prepared.names
-  pub opened : IsRunOf prepared.settled prepared.planned started.statement.run
+  pub opened : IsRunOf prepared.settled prepared.plan prepared.planned started.statement.run
 
 -- A statement before its first row, with the names of its result columns. It may ask for no more pages than the query's joins and those of
 -- each query in it may ask for, each query once.
@@ -142,9 +144,9 @@ pub record HasStarted (engine : EngineState) (text : List ℕ) (started : Starte
   pub query : QueryData
   pub means : IsStatement engine.tables text query (map (λ name. string_bytes name) started.names.items)
   pub stands : HasGivenSoFar engine query started.statement []
-  pub over : IsSteppedOver engine.tables started.statement
-  pub pages : (on : Basis) → AreSaid (pages_of engine.pager.source.bytes) (all_tables engine.tables) on
-      → MayAsk engine.pager.source.bytes engine.tables on query started.statement (body_work on.w on.db on.sizes (with_schema_over engine.tables query).body)
+  pub over : IsSteppedOver (sources_over engine) started.statement
+  pub pages : (on : Basis) → AreSaid (pages_of engine.pager.source.bytes) (sources_over engine) on
+      → MayAsk engine on query started.statement (body_work on.w on.db on.sizes (with_schema_over engine.tables query).body)
 
 -- one row more was given, and an answer may begin with all that were
 pub record HasGivenRow (old new : EngineState) (query : QueryData) (given : List Row) (statement : Statement) (row : Row) : Type 0 where

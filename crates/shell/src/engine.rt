@@ -5,28 +5,36 @@ ghost use Rattle.pager.specs.Calls.{HandsBack};
 ghost use Rattle.values.specs.Fault.{Counts};
 ghost use Rattle.values.specs.Row.{Row as RowData};
 ghost use Rattle.semantics.specs.Query.{QueryData};
-ghost use Rattle.shell.specs.Prepared.{IsPreparedFor, Means, RefusesText};
+ghost use Rattle.integrity.specs.CheckedView.{checked_data};
+ghost use Rattle.schema_tables.specs.table_copies.Whole.{all_tables};
+ghost use Rattle.shell.specs.Indexes.{AreStoredIndexes};
+ghost use Rattle.shell.specs.Prepared.{IsPreparedFor, IsShownFor, Means, RefusesText};
 ghost use Rattle.shell.specs.PreparedView.{prepared_data};
 ghost use Rattle.shell.specs.Run.{HasRun, HasStopped};
-ghost use Rattle.shell.specs.State.{IsOpenedOver, IsEngineFault, ReadsTables};
+ghost use Rattle.shell.specs.State.{IsOpenedOver, IsEngineFault, ReadsTables, sources_over};
 ghost use Rattle.shell.specs.Stepped.{EndsStatement, HasEnded, HasGivenSoFar, HasStarted, IsStepFault, IsSteppedOver, IsUnstarted, NeedsNoFurther, StepsStatement, rows_ahead};
 
+use crate::explained::explained_query;
+use crate::stored::stored_indexes;
 use crate::{Prepared, Started, Statement};
 use integrity::{Checked, check};
+use logical_plan::{Stored, StoredIndex};
 use pager::{Pager, Source};
 use resolver::resolve;
 use schema_tables::{Table, with_schema_table};
 use sql_reader::read_select;
-use std::alloc::Global;
+use std::alloc::{AllocError, Global};
 use std::marker::Model;
 use std::num::NonZeroUsize;
 use values::{Fault, Row, Sink};
 
-/// An image that was checked whole, and its tables: queries are run over these and, behind them, the table of the schema's rows.
+/// An image that was checked whole, its tables and its indexes: queries are run over the tables, the table of the schema's rows after
+/// them, and the indexes after that.
 pub struct Engine<S: Source> {
     pager: Pager<S>,
     checked: Checked,
     tables: Vec<Table>,
+    indexes: Vec<StoredIndex>,
     alloc: Global,
 }
 
@@ -37,24 +45,47 @@ impl<S: Source + Drop> Drop for Engine<S> {
             pager,
             checked,
             tables,
+            indexes,
             alloc: _alloc,
         } = self;
         drop(pager);
         drop(checked);
         drop(tables);
+        drop(indexes);
     }
 }
 
 impl<S: Source> Model for Engine<S> {
+    ghost use Rattle.std.specs.Coded.{codes};
     ghost use Rattle.integrity.specs.Checked.{found_data};
     ghost use Rattle.integrity.specs.CheckedView.{checked_data};
-    ghost use Rattle.shell.specs.State.{EngineState, IsReadyWith};
+    ghost use Rattle.shell.specs.State.{EngineState, IsReadyWith, coded_check};
+    ghost use Rattle.shell.specs.Indexes.{IsReadyToSearch};
 
     ghost Value = { EngineState };
 
-    ghost view = { λ e. record { pager = e.pager.state; tables = (checked_data e.checked).tables; found = found_data (checked_data e.checked) } };
+    ghost coded = { Prim.hlevel (codes, coded_check) };
 
-    ghost invariant = { λ e. IsReadyWith e.pager.state (checked_data e.checked) e.tables.items };
+    ghost view = { λ e. record { pager = e.pager.state; tables = (checked_data e.checked).tables; checked = e.checked; schema_tree = (checked_data e.checked).schema_tree; found = found_data (checked_data e.checked); stored = e.indexes.items } };
+
+    ghost invariant = { λ e. IsReadyWith e.pager.state (checked_data e.checked) e.tables.items × IsReadyToSearch e.pager.state (checked_data e.checked) e.tables.items e.indexes.items };
+}
+
+/// What rows are read of: the tables of an image that was checked, with that of the schema's rows, and its indexes.
+#[derive(Drop)]
+struct Made {
+    tables: Vec<Table>,
+    indexes: Vec<StoredIndex>,
+}
+
+/// What rows are read of in an image that was checked.
+fn made_of(alloc: Global, checked: &Checked) -> Result<Made, AllocError>
+    ensures tables { IfOk result (λ made. made.tables.items ≡ all_tables (checked_data checked.now).tables) }
+    ensures indexes { IfOk result (λ made. AreStoredIndexes (checked_data checked.now) made.indexes.items) }
+{
+    let tables = with_schema_table(alloc, checked.tables())?;
+    let indexes = stored_indexes(alloc, checked)?;
+    Ok(Made { tables, indexes })
 }
 
 /// What a run took: the rows that it wrote, and the pages that it asked for, those of overflow chains apart. Each count
@@ -70,6 +101,14 @@ pub struct Report {
 }
 
 impl<S: Source> Engine<S> {
+    /// What rows are read of, before those that are materialized.
+    fn stored(&self) -> Stored<'_> {
+        Stored {
+            tables: self.tables.as_slice(),
+            indexes: self.indexes.as_slice(),
+        }
+    }
+
     /// Opens an image and checks it whole; the cache keeps so many of its pages.
     ///
     /// # Errors
@@ -82,11 +121,12 @@ impl<S: Source> Engine<S> {
     {
         let mut pager = Pager::open(alloc, source, cache)?;
         match check(alloc, &mut pager) {
-            Ok(checked) => match with_schema_table(alloc, checked.tables()) {
-                Ok(tables) => Ok(Engine {
+            Ok(checked) => match made_of(alloc, &checked) {
+                Ok(Made { tables, indexes }) => Ok(Engine {
                     pager,
                     checked,
                     tables,
+                    indexes,
                     alloc,
                 }),
                 Err(_) => Err((Fault::NoMemory, pager.into_source())),
@@ -100,20 +140,19 @@ impl<S: Source> Engine<S> {
     /// # Errors
     ///
     /// `Syntax` where the text spells no statement, with the place of a byte where it stopped being one; `Limit`; the faults of
-    /// its names and its types, as `UnknownTable`, `Ambiguous` and `TypeMismatch`; `NotYet` for one with EXPLAIN, whose plan isn't told yet;
-    /// and `NoMemory`.
+    /// its names and its types, as `UnknownTable`, `Ambiguous` and `TypeMismatch`; and `NoMemory`.
     pub fn prepare(&self, text: &str) -> Result<Prepared, Fault>
         ensures { MatchResult result
-            (λ p. IsPreparedFor self.now.tables (prepared_data p) × Means self.now.tables text.now (prepared_data p))
+            (λ p. IsPreparedFor self.now (prepared_data p) × Means self.now.tables text.now (prepared_data p)
+            × IsShownFor self.now text.now (prepared_data p))
             (RefusesText self.now.tables text.now) }
     {
         let statement = read_select(self.alloc, text)?;
         let named = resolve(self.alloc, self.checked.tables(), &statement)?;
-        if statement.explain {
-            return Err(Fault::NotYet);
-        }
+        let explained = explained_query(self.alloc, &self.checked, &statement, &named.query)?;
         let place = self.checked.tables().len();
-        let prepared = Prepared::new(self.alloc, named, place)?;
+        let stored = self.stored();
+        let prepared = Prepared::new(self.alloc, named, explained, stored, place)?;
         Ok(prepared)
     }
 
@@ -127,7 +166,7 @@ impl<S: Source> Engine<S> {
     /// computes what leaves 64 bits, and `Changed`, which comes only where the source no longer has the bytes that were
     /// checked.
     pub fn run<W: Sink>(&mut self, prepared: &Prepared, out: &mut W) -> Result<Report, Fault>
-        requires { IsPreparedFor self.old.tables (prepared_data prepared.now) }
+        requires { IsPreparedFor self.old (prepared_data prepared.now) }
         ensures outcome { MatchResult result
             (HasRun self.old self.new (prepared_data prepared.now) (W.facts out.old) (W.facts out.new))
             (HasStopped self.old (prepared_data prepared.now) (W.facts out.old) (W.facts out.new)) }
@@ -135,7 +174,11 @@ impl<S: Source> Engine<S> {
         ensures writes { Counts Fault.WriteFailed result (W.facts out.old).failures (W.facts out.new).failures }
     {
         let (asked, chained) = (self.pager.asked(), self.pager.chained());
-        let rows = prepared.write_rows(self.alloc, &mut self.pager, self.tables.as_slice(), out)?;
+        let stored = Stored {
+            tables: self.tables.as_slice(),
+            indexes: self.indexes.as_slice(),
+        };
+        let rows = prepared.write_rows(self.alloc, &mut self.pager, stored, out)?;
         Ok(Report {
             rows,
             asked: self.pager.asked() - asked,
@@ -157,7 +200,9 @@ impl<S: Source> Engine<S> {
         if spelt.explain {
             return Err(Fault::WrongPlace);
         }
-        let prepared = Prepared::new(self.alloc, named, tables.len())?;
+        let explained = explained_query(self.alloc, &self.checked, &spelt, &named.query)?;
+        let stored = self.stored();
+        let prepared = Prepared::new(self.alloc, named, explained, stored, tables.len())?;
         let started = prepared.start(self.alloc)?;
         Ok(started)
     }
@@ -172,19 +217,21 @@ impl<S: Source> Engine<S> {
     /// comes only where the source no longer has the bytes that were checked, and `Finished` at any call after the last row or an
     /// error.
     pub fn next_row(&mut self, statement: &mut Statement) -> Result<Option<Row>, Fault>
-        requires { IsSteppedOver self.old.tables statement.old }
+        requires { IsSteppedOver (sources_over self.old) statement.old }
         ensures step { (query : QueryData) (given : List RowData) → HasGivenSoFar self.old query statement.old given
             → StepsStatement self.old self.new query given statement.old statement.new result }
-        ensures over { IsSteppedOver self.new.tables statement.new }
-        ensures left { IfOk result (λ found. OnSome found (rows_ahead self.new.tables statement.new < rows_ahead self.old.tables statement.old)) }
+        ensures over { IsSteppedOver (sources_over self.new) statement.new }
+        ensures left { IfOk result (λ found. OnSome found (rows_ahead (sources_over self.new) statement.new < rows_ahead (sources_over self.old) statement.old)) }
         ensures done { NeedsNoFurther statement.old → self.new.pager ≡ self.old.pager }
         ensures ended { HasEnded statement.old → result ≡ Err Fault.Finished }
         ensures ends { EndsStatement result statement.new }
         ensures only { IfErr result (IsStepFault statement.old) }
         ensures reads { ReadsTables result self.old self.new }
     {
-        statement
-            .run
-            .next(self.alloc, &mut self.pager, self.tables.as_slice())
+        let stored = Stored {
+            tables: self.tables.as_slice(),
+            indexes: self.indexes.as_slice(),
+        };
+        statement.run.next(self.alloc, &mut self.pager, stored)
     }
 }

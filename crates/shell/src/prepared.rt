@@ -3,13 +3,15 @@ ghost use Rattle.std.specs.Prelude.{◌≡◌, [], All, IfErr, IfOk, MatchResult
 ghost use Rattle.values.specs.Datum.{text};
 ghost use Rattle.values.specs.Fault.{Counts};
 ghost use Rattle.values.specs.Sink.{Writes};
+ghost use Rattle.access_plans.specs.PlanView.{plan_data};
 ghost use Rattle.pager.specs.Calls.{ReadsPages};
 ghost use Rattle.btree.specs.image.Pages.{WhereSteady};
+ghost use Rattle.explain.specs.PlanText.{line_data, plan_text};
 ghost use Rattle.explain.specs.Text.{row_text};
 ghost use Rattle.resolver_bodies.specs.NamedView.{named_data, query_data};
 ghost use Rattle.operators_scan.specs.scan.Coming.{Asks};
 ghost use Rattle.operators_scan.specs.Coming.{IsRooted, IsStoredSource};
-ghost use Rattle.logical_plan.specs.answers.Sources.{sources_of};
+ghost use Rattle.logical_plan.specs.answers.Sources.{sources_of, stored_data};
 ghost use Rattle.operators_runs.specs.inner_rows.Over.{AreSaid};
 ghost use Rattle.operators_runs.specs.inner_rows.Runnable.{IsRunnableBody};
 ghost use Rattle.operators_runs.specs.inner_rows.Work.{body_work};
@@ -17,6 +19,7 @@ ghost use Rattle.operators_runs.specs.nested_runs.Writes.{HasPlanOver, WritesBeg
 ghost use Rattle.semantics.specs.Typed.{IsTyped};
 ghost use Rattle.operators_loops.specs.Basis.{AreStored, Basis};
 ghost use Rattle.logical_plan_queries.specs.Answers.{PlannedData, planned_data, work_of};
+ghost use Rattle.logical_plan_queries.specs.Opens.{OpensWhole};
 ghost use Rattle.operators_runs.specs.Faults.{IsRunFault};
 ghost use Rattle.semantics_rewrites.specs.schema_sources.Settled.{settled};
 ghost use Rattle.schema_tables.specs.ColumnTypes.{column_types};
@@ -24,14 +27,16 @@ ghost use Rattle.shell.specs.Prepared.{IsPlannedAs};
 ghost use Rattle.shell.specs.PreparedView.{prepared_data};
 ghost use Rattle.shell.specs.Stepped.{IsRunOf, IsStartedFor};
 
+use crate::explained::Explained;
 use crate::{Started, Statement};
-use explain::rows_text;
+use access_plans::BodyPlan;
+use explain::{plan_text, rows_text};
+use logical_plan::Stored;
 use logical_plan_queries::{Planned, plan};
 use operators_runs::{Execution, QueryRun, write_query};
 use pager::{Pager, Source};
 use resolver_bodies::{NamedStatement, Query};
 use resolver_copies::with_schema_query;
-use schema_tables::Table;
 use std::alloc::{AllocError, Global};
 use std::marker::Model;
 use std::slice;
@@ -89,15 +94,20 @@ impl Header {
 }
 
 /// What is run for a query that is stepped, before its first row.
-fn run_of(alloc: Global, settled: Query, planned: Option<Planned>) -> Result<QueryRun, AllocError>
-    ensures { IfOk result (IsRunOf (query_data settled) (option_map planned_data planned)) }
+fn run_of(
+    alloc: Global,
+    settled: Query,
+    chosen: BodyPlan,
+    planned: Option<Planned>,
+) -> Result<QueryRun, AllocError>
+    ensures { IfOk result (IsRunOf (query_data settled) (plan_data chosen) (option_map planned_data planned)) }
 {
     match planned {
         Some(planned) => {
             let running = Execution::open(alloc, planned)?;
             Ok(QueryRun::Planned(running))
         }
-        None => Ok(QueryRun::Nested(settled)),
+        None => Ok(QueryRun::Nested(settled, chosen)),
     }
 }
 
@@ -108,6 +118,8 @@ pub struct Prepared {
     settled: Query,
     /// Its plan, which a query with queries in it has once these are computed.
     planned: Option<Planned>,
+    /// How the tables of each SELECT in it are opened, as it is shown.
+    explained: Explained,
     header: Header,
 }
 
@@ -118,39 +130,64 @@ impl Drop for Prepared {
             query,
             settled,
             planned,
+            explained,
             header,
         } = self;
         drop(query);
         drop(settled);
         drop(planned);
+        drop(explained);
         drop(header);
     }
 }
 
 impl Prepared {
-    /// A statement whose names are resolved, with what is run for it over tables of which the one at this place is that of the
-    /// schema's rows. Its one fault is `NoMemory`.
+    /// A statement whose names are resolved, with what is run for it, as is chosen and shown, over tables of which the one at this place is
+    /// that of the schema's rows. Its one fault is `NoMemory`.
     pub(crate) fn new(
         alloc: Global,
         statement: NamedStatement,
+        explained: Explained,
+        stored: Stored<'_>,
         place: usize,
     ) -> Result<Prepared, Fault>
+        requires { OpensWhole (plan_data explained.plan) (query_data statement.query).body }
         ensures query { IfOk result (λ p. (prepared_data p).query ≡ query_data statement.query) }
         ensures names { IfOk result (λ p. (prepared_data p).names ≡ (named_data statement).names) }
         ensures settled { IfOk result (λ p. (prepared_data p).settled ≡ settled place (query_data statement.query)) }
+        ensures shown { IfOk result (λ p. (prepared_data p).plan ≡ plan_data explained.plan) }
+        ensures lines { IfOk result (λ p. (prepared_data p).lines ≡ map line_data explained.lines.items) }
+        ensures asked { IfOk result (λ p. (prepared_data p).explained ≡ explained.is_asked) }
         ensures plan { IfOk result (λ p. IsPlannedAs (settled place (query_data statement.query)) (prepared_data p).planned) }
         ensures only { IfErr result (λ e. e ≡ Fault.NoMemory) }
     {
         let NamedStatement { query, names, .. } = statement;
         let settled = with_schema_query(alloc, place, &query)?;
-        let planned = plan(alloc, &settled)?;
+        let planned = plan(alloc, stored, &explained.plan, &settled)?;
         let header = Header::new(alloc, names)?;
         Ok(Prepared {
             query,
             settled,
             planned,
+            explained,
             header,
         })
+    }
+
+    /// Whether EXPLAIN QUERY PLAN is written before the statement.
+    pub(crate) fn is_explained(&self) -> bool
+        ensures { result ≡ (prepared_data self.now).explained }
+    {
+        self.explained.is_asked
+    }
+
+    /// Writes the plan of the query, a line for each of its steps. Its one fault is `WriteFailed`, after a beginning of the plan's
+    /// text; it takes no memory. (EXPLAIN QUERY PLAN)
+    pub fn explain<W: Sink>(&self, out: &mut W) -> Result<(), Fault>
+        ensures only { IfErr result (λ e. e ≡ Fault.WriteFailed) }
+        ensures writes { Writes (plan_text (prepared_data self.now).lines) result (W.facts out.old) (W.facts out.new) }
+    {
+        plan_text(&self.explained.lines, out)
     }
 
     /// What is run for the query, before its first row, with the names of the result columns. It reads no page.
@@ -161,42 +198,46 @@ impl Prepared {
             query: _query,
             settled,
             planned,
+            explained,
             header,
         } = self;
+        let Explained { plan: chosen, .. } = explained;
         let Header { names, .. } = header;
-        let run = run_of(alloc, settled, planned)?;
+        let run = run_of(alloc, settled, chosen, planned)?;
         Ok(Started {
             names,
             statement: Statement { run },
         })
     }
 
-    /// Writes the answer of the query over these tables, the schema's own behind the others, a line for each row, and counts the rows.
+    /// Writes the answer of the query over these tables, the schema's own after the others, and indexes, a line for each row, and counts the
+    /// rows.
     /// At a fault what was written is a beginning of such an answer. Its faults are those of a run.
     pub(crate) fn write_rows<S: Source, W: Sink>(
         &self,
         alloc: Global,
         pager: &mut Pager<S>,
-        tables: &[Table],
+        stored: Stored<'_>,
         out: &mut W,
     ) -> Result<u64, Fault>
-        requires roots { All (IsRooted pager.old.state.header) (sources_of tables.now []) }
-        requires planned { HasPlanOver tables.now (prepared_data self.now).settled (prepared_data self.now).planned }
-        ensures rows { WhereSteady pager.old.state (λ pages. IsTyped (column_types tables.now) (prepared_data self.now).settled
-            → IsRunnableBody (prepared_data self.now).settled.body → All (IsStoredSource pages) (sources_of tables.now []) → MatchResult result
-            (WritesPermitted pages tables.now (prepared_data self.now).settled (W.facts out.old) (W.facts out.new))
-            (WritesBeginning pages tables.now (prepared_data self.now).settled (W.facts out.old) (W.facts out.new))) }
+        requires roots { All (IsRooted pager.old.state.header) (sources_of (stored_data stored) []) }
+        requires planned { HasPlanOver (stored_data stored) (prepared_data self.now).settled (prepared_data self.now).planned }
+        ensures rows { WhereSteady pager.old.state (λ pages. IsTyped (column_types stored.tables.now) (prepared_data self.now).settled
+            → IsRunnableBody (prepared_data self.now).settled.body → All (IsStoredSource pages) (sources_of (stored_data stored) []) → MatchResult result
+            (WritesPermitted pages (stored_data stored) (prepared_data self.now).settled (W.facts out.old) (W.facts out.new))
+            (WritesBeginning pages (stored_data stored) (prepared_data self.now).settled (W.facts out.old) (W.facts out.new))) }
         ensures pages { (planned : PlannedData) → (prepared_data self.now).planned ≡ Some planned → WhereSteady pager.old.state (λ pages.
-            (on : Basis) → AreStored pages (sources_of tables.now []) on
+            (on : Basis) → AreStored pages (sources_of (stored_data stored) []) on
             → OnOk result (Asks on.local pager.old.state (work_of on.w on.db on.sizes planned) pager.new.state 0)) }
-        ensures each_once { WhereSteady pager.old.state (λ pages. (on : Basis) → AreSaid pages tables.now on
-            → IsTyped (column_types tables.now) (prepared_data self.now).settled → IsRunnableBody (prepared_data self.now).settled.body
+        ensures each_once { WhereSteady pager.old.state (λ pages. (on : Basis) → AreSaid pages (stored_data stored) on
+            → IsTyped (column_types stored.tables.now) (prepared_data self.now).settled → IsRunnableBody (prepared_data self.now).settled.body
             → OnOk result (Asks on.local pager.old.state (body_work on.w on.db on.sizes (prepared_data self.now).settled.body) pager.new.state 0)) }
         ensures only { IfErr result IsRunFault }
         ensures reads { ReadsPages result pager.old.state pager.new.state }
         ensures writes { Counts Fault.WriteFailed result (W.facts out.old).failures (W.facts out.new).failures }
     {
-        write_query(alloc, pager, tables, &self.settled, &self.planned, out)
+        let (chosen, query) = (&self.explained.plan, &self.settled);
+        write_query(alloc, pager, stored, chosen, query, &self.planned, out)
     }
 
     /// Writes the names of the result columns, as they were declared, as a line of texts. Its one fault is `WriteFailed`,

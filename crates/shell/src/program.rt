@@ -7,6 +7,7 @@ ghost use Rattle.integrity.specs.Denotes.{HasTables};
 ghost use Rattle.shell.specs.Served.{HasLines, IsServedWhole, header_text};
 ghost use Rattle.shell.specs.Prepared.{IsPreparedFor};
 ghost use Rattle.shell.specs.PreparedView.{prepared_data};
+ghost use Rattle.shell.specs.State.{HasFound, indexes_of};
 
 use crate::{Engine, Prepared};
 use command_line::Args;
@@ -67,6 +68,8 @@ fn open<S: Source + Drop>(alloc: Global, source: S, cache: NonZeroUsize) -> Resu
     ensures source { IfOk result (λ engine. engine.pager.source ≡ S.facts source) }
     ensures capacity { IfOk result (λ engine. engine.pager.capacity ≡ non_zero_usize_get cache) }
     ensures tables { IsTrue (S.facts source).steady → IfOk result (λ engine. HasTables (pages_of (S.facts source).bytes) engine.tables) }
+    ensures found { IsTrue (S.facts source).steady
+        → IfOk result (λ engine. HasFound (pages_of (S.facts source).bytes) engine.tables (indexes_of engine) engine.found) }
 {
     match Engine::open(alloc, source, cache) {
         Ok(engine) => Ok(engine),
@@ -85,18 +88,22 @@ fn write_header<W: Sink>(prepared: &Prepared, header: bool, out: &mut W) -> Resu
     prepared.header(out)
 }
 
-/// Writes the line of the column names, where it is wanted, and then those of the rows.
+/// Writes the line of the column names, where it is wanted, and then those of the rows; of a statement with EXPLAIN QUERY PLAN
+/// the plan alone.
 fn write_lines<S: Source, W: Sink>(
     engine: &mut Engine<S>,
     prepared: &Prepared,
     header: bool,
     out: &mut W,
 ) -> Result<(), Fault>
-    requires { IsPreparedFor engine.old.tables (prepared_data prepared.now) }
+    requires { IsPreparedFor engine.old (prepared_data prepared.now) }
     ensures lines { IsTrue engine.old.pager.source.steady → OnOk result
         (HasLines engine.old.pager.source.bytes engine.old.tables (prepared_data prepared.now) header (W.facts out.old) (W.facts out.new)) }
     ensures unfailed { OnOk result ((W.facts out.new).failures ≡ (W.facts out.old).failures) }
 {
+    if prepared.is_explained() {
+        return prepared.explain(out);
+    }
     write_header(prepared, header, out)?;
     engine.run(prepared, out)?;
     Ok(())

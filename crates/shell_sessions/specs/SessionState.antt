@@ -1,6 +1,6 @@
 -- What contracts see of a session. (SELECT)
 use Rattle.std.specs.Prelude.{All, List}
-use Rattle.shell.specs.State.{EngineState}
+use Rattle.shell.specs.State.{EngineState, sources_over}
 use Rattle.shell_sessions.specs.Stands.{IsSoundSlot}
 use Rattle.shell_sessions.specs.declared.slot.Slot.{Slot}
 
@@ -11,4 +11,4 @@ pub record SessionState : Type 0 where
 
 -- each of these slots is over the engine's tables
 abbrev pub AreSound : EngineState → List Slot → Type 0
-AreSound engine slots = All (IsSoundSlot engine.tables) slots
+AreSound engine slots = All (IsSoundSlot (sources_over engine)) slots

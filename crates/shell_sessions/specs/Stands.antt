@@ -7,7 +7,7 @@ use Rattle.values.specs.declared.fault.Fault.TheVariants.{Finished, NoStatement}
 use Rattle.semantics.specs.Query.{QueryData}
 use Rattle.operators_loops.specs.Basis.{IsOperatorFault}
 use Rattle.pager.specs.Calls.{SameImage}
-use Rattle.schema_tables.specs.TableData.{TableData}
+use Rattle.logical_plan.specs.answers.Sources.{SourceData}
 use Rattle.shell.specs.Answer.{IsAnswerOver}
 use Rattle.shell.specs.State.{EngineState}
 use Rattle.shell.specs.Stepped.{IsStepCause, IsSteppedOver, HasGivenSoFar}
@@ -30,10 +30,10 @@ abbrev pub SlotStands : EngineState → List Slot → ℕ → SlotState → Type
 SlotStands engine slots number at = MatchOption (slice_get slots number) (at ≡ missing) (λ slot. SlotStandsAt engine slot at)
 
 -- what its statement reads is some of these tables
-abbrev pub IsSoundSlot : List TableData → Slot → Type 0
-IsSoundSlot tables slot.Closed = ⊤
-IsSoundSlot tables (slot.Running statement) = IsSteppedOver tables statement
-IsSoundSlot tables slot.Ended = ⊤
+abbrev pub IsSoundSlot : List SourceData → Slot → Type 0
+IsSoundSlot sources slot.Closed = ⊤
+IsSoundSlot sources (slot.Running statement) = IsSteppedOver sources statement
+IsSoundSlot sources slot.Ended = ⊤
 
 -- a reply that a slot may give, and the slot behind it
 pub record Replied (base : Base) (request : Request) (at : SlotState) (reply : Reply) (Stands : SlotState → Type 0) : Type 0 where
@@ -45,6 +45,7 @@ pub record Replied (base : Base) (request : Request) (at : SlotState) (reply : R
 pub record KeepsImage (old new : EngineState) : Type 0 where
   pub image : SameImage old.pager new.pager
   pub tables : new.tables ≡ old.tables
+  pub stored : new.stored ≡ old.stored
 
 -- the further rows of a statement that had given these: behind these they are an answer; or there is a cause that they don't come
 abbrev pub HasCollected : Base → QueryData → List Row → Result (Vec Row) Fault → Type 0

@@ -25,10 +25,11 @@ impl<S: Source> Model for Session<S> {
     ghost use Rattle.std.specs.Coded.{codes};
     ghost use Rattle.shell_sessions.specs.SessionState.{AreSound, SessionState};
     ghost use Rattle.shell_sessions.specs.contracts.slot.Slot as slot;
+    ghost use Rattle.shell.specs.State.{coded_check};
 
     ghost Value = { SessionState };
 
-    ghost coded = { Prim.hlevel (codes, slot.the_row.coded) };
+    ghost coded = { Prim.hlevel (codes, slot.the_row.coded, coded_check) };
 
     ghost view = { λ s. record { engine = s.engine; slots = s.slots.items } };
 

@@ -3,9 +3,9 @@ ghost use Rattle.std.specs.Prelude.{◌≡◌, ℕ, List};
 ghost use Rattle.values.specs.Row.{Row as RowData};
 ghost use Rattle.semantics.specs.Query.{QueryData};
 ghost use Rattle.pager.specs.Calls.{TellsFailedReads};
-ghost use Rattle.shell.specs.State.{EngineState};
+ghost use Rattle.shell.specs.State.{EngineState, sources_over};
 ghost use Rattle.shell.specs.Stepped.{IsSteppedOver, HasGivenSoFar};
-ghost use Rattle.schema_tables.specs.TableData.{TableData};
+ghost use Rattle.logical_plan.specs.answers.Sources.{SourceData};
 ghost use Rattle.shell_sessions.specs.Replies.{SlotState, asks, base_of, closes, opens, request_of};
 ghost use Rattle.shell_sessions.specs.Run.{TellsRead};
 ghost use Rattle.shell_sessions.specs.Stands.{HasCollected, HasCompleted, IsSoundSlot, KeepsImage, Replied, SlotStandsAt};
@@ -33,7 +33,7 @@ fn rows_behind<S: Source>(
     engine: &mut Engine<S>,
     statement: &mut Statement,
 ) -> Result<Vec<Row>, Fault>
-    requires { IsSteppedOver engine.old.tables statement.old }
+    requires { IsSteppedOver (sources_over engine.old) statement.old }
     ensures rows { (query : QueryData) (given : List RowData) → HasGivenSoFar engine.old query statement.old given
         → HasCollected (base_of engine.old) query given result }
     ensures image { KeepsImage engine.old engine.new }
@@ -56,10 +56,10 @@ impl Slot {
 
     /// Opens a text in a closed slot.
     fn open<S: Source>(&mut self, engine: &Engine<S>, text: &str) -> Reply
-        requires { IsSoundSlot engine.now.tables self.old }
+        requires { IsSoundSlot (sources_over engine.now) self.old }
         ensures replies { (at : SlotState) → SlotStandsAt engine.now self.old at
             → Replied (base_of engine.now) (opens text.now) at result (SlotStandsAt engine.now self.new) }
-        ensures sound { IsSoundSlot engine.now.tables self.new }
+        ensures sound { IsSoundSlot (sources_over engine.now) self.new }
         ensures reads { TellsRead result engine.now.pager.source.failures engine.now.pager.source.failures }
     {
         match self {
@@ -76,10 +76,10 @@ impl Slot {
 
     /// Gives the next row of the statement. Behind the last one, and where it fails, the statement has ended.
     fn next<S: Source>(&mut self, engine: &mut Engine<S>) -> Reply
-        requires { IsSoundSlot engine.old.tables self.old }
+        requires { IsSoundSlot (sources_over engine.old) self.old }
         ensures replies { (at : SlotState) → SlotStandsAt engine.old self.old at
             → Replied (base_of engine.old) asks at result (SlotStandsAt engine.new self.new) }
-        ensures sound { IsSoundSlot engine.new.tables self.new }
+        ensures sound { IsSoundSlot (sources_over engine.new) self.new }
         ensures image { KeepsImage engine.old engine.new }
         ensures reads { TellsRead result engine.old.pager.source.failures engine.new.pager.source.failures }
     {
@@ -104,7 +104,7 @@ impl Slot {
     fn close(&mut self) -> Reply
         ensures replies { (engine : EngineState) (at : SlotState) → SlotStandsAt engine self.old at
             → Replied (base_of engine) closes at result (SlotStandsAt engine self.new) }
-        ensures sound { (tables : List TableData) → IsSoundSlot tables self.new }
+        ensures sound { (sources : List SourceData) → IsSoundSlot sources self.new }
         ensures reads { (failures : ℕ) → TellsRead result failures failures }
     {
         match self {
@@ -118,10 +118,10 @@ impl Slot {
 
     /// Makes a step on this slot.
     pub(crate) fn step<S: Source>(&mut self, engine: &mut Engine<S>, step: &Step) -> Reply
-        requires { IsSoundSlot engine.old.tables self.old }
+        requires { IsSoundSlot (sources_over engine.old) self.old }
         ensures replies { (at : SlotState) → SlotStandsAt engine.old self.old at
             → Replied (base_of engine.old) (request_of step.now) at result (SlotStandsAt engine.new self.new) }
-        ensures sound { IsSoundSlot engine.new.tables self.new }
+        ensures sound { IsSoundSlot (sources_over engine.new) self.new }
         ensures image { KeepsImage engine.old engine.new }
         ensures reads { TellsRead result engine.old.pager.source.failures engine.new.pager.source.failures }
     {
@@ -138,10 +138,10 @@ impl Slot {
         alloc: Global,
         engine: &mut Engine<S>,
     ) -> Result<Vec<Row>, Fault>
-        requires { IsSoundSlot engine.old.tables self.old }
+        requires { IsSoundSlot (sources_over engine.old) self.old }
         ensures rows { (at : SlotState) → SlotStandsAt engine.old self.old at
             → HasCompleted (base_of engine.old) at result (SlotStandsAt engine.new self.new) }
-        ensures sound { IsSoundSlot engine.new.tables self.new }
+        ensures sound { IsSoundSlot (sources_over engine.new) self.new }
         ensures image { KeepsImage engine.old engine.new }
         ensures reads { TellsFailedReads result engine.old.pager.source.failures engine.new.pager.source.failures }
     {

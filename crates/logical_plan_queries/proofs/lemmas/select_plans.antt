@@ -1,5 +1,6 @@
 pub mod ReadLemmas
 pub mod PlaceLemmas
+pub mod ShownLemmas
 pub mod TypedLemmas
 pub mod BaseLemmas
 pub mod MadeLemmas

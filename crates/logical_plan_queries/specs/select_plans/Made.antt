@@ -1,6 +1,7 @@
 -- How the plan is made of a SELECT that stands on tables that are joined, or on none.
 use Rattle.std.specs.Prelude.{◌≡◌, ⊤, ℕ, List, [], ◌∷◌, length, Option, Some, None}
 use Rattle.std.specs.List.{AllZip}
+use Rattle.values.specs.Database.{Database}
 use Rattle.expr.specs.Term.{Term}
 use Rattle.logical_plan_terms.specs.group_plans.Grouped.{IsGroupedOver, IsOverGroups, group_columns}
 use Rattle.semantics.specs.Query.{Grouping, Key, Select, WindowCall}
@@ -9,8 +10,16 @@ use Rattle.logical_plan.specs.Plan.{PlanData}
 use Rattle.logical_plan_queries.specs.select_plans.Read.{IsReadOf}
 use Rattle.logical_plan_terms.specs.declared.table_plans.inputs.Input.{Input}
 use Rattle.logical_plan_terms.specs.table_plans.Input.{input_from}
-use Rattle.logical_plan_terms.specs.table_plans.Planned.{IsPlanOver}
+use Rattle.logical_plan_terms.specs.table_plans.Ordered.{AreIndexedIn, IsOrderedOver}
+use Rattle.access_plans.specs.PlanView.{SelectData}
+use Rattle.logical_plan.specs.answers.Sources.{SourceData}
 use Rattle.logical_plan_terms.specs.window_plans.Windowed.{IsWindowedOver, windowed_columns, written_places}
+
+-- Whatever is chosen for a SELECT: where its plan searches an index, the rows at the place of this are those of its table that some
+-- condition keeps, which the tests there imply.
+abbrev pub AreIndexesOf : Database → List SourceData → Type 0
+AreIndexesOf db sources = (chosen : SelectData) (input : Input) (read shows : List ℕ) (condition : Term) (plan : PlanData)
+    → IsOrderedOver sources chosen input read condition shows plan → AreIndexedIn db sources plan
 
 -- the terms of groups, where there are some, stand over the columns that are read of the rows below
 abbrev pub StandsOverRows : List ℕ → Option Grouping → Type 0
@@ -32,14 +41,15 @@ IsOverWindows (call ∷ calls) taken below known plan =
 
 -- a plan of FROM and WHERE, one of the rows that windows take over it, one of the rows that result columns are computed on over that,
 -- and result columns over these
-pub record IsMadeOver (input : Input) (s : Select) (order : List Key) (plan : PlanData) (es : List Term) : Type 0 where
+pub record IsMadeOver (sources : List SourceData) (chosen : SelectData) (input : Input) (s : Select) (order : List Key) (plan : PlanData) (es : List Term) : Type 0 where
   pub read : List ℕ
   pub are_read : IsReadOf (input_from input) s order read
   pub below : PlanData
-  pub below_is : IsPlanOver input read s.condition below
+  pub shows : List ℕ
+  pub below_is : IsOrderedOver sources chosen input read s.condition shows below
   pub taken : List ℕ
   pub inputs : PlanData
-  pub inputs_are : IsOverRows read s.grouping below taken inputs
+  pub inputs_are : IsOverRows shows s.grouping below taken inputs
   pub columns : List ℕ
   pub rows_are : IsOverWindows s.windows taken inputs columns plan
   pub columns_are : AllZip (StandsOver columns 0) es s.columns

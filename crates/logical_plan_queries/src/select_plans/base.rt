@@ -1,10 +1,13 @@
 //! What a SELECT computes on the rows of FROM, on those of groups, or on either with the values of windows,
 //! whatever becomes of its result rows.
-ghost use Rattle.std.specs.Prelude.{◌≡◌, ◌==◌, ◌≢◌, [], All, IfOk, MatchOption, map, option_map, position, ⊤};
+ghost use Rattle.std.specs.Prelude.{◌≡◌, ◌≢◌, ◌==◌, [], All, IfOk, IsPermutation, MatchOption, length, map, option_map, position, ⊤};
+ghost use Rattle.std.specs.List.{range_with_len};
+ghost use Rattle.access_plans.specs.PlanView.{select_data};
 ghost use Rattle.expr.specs.Leaves.{place_in};
+ghost use Rattle.logical_plan.specs.answers.Sources.{stored_data};
+ghost use Rattle.logical_plan_terms.specs.table_plans.Ordered.{OpensEach};
 ghost use Rattle.expr.specs.View.{term};
 ghost use Rattle.semantics.specs.Hits.{order_terms};
-ghost use Rattle.logical_plan_terms.specs.Over.{AreWhole};
 ghost use Rattle.logical_plan.specs.PlanView.{plan_data};
 ghost use Rattle.logical_plan_queries.specs.select_plans.Made.{IsMadeOver, IsOverRows, IsOverWindows, StandsOverRows};
 ghost use Rattle.logical_plan_queries.specs.select_plans.Served.{AreOfRows};
@@ -14,10 +17,11 @@ ghost use Rattle.logical_plan_terms.specs.table_plans.Input.{input_from};
 ghost use Rattle.logical_plan_terms.specs.window_plans.Windowed.{IsOverCall, written_places};
 
 use crate::select_plans::columns::{columns_read, push_places};
+use access_plans::SelectPlan;
 use expr::Expr;
-use logical_plan::Plan;
+use logical_plan::{Plan, Stored};
 use logical_plan_terms::{
-    Input, columns_of_groups, exprs_over, grouped_over, plan_of, windowed_over,
+    Input, TablePlan, columns_of_groups, exprs_over, grouped_over, plan_of, windowed_over,
 };
 use resolver_terms::{Grouping, Key, Select, WindowCall};
 use std::alloc::{AllocError, Global};
@@ -89,13 +93,14 @@ fn places_written(alloc: Global, read: &[usize]) -> Result<Vec<usize>, AllocErro
 }
 
 /// The rows that result columns are computed on, over those that windows take, of which each column is known where there are windows:
-/// the same, or these with the values of the calls behind them. There are none where a call names another column. (Window Functions)
+/// the same, or these with their columns as they are written and the values of the calls behind them. There are none where a call names
+/// another column. (Window Functions)
 fn windows_over(
     alloc: Global,
     taken: Rows,
     calls: &[WindowCall],
 ) -> Result<Option<Rows>, AllocError>
-    requires { calls.now ≢ [] → AreWhole taken.read.items }
+    requires { calls.now ≢ [] → IsPermutation taken.read.items (range_with_len 0 (length taken.read.items)) }
     ensures over { IfOk result (λ rows. MatchOption rows (¬ All (IsOverCall taken.read.items 0) (map call_of calls.now)) (λ _. ⊤)) }
     ensures rows { IfOk result (λ rows. MatchOption rows ⊤
         (λ rows. IsOverWindows (map call_of calls.now) taken.read.items (plan_data taken.plan) rows.read.items (plan_data rows.plan))) }
@@ -103,40 +108,44 @@ fn windows_over(
     if calls.is_empty() {
         return Ok(Some(taken));
     }
-    let Rows {
-        mut read,
-        plan: below,
-    } = taken;
+    let Rows { read, plan: below } = taken;
     let places = places_written(alloc, read.as_slice())?;
-    let windowed = windowed_over(alloc, read.as_slice(), 0, calls, places, below)?;
+    let mut whole = Vec::new(alloc);
+    push_places(read.len(), &mut whole)?;
+    let windowed = windowed_over(alloc, whole.as_slice(), 0, calls, places, below)?;
     let plan = match windowed {
         None => return Ok(None),
         Some(plan) => plan,
     };
-    push_places(calls.len(), &mut read)?;
-    Ok(Some(Rows { read, plan }))
+    push_places(calls.len(), &mut whole)?;
+    Ok(Some(Rows { read: whole, plan }))
 }
 
 /// The base of a SELECT. There is none where over groups or windows HAVING, a call, a result column or ORDER BY names something else
 /// than the values of the rows that it is computed on, or beside windows WHERE something else than columns of the tables. (SELECT)
 pub fn base_of(
     alloc: Global,
+    stored: Stored<'_>,
+    chosen: &SelectPlan,
     input: &Input,
     select: &Select,
     order: &[Key],
 ) -> Result<Option<Base>, AllocError>
-    requires { AreTableJoins (input_from input.now) }
+    requires chosen { OpensEach (select_data chosen.now) (input_from input.now) }
+    requires served { AreTableJoins (input_from input.now) }
     ensures { IfOk result (λ base. MatchOption base
         (¬ AreOfRows (input_from input.now) (select_of select.now) (order_terms (map key_of order.now)))
-        (λ base. (made : IsMadeOver input.now (select_of select.now) (map key_of order.now) (plan_data base.plan) (map term base.columns.items))
+        (λ base. (made : IsMadeOver (stored_data stored.entry) (select_data chosen.now) input.now (select_of select.now) (map key_of order.now) (plan_data base.plan) (map term base.columns.items))
         × (made.columns ≡ base.read.items))) }
 {
     let read = columns_read(alloc, input, select, order)?;
-    let found = plan_of(alloc, input, read.as_slice(), &select.condition)?;
+    let (named, condition) = (read.as_slice(), &select.condition);
+    let found = plan_of(alloc, stored, chosen, input, named, condition)?;
     let below = match found {
         None => return Ok(None),
         Some(below) => below,
     };
+    let TablePlan { plan: below, read } = below;
     let over = rows_over(alloc, read, &select.grouping, below)?;
     let taken = match over {
         None => return Ok(None),

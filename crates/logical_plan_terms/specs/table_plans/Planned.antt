@@ -1,15 +1,9 @@
--- The plan of FROM and WHERE of a SELECT of tables that are joined, or of none. (SELECT, "Determination of input data", "WHERE clause
--- filtering")
+-- The conditions of tables that are joined. (SELECT, "Determination of input data")
 use Rattle.std.specs.Prelude.{⊤, ℕ, List, [], ◌∷◌, ◌++◌}
-use Rattle.expr.specs.Conjuncts.{conjuncts}
-use Rattle.expr.specs.Filled.{filled}
 use Rattle.expr.specs.Term.{Term}
 use Rattle.semantics.specs.Query.{From, from_width, joined, nothing, with_inner}
 use Rattle.logical_plan_terms.specs.Over.{IsOver}
-use Rattle.logical_plan.specs.JoinPlan.{IsJoinPlan, columns_before}
-use Rattle.logical_plan.specs.Plan.{PlanData}
-use Rattle.logical_plan_terms.specs.table_plans.Input.{input_from}
-use Rattle.logical_plan_terms.specs.declared.table_plans.inputs.Input.{Input}
+use Rattle.logical_plan.specs.JoinPlan.{columns_before}
 
 -- what stands behind each ON
 abbrev pub on_terms : From → List Term
@@ -22,7 +16,3 @@ abbrev pub AreOnOver : List ℕ → From → Type 0
 AreOnOver read nothing = ⊤
 AreOnOver read (joined from kind source on) = IsOver read 0 on × AreOnOver (columns_before (from_width from) read) from
 AreOnOver read (with_inner from query) = AreOnOver read from
-
--- a plan of the tables with the conjuncts of a condition, of which these columns are read
-abbrev pub IsPlanOver : Input → List ℕ → Term → PlanData → Type 0
-IsPlanOver input read condition plan = IsJoinPlan read (input_from input) (conjuncts (filled [] condition)) plan

@@ -1,9 +1,10 @@
 //! The tables that a SELECT reads, and how they are joined.
 ghost use Rattle.std.specs.Prelude.{◌≡◌, ◌≢◌, ◌<◌, All, IfOk, MatchBool, MatchOption, ℕ, map};
+ghost use Rattle.std.specs.List.{list_any};
 ghost use Rattle.resolver_bodies.specs.BodyView.{inner_of, joined_all, joined_of, source_of, tables_of};
 ghost use Rattle.expr.specs.Columns.{columns_of};
 ghost use Rattle.semantics.specs.Joins.{pads_left, pads_right};
-ghost use Rattle.semantics.specs.Query.{always, from_width, nothing, table};
+ghost use Rattle.semantics.specs.Query.{from_width, nothing, table};
 ghost use Rattle.semantics_names.specs.Sources.{kind_of};
 ghost use Rattle.semantics_names.specs.Statement.{with_answers};
 ghost use Rattle.expr.specs.View.{term};
@@ -15,7 +16,6 @@ use expr::{Expr, columns};
 use resolver_bodies::{InnerQuery, Joined, Source, Tables};
 use sql_reader_syntax::Join;
 use std::alloc::{AllocError, Global};
-use values::Value;
 
 /// A table that is joined to those before it. (SELECT, "Determination of input data")
 #[derive(Drop)]
@@ -52,11 +52,11 @@ pub struct Input<'a> {
     pub tables: Vec<JoinedTable<'a>>,
 }
 
-/// Whether a condition is that which every row keeps, as it stands where none is written.
-pub fn is_always(t: &Expr) -> bool
-    ensures { MatchBool result (term t.now ≡ always) (term t.now ≢ always) }
+/// Whether one of these tables is joined by a RIGHT or FULL JOIN.
+pub(crate) fn some_flagged(tables: &[JoinedTable]) -> bool
+    ensures { result ≡ list_any (λ table. pads_left (kind_of table.join)) tables.now }
 {
-    matches!(t, Expr::Literal(Value::Int(1)))
+    tables.iter().any(|table| table.is_flagged())
 }
 
 /// The table that a source is, by its place and the number of its columns.

@@ -14,6 +14,8 @@ ghost use Rattle.operators_results.specs.distinct_results.Firsts.{firsts};
 ghost use Rattle.logical_plan.specs.answers.Arms.{ArePlannedOver, arm_data, arm_rows, arms_data, rows_of_arms, work_of_arms};
 ghost use Rattle.operators_results.specs.compound_results.Compounds.{IsArmCause, IsArmsCause};
 ghost use Rattle.logical_plan.specs.answers.Joined.{filtered, joined_rows};
+ghost use Rattle.logical_plan.specs.Promised.{ArePromised};
+ghost use Rattle.operators_results.specs.Promised.{ArePromisedIn};
 
 use crate::Results;
 use crate::compound_results::chained::is_union_all;
@@ -38,7 +40,7 @@ pub(crate) fn push_arm<S: Source>(
 ) -> Result<(), Fault>
     requires roots { All (IsRooted pager.old.state.header) sources.now }
     requires planned { IsPlanOf sources.now (plan_data arm.now.plan) }
-    ensures rows { WhereSteady pager.old.state (λ pages. (on : Basis) → AreStored pages sources.now on
+    ensures rows { WhereSteady pager.old.state (λ pages. (on : Basis) → AreStored pages sources.now on → ArePromised on.w on.db (plan_data arm.now.plan)
         → MatchResult result
         (λ _. (rows_data rows.new.items ≡ rows_data rows.old.items ++ arm_rows on.w on.db (arm_data arm.now))
         × Asks on.local pager.old.state (work on.w on.db on.sizes (plan_data arm.now.plan)) pager.new.state 0)
@@ -81,7 +83,7 @@ fn join_arm<S: Source>(
 ) -> Result<(), Fault>
     requires roots { All (IsRooted pager.old.state.header) sources.now }
     requires planned { IsPlanOf sources.now (plan_data arm.now.plan) }
-    ensures rows { WhereSteady pager.old.state (λ pages. (on : Basis) → AreStored pages sources.now on
+    ensures rows { WhereSteady pager.old.state (λ pages. (on : Basis) → AreStored pages sources.now on → ArePromised on.w on.db (plan_data arm.now.plan)
         → MatchResult result
         (λ _. ((left : List RowData) → set.old.keys ≡ firsts left
         → set.new.keys ≡ firsts (joined_rows (operator_of operator) left (arm_rows on.w on.db (arm_data arm.now))))
@@ -108,7 +110,7 @@ fn arms_once<S: Source>(
 ) -> Result<IndexSet<Row>, Fault>
     requires roots { All (IsRooted pager.old.state.header) sources.now }
     requires planned { ArePlannedOver sources.now (arms_data arms.now) }
-    ensures rows { WhereSteady pager.old.state (λ pages. (on : Basis) → AreStored pages sources.now on
+    ensures rows { WhereSteady pager.old.state (λ pages. (on : Basis) → AreStored pages sources.now on → ArePromisedIn on.w on.db (arms_data arms.now)
         → MatchResult result
         (λ set. (set.keys ≡ firsts (rows_of_arms on.w on.db (arms_data arms.now)))
         × Asks on.local pager.old.state (work_of_arms on.w on.db on.sizes (arms_data arms.now)) pager.new.state 0)
@@ -139,7 +141,7 @@ pub(crate) fn arms_rows<S: Source>(
 ) -> Result<Vec<Vec<Value>>, Fault>
     requires roots { All (IsRooted pager.old.state.header) sources.now }
     requires planned { ArePlannedOver sources.now (arms_data arms.now) }
-    ensures rows { WhereSteady pager.old.state (λ pages. (on : Basis) → AreStored pages sources.now on
+    ensures rows { WhereSteady pager.old.state (λ pages. (on : Basis) → AreStored pages sources.now on → ArePromisedIn on.w on.db (arms_data arms.now)
         → MatchResult result
         (λ rows. (map (λ row. map datum_of row.items) rows.items ≡ rows_of_arms on.w on.db (arms_data arms.now))
         × Asks on.local pager.old.state (work_of_arms on.w on.db on.sizes (arms_data arms.now)) pager.new.state 0)

@@ -10,6 +10,9 @@ ghost use Rattle.operators_loops.specs.Basis.{AreStored, Basis, GivesRowOrNone, 
 ghost use Rattle.logical_plan.specs.answers.Arms.{ArePlannedOver, arm_data, arms_data, rows_of_arms, work_of_arms};
 ghost use Rattle.operators_results.specs.compound_results.Chains.{AreAll};
 ghost use Rattle.operators_results.specs.compound_results.Compounds.{IsArmsCause};
+ghost use Rattle.logical_plan.specs.PlanView.{plan_data};
+ghost use Rattle.logical_plan.specs.Promised.{ArePromised};
+ghost use Rattle.operators_results.specs.Promised.{ArePromisedIn};
 ghost use Rattle.operators_results.specs.Slices.{sliced};
 ghost use Rattle.operators_results.specs.compound_results.InTurn.{AreComing, AreWaiting, IsChainComing, IsWaiting, LeavesArms, arm_of, arms_from, arms_of};
 
@@ -56,7 +59,8 @@ pub(crate) struct ArmsInTurn {
 fn arm_opened(alloc: Global, arm: &Arm) -> Result<Results, AllocError>
     requires { arm.now.distinct ≡ false }
     ensures arm { IfOk result (λ results. arm_of results ≡ arm_data arm.now) }
-    ensures rows { IfOk result (λ results. (pages : Pages) (sources : List SourceData) (on : Basis) → IsWaiting pages sources on results) }
+    ensures rows { IfOk result (λ results. (pages : Pages) (sources : List SourceData) (on : Basis) → ArePromised on.w on.db (plan_data arm.now.plan)
+        → IsWaiting pages sources on results) }
 {
     let results = Results::of_all(alloc, arm)?;
     Ok(results)
@@ -70,8 +74,8 @@ pub(crate) fn opened(
 ) -> Result<ArmsInTurn, AllocError>
     requires { AreAll (arms_data arms.now) }
     ensures arms { IfOk result (λ turn. arms_of turn ≡ arms_from (arms_data arms.now) behind.items) }
-    ensures rows { IfOk result (λ turn. (pages : Pages) (sources : List SourceData) (on : Basis) → All (IsWaiting pages sources on) behind.items
-        → AreWaiting pages sources on turn) }
+    ensures rows { IfOk result (λ turn. (pages : Pages) (sources : List SourceData) (on : Basis) → ArePromisedIn on.w on.db (arms_data arms.now)
+        → All (IsWaiting pages sources on) behind.items → AreWaiting pages sources on turn) }
 {
     match arms {
         Arms::One(arm) => {
@@ -148,6 +152,7 @@ impl ChainedResults {
         requires { AreAll (arms_data arms.now) }
         ensures arms { IfOk result (λ chained. arms_of chained.arms ≡ arms_data arms.now) }
         ensures rows { IfOk result (λ chained. (pages : Pages) (sources : List SourceData) (on : Basis)
+            → ArePromisedIn on.w on.db (arms_data arms.now)
             → IsChainComing pages sources on chained (sliced slice (rows_of_arms on.w on.db (arms_data arms.now)))
             (work_of_arms on.w on.db on.sizes (arms_data arms.now))) }
     {

@@ -9,6 +9,7 @@ ghost use Rattle.logical_plan.specs.Plan.{rows_of, work};
 ghost use Rattle.logical_plan.specs.PlanView.{plan_data};
 ghost use Rattle.operators_loops.specs.Basis.{AreStored, Basis, GivesRowOrNone, ReadsRows};
 ghost use Rattle.operators.specs.Left.{plan_of, steps};
+ghost use Rattle.logical_plan.specs.Promised.{ArePromised};
 ghost use Rattle.operators_results.specs.Coming.{IsResultCause, SameSelection};
 ghost use Rattle.logical_plan.specs.answers.Arms.{result_rows};
 ghost use Rattle.operators_results.specs.Slices.{sliced};
@@ -36,7 +37,7 @@ impl DistinctResults {
     pub fn open(alloc: Global, arm: &Arm, slice: LimitOffset) -> Result<DistinctResults, AllocError>
         ensures plan { IfOk result (λ distinct. plan_of distinct.results.op ≡ plan_data arm.now.plan) }
         ensures columns { IfOk result (λ distinct. map term distinct.results.columns.items ≡ map term arm.now.columns.items) }
-        ensures rows { IfOk result (λ distinct. (pages : Pages) (sources : List SourceData) (on : Basis) → on.plan ≡ plan_data arm.now.plan
+        ensures rows { IfOk result (λ distinct. (pages : Pages) (sources : List SourceData) (on : Basis) → on.plan ≡ plan_data arm.now.plan → ArePromised on.w on.db on.plan
             → IsDistinctComing pages sources on distinct (sliced slice (firsts (result_rows on.w (map term arm.now.columns.items) (rows_of on.w on.db on.plan))))
             (work on.w on.db on.sizes on.plan)) }
     {

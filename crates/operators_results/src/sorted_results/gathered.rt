@@ -9,6 +9,7 @@ ghost use Rattle.logical_plan.specs.answers.Answers.{IsAnswer, IsShownInOrder, a
 ghost use Rattle.logical_plan.specs.answers.Arms.{ArePlannedOver, arms_data, rows_of_arms, work_of_arms};
 ghost use Rattle.operators_results.specs.Slices.{sliced};
 ghost use Rattle.operators_results.specs.compound_results.Compounds.{IsArmsCause};
+ghost use Rattle.operators_results.specs.Promised.{ArePromisedIn};
 
 use crate::LimitOffset;
 use crate::compound_results::arms_rows;
@@ -51,7 +52,7 @@ fn sliced_rows<S: Source>(
 ) -> Result<Vec<Vec<Value>>, Fault>
     requires roots { All (IsRooted pager.old.state.header) sources.now }
     requires planned { ArePlannedOver sources.now (arms_data arms.now) }
-    ensures rows { WhereSteady pager.old.state (λ pages. (on : Basis) → AreStored pages sources.now on
+    ensures rows { WhereSteady pager.old.state (λ pages. (on : Basis) → AreStored pages sources.now on → ArePromisedIn on.w on.db (arms_data arms.now)
         → MatchResult result
         (λ rows. (rows_data rows.items ≡ sliced slice (rows_of_arms on.w on.db (arms_data arms.now)))
         × Asks on.local pager.old.state (work_of_arms on.w on.db on.sizes (arms_data arms.now)) pager.new.state 0)
@@ -76,7 +77,7 @@ fn ordered_rows<S: Source>(
 ) -> Result<Vec<Vec<Value>>, Fault>
     requires roots { All (IsRooted pager.old.state.header) sources.now }
     requires planned { ArePlannedOver sources.now (arms_data arms.now) }
-    ensures rows { WhereSteady pager.old.state (λ pages. (on : Basis) → AreStored pages sources.now on
+    ensures rows { WhereSteady pager.old.state (λ pages. (on : Basis) → AreStored pages sources.now on → ArePromisedIn on.w on.db (arms_data arms.now)
         → MatchResult result
         (λ rows. IsShownInOrder on.w (order_data order.now) limit offset (rows_of_arms on.w on.db (arms_data arms.now)) (rows_data rows.items)
         × Asks on.local pager.old.state (work_of_arms on.w on.db on.sizes (arms_data arms.now)) pager.new.state 0)
@@ -100,7 +101,7 @@ pub fn gathered_rows<S: Source>(
 ) -> Result<Vec<Vec<Value>>, Fault>
     requires roots { All (IsRooted pager.old.state.header) sources.now }
     requires planned { ArePlannedOver sources.now (arms_data answer.now.arms) }
-    ensures rows { WhereSteady pager.old.state (λ pages. (on : Basis) → AreStored pages sources.now on
+    ensures rows { WhereSteady pager.old.state (λ pages. (on : Basis) → AreStored pages sources.now on → ArePromisedIn on.w on.db (arms_data answer.now.arms)
         → MatchResult result
         (λ rows. IsAnswer on.w on.db (answer_data answer.now) (rows_data rows.items)
         × Asks on.local pager.old.state (work_of_arms on.w on.db on.sizes (arms_data answer.now.arms)) pager.new.state 0)

@@ -13,6 +13,8 @@ ghost use Rattle.windows_groups.specs.Keys.{comes_before};
 ghost use Rattle.logical_plan.specs.answers.Arms.{ArePlannedOver, arm_data, arm_rows, arms_data, rows_of_arms, work_of_arms};
 ghost use Rattle.operators_results.specs.compound_results.Chains.{AreAll};
 ghost use Rattle.operators_results.specs.compound_results.Compounds.{IsArmCause, IsArmsCause};
+ghost use Rattle.logical_plan.specs.Promised.{ArePromised};
+ghost use Rattle.operators_results.specs.Promised.{ArePromisedIn};
 
 use crate::Results;
 use crate::compound_results::{are_all, arms_rows, opened};
@@ -36,7 +38,7 @@ fn arms_in_order<S: Source>(
     requires roots { All (IsRooted pager.old.state.header) sources.now }
     requires planned { ArePlannedOver sources.now (arms_data arms.now) }
     requires all { AreAll (arms_data arms.now) }
-    ensures rows { WhereSteady pager.old.state (λ pages. (on : Basis) → AreStored pages sources.now on
+    ensures rows { WhereSteady pager.old.state (λ pages. (on : Basis) → AreStored pages sources.now on → ArePromisedIn on.w on.db (arms_data arms.now)
         → MatchResult result
         (λ rows. BeginsAll (comes_before order.now) most (rows_data rows.items) (rows_of_arms on.w on.db (arms_data arms.now))
         × Asks on.local pager.old.state (work_of_arms on.w on.db on.sizes (arms_data arms.now)) pager.new.state 0)
@@ -62,7 +64,7 @@ fn distinct_in_order<S: Source>(
     requires roots { All (IsRooted pager.old.state.header) sources.now }
     requires planned { IsPlanOf sources.now (plan_data arm.now.plan) }
     requires once { arm.now.distinct ≡ true }
-    ensures rows { WhereSteady pager.old.state (λ pages. (on : Basis) → AreStored pages sources.now on
+    ensures rows { WhereSteady pager.old.state (λ pages. (on : Basis) → AreStored pages sources.now on → ArePromised on.w on.db (plan_data arm.now.plan)
         → MatchResult result
         (λ rows. BeginsAll (comes_before order.now) most (rows_data rows.items) (arm_rows on.w on.db (arm_data arm.now))
         × Asks on.local pager.old.state (work on.w on.db on.sizes (plan_data arm.now.plan)) pager.new.state 0)
@@ -88,7 +90,7 @@ pub(crate) fn rows_in_order<S: Source>(
 ) -> Result<Vec<Vec<Value>>, Fault>
     requires roots { All (IsRooted pager.old.state.header) sources.now }
     requires planned { ArePlannedOver sources.now (arms_data arms.now) }
-    ensures rows { WhereSteady pager.old.state (λ pages. (on : Basis) → AreStored pages sources.now on
+    ensures rows { WhereSteady pager.old.state (λ pages. (on : Basis) → AreStored pages sources.now on → ArePromisedIn on.w on.db (arms_data arms.now)
         → MatchResult result
         (λ rows. BeginsAll (comes_before order.now) most (rows_data rows.items) (rows_of_arms on.w on.db (arms_data arms.now))
         × Asks on.local pager.old.state (work_of_arms on.w on.db on.sizes (arms_data arms.now)) pager.new.state 0)

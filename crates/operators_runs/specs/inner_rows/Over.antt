@@ -1,5 +1,5 @@
 -- Over which tables queries are run, and why a run stops. (SELECT)
-use Rattle.std.specs.Prelude.{◌≡◌, ◌≤◌, ◌⊎◌, ◌++◌, Contains, List, [], Vec, length, take}
+use Rattle.std.specs.Prelude.{◌≡◌, ◌≤◌, ◌⊎◌, ◌++◌, Contains, List, [], Vec, length, map, take}
 use Rattle.std.specs.Global.{Global}
 use Rattle.values.specs.Database.{Database}
 use Rattle.values.specs.Datum.{Datum}
@@ -10,40 +10,49 @@ use Rattle.values.specs.declared.fault.Fault.TheVariants.{Overflow}
 use Rattle.pager.specs.Calls.{IsReadFault}
 use Rattle.btree.specs.image.Pages.{Pages}
 use Rattle.logical_plan_queries.specs.compound_plans.Work.{selects_work}
-use Rattle.schema_tables.specs.ColumnTypes.{column_types}
-use Rattle.schema_tables.specs.TableData.{TableData}
+use Rattle.schema_tables.specs.ColumnTypes.{types_of}
+use Rattle.values.specs.declared.value.Ty.{Ty}
 use Rattle.semantics.specs.Answer.{IsStandIn, Permits}
 use Rattle.semantics.specs.Hits.{BodyHits, Hits, SourceHits}
 use Rattle.semantics.specs.Query.{Body, InnerQuery, QueryData, Source}
 use Rattle.semantics.specs.Typed.{FitsCatalog}
 use Rattle.semantics_rewrites.specs.materialized_queries.FlatWith.{body_in, with_rows}
 use Rattle.logical_plan.specs.Plan.{PlanData}
-use Rattle.logical_plan.specs.answers.Sources.{sources_of}
+use Rattle.logical_plan.specs.answers.Sources.{SourceData, of_index, of_rows, of_table, sources_of}
 use Rattle.operators_loops.specs.Basis.{AreStored, Basis}
 use Rattle.operators_runs.specs.inner_rows.Computed.{AreSomeWhere}
 use Rattle.operators_runs.specs.inner_rows.InnerView.{kept_rows}
 use Rattle.logical_plan_queries.specs.Answers.{HitsOf, IsAnswerOf, PlannedData, work_of}
 
--- tables alone are stored as is said of them, their rows fit their columns, and what stands for results out of range may
-pub record AreSaid (pages : Pages) (tables : List TableData) (on : Basis) : Type 0 where
-  pub stored : AreStored pages (sources_of tables []) on
-  pub fits : FitsCatalog (column_types tables) on.db
+-- the types of the columns of tables, and of an index those of its table
+abbrev pub columns_in_source : SourceData → List Ty
+columns_in_source (of_table table) = types_of table
+columns_in_source (of_index table index) = types_of table
+columns_in_source (of_rows rows) = []
+
+abbrev pub columns_stored : List SourceData → List (List Ty)
+columns_stored sources = map columns_in_source sources
+
+-- tables and indexes are stored as is said of them, their rows fit their columns, and what stands for results out of range may
+pub record AreSaid (pages : Pages) (stored : List SourceData) (on : Basis) : Type 0 where
+  pub are : AreStored pages (sources_of stored []) on
+  pub fits : FitsCatalog (columns_stored stored) on.db
   pub stand_in : IsStandIn on.w
 
--- the same is said of the tables, and of kept rows behind them
-abbrev pub basis_over : List TableData → Basis → List (List Row) → PlanData → Basis
-basis_over tables on kept plan = record {
+-- the same is said of the tables and indexes, and of kept rows behind them
+abbrev pub basis_over : List SourceData → Basis → List (List Row) → PlanData → Basis
+basis_over stored on kept plan = record {
   w = on.w;
   db = with_rows on.db kept;
-  sizes = take (length tables) on.sizes;
+  sizes = take (length stored) on.sizes;
   local = on.local;
   plan = plan;
 }
 
--- where tables are stored as is said of them, so are they with lists of rows behind them, whatever plan is run
+-- where tables and indexes are stored as is said of them, so are they with lists of rows behind them, whatever plan is run
 abbrev pub KeptAreStored : Type 0
-KeptAreStored = (pages : Pages) (tables : List TableData) (kept : List (Vec (Vec Value Global) Global)) (on : Basis) (plan : PlanData)
-    → AreSaid pages tables on → AreStored pages (sources_of tables kept) (basis_over tables on (kept_rows kept) plan)
+KeptAreStored = (pages : Pages) (stored : List SourceData) (kept : List (Vec (Vec Value Global) Global)) (on : Basis) (plan : PlanData)
+    → AreSaid pages stored on → AreStored pages (sources_of stored kept) (basis_over stored on (kept_rows kept) plan)
 
 -- Over the tables and these rows behind them each answer of a plan is one that the query permits, what the plan reaches the query can
 -- reach, and it asks for no more pages than the query's SELECTs may.

@@ -18,26 +18,27 @@ use Rattle.operators_loops.specs.Basis.{AreStored, Basis, IsOperatorFault}
 use Rattle.operators_runs.specs.execution.Given.{HasAhead, HasAsked, HasGiven, IsRowCause, IsRunOver, NeedsNone, steps_left}
 use Rattle.logical_plan.specs.answers.Sources.{SourceData, sources_of}
 use Rattle.logical_plan_queries.specs.Answers.{IsAnswerOf, IsPlanFor, PlannedData}
+use Rattle.access_plans.specs.PlanView.{plan_data}
+use Rattle.logical_plan_queries.specs.Opens.{OpensWhole}
 use Rattle.resolver_bodies.specs.NamedView.{query_data}
-use Rattle.schema_tables.specs.TableData.{TableData}
 
 -- it permits these rows, whatever is said of tables that are stored
-abbrev pub IsPermitted : Pages → List TableData → QueryData → List Row → Type 0
-IsPermitted pages tables query rows = (on : Basis) → AreSaid pages tables on → Permits on.w on.db query rows
+abbrev pub IsPermitted : Pages → List SourceData → QueryData → List Row → Type 0
+IsPermitted pages stored query rows = (on : Basis) → AreSaid pages stored on → Permits on.w on.db query rows
 
 -- a plan of the query over the tables has given these rows
-pub record HasPlanGiven (pages : Pages) (tables : List TableData) (query : QueryData) (running : Execution) (given : List Row) : Type 0 where
+pub record HasPlanGiven (pages : Pages) (stored : List SourceData) (query : QueryData) (running : Execution) (given : List Row) : Type 0 where
   pub planned : PlannedData
   pub plan : IsPlanFor query planned
-  pub gave : HasGiven pages (sources_of tables []) planned running given
+  pub gave : HasGiven pages (sources_of stored []) planned running given
 
 -- these rows were given: those that its plan gave; none as long as no query in it is computed, and then those which with the rows that
 -- are still to be given it permits; nothing is said of them once it has ended
-abbrev pub HasGivenOf : Pages → List TableData → QueryData → QueryRun → List Row → Type 0
-HasGivenOf pages tables query (Planned running) given = HasPlanGiven pages tables query running given
-HasGivenOf pages tables query (Nested waits) given = (given ≡ []) × (query_data waits ≡ query)
-HasGivenOf pages tables query (Gathered left) given = IsPermitted pages tables query (given ++ left)
-HasGivenOf pages tables query Ended given = ⊥
+abbrev pub HasGivenOf : Pages → List SourceData → QueryData → QueryRun → List Row → Type 0
+HasGivenOf pages stored query (Planned running) given = HasPlanGiven pages stored query running given
+HasGivenOf pages stored query (Nested waits chosen) given = (given ≡ []) × (query_data waits ≡ query)
+HasGivenOf pages stored query (Gathered left) given = IsPermitted pages stored query (given ++ left)
+HasGivenOf pages stored query Ended given = ⊥
 
 -- the next row is the first of these, or there is none
 abbrev pub TakesFirst : Option Row → List Row → List Row → Type 0
@@ -45,43 +46,43 @@ TakesFirst None old new = old ≡ []
 TakesFirst (Some row) old new = old ≡ row ∷ new
 
 -- a row more was given, or those that were are permitted
-abbrev pub HasSteppedRows : Pages → List TableData → QueryData → QueryRun → List Row → Option Row → Type 0
-HasSteppedRows pages tables query run given None = IsPermitted pages tables query given
-HasSteppedRows pages tables query run given (Some row) = HasGivenOf pages tables query run (given ++ row ∷ [])
+abbrev pub HasSteppedRows : Pages → List SourceData → QueryData → QueryRun → List Row → Option Row → Type 0
+HasSteppedRows pages stored query run given None = IsPermitted pages stored query given
+HasSteppedRows pages stored query run given (Some row) = HasGivenOf pages stored query run (given ++ row ∷ [])
 
 -- its sources and their columns are some of these
 abbrev pub IsQueryOver : List SourceData → QueryRun → Type 0
 IsQueryOver sources (Planned running) = IsRunOver sources running
-IsQueryOver sources (Nested query) = ⊤
+IsQueryOver sources (Nested query chosen) = OpensWhole (plan_data chosen) (query_data query).body
 IsQueryOver sources (Gathered left) = ⊤
 IsQueryOver sources Ended = ⊤
 
 -- a measure that falls with each row; no more rows are gathered than there are addresses
 abbrev pub steps_ahead : List SourceData → QueryRun → ℕ
 steps_ahead sources (Planned running) = steps_left sources running
-steps_ahead sources (Nested query) = 2 ^ 64
+steps_ahead sources (Nested query chosen) = 2 ^ 64
 steps_ahead sources (Gathered left) = length left
 steps_ahead sources Ended = 0
 
 -- how many pages may still be asked for: those of its plan; those of the whole query as long as no query in it is computed, and then none
-abbrev pub IsAhead : Pages → List TableData → Basis → QueryData → QueryRun → ℕ → Type 0
-IsAhead pages tables on query (Planned running) ahead = HasAhead pages (sources_of tables []) on running ahead
-IsAhead pages tables on query (Nested waits) ahead = ahead ≡ body_work on.w on.db on.sizes query.body
-IsAhead pages tables on query (Gathered left) ahead = ahead ≡ 0
-IsAhead pages tables on query Ended ahead = ahead ≡ 0
+abbrev pub IsAhead : Pages → List SourceData → Basis → QueryData → QueryRun → ℕ → Type 0
+IsAhead pages stored on query (Planned running) ahead = HasAhead pages (sources_of stored []) on running ahead
+IsAhead pages stored on query (Nested waits chosen) ahead = ahead ≡ body_work on.w on.db on.sizes query.body
+IsAhead pages stored on query (Gathered left) ahead = ahead ≡ 0
+IsAhead pages stored on query Ended ahead = ahead ≡ 0
 
 -- no further page is needed: LIMIT leaves no further row of its plan, its rows were gathered, or it has ended
 abbrev pub NeedsNoPage : QueryRun → Type 0
 NeedsNoPage (Planned running) = NeedsNone running
-NeedsNoPage (Nested query) = ⊥
+NeedsNoPage (Nested query chosen) = ⊥
 NeedsNoPage (Gathered left) = ⊤
 NeedsNoPage Ended = ⊤
 
 -- of the pages that were ahead some were asked for, and the others are, or none is after the last row
-abbrev pub AsksStep : Pages → List TableData → Basis → QueryData → PagerState → ℕ → PagerState → QueryRun → Result (Option Row) Fault → Type 0
-AsksStep pages tables on query old ahead new run (Ok (Some row)) = (left : ℕ) × IsAhead pages tables on query run left × Asks on.local old ahead new left
-AsksStep pages tables on query old ahead new run (Ok None) = Asks on.local old ahead new 0
-AsksStep pages tables on query old ahead new run (Err fault) = ⊤
+abbrev pub AsksStep : Pages → List SourceData → Basis → QueryData → PagerState → ℕ → PagerState → QueryRun → Result (Option Row) Fault → Type 0
+AsksStep pages stored on query old ahead new run (Ok (Some row)) = (left : ℕ) × IsAhead pages stored on query run left × Asks on.local old ahead new left
+AsksStep pages stored on query old ahead new run (Ok None) = Asks on.local old ahead new 0
+AsksStep pages stored on query old ahead new run (Err fault) = ⊤
 
 -- after a row it hasn't ended
 abbrev pub GoesOn : Result (Option Row) Fault → QueryRun → Type 0

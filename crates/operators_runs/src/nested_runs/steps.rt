@@ -9,18 +9,19 @@ ghost use Rattle.operators_runs.specs.nested_runs.Steps.{AsksStep, EndsBy, GoesO
 ghost use Rattle.operators_loops.specs.Basis.{AreStored, Basis, ReadsRows};
 ghost use Rattle.operators_runs.specs.execution.Given.{HasAhead, HasGiven, IsRunOver, NeedsNone, steps_left};
 ghost use Rattle.operators_scan.specs.Coming.{IsRooted};
-ghost use Rattle.logical_plan.specs.answers.Sources.{sources_of};
+ghost use Rattle.logical_plan.specs.answers.Sources.{sources_of, stored_data};
 ghost use Rattle.logical_plan_queries.specs.Answers.{PlannedData};
 ghost use Rattle.schema_tables.specs.ColumnTypes.{column_types};
 ghost use Rattle.values.specs.Row.{Row as RowData};
 
 use crate::execution::Execution;
 use crate::nested_runs::gathered::answer_rows;
+use access_plans::BodyPlan;
+use logical_plan::Stored;
 use operators::GatheredRows;
 use operators_scan::Sources;
 use pager::{Pager, Source};
 use resolver_bodies::Query;
-use schema_tables::Table;
 use std::alloc::Global;
 use values::{Fault, Row};
 
@@ -29,8 +30,8 @@ use values::{Fault, Row};
 pub enum QueryRun {
     /// Its plan over the tables.
     Planned(Execution),
-    /// A query with queries in it, of which none is computed.
-    Nested(Query),
+    /// A query with queries in it, of which none is computed, and how the tables of each are opened.
+    Nested(Query, BodyPlan),
     /// The rows of such a query that are still to be given.
     Gathered(GatheredRows),
     /// Its last row was given, or it failed. Nothing of it is kept.
@@ -41,24 +42,24 @@ pub enum QueryRun {
 fn next_planned<S: Source>(
     alloc: Global,
     pager: &mut Pager<S>,
-    tables: &[Table],
+    stored: Stored<'_>,
     running: &mut Execution,
 ) -> Result<Option<Row>, Fault>
-    requires roots { All (IsRooted pager.old.state.header) (sources_of tables.now []) }
-    requires planned { IsRunOver (sources_of tables.now []) running.old }
+    requires roots { All (IsRooted pager.old.state.header) (sources_of (stored_data stored) []) }
+    requires planned { IsRunOver (sources_of (stored_data stored) []) running.old }
     ensures rows { WhereSteady pager.old.state (λ pages. (planned : PlannedData) (given : List RowData)
-        → HasGiven pages (sources_of tables.now []) planned running.old given
-        → PlanSteps pages (sources_of tables.now []) planned given running.new result) }
-    ensures pages { WhereSteady pager.old.state (λ pages. (on : Basis) (ahead : ℕ) → AreStored pages (sources_of tables.now []) on
-        → HasAhead pages (sources_of tables.now []) on running.old ahead
-        → PlanAsks pages (sources_of tables.now []) on pager.old.state ahead pager.new.state running.new result) }
+        → HasGiven pages (sources_of (stored_data stored.entry) []) planned running.old given
+        → PlanSteps pages (sources_of (stored_data stored.entry) []) planned given running.new result) }
+    ensures pages { WhereSteady pager.old.state (λ pages. (on : Basis) (ahead : ℕ) → AreStored pages (sources_of (stored_data stored.entry) []) on
+        → HasAhead pages (sources_of (stored_data stored.entry) []) on running.old ahead
+        → PlanAsks pages (sources_of (stored_data stored.entry) []) on pager.old.state ahead pager.new.state running.new result) }
     ensures done { NeedsNone running.old → pager.new.state ≡ pager.old.state }
-    ensures over { IsRunOver (sources_of tables.now []) running.new }
-    ensures left { IfOk result (λ found. OnSome found (steps_left (sources_of tables.now []) running.new < steps_left (sources_of tables.now []) running.old)) }
+    ensures over { IsRunOver (sources_of (stored_data stored.entry) []) running.new }
+    ensures left { IfOk result (λ found. OnSome found (steps_left (sources_of (stored_data stored.entry) []) running.new < steps_left (sources_of (stored_data stored.entry) []) running.old)) }
     ensures reads { ReadsRows result pager.old.state pager.new.state }
 {
     let mut values = Vec::new(alloc);
-    let sources = Sources::new(tables, &[]);
+    let sources = Sources::new(stored, &[]);
     let found = running.next(alloc, pager, &sources, &mut values)?;
     if !found {
         return Ok(None);
@@ -83,29 +84,29 @@ impl QueryRun {
         &mut self,
         alloc: Global,
         pager: &mut Pager<S>,
-        tables: &[Table],
+        stored: Stored<'_>,
     ) -> Result<Option<Row>, Fault>
-        requires roots { All (IsRooted pager.old.state.header) (sources_of tables.now []) }
-        requires over { IsQueryOver (sources_of tables.now []) self.old }
-        ensures rows { WhereSteady pager.old.state (λ pages. (query : QueryData) (given : List RowData) → IsTyped (column_types tables.now) query
-            → IsRunnableBody query.body → HasGivenOf pages tables.now query self.old given → MatchResult result
-            (HasSteppedRows pages tables.now query self.new given)
-            (λ e. (on : Basis) → AreSaid pages tables.now on → IsQueryCause on query e)) }
-        ensures pages { WhereSteady pager.old.state (λ pages. (query : QueryData) (given : List RowData) → IsTyped (column_types tables.now) query
-            → IsRunnableBody query.body → HasGivenOf pages tables.now query self.old given → (on : Basis) → AreSaid pages tables.now on
-            → (ahead : ℕ) → IsAhead pages tables.now on query self.old ahead
-            → AsksStep pages tables.now on query pager.old.state ahead pager.new.state self.new result) }
+        requires roots { All (IsRooted pager.old.state.header) (sources_of (stored_data stored) []) }
+        requires over { IsQueryOver (sources_of (stored_data stored) []) self.old }
+        ensures rows { WhereSteady pager.old.state (λ pages. (query : QueryData) (given : List RowData) → IsTyped (column_types stored.tables.now) query
+            → IsRunnableBody query.body → HasGivenOf pages (stored_data stored.entry) query self.old given → MatchResult result
+            (HasSteppedRows pages (stored_data stored.entry) query self.new given)
+            (λ e. (on : Basis) → AreSaid pages (stored_data stored.entry) on → IsQueryCause on query e)) }
+        ensures pages { WhereSteady pager.old.state (λ pages. (query : QueryData) (given : List RowData) → IsTyped (column_types stored.tables.now) query
+            → IsRunnableBody query.body → HasGivenOf pages (stored_data stored.entry) query self.old given → (on : Basis) → AreSaid pages (stored_data stored.entry) on
+            → (ahead : ℕ) → IsAhead pages (stored_data stored.entry) on query self.old ahead
+            → AsksStep pages (stored_data stored.entry) on query pager.old.state ahead pager.new.state self.new result) }
         ensures done { NeedsNoPage self.old → pager.new.state ≡ pager.old.state }
-        ensures over { IsQueryOver (sources_of tables.now []) self.new }
-        ensures left { IfOk result (λ found. OnSome found (steps_ahead (sources_of tables.now []) self.new < steps_ahead (sources_of tables.now []) self.old)) }
+        ensures over { IsQueryOver (sources_of (stored_data stored.entry) []) self.new }
+        ensures left { IfOk result (λ found. OnSome found (steps_ahead (sources_of (stored_data stored.entry) []) self.new < steps_ahead (sources_of (stored_data stored.entry) []) self.old)) }
         ensures going { GoesOn result self.new }
         ensures ended { self.old ≡ QueryRun.Ended → result ≡ Err Fault.Finished }
         ensures reads { ReadsRowsOrEnded self.old result pager.old.state pager.new.state }
     {
         match self {
-            QueryRun::Planned(running) => next_planned(alloc, pager, tables, running),
-            QueryRun::Nested(query) => {
-                let rows = answer_rows(alloc, pager, tables, query)?;
+            QueryRun::Planned(running) => next_planned(alloc, pager, stored, running),
+            QueryRun::Nested(query, chosen) => {
+                let rows = answer_rows(alloc, pager, stored, chosen, query)?;
                 let mut left = GatheredRows::new(rows);
                 let first = next_row(&mut left);
                 *self = QueryRun::Gathered(left);
@@ -123,26 +124,26 @@ impl QueryRun {
         &mut self,
         alloc: Global,
         pager: &mut Pager<S>,
-        tables: &[Table],
+        stored: Stored<'_>,
     ) -> Result<Option<Row>, Fault>
-        requires roots { All (IsRooted pager.old.state.header) (sources_of tables.now []) }
-        requires over { IsQueryOver (sources_of tables.now []) self.old }
-        ensures rows { WhereSteady pager.old.state (λ pages. (query : QueryData) (given : List RowData) → IsTyped (column_types tables.now) query
-            → IsRunnableBody query.body → HasGivenOf pages tables.now query self.old given → MatchResult result
-            (HasSteppedRows pages tables.now query self.new given)
-            (λ e. (on : Basis) → AreSaid pages tables.now on → IsQueryCause on query e)) }
-        ensures pages { WhereSteady pager.old.state (λ pages. (query : QueryData) (given : List RowData) → IsTyped (column_types tables.now) query
-            → IsRunnableBody query.body → HasGivenOf pages tables.now query self.old given → (on : Basis) → AreSaid pages tables.now on
-            → (ahead : ℕ) → IsAhead pages tables.now on query self.old ahead
-            → AsksStep pages tables.now on query pager.old.state ahead pager.new.state self.new result) }
+        requires roots { All (IsRooted pager.old.state.header) (sources_of (stored_data stored) []) }
+        requires over { IsQueryOver (sources_of (stored_data stored) []) self.old }
+        ensures rows { WhereSteady pager.old.state (λ pages. (query : QueryData) (given : List RowData) → IsTyped (column_types stored.tables.now) query
+            → IsRunnableBody query.body → HasGivenOf pages (stored_data stored.entry) query self.old given → MatchResult result
+            (HasSteppedRows pages (stored_data stored.entry) query self.new given)
+            (λ e. (on : Basis) → AreSaid pages (stored_data stored.entry) on → IsQueryCause on query e)) }
+        ensures pages { WhereSteady pager.old.state (λ pages. (query : QueryData) (given : List RowData) → IsTyped (column_types stored.tables.now) query
+            → IsRunnableBody query.body → HasGivenOf pages (stored_data stored.entry) query self.old given → (on : Basis) → AreSaid pages (stored_data stored.entry) on
+            → (ahead : ℕ) → IsAhead pages (stored_data stored.entry) on query self.old ahead
+            → AsksStep pages (stored_data stored.entry) on query pager.old.state ahead pager.new.state self.new result) }
         ensures done { NeedsNoPage self.old → pager.new.state ≡ pager.old.state }
-        ensures over { IsQueryOver (sources_of tables.now []) self.new }
-        ensures left { IfOk result (λ found. OnSome found (steps_ahead (sources_of tables.now []) self.new < steps_ahead (sources_of tables.now []) self.old)) }
+        ensures over { IsQueryOver (sources_of (stored_data stored.entry) []) self.new }
+        ensures left { IfOk result (λ found. OnSome found (steps_ahead (sources_of (stored_data stored.entry) []) self.new < steps_ahead (sources_of (stored_data stored.entry) []) self.old)) }
         ensures ended { self.old ≡ QueryRun.Ended → result ≡ Err Fault.Finished }
         ensures ends { EndsBy result self.new }
         ensures reads { ReadsRowsOrEnded self.old result pager.old.state pager.new.state }
     {
-        match self.step(alloc, pager, tables) {
+        match self.step(alloc, pager, stored) {
             Ok(Some(row)) => Ok(Some(row)),
             Ok(None) => {
                 *self = QueryRun::Ended;

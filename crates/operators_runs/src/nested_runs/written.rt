@@ -11,19 +11,22 @@ ghost use Rattle.pager.specs.Calls.{ReadsPages};
 ghost use Rattle.operators_runs.specs.Faults.{IsRunFault};
 ghost use Rattle.operators_scan.specs.scan.Coming.{Asks};
 ghost use Rattle.operators_scan.specs.Coming.{IsRooted, IsStoredSource};
-ghost use Rattle.logical_plan.specs.answers.Sources.{sources_of};
+ghost use Rattle.logical_plan.specs.answers.Sources.{sources_of, stored_data};
 ghost use Rattle.logical_plan_queries.specs.Answers.{PlannedData, planned_data, work_of};
+ghost use Rattle.access_plans.specs.PlanView.{plan_data};
+ghost use Rattle.logical_plan_queries.specs.Opens.{OpensWhole};
 ghost use Rattle.resolver_bodies.specs.NamedView.{query_data};
 ghost use Rattle.schema_tables.specs.ColumnTypes.{column_types};
 ghost use Rattle.values.specs.Fault.{Counts};
 
 use crate::inner_rows::kept_plan;
 use crate::planned::write_answer;
+use access_plans::BodyPlan;
+use logical_plan::Stored;
 use logical_plan_queries::Planned;
 use operators_scan::Sources;
 use pager::{Pager, Source};
 use resolver_bodies::Query;
-use schema_tables::Table;
 use std::alloc::Global;
 use values::{Fault, Sink};
 
@@ -32,50 +35,54 @@ use values::{Fault, Sink};
 fn write_nested<S: Source, W: Sink>(
     alloc: Global,
     pager: &mut Pager<S>,
-    tables: &[Table],
+    stored: Stored<'_>,
+    chosen: &BodyPlan,
     query: &Query,
     out: &mut W,
 ) -> Result<u64, Fault>
-    requires { All (IsRooted pager.old.state.header) (sources_of tables.now []) }
-    ensures rows { WhereSteady pager.old.state (λ pages. IsTyped (column_types tables.now) (query_data query.now)
-        → IsRunnableBody (query_data query.now).body → All (IsStoredSource pages) (sources_of tables.now [])
+    requires chosen { OpensWhole (plan_data chosen.now) (query_data query.now).body }
+    requires roots { All (IsRooted pager.old.state.header) (sources_of (stored_data stored) []) }
+    ensures rows { WhereSteady pager.old.state (λ pages. IsTyped (column_types stored.tables.now) (query_data query.now)
+        → IsRunnableBody (query_data query.now).body → All (IsStoredSource pages) (sources_of (stored_data stored.entry) [])
         → MatchResult result
-        (WritesPermitted pages tables.now (query_data query.now) (W.facts out.old) (W.facts out.new))
-        (WritesBeginning pages tables.now (query_data query.now) (W.facts out.old) (W.facts out.new))) }
-    ensures pages { WhereSteady pager.old.state (λ pages. (on : Basis) → AreSaid pages tables.now on
-        → IsTyped (column_types tables.now) (query_data query.now) → IsRunnableBody (query_data query.now).body
+        (WritesPermitted pages (stored_data stored.entry) (query_data query.now) (W.facts out.old) (W.facts out.new))
+        (WritesBeginning pages (stored_data stored.entry) (query_data query.now) (W.facts out.old) (W.facts out.new))) }
+    ensures pages { WhereSteady pager.old.state (λ pages. (on : Basis) → AreSaid pages (stored_data stored.entry) on
+        → IsTyped (column_types stored.tables.now) (query_data query.now) → IsRunnableBody (query_data query.now).body
         → OnOk result (Asks on.local pager.old.state (body_work on.w on.db on.sizes (query_data query.now).body) pager.new.state 0)) }
     ensures only { IfErr result IsRunFault }
     ensures reads { ReadsPages result pager.old.state pager.new.state }
     ensures writes { Counts Fault.WriteFailed result (W.facts out.old).failures (W.facts out.new).failures }
 {
-    let run = kept_plan(alloc, pager, tables, query)?;
-    let sources = Sources::new(tables, run.kept.as_slice());
+    let run = kept_plan(alloc, pager, stored, chosen, query)?;
+    let sources = Sources::new(stored, run.kept.as_slice());
     write_answer(alloc, pager, &sources, &run.planned, out)
 }
 
-/// Writes the rows of a query as lines and counts them: over its plan, if it has one, else once the queries in it are computed, each of
-/// them once. At a fault what was written is a beginning of such an answer. Its faults are those of a run. (SELECT)
+/// Writes the rows of a query, whose tables are opened as is chosen for them, as lines and counts them: over its plan, if it has one, else
+/// once the queries in it are computed, each of them once. At a fault what was written is a beginning of such an answer. Its faults are those of a run. (SELECT)
 pub fn write_query<S: Source, W: Sink>(
     alloc: Global,
     pager: &mut Pager<S>,
-    tables: &[Table],
+    stored: Stored<'_>,
+    chosen: &BodyPlan,
     query: &Query,
     planned: &Option<Planned>,
     out: &mut W,
 ) -> Result<u64, Fault>
-    requires roots { All (IsRooted pager.old.state.header) (sources_of tables.now []) }
-    requires plan { HasPlanOver tables.now (query_data query.now) (option_map planned_data planned.now) }
-    ensures rows { WhereSteady pager.old.state (λ pages. IsTyped (column_types tables.now) (query_data query.now)
-        → IsRunnableBody (query_data query.now).body → All (IsStoredSource pages) (sources_of tables.now [])
+    requires roots { All (IsRooted pager.old.state.header) (sources_of (stored_data stored) []) }
+    requires chosen { OpensWhole (plan_data chosen.now) (query_data query.now).body }
+    requires plan { HasPlanOver (stored_data stored) (query_data query.now) (option_map planned_data planned.now) }
+    ensures rows { WhereSteady pager.old.state (λ pages. IsTyped (column_types stored.tables.now) (query_data query.now)
+        → IsRunnableBody (query_data query.now).body → All (IsStoredSource pages) (sources_of (stored_data stored.entry) [])
         → MatchResult result
-        (WritesPermitted pages tables.now (query_data query.now) (W.facts out.old) (W.facts out.new))
-        (WritesBeginning pages tables.now (query_data query.now) (W.facts out.old) (W.facts out.new))) }
+        (WritesPermitted pages (stored_data stored.entry) (query_data query.now) (W.facts out.old) (W.facts out.new))
+        (WritesBeginning pages (stored_data stored.entry) (query_data query.now) (W.facts out.old) (W.facts out.new))) }
     ensures few { (plan : PlannedData) → option_map planned_data planned.now ≡ Some plan → WhereSteady pager.old.state (λ pages.
-        (on : Basis) → AreStored pages (sources_of tables.now []) on
+        (on : Basis) → AreStored pages (sources_of (stored_data stored.entry) []) on
         → OnOk result (Asks on.local pager.old.state (work_of on.w on.db on.sizes plan) pager.new.state 0)) }
-    ensures each_once { WhereSteady pager.old.state (λ pages. (on : Basis) → AreSaid pages tables.now on
-        → IsTyped (column_types tables.now) (query_data query.now) → IsRunnableBody (query_data query.now).body
+    ensures each_once { WhereSteady pager.old.state (λ pages. (on : Basis) → AreSaid pages (stored_data stored.entry) on
+        → IsTyped (column_types stored.tables.now) (query_data query.now) → IsRunnableBody (query_data query.now).body
         → OnOk result (Asks on.local pager.old.state (body_work on.w on.db on.sizes (query_data query.now).body) pager.new.state 0)) }
     ensures only { IfErr result IsRunFault }
     ensures reads { ReadsPages result pager.old.state pager.new.state }
@@ -83,9 +90,9 @@ pub fn write_query<S: Source, W: Sink>(
 {
     match planned {
         Some(planned) => {
-            let sources = Sources::new(tables, &[]);
+            let sources = Sources::new(stored, &[]);
             write_answer(alloc, pager, &sources, planned, out)
         }
-        None => write_nested(alloc, pager, tables, query, out),
+        None => write_nested(alloc, pager, stored, chosen, query, out),
     }
 }

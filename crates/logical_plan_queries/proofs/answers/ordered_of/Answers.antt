@@ -11,33 +11,25 @@ use Rattle.resolver_terms.specs.SelectView.{key_of, select_of}
 use Rattle.resolver_terms.specs.declared.selects.Key.{Key}
 use Rattle.logical_plan.specs.answers.Answers.{answer_data, order_data}
 use Rattle.logical_plan.specs.answers.Arms.{arm_data}
+use Rattle.logical_plan.specs.answers.Sources.{stored_data}
 use Rattle.logical_plan_queries.specs.Made.{IsOrderedArmFor, IsPutInOrder}
 use Rattle.logical_plan_queries.specs.select_plans.Served.{IsServedSelect}
 use Rattle.logical_plan_queries.proofs.OrderedLemmas.{ordered_is_over, ordered_is_plan}
 use Rattle.logical_plan_queries.proofs.ServedLemmas.{not_alone, not_distinct, not_together}
 use Rattle.logical_plan_queries.proofs.answers.ordered_of.Goals as goal
 
-pub returns-in-Compound : goal.returns-in-Compound
-returns-in-Compound c =
-    let left = body_of c.in-Compound.field-0.value in
-    let operator = operator_of c.in-Compound.field-1 in
-    let single = single_of c.in-Compound.field-2 in
-    let body : body_of c.args.query.now.body ≡ compound left operator single.from single.select =
-    search (rules, the_lemmas, fold-roll-Body, fold_out-Body) in
-    not_together (query_data c.args.query.now) left operator single.from single.select body c.requires
-
 pub returns-then-single : goal.returns-then-single
 returns-then-single c =
-    let single = out-Single c.in-Select.single in
+    let single = out-Single c.in-Select-Select.single in
     let s = select_of single.select in
     let body : body_of c.args.query.now.body ≡ select (tables_of single.tables) s =
     search (rules, the_lemmas, fold-roll-Body, fold_out-Body, fold-roll-Single, fold_out-Single) in
     let distinct : s.distinct ≡ true = search (rules, the_lemmas, fold-roll-Single, fold_out-Single) in
-    not_distinct (query_data c.args.query.now) (tables_of single.tables) s body distinct c.requires
+    not_distinct (query_data c.args.query.now) (tables_of single.tables) s body distinct c.requires.other
 
 pub returns-in-None : goal.returns-in-None
 returns-in-None c =
-    let single = out-Single c.in-Select.single in
+    let single = out-Single c.in-Select-Select.single in
     let s = select_of single.select in
     let body : body_of c.args.query.now.body ≡ select (tables_of single.tables) s =
     search (rules, the_lemmas, fold-roll-Body, fold_out-Body, fold-roll-Single, fold_out-Single) in
@@ -47,14 +39,14 @@ returns-in-None c =
 
 pub returns-in-Some : goal.returns-in-Some
 returns-in-Some c =
-    let single = out-Single c.in-Select.single in
+    let single = out-Single c.in-Select-Select.single in
     let s = select_of single.select in
     let q = query_data c.args.query.now in
     let body : body_of c.args.query.now.body ≡ select (tables_of single.tables) s =
     search (rules, the_lemmas, fold-roll-Body, fold_out-Body, fold-roll-Single, fold_out-Single) in
     let arm = arm_data c.in-Some.ordered.arm in
     let order = order_data c.in-Some.ordered.order in
-    let made : IsPutInOrder q (answer_data c.answer_over.result) = record {
+    let made : IsPutInOrder (stored_data c.args.stored) q (answer_data c.answer_over.result) = record {
       from = tables_of single.tables;
       s = s;
       arm = arm;
@@ -63,9 +55,9 @@ returns-in-Some c =
       arms = c.answer_over.ensures.arms;
       order_is = c.answer_over.ensures.order;
       arm_is =
-          subst (λ (keys : List Key). IsOrderedArmFor (map key_of keys) (tables_of single.tables) s arm order) c.as_slice.ensures.value
+          subst (λ (keys : List Key). IsOrderedArmFor (stored_data c.args.stored) (map key_of keys) (tables_of single.tables) s arm order) c.as_slice.ensures.value
           (rw c.in-Some.is at c.in_ok-found.ensures);
       limit_is = c.answer_over.ensures.limit;
       offset_is = c.answer_over.ensures.offset;
     } in
-    (ordered_is_plan q (answer_data c.answer_over.result) made, ordered_is_over q (answer_data c.answer_over.result) made)
+    (ordered_is_plan (stored_data c.args.stored) q (answer_data c.answer_over.result) made, ordered_is_over (stored_data c.args.stored) q (answer_data c.answer_over.result) made)

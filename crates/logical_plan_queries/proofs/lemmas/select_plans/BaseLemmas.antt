@@ -1,8 +1,9 @@
 -- The rows that result columns are computed on, as a plan has them.
-use Rattle.std.proofs.Common.{◌≡◌, ◌∙◌, ◌+◌, ◌≤◌, ◌⊎◌, All, Any, Bool, Contains, ℕ, true, false, List, [], ◌∷◌, ◌++◌, length, map, Option, Some, None, refl, sym, ap, subst, arith, IsPermutation}
+use Rattle.std.proofs.Common.{◌≡◌, ◌∙◌, ◌+◌, ◌<◌, ◌≤◌, ◌⊎◌, All, Any, Bool, Contains, ℕ, true, false, List, [], ◌∷◌, ◌++◌, length, map, Option, Some, None, refl, sym, ap, subst, arith, IsPermutation}
 use Rattle.std.specs.List.{AllZip, range_with_len}
 use Rattle.std.proofs.lemmas.List.Elements.{All-filter, All-head, All-tail, All-weaker}
 use Rattle.std.proofs.lemmas.List.FromFn.{length-range_with_len}
+use Rattle.std.proofs.lemmas.List.Sorted.{All-permutation, IsPermutation-map, IsPermutation-sym}
 use Rattle.values.specs.Database.{Database}
 use Rattle.values.specs.Datum.{Datum}
 use Rattle.values.specs.Row.{Row}
@@ -12,11 +13,12 @@ use Rattle.logical_plan_terms.specs.group_plans.Grouped.{IsGroupedOver, group_co
 use Rattle.logical_plan_terms.specs.group_plans.Laws.{SeesWhere, group_rows_kept}
 use Rattle.logical_plan_terms.proofs.lemmas.group_plans.HitLemmas.{grouped_columns_are_hit, grouped_is_hit}
 use Rattle.logical_plan_terms.proofs.lemmas.group_plans.RowLemmas.{grouped_has_rows}
-use Rattle.logical_plan_terms.proofs.lemmas.group_plans.WidthLemmas.{grouped_say, rows_wide, shown_whole}
+use Rattle.logical_plan_terms.proofs.lemmas.group_plans.WidthLemmas.{grouped_say, rows_wide}
 use Rattle.semantics.specs.Body.{answers_in, values_over, computed_rows}
 use Rattle.semantics.specs.Body as body
 use Rattle.semantics.specs.Groups.{group_rows, grouped}
 use Rattle.semantics.specs.Hits.{FromHits, IsChoice, SelectHits, where_rows}
+use Rattle.semantics.specs.OneTable.{shown}
 use Rattle.semantics.specs.Query.{From, Grouping, Select, WindowCall, from_width, joined, nothing, with_inner}
 use Rattle.semantics.specs.Valuation.{holds_on}
 use Rattle.semantics.specs.Windows.{windowed}
@@ -24,16 +26,18 @@ use Rattle.semantics.proofs.HitLemmas.{from_rows_are_choices}
 use Rattle.semantics.proofs.ScanLemmas.{map-identity, windowed-none}
 use Rattle.logical_plan_terms.specs.Over.{StandsOver}
 use Rattle.logical_plan.specs.JoinPlan as join
-use Rattle.logical_plan.specs.JoinPlan.{AreWide, AreWideBefore}
-use Rattle.logical_plan.specs.Plan.{Hits, PlanData, ReachesOverflow, rows_of}
-use Rattle.logical_plan.proofs.JoinLemmas.{AreTables, choice_width, wide_before}
+use Rattle.logical_plan.specs.JoinPlan.{AreWide, AreWideBefore, columns_before}
+use Rattle.access_plans.specs.PlanView.{SelectData}
+use Rattle.logical_plan.specs.Plan.{Hits, PlanData, ReachesOverflow, rows_of, shown_rows}
+use Rattle.logical_plan.specs.answers.Sources.{SourceData}
+use Rattle.logical_plan.proofs.JoinLemmas.{AreTables, choice_width, seen_is, wide_before}
 use Rattle.logical_plan_queries.specs.select_plans.Made.{IsOverRows, IsOverWindows}
 use Rattle.logical_plan_queries.specs.select_plans.Read.{IsReadBy, IsWideBy, reads_all}
 use Rattle.logical_plan.specs.answers.Permitted.{SaysOf}
 use Rattle.logical_plan.proofs.lemmas.answers.ResultLemmas.{where_is_computed}
 use Rattle.logical_plan_terms.specs.table_plans.Input.{input_from, seen}
 use Rattle.logical_plan_terms.specs.table_plans.TableJoins.{AreTableJoins}
-use Rattle.logical_plan_terms.specs.table_plans.Planned.{IsPlanOver}
+use Rattle.logical_plan_terms.specs.table_plans.Ordered.{AreIndexedIn, IsOrderedOver}
 use Rattle.logical_plan_terms.specs.declared.table_plans.inputs.Input.{Input}
 use Rattle.logical_plan_terms.proofs.lemmas.table_plans.HitLemmas.{columns_are_hit, plan_is_hit}
 use Rattle.logical_plan_terms.proofs.lemmas.table_plans.RowLemmas.{columns_say, plan_has_bag}
@@ -42,7 +46,8 @@ use Rattle.logical_plan_terms.specs.window_plans.Windowed.{IsWindowedOver, windo
 use Rattle.logical_plan_terms.proofs.lemmas.window_plans.HitLemmas.{windowed_columns_are_hit, windowed_is_hit}
 use Rattle.logical_plan_terms.proofs.lemmas.window_plans.RowLemmas.{windowed_has_rows, windowed_say}
 use Rattle.logical_plan_terms.proofs.lemmas.window_plans.SeenLemmas.{shown_same, written_whole}
-use Rattle.logical_plan_queries.proofs.lemmas.select_plans.PlaceLemmas.{places_whole}
+use Rattle.logical_plan_queries.proofs.lemmas.select_plans.PlaceLemmas.{places_whole, places_within}
+use Rattle.logical_plan_queries.proofs.lemmas.select_plans.ShownLemmas.{counted, places_before, rows_back}
 
 -- A plan has, in some order, what is seen of the rows that result columns are computed on. An expression over these columns of it
 -- says of what is seen of a row what its term says of the row. What the plan reaches, and what such expressions for the result
@@ -54,9 +59,11 @@ pub record IsBase (w : Datum) (db : Database) (from : From) (s : Select) (column
   pub plan_hits : (terms : List Term) → Hits w db plan → FromHits w db (answers_in w db from) from false ⊎ SelectHits w db from s terms
   pub column_hits : (terms es : List Term) → AllZip (StandsOver columns 0) es (s.columns ++ terms) → Any (ReachesOverflow es) (rows_of w db plan) → SelectHits w db from s terms
 
--- A plan has, in some order, the rows that windows take, of so many values, in their places; and what it reaches the SELECT can reach.
-record IsInput (w : Datum) (db : Database) (from : From) (s : Select) (width : ℕ) (plan : PlanData) : Type 0 where
-  taken : HasTaken w db from s 0 (range_with_len 0 width) plan
+-- A plan has, in some order, the rows that windows take, of so many values, each where one of these columns of it is; and what it reaches
+-- the SELECT can reach.
+record IsInput (w : Datum) (db : Database) (from : From) (s : Select) (width : ℕ) (columns : List ℕ) (plan : PlanData) : Type 0 where
+  taken : HasTaken w db from s 0 (written_places columns) plan
+  long : length columns ≡ width
   wide : All (λ (row : Row). length row ≡ width) (windows_take w db from s)
   plan_hits : (terms : List Term) → Hits w db plan → FromHits w db (answers_in w db from) from false ⊎ SelectHits w db from s terms
 
@@ -79,23 +86,7 @@ groups_are_computed w db from s g is windowless =
     ∙ windowed-none (values_over w db from) w (grouped (values_over w db from) w s.grouping (where_rows w db from s))
     ∙ ap (λ grouping. grouped (values_over w db from) w grouping (where_rows w db from s)) is)
 
--- ---- rows of which each column is read
-
-no_values : (row : Row) → length row ≡ 0 → row ≡ []
-no_values [] none = refl
-no_values (v ∷ row) none = absurd (omega (arith, none))
-
-seen_whole : (from : From) (row : Row) → length row ≡ from_width from → join.seen from (range_with_len 0 (from_width from)) row ≡ row
-seen_whole nothing row long = sym (no_values row long)
-seen_whole (joined from kind source on) row long = shown_whole (from_width (joined from kind source on)) row long
-seen_whole (with_inner from query) row long = seen_whole from row long
-
-all_seen : (from : From) (rows : List Row) → All (λ (row : Row). length row ≡ from_width from) rows
-    → map (join.seen from (range_with_len 0 (from_width from))) rows ≡ rows
-all_seen from [] wide = refl
-all_seen from (row ∷ rows) wide =
-    (λ j. seen_whole from row (All-head (λ (row : Row). length row ≡ from_width from) row rows wide) j
-    ∷ all_seen from rows (All-tail (λ (row : Row). length row ≡ from_width from) row rows wide) j)
+-- ---- how many values rows have
 
 -- the rows that WHERE keeps have as many values as the tables have columns
 where_wide : (w : Datum) (db : Database) (from : From) (s : Select) → AreTableJoins from → AreWide db from
@@ -108,20 +99,42 @@ where_wide w db from s inner wide =
 
 -- ---- windows
 
-windowed_base : (w : Datum) (db : Database) (from : From) (s : Select) (width : ℕ) (below plan : PlanData) → IsInput w db from s width below
-    → IsWindowedOver 0 s.windows (range_with_len 0 width) below plan → IsBase w db from s (windowed_columns width s.windows) plan
-windowed_base w db from s width below plan input over = record {
+-- what is seen of rows in another order is put back in the order in which it is written
+seen_back : (from : From) (shows : List ℕ) (rows : List Row) → IsPermutation shows (range_with_len 0 (from_width from))
+    → All (λ (row : Row). length row ≡ from_width from) rows → map (shown (written_places shows)) (map (join.seen from shows) rows) ≡ rows
+seen_back from shows rows all wide =
+    ap (map (shown (written_places shows))) (all_shown rows) ∙ rows_back (from_width from) shows rows all wide
+  where
+    within : All (λ at. at < from_width from) shows
+    within =
+        All-permutation (λ at. at < from_width from) (range_with_len 0 (from_width from)) shows
+        (IsPermutation-sym shows (range_with_len 0 (from_width from)) all) (places_within (from_width from))
+
+    all_shown : (rows : List Row) → map (join.seen from shows) rows ≡ map (shown shows) rows
+    all_shown [] = refl
+    all_shown (row ∷ rows) = (λ i. seen_is from shows row within i ∷ all_shown rows i)
+
+-- the columns of groups' rows are written where they are
+groups_written : (g : Grouping) → written_places (group_columns g) ≡ range_with_len 0 (length g.by + length g.aggregates)
+groups_written g =
+    written_whole (group_columns g) (places_whole (group_columns g) (length g.by + length g.aggregates) refl)
+
+windowed_base : (w : Datum) (db : Database) (from : From) (s : Select) (width : ℕ) (columns : List ℕ) (below plan : PlanData) → IsInput w db from s width columns below
+    → IsWindowedOver 0 s.windows (written_places columns) below plan → IsBase w db from s (windowed_columns width s.windows) plan
+windowed_base w db from s width columns below plan input over = record {
   seen = λ row. row;
   rows_are =
       subst (λ (rows : List Row). IsPermutation rows (rows_of w db plan)) (sym (map-identity (computed_rows w db from s)))
-      (windowed_has_rows w db from s 0 (range_with_len 0 width) below plan input.taken over);
+      (windowed_has_rows w db from s 0 (written_places columns) below plan input.taken over);
   says = λ e t stands o row held. windowed_say w db from s width 0 e t input.taken.few input.wide stands o row held;
-  plan_hits = λ terms hits. windowed_is_hit w db from s terms 0 (range_with_len 0 width) below plan input.taken over (input.plan_hits terms) hits;
-  column_hits = λ terms es stand any. windowed_columns_are_hit w db from s terms es width 0 (range_with_len 0 width) below plan input.taken input.wide over stand any;
+  plan_hits = λ terms hits. windowed_is_hit w db from s terms 0 (written_places columns) below plan input.taken over (input.plan_hits terms) hits;
+  column_hits = λ terms es stand any.
+      windowed_columns_are_hit w db from s terms es width 0 (written_places columns) below plan input.taken input.wide over stand any;
 }
 
-module _ (w : Datum) (db : Database) (s : Select) (input : Input) (inner : AreTableJoins (input_from input)) (wide : AreWideBefore db (input_from input))
-    (read : List ℕ) (below : PlanData) (below_is : IsPlanOver input read s.condition below) where
+module _ (w : Datum) (db : Database) (sources : List SourceData) (chosen : SelectData) (s : Select) (input : Input) (inner : AreTableJoins (input_from input))
+    (wide : AreWideBefore db (input_from input)) (read shows : List ℕ) (below : PlanData) (indexed : AreIndexedIn db sources below)
+    (below_is : IsOrderedOver sources chosen input read s.condition shows below) where
   abbrev from : From
   from = input_from input
 
@@ -129,65 +142,69 @@ module _ (w : Datum) (db : Database) (s : Select) (input : Input) (inner : AreTa
   whole = where_rows w db from s
 
   -- the plan of FROM and WHERE
-  has_where : IsPermutation (map (seen input read) whole) (rows_of w db below)
-  has_where = plan_has_bag w db s input read below wide below_is
+  has_where : IsPermutation (map (seen input shows) whole) (rows_of w db below)
+  has_where = plan_has_bag w db sources chosen s input read shows below wide indexed below_is
+
+  below_hits : (terms : List Term) → Hits w db below → FromHits w db (answers_in w db from) from false ⊎ SelectHits w db from s terms
+  below_hits terms hits = plan_is_hit w db sources chosen s terms input read shows below wide indexed below_is hits
 
   few_answers : length (answers_in w db from) ≤ 0
   few_answers = let none : length (answers_in w db from) ≡ 0 = ap length (unanswered w db from inner) in omega (arith, none)
 
-  sees_where : SeesWhere w db from s read 0 below
+  sees_where : SeesWhere w db from s shows 0 below
   sees_where = record {
-    seen = seen input read;
+    seen = seen input shows;
     few = few_answers;
     rows_are = has_where;
-    says = λ e t stands. columns_say w db s input read e t stands;
+    says = λ e t stands. columns_say w db s input shows e t stands;
   }
 
-  plain_base : s.grouping ≡ None → s.windows ≡ [] → IsBase w db from s read below
+  plain_base : s.grouping ≡ None → s.windows ≡ [] → IsBase w db from s shows below
   plain_base none windowless =
       let same = where_is_computed w db from s none windowless in record {
-        seen = seen input read;
-        rows_are = subst (λ (rows : List Row). IsPermutation (map (seen input read) rows) (rows_of w db below)) same has_where;
+        seen = seen input shows;
+        rows_are = subst (λ (rows : List Row). IsPermutation (map (seen input shows) rows) (rows_of w db below)) same has_where;
         says = λ e t stands.
-            subst (λ (rows : List Row). SaysOf (seen input read) rows e (filled (answers_in w db from) t)) same (columns_say w db s input read e t stands);
-        plan_hits = λ terms hits. plan_is_hit w db s terms input read below wide below_is hits;
-        column_hits = λ terms es stand any. columns_are_hit w db s terms es input read below wide none windowless below_is stand any;
+            subst (λ (rows : List Row). SaysOf (seen input shows) rows e (filled (answers_in w db from) t)) same (columns_say w db s input shows e t stands);
+        plan_hits = below_hits;
+        column_hits = λ terms es stand any. columns_are_hit w db s terms es sources chosen input read shows below wide indexed none windowless below_is stand any;
       }
 
-  group_base : (g : Grouping) (plan : PlanData) → s.grouping ≡ Some g → s.windows ≡ [] → IsGroupedOver read 0 g below plan → IsBase w db from s (group_columns g) plan
+  group_base : (g : Grouping) (plan : PlanData) → s.grouping ≡ Some g → s.windows ≡ [] → IsGroupedOver shows 0 g below plan → IsBase w db from s (group_columns g) plan
   group_base g plan is windowless over =
       let same = groups_are_computed w db from s g is windowless in record {
         seen = λ row. row;
         rows_are =
             subst (λ (rows : List Row). IsPermutation rows (rows_of w db plan)) (same ∙ sym (map-identity (computed_rows w db from s)))
-            (grouped_has_rows w db from s g read 0 below plan sees_where over);
+            (grouped_has_rows w db from s g shows 0 below plan sees_where over);
         says = λ e t stands o row held.
             grouped_say w db from s g 0 e t sees_where.few stands o row (subst (λ (rows : List Row). Contains rows row) (sym same) held);
         plan_hits = λ terms hits.
-            grouped_is_hit w db from s g terms read 0 below plan is sees_where over (plan_is_hit w db s terms input read below wide below_is) hits;
-        column_hits = λ terms es stand any. grouped_columns_are_hit w db from s g terms es read 0 below plan is windowless sees_where over stand any;
+            grouped_is_hit w db from s g terms shows 0 below plan is sees_where over (below_hits terms) hits;
+        column_hits = λ terms es stand any. grouped_columns_are_hit w db from s g terms es shows 0 below plan is windowless sees_where over stand any;
       }
 
-  -- windows take the rows of FROM that WHERE keeps
-  plain_input : s.grouping ≡ None → AreWide db from → read ≡ range_with_len 0 (from_width from) → IsInput w db from s (from_width from) below
+  -- windows take the rows of FROM that WHERE keeps, of which each column is shown
+  plain_input : s.grouping ≡ None → AreWide db from → IsPermutation shows (range_with_len 0 (from_width from)) → IsInput w db from s (from_width from) shows below
   plain_input none all_wide all =
       let long = where_wide w db from s inner all_wide in
       let take : windows_take w db from s ≡ whole = ap (λ grouping. grouped (values_over w db from) w grouping whole) none in
-      let same : map (seen input read) whole ≡ whole = ap (λ columns. map (seen input columns) whole) all ∙ all_seen from whole long in
       let all_long = subst (All (λ (row : Row). length row ≡ from_width from)) (sym take) long in record {
         taken = record {
           few = few_answers;
           rows_are =
-              shown_same (from_width from) (windows_take w db from s) (rows_of w db below) all_long
-              (subst (λ (rows : List Row). IsPermutation rows (rows_of w db below)) (same ∙ sym take) has_where);
+              subst (λ (rows : List Row). IsPermutation rows (shown_rows (written_places shows) (rows_of w db below)))
+              (seen_back from shows whole all long ∙ sym take)
+              (IsPermutation-map (shown (written_places shows)) (map (seen input shows) whole) (rows_of w db below) has_where);
         };
+        long = counted shows (from_width from) all;
         wide = all_long;
-        plan_hits = λ terms hits. plan_is_hit w db s terms input read below wide below_is hits;
+        plan_hits = below_hits;
       }
 
   -- windows take the rows of groups
-  group_input : (g : Grouping) (plan : PlanData) → s.grouping ≡ Some g → IsGroupedOver read 0 g below plan
-      → IsInput w db from s (length g.by + length g.aggregates) plan
+  group_input : (g : Grouping) (plan : PlanData) → s.grouping ≡ Some g → IsGroupedOver shows 0 g below plan
+      → IsInput w db from s (length g.by + length g.aggregates) (group_columns g) plan
   group_input g plan is over =
       let value = values_over w db from in
       let take : windows_take w db from s ≡ group_rows_kept w db from s g = ap (λ grouping. grouped value w grouping whole) is in
@@ -197,43 +214,46 @@ module _ (w : Datum) (db : Database) (s : Select) (input : Input) (inner : AreTa
         taken = record {
           few = few_answers;
           rows_are =
-              shown_same (length g.by + length g.aggregates) (windows_take w db from s) (rows_of w db plan) all_long
-              (subst (λ (rows : List Row). IsPermutation rows (rows_of w db plan)) (sym take) (grouped_has_rows w db from s g read 0 below plan sees_where over));
+              subst (λ (places : List ℕ). IsPermutation (windows_take w db from s) (shown_rows places (rows_of w db plan))) (sym (groups_written g))
+              (shown_same (length g.by + length g.aggregates) (windows_take w db from s) (rows_of w db plan) all_long
+              (subst (λ (rows : List Row). IsPermutation rows (rows_of w db plan)) (sym take) (grouped_has_rows w db from s g shows 0 below plan sees_where over)));
         };
+        long = length-range_with_len 0 (length g.by + length g.aggregates);
         wide = all_long;
         plan_hits = λ terms hits.
-            grouped_is_hit w db from s g terms read 0 below plan is sees_where over (plan_is_hit w db s terms input read below wide below_is) hits;
+            grouped_is_hit w db from s g terms shows 0 below plan is sees_where over (below_hits terms) hits;
       }
 
   -- the plan of windows over either
   over_input : (width : ℕ) (call : WindowCall) (calls : List WindowCall) (taken columns : List ℕ) (inputs plan : PlanData) → s.windows ≡ call ∷ calls
-      → IsInput w db from s width inputs → taken ≡ range_with_len 0 width → IsOverWindows (call ∷ calls) taken inputs columns plan → IsBase w db from s columns plan
-  over_input width call calls taken columns inputs plan is given places over =
-      let long : length taken ≡ width = ap length places ∙ length-range_with_len 0 width in
-      let written : written_places taken ≡ range_with_len 0 width = written_whole taken (places_whole taken width places) ∙ places in
-      subst (λ cs. IsBase w db from s cs plan) (sym (over.0 ∙ (λ i. windowed_columns (long i) (sym is i))))
-      (windowed_base w db from s width inputs plan given (subst (λ calls. IsWindowedOver 0 calls (range_with_len 0 width) inputs plan) (sym is)
-      (subst (λ (cs : List ℕ). IsWindowedOver 0 (call ∷ calls) cs inputs plan) written over.1)))
+      → IsInput w db from s width taken inputs → IsOverWindows (call ∷ calls) taken inputs columns plan → IsBase w db from s columns plan
+  over_input width call calls taken columns inputs plan is given over =
+      subst (λ cs. IsBase w db from s cs plan) (sym (over.0 ∙ (λ i. windowed_columns (given.long i) (sym is i))))
+      (windowed_base w db from s width taken inputs plan given (subst (λ calls. IsWindowedOver 0 calls (written_places taken) inputs plan) (sym is) over.1))
 
   pub base_of : (terms : List Term) (taken columns : List ℕ) (inputs plan : PlanData) → IsReadBy (reads_all s.windows s.grouping) from terms read
-      → IsWideBy (reads_all s.windows s.grouping) db from → IsOverRows read s.grouping below taken inputs → IsOverWindows s.windows taken inputs columns plan
+      → IsWideBy (reads_all s.windows s.grouping) db from → IsOverRows shows s.grouping below taken inputs → IsOverWindows s.windows taken inputs columns plan
       → IsBase w db from s columns plan
   base_of terms taken columns inputs plan are all_wide rows windows = by_parts s.windows s.grouping refl refl are all_wide rows windows
     where
       by_parts : (calls : List WindowCall) (grouping : Option Grouping) → s.windows ≡ calls → s.grouping ≡ grouping → IsReadBy (reads_all calls grouping) from terms read
-          → IsWideBy (reads_all calls grouping) db from → IsOverRows read grouping below taken inputs → IsOverWindows calls taken inputs columns plan
+          → IsWideBy (reads_all calls grouping) db from → IsOverRows shows grouping below taken inputs → IsOverWindows calls taken inputs columns plan
           → IsBase w db from s columns plan
       by_parts [] None windowless none are all_wide rows windows =
           subst (λ cs. IsBase w db from s cs plan) (sym (windows.0 ∙ rows.0))
-          (subst (λ (p : PlanData). IsBase w db from s read p) (sym (windows.1 ∙ rows.1)) (plain_base none windowless))
+          (subst (λ (p : PlanData). IsBase w db from s shows p) (sym (windows.1 ∙ rows.1)) (plain_base none windowless))
       by_parts [] (Some g) windowless is are all_wide rows windows =
           subst (λ cs. IsBase w db from s cs plan) (sym (windows.0 ∙ rows.0))
           (subst (λ (p : PlanData). IsBase w db from s (group_columns g) p) (sym windows.1) (group_base g inputs is windowless rows.1))
       by_parts (call ∷ calls) None some none are all_wide rows windows =
+          let all : IsPermutation shows (range_with_len 0 (from_width from)) =
+          subst (IsPermutation shows) (ap (columns_before (from_width from)) are ∙ places_before (from_width from)) below_is.same in
           over_input (from_width from) call calls taken columns inputs plan some
-          (subst (λ (p : PlanData). IsInput w db from s (from_width from) p) (sym rows.1) (plain_input none all_wide are)) (rows.0 ∙ are) windows
+          (subst (λ (cs : List ℕ). IsInput w db from s (from_width from) cs inputs) (sym rows.0)
+          (subst (λ (p : PlanData). IsInput w db from s (from_width from) shows p) (sym rows.1) (plain_input none all_wide all))) windows
       by_parts (call ∷ calls) (Some g) some is are all_wide rows windows =
-          over_input (length g.by + length g.aggregates) call calls taken columns inputs plan some (group_input g inputs is rows.1) rows.0 windows
+          over_input (length g.by + length g.aggregates) call calls taken columns inputs plan some
+          (subst (λ (cs : List ℕ). IsInput w db from s (length g.by + length g.aggregates) cs inputs) (sym rows.0) (group_input g inputs is rows.1)) windows
 
 -- where the tables that another source stands behind, or all, have rows of as many values as they have columns
 pub wide_by : (b : Bool) (db : Database) (sources : From) → IsWideBy b db sources → AreWideBefore db sources

@@ -11,9 +11,11 @@ use Rattle.semantics.specs.Hits.{FromHits, SelectHits}
 use Rattle.semantics.specs.Query.{From, Key, Select}
 use Rattle.logical_plan_terms.specs.Over.{StandsOver}
 use Rattle.logical_plan.specs.Plan.{PlanData}
+use Rattle.access_plans.specs.PlanView.{SelectData}
 use Rattle.logical_plan.specs.answers.Permitted.{SaysOf, SeesRows}
+use Rattle.logical_plan.specs.answers.Sources.{SourceData}
 use Rattle.logical_plan_queries.specs.select_plans.Laws.{MadeHasRows, MadeIsHit, PlanReaches}
-use Rattle.logical_plan_queries.specs.select_plans.Made.{IsMadeOver}
+use Rattle.logical_plan_queries.specs.select_plans.Made.{AreIndexesOf, IsMadeOver}
 use Rattle.logical_plan_queries.specs.select_plans.Read.{IsWideOf, reads_all, terms_in}
 use Rattle.logical_plan_queries.specs.select_plans.Served.{IsServedFrom}
 use Rattle.logical_plan_queries.proofs.lemmas.select_plans.BaseLemmas.{IsBase, base_of, wide_by}
@@ -50,17 +52,18 @@ module _ (w : Datum) (db : Database) (from : From) (s : Select) (shown : List �
   reached terms es us columns_are stand (inr hits) =
       inr (base.column_hits terms (es ++ us) (zip_append (StandsOver shown 0) es us s.columns terms columns_are stand) hits)
 
-pub made_base : (w : Datum) (db : Database) (input : Input) (s : Select) (order : List Key) (plan : PlanData) (es : List Term)
-    → IsServedFrom (input_from input) → IsWideOf db (input_from input) s → (made : IsMadeOver input s order plan es)
+pub made_base : (w : Datum) (db : Database) (sources : List SourceData) (chosen : SelectData) (input : Input) (s : Select) (order : List Key) (plan : PlanData) (es : List Term)
+    → IsServedFrom (input_from input) → IsWideOf db (input_from input) s → AreIndexesOf db sources → (made : IsMadeOver sources chosen input s order plan es)
     → IsBase w db (input_from input) s made.columns plan
-made_base w db input s order plan es inner wide made =
-    base_of w db s input inner (wide_by (reads_all s.windows s.grouping) db (input_from input) wide) made.read made.below made.below_is
-    (terms_in (input_from input) s order) made.taken made.columns made.inputs plan made.are_read wide made.inputs_are made.rows_are
+made_base w db sources chosen input s order plan es inner wide indexed made =
+    base_of w db sources chosen s input inner (wide_by (reads_all s.windows s.grouping) db (input_from input) wide) made.read made.shows made.below
+    (indexed chosen input made.read made.shows s.condition made.below made.below_is)
+    made.below_is (terms_in (input_from input) s order) made.taken made.columns made.inputs plan made.are_read wide made.inputs_are made.rows_are
 
 pub made_has_rows : MadeHasRows
-made_has_rows w db input s order plan es inner wide made =
-    has_rows w db (input_from input) s made.columns plan (made_base w db input s order plan es inner wide made) es made.columns_are
+made_has_rows w db sources chosen input s order plan es inner wide indexed made =
+    has_rows w db (input_from input) s made.columns plan (made_base w db sources chosen input s order plan es inner wide indexed made) es made.columns_are
 
 pub made_is_hit : MadeIsHit
-made_is_hit w db input s order terms plan es us inner wide made stand hits =
-    reached w db (input_from input) s made.columns plan (made_base w db input s order plan es inner wide made) terms es us made.columns_are stand hits
+made_is_hit w db sources chosen input s order terms plan es us inner wide indexed made stand hits =
+    reached w db (input_from input) s made.columns plan (made_base w db sources chosen input s order plan es inner wide indexed made) terms es us made.columns_are stand hits

@@ -2,7 +2,7 @@
 use Rattle.std.proofs.Common.{◌≡◌, ◌∙◌, ◌+◌, ◌<◌, ◌≤◌, All, Contains, ℕ, ℤ, List, [], ◌∷◌, ◌++◌, false, length, map, slice_get, zero-add, Option, Some, None, refl, sym, ap, subst, arith}
 use Rattle.std.specs.List.{AllZip, range_with_len}
 use Rattle.std.proofs.lemmas.List.{length-append}
-use Rattle.std.proofs.lemmas.List.Elements.{All-append, All-cons, All-contains_itself, All-nil, All-weaker, Contains-get_or}
+use Rattle.std.proofs.lemmas.List.Elements.{All-append, All-cons, All-contains_itself, All-nil, All-tail, All-weaker, Contains-get_or}
 use Rattle.std.proofs.lemmas.List.FromFn.{get_or-range_with_len, length-range_with_len}
 use Rattle.std.proofs.lemmas.Option.{slice_get_within}
 use Rattle.values.specs.declared.value.Ty.{Ty}
@@ -18,9 +18,10 @@ use Rattle.semantics.specs.Typed.{AggregateGives, AggregateHasType, CallHasType,
 use Rattle.expr.specs.Names.{answers_of}
 use Rattle.logical_plan_terms.specs.Over.{IsOver}
 use Rattle.logical_plan_queries.specs.select_plans.Read.{reads_all, row_terms, select_terms, terms_in}
-use Rattle.logical_plan_queries.specs.select_plans.Served.{AreOf, AreOfGroups, AreOfRows, AreOfWindows, taken_width}
+use Rattle.logical_plan_queries.specs.select_plans.Served.{AreOf, AreOfGroups, AreOfRows, AreOfTables, AreOfWindows, taken_width, terms_of_rows}
 use Rattle.logical_plan_terms.specs.table_plans.TableJoins.{AreTableJoins}
 use Rattle.logical_plan_terms.specs.table_plans.Planned.{on_terms}
+use Rattle.logical_plan_terms.proofs.PlacedLemmas.{All-front}
 use Rattle.logical_plan_terms.proofs.lemmas.table_plans.OnLemmas.{on_within}
 use Rattle.logical_plan_terms.specs.window_plans.Windowed.{IsOverCall, windowed_columns}
 
@@ -270,7 +271,6 @@ module _ (catalog : List (List Ty)) (from : From) (inner : AreTableJoins from) (
 
     of_windows : AreOfWindows from s (s.columns ++ order_terms order)
     of_windows = record {
-      condition = over_range (from_width from) s.condition condition_within;
       having = of_groups s.grouping computes.inputs [] computes.grouped (All-nil (λ t. All (λ c. c < taken_width from s.grouping) (columns_of t)));
       calls =
           subst (λ n. All (IsOverCall (range_with_len 0 n) 0) s.windows) (inputs_long answers row typed.body.3 s.grouping computes.inputs computes.grouped)
@@ -280,9 +280,29 @@ module _ (catalog : List (List Ty)) (from : From) (inner : AreTableJoins from) (
           (s.columns ++ order_terms order) computed_within;
     }
 
+    -- what is computed on the rows of FROM names columns of the tables
+    tables_named : AreOfTables from (s.condition ∷ terms_of_rows s.windows s.grouping (s.columns ++ order_terms order))
+    tables_named =
+        All-cons (IsOver (range_with_len 0 (from_width from)) 0) s.condition (terms_of_rows s.windows s.grouping (s.columns ++ order_terms order))
+        (over_range (from_width from) s.condition condition_within) (by_parts s.windows s.grouping refl refl)
+      where
+        rows : reads_all s.windows s.grouping ≡ false → AreOfTables from (row_terms s.grouping (s.columns ++ order_terms order))
+        rows named =
+            All-weaker IsWithin (IsOver (range_with_len 0 (from_width from)) 0) (over_range (from_width from)) (row_terms s.grouping (s.columns ++ order_terms order))
+            (All-tail IsWithin s.condition (row_terms s.grouping (s.columns ++ order_terms order))
+            (All-front IsWithin (select_terms s order) (on_terms from) (query_within named)))
+
+        by_parts : (calls : List WindowCall) (grouping : Option Grouping) → s.windows ≡ calls → s.grouping ≡ grouping
+            → AreOfTables from (terms_of_rows calls grouping (s.columns ++ order_terms order))
+        by_parts [] grouping windowless same =
+            subst (λ grouping. AreOfTables from (row_terms grouping (s.columns ++ order_terms order))) same (rows (ap (λ calls. reads_all calls s.grouping) windowless))
+        by_parts (one ∷ calls) None some same = All-nil (IsOver (range_with_len 0 (from_width from)) 0)
+        by_parts (one ∷ calls) (Some g) some same =
+            subst (λ grouping. AreOfTables from (row_terms grouping (s.columns ++ order_terms order))) same (rows (λ i. reads_all (some i) (same i)))
+
     -- behind groups and windows HAVING, calls, the result columns and ORDER BY name values of the rows alone that they are computed on
     pub rows_named : AreOfRows from s (order_terms order)
-    rows_named = by_windows s.windows refl
+    rows_named = record { tables = tables_named; computed = by_windows s.windows refl }
       where
         by_windows : (calls : List WindowCall) → s.windows ≡ calls → AreOf calls from s (s.columns ++ order_terms order)
         by_windows (one ∷ calls) same = of_windows

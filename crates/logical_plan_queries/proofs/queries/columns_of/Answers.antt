@@ -13,7 +13,7 @@ use Rattle.logical_plan_queries.proofs.ScanLemmas.{columns_over, columns_plan, s
 use Rattle.logical_plan_queries.proofs.queries.columns_of.Goals as goal
 
 pub returns-clause-plan : goal.returns-clause-plan
-returns-clause-plan c =
+returns-clause-plan c = λ stored.
     let single = out-Single c.in-Select.single in
     let s = select_of single.select in
     let q = query_data c.args.query.now in
@@ -21,13 +21,13 @@ returns-clause-plan c =
     search (rules, the_lemmas, fold-roll-Body, fold_out-Body, fold-roll-Single, fold_out-Single) in
     let order = map key_of c.as_slice.result.now in
     let offset = to_z w64 (of_z w64 c.args.query.now.offset) in
-    scan_told (λ p. IsScan (tables_of single.tables) s order c.args.query.now.limit offset p) (IsPlanFor q) _
+    scan_told (λ p. IsScan (tables_of single.tables) s order c.args.query.now.limit offset p) (IsPlanFor stored q) _
     (λ p made. columns_plan q (tables_of single.tables) s order c.args.query.now.limit offset p body (ap (λ keys. map key_of keys) c.as_slice.ensures.value) refl
-    (to_z-of_z w64 c.args.query.now.offset (search rules)) made)
+    (to_z-of_z w64 c.args.query.now.offset (search rules)) made stored)
     c.in_ok-planned.ensures
 
 pub returns-clause-over : goal.returns-clause-over
-returns-clause-over c =
+returns-clause-over c = λ stored.
     let single = out-Single c.in-Select.single in
     let s = select_of single.select in
     let q = query_data c.args.query.now in
@@ -35,7 +35,7 @@ returns-clause-over c =
     search (rules, the_lemmas, fold-roll-Body, fold_out-Body, fold-roll-Single, fold_out-Single) in
     let order = map key_of c.as_slice.result.now in
     let offset = to_z w64 (of_z w64 c.args.query.now.offset) in
-    scan_told (λ p. IsScan (tables_of single.tables) s order c.args.query.now.limit offset p) (IsPlannedAsTyped q) _
+    scan_told (λ p. IsScan (tables_of single.tables) s order c.args.query.now.limit offset p) (IsPlannedAsTyped stored q) _
     (λ p made. columns_over q (tables_of single.tables) s order c.args.query.now.limit offset p body (ap (λ keys. map key_of keys) c.as_slice.ensures.value) refl
-    (to_z-of_z w64 c.args.query.now.offset (search rules)) made)
+    (to_z-of_z w64 c.args.query.now.offset (search rules)) made stored)
     c.in_ok-planned.ensures

@@ -41,7 +41,7 @@ held_before count (at ∷ read) c low (suc k, within, is) = by_test (nat_lt at c
     by_test true rest = (suc rest.0, (let w = rest.1 in omega (arith, w)), rest.2)
     by_test false rest = rest
 
-over_before : (count : ℕ) (read : List ℕ) (t : Term) → All (λ c. c < count) (columns_of t) → IsOver read 0 t → IsOver (columns_before count read) 0 t
+pub over_before : (count : ℕ) (read : List ℕ) (t : Term) → All (λ c. c < count) (columns_of t) → IsOver read 0 t → IsOver (columns_before count read) 0 t
 over_before count read t within over = record {
   columns =
       All-weaker (Contains (columns_of t)) (Contains (columns_before count read))

@@ -12,19 +12,22 @@ use Rattle.pager.specs.PagerState.{PagerState}
 use Rattle.btree.specs.image.Pages.{Pages, WhereSteady, pages_seen}
 use Rattle.logical_plan.specs.answers.Sources.{SourceData}
 use Rattle.expr.specs.View.{term}
-use Rattle.semantics.specs.Query.{union_all}
+use Rattle.semantics.specs.Query.{Operator, union_all}
 use Rattle.logical_plan.specs.Plan.{PlanData, work, TreeSizes}
 use Rattle.logical_plan.specs.PlanView.{plan_data}
 use Rattle.operators_scan.specs.scan.Coming.{Asks}
 use Rattle.operators_scan.proofs.lemmas.scan.ComingLemmas.{Asks-then}
 use Rattle.operators_loops.specs.Basis.{AreStored, Basis, GivesRowOrNone, GivesNext, GivesNone}
 use Rattle.operators.specs.Left.{plan_of, steps}
+use Rattle.logical_plan.specs.Promised.{ArePromised}
+use Rattle.operators_results.specs.Promised.{ArePromisedIn}
 use Rattle.operators_loops.proofs.RowLemmas.{at_start}
 use Rattle.operators_results.specs.declared.stream.Results.{Results}
 use Rattle.operators_results.specs.Coming.{IsComing, IsResultCause}
-use Rattle.logical_plan.specs.answers.Arms.{ArePlannedOver, ArmsData, ArmsHit, arm_data, arm_rows, joined, one, rows_of_arms, work_of_arms}
+use Rattle.logical_plan.specs.answers.Arms.{ArePlannedOver, ArmData, ArmsData, ArmsHit, arm_data, arm_rows, joined, one, rows_of_arms, work_of_arms}
 use Rattle.operators_results.specs.compound_results.Compounds.{IsArmCause, IsArmsCause}
 use Rattle.operators_results.specs.compound_results.InTurn.{AreComing, AreComingOf, AreWaiting, IsWaiting, arm_of, arms_from, arms_of, over_plan, rows_from, work_from}
+use Rattle.operators_results.proofs.lemmas.compound_results.ArmLemmas.{stored_over}
 use Rattle.logical_plan.specs.declared.answers.Arm.{Arm}
 use Rattle.operators_results.specs.declared.compound_results.chained.ArmsInTurn.{ArmsInTurn}
 
@@ -157,14 +160,16 @@ waiting_come pages sources on arms waiting = record {
 }
 
 -- an arm more in front of those that were opened
-pub opened_more : {E : Type 0} (result : Result ArmsInTurn E) (behind pushed : List Results) (last : Results) → pushed ≡ behind ++ last ∷ []
-    → ((pages : Pages) (sources : List SourceData) (on : Basis) → IsWaiting pages sources on last)
-    → IfOk result (λ arms. (pages : Pages) (sources : List SourceData) (on : Basis) → All (IsWaiting pages sources on) pushed → AreWaiting pages sources on arms)
-    → IfOk result (λ arms. (pages : Pages) (sources : List SourceData) (on : Basis) → All (IsWaiting pages sources on) behind → AreWaiting pages sources on arms)
-opened_more (Ok arms) behind pushed last is waits opens = λ pages sources on all.
-    opens pages sources on
-    (All-same (IsWaiting pages sources on) pushed (behind ++ last ∷ []) is (All-push (IsWaiting pages sources on) behind last all (waits pages sources on)))
-opened_more (Err e) behind pushed last is waits opens = opens
+pub opened_more : {E : Type 0} (result : Result ArmsInTurn E) (left : ArmsData) (operator : Operator) (arm : ArmData) (whole : ArmsData) → whole ≡ joined left operator arm
+    → (behind pushed : List Results) (last : Results) → pushed ≡ behind ++ last ∷ []
+    → ((pages : Pages) (sources : List SourceData) (on : Basis) → ArePromised on.w on.db arm.plan → IsWaiting pages sources on last)
+    → IfOk result (λ arms. (pages : Pages) (sources : List SourceData) (on : Basis) → ArePromisedIn on.w on.db left → All (IsWaiting pages sources on) pushed → AreWaiting pages sources on arms)
+    → IfOk result (λ arms. (pages : Pages) (sources : List SourceData) (on : Basis) → ArePromisedIn on.w on.db whole → All (IsWaiting pages sources on) behind → AreWaiting pages sources on arms)
+opened_more (Ok arms) left operator arm whole whole_is behind pushed last is waits opens = λ pages sources on promised all.
+    let each : ArePromisedIn on.w on.db (joined left operator arm) = subst (ArePromisedIn on.w on.db) whole_is promised in
+    opens pages sources on each.0
+    (All-same (IsWaiting pages sources on) pushed (behind ++ last ∷ []) is (All-push (IsWaiting pages sources on) behind last all (waits pages sources on each.1)))
+opened_more (Err e) left operator arm whole whole_is behind pushed last is waits opens = tt
 
 -- what is still to come of what was at the start
 abbrev pub StillComing : PagerState → List SourceData → ArmsInTurn → Results → List Results → PagerState → Type 0
@@ -188,6 +193,9 @@ module _ (start now : PagerState) (image : SameImage start now) (sources : List 
   abbrev over : Basis
   over = over_plan on (plan_of at_hand.op)
 
+  stored : AreStored (pages_seen start) sources over
+  stored = stored_over (pages_seen start) sources on (plan_of at_hand.op) has
+
   -- the arm at hand has no value
   pub arm_fails : (fault : Fault)
       → WhereSteady now (λ pages. (on : Basis) (rows : List Row) (more : ℕ) → AreStored pages sources on → IsComing pages sources on at_hand rows more
@@ -197,7 +205,7 @@ module _ (start now : PagerState) (image : SameImage start now) (sources : List 
       of
       (at_start start now image
       (λ pages. (on : Basis) (rows : List Row) (more : ℕ) → AreStored pages sources on → IsComing pages sources on at_hand rows more
-      → IsResultCause on (map term at_hand.columns.items) fault) says steady over here.1.rows here.1.here has here.1.coming)
+      → IsResultCause on (map term at_hand.columns.items) fault) says steady over here.1.rows here.1.here stored here.1.coming)
     where
       of : IsArmCause on (arm_of at_hand) fault → IsArmsCause on (arms_from (one (arm_of at_hand)) behind) fault
       of (inl read) = inl read
@@ -209,7 +217,7 @@ module _ (start now : PagerState) (image : SameImage start now) (sources : List 
         → GivesNext on.local start ahead then rest row (AreComingOf (pages_seen start) sources on new behind)
     arm_gives plans called =
         let given : GivesNext on.local now here.1.here then here.1.rows row (IsComing (pages_seen start) sources over new) =
-        at_start start now image (Called sources at_hand new true row now then) called steady over here.1.rows here.1.here has here.1.coming in
+        at_start start now image (Called sources at_hand new true row now then) called steady over here.1.rows here.1.here stored here.1.coming in
         record {
           later = rows_from on.w on.db given.later behind;
           left = work_from on.w on.db on.sizes given.left behind;
@@ -231,7 +239,7 @@ module _ (start now : PagerState) (image : SameImage start now) (sources : List 
 
     module _ (called : WhereSteady now (Called sources at_hand new false row now then)) where
       none : GivesNone on.local now here.1.here then here.1.rows
-      none = at_start start now image (Called sources at_hand new false row now then) called steady over here.1.rows here.1.here has here.1.coming
+      none = at_start start now image (Called sources at_hand new false row now then) called steady over here.1.rows here.1.here stored here.1.coming
 
       -- its rows are given, and those of the arms behind it are to come
       rest_behind : rest ≡ rows_from on.w on.db [] behind

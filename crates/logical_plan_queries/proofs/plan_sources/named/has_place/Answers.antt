@@ -1,15 +1,15 @@
-use Rattle.std.proofs.Common.{arith, refl, length}
-use Rattle.std.proofs.lemmas.Option.{slice_get_read}
-use Rattle.logical_plan_queries.proofs.lemmas.plan_sources.PlaceLemmas.{rows_there, table_there}
+use Rattle.std.proofs.Common.{◌≡◌, ◌↔◌, ◌+◌, ◌-◌, IsTrue, ℕ, arith, length, subst}
+use Rattle.logical_plan.specs.answers.Sources.{sources_of, stored_data}
+use Rattle.logical_plan_queries.specs.plan_sources.Places.{HasPlace}
+use Rattle.logical_plan_queries.proofs.lemmas.plan_sources.PlaceLemmas.{table_there}
 use Rattle.logical_plan_queries.proofs.plan_sources.named.has_place.Goals as goal
 
-pub returns-in-Some : goal.returns-in-Some
-returns-in-Some c =
-    table_there c.args.tables.now c.args.kept.now c.args.place c.args.columns.now c.in-Some.table.now
-    (slice_get_read c.args.tables.now (length c.args.tables.now) c.args.place c.in-Some.table.now refl c.in-Some.ensures.lookup.3.0 c.in-Some.ensures.lookup.1)
-    c.are_within.result (rw c.columns.ensures at c.are_within.ensures)
+pub returns-then-place-tables : goal.returns-then-place-tables
+returns-then-place-tables c =
+    table_there c.args.stored.tables.now c.args.stored.indexes.now c.args.kept.now c.args.place c.args.columns.now (omega arith) c.has_columns.result c.has_columns.ensures
 
-pub returns-in-None : goal.returns-in-None
-returns-in-None c =
-    let past = c.in-None.ensures.lookup.3 in
-    rows_there c.args.tables.now c.args.kept.now c.args.place c.args.columns.now (omega (arith, past))
+pub returns : goal.returns
+returns c =
+    let same : length c.args.stored.tables.now + (c.args.place - length c.args.stored.tables.now) ≡ c.args.place = omega arith in
+    subst (λ (place : ℕ). IsTrue c.has_place_after.result ↔ HasPlace (sources_of (stored_data c.args.stored) c.args.kept.now) place c.args.columns.now) same
+    c.has_place_after.ensures

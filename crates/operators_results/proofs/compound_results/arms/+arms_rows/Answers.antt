@@ -5,6 +5,7 @@ use Rattle.values.specs.Row.{Row, rows_data}
 use Rattle.semantics.specs.Query.{Operator, union_all}
 use Rattle.semantics_names.specs.Statement.{operator_of}
 use Rattle.operators_loops.specs.Basis.{Basis}
+use Rattle.operators_results.specs.Promised.{ArePromisedIn}
 use Rattle.operators_results.specs.distinct_results.Firsts.{firsts}
 use Rattle.logical_plan.specs.answers.Arms.{ArmsData, arm_data, arm_rows, arms_data, joined, rows_of_arms}
 use Rattle.logical_plan.specs.answers.Joined.{joined_rows}
@@ -14,24 +15,24 @@ use Rattle.operators_results.proofs.lemmas.compound_results.SetLemmas.{joined_on
 use Rattle.operators_results.proofs.compound_results.arms.+arms_rows.Goals as goal
 
 pub returns-in_err-push_arm-in-One-clause-rows : goal.returns-in_err-push_arm-in-One-clause-rows
-returns-in_err-push_arm-in-One-clause-rows g n c = λ steady on has.
+returns-in_err-push_arm-in-One-clause-rows g n c = λ steady on has promised.
     let p = err_from_is_err_and c.from_residual.result c.from_residual.ensures.1 in
-    rw (p.1, p.2, c.in-One.is) (c.in_err-push_arm-in-One.ensures.rows steady on has)
+    rw (p.1, p.2, c.in-One.is) (c.in_err-push_arm-in-One.ensures.rows steady on has (subst (λ (a : Arms). ArePromisedIn on.w on.db (arms_data a)) c.in-One.is promised))
 
 pub returns-in_ok-push_arm-in-One-clause-rows : goal.returns-in_ok-push_arm-in-One-clause-rows
-returns-in_ok-push_arm-in-One-clause-rows g n c = λ steady on has.
-    let said = c.in_ok-push_arm-in-One.ensures.rows steady on has in
+returns-in_ok-push_arm-in-One-clause-rows g n c = λ steady on has promised.
+    let said = c.in_ok-push_arm-in-One.ensures.rows steady on has (subst (λ (a : Arms). ArePromisedIn on.w on.db (arms_data a)) c.in-One.is promised) in
     let rows = arm_rows on.w on.db (arm_data c.in-One.arm) in
     rw c.in-One.is (said.0 ∙ ap (λ before. rows_data before ++ rows) c.new-rows.ensures.items, said.1)
 
 pub returns-in_err-set-in-Joined-clause-rows : goal.returns-in_err-set-in-Joined-clause-rows
-returns-in_err-set-in-Joined-clause-rows g n c = λ steady on has.
+returns-in_err-set-in-Joined-clause-rows g n c = λ steady on has promised.
     let p = err_from_is_err_and c.from_residual-in_err-set-in-Joined.result c.from_residual-in_err-set-in-Joined.ensures.1 in
-    rw (p.1, p.2) (c.in_err-set-in-Joined.ensures.rows steady on has)
+    rw (p.1, p.2) (c.in_err-set-in-Joined.ensures.rows steady on has promised)
 
 pub returns-then-not-is_union_all-clause-rows : goal.returns-then-not-is_union_all-clause-rows
-returns-then-not-is_union_all-clause-rows g n c = λ steady on has.
-    let once = c.in_ok-set-in-Joined.ensures.rows steady on has in
+returns-then-not-is_union_all-clause-rows g n c = λ steady on has promised.
+    let once = c.in_ok-set-in-Joined.ensures.rows steady on has promised in
     let other = λ (all : operator_of c.in-Joined.operator ≡ union_all). false≢true (sym c.if-not-is_union_all.true ∙ c.is_union_all.ensures.1 all) in (
       c.in_ok-once-in-Joined.ensures ∙ once.0
           ∙ subst (λ (whole : ArmsData). firsts (rows_of_arms on.w on.db whole) ≡ rows_of_arms on.w on.db whole) (sym (ap arms_data c.in-Joined.is))
@@ -40,17 +41,17 @@ returns-then-not-is_union_all-clause-rows g n c = λ steady on has.
     )
 
 pub returns-in_err-rows-in-Joined-clause-rows : goal.returns-in_err-rows-in-Joined-clause-rows
-returns-in_err-rows-in-Joined-clause-rows g n c = λ steady on has.
+returns-in_err-rows-in-Joined-clause-rows g n c = λ steady on has promised.
     let p = err_from_is_err_and c.from_residual-in_err-rows-in-Joined.result c.from_residual-in_err-rows-in-Joined.ensures.1 in
     let operator = operator_of c.in-Joined.operator in
     let arm = arm_data c.in-Joined.arm in
     rw (p.1, p.2)
     (before_fails c.args.pager.now.state c.args.sources.now (arms_data c.deref.result.now) operator arm (arms_data c.args.arms.now)
     (ap arms_data c.in-Joined.is ∙ ap (λ (a : Arms). joined (arms_data a) operator arm) (sym c.deref.ensures))
-    c.in_err-rows-in-Joined.field-0.0 c.in_err-rows-in-Joined.ensures.rows steady on has)
+    c.in_err-rows-in-Joined.field-0.0 c.in_err-rows-in-Joined.ensures.rows steady on has promised)
 
 pub returns-in_err-push_arm-in-Joined-clause-rows : goal.returns-in_err-push_arm-in-Joined-clause-rows
-returns-in_err-push_arm-in-Joined-clause-rows g n c = λ steady on has.
+returns-in_err-push_arm-in-Joined-clause-rows g n c = λ steady on has promised.
     let p = err_from_is_err_and c.from_residual-in_err-push_arm-in-Joined.result c.from_residual-in_err-push_arm-in-Joined.ensures.1 in
     let operator = operator_of c.in-Joined.operator in
     let arm = arm_data c.in-Joined.arm in
@@ -58,7 +59,7 @@ returns-in_err-push_arm-in-Joined-clause-rows g n c = λ steady on has.
     (beside_fails c.args.pager.now.state c.args.sources.now (arms_data c.deref.result.now) operator arm (arms_data c.args.arms.now)
     (ap arms_data c.in-Joined.is ∙ ap (λ (a : Arms). joined (arms_data a) operator arm) (sym c.deref.ensures))
     _ c.in_ok-rows-in-Joined.ensures.reads.image
-    c.in_err-push_arm-in-Joined.field-0.0 c.in_err-push_arm-in-Joined.ensures.rows steady on has)
+    c.in_err-push_arm-in-Joined.field-0.0 c.in_err-push_arm-in-Joined.ensures.rows steady on has promised)
 
 pub returns-in_ok-push_arm-in-Joined-clause-rows : goal.returns-in_ok-push_arm-in-Joined-clause-rows
 returns-in_ok-push_arm-in-Joined-clause-rows g n c =

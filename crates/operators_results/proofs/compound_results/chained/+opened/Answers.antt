@@ -2,6 +2,7 @@ use Rattle.std.proofs.Common.{◌≡◌, ◌∙◌, IfOk, sym, ap, subst}
 use Rattle.semantics.specs.Query.{union_all}
 use Rattle.semantics_names.specs.Statement.{operator_of}
 use Rattle.logical_plan.specs.answers.Arms.{ArmsData, arm_data, arms_data, joined}
+use Rattle.operators_results.specs.Promised.{ArePromisedIn}
 use Rattle.operators_results.specs.compound_results.Chains.{AreAll}
 use Rattle.operators_results.specs.compound_results.InTurn.{arms_from, arms_of}
 use Rattle.logical_plan.specs.declared.answers.Arms.{Arms}
@@ -9,8 +10,8 @@ use Rattle.operators_results.proofs.lemmas.compound_results.ChainLemmas.{arms_ne
 use Rattle.operators_results.proofs.compound_results.chained.+opened.Goals as goal
 
 pub returns-in_ok-at_hand-in-One-clause-rows : goal.returns-in_ok-at_hand-in-One-clause-rows
-returns-in_ok-at_hand-in-One-clause-rows t c = λ pages sources on all. record {
-  at_hand = c.in_ok-at_hand-in-One.ensures.rows pages sources on;
+returns-in_ok-at_hand-in-One-clause-rows t c = λ pages sources on promised all. record {
+  at_hand = c.in_ok-at_hand-in-One.ensures.rows pages sources on (subst (λ (a : Arms). ArePromisedIn on.w on.db (arms_data a)) c.in-One.is promised);
   behind = all;
 }
 
@@ -33,5 +34,9 @@ returns-in_ok-push-in-Joined-clause-arms t c =
 
 pub returns-in_ok-push-in-Joined-clause-rows : goal.returns-in_ok-push-in-Joined-clause-rows
 returns-in_ok-push-in-Joined-clause-rows t c =
-    opened_more c.opened.result c.args.behind.items c.push.new.self.items c.in_ok-last-in-Joined.last c.in_ok-push-in-Joined.ensures.items
+    let operator = operator_of c.in-Joined.field-1 in
+    let arm = arm_data c.in-Joined.arm in
+    opened_more c.opened.result (arms_data c.deref.result.now) operator arm (arms_data c.args.arms.now)
+    (ap arms_data c.in-Joined.is ∙ ap (λ (a : Arms). joined (arms_data a) operator arm) (sym c.deref.ensures))
+    c.args.behind.items c.push.new.self.items c.in_ok-last-in-Joined.last c.in_ok-push-in-Joined.ensures.items
     c.in_ok-last-in-Joined.ensures.rows c.opened.ensures.rows

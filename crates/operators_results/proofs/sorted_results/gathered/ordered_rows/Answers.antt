@@ -10,12 +10,12 @@ use Rattle.operators_results.proofs.lemmas.sorted_results.AnswerLemmas.{is_shown
 use Rattle.operators_results.proofs.sorted_results.gathered.ordered_rows.Goals as goal
 
 pub returns-clause-rows : goal.returns-clause-rows
-returns-clause-rows g c = λ steady on has.
+returns-clause-rows g c = λ steady on has promised.
     let order = c.args.order.now in
     let limit = c.args.limit in
     let all = rows_of_arms on.w on.db (arms_data c.args.arms.now) in
     let same = to_z-of_z w64 c.args.offset c.ranges.offset in
-    let gathered = c.in_ok-rows.ensures.rows steady on has in (
+    let gathered = c.in_ok-rows.ensures.rows steady on has promised in (
       is_shown on.w order.keys.items order.hidden limit c.args.offset all c.rows_looked_at-most.result (rows_data c.in_ok-rows.rows.items) c.new-slice.result _
           (subst (λ (keys : List ResultKey). BeginsAll (comes_before keys) c.rows_looked_at-most.result (rows_data c.in_ok-rows.rows.items) all)
           c.as_slice-keys.ensures.value gathered.0)

@@ -15,7 +15,7 @@ use Rattle.operators_results.proofs.lemmas.compound_results.ArmLemmas.{stored_ov
 use Rattle.operators_results.proofs.sorted_results.in_order.distinct_in_order.Goals as goal
 
 pub returns-in_err-push_distinct-clause-rows : goal.returns-in_err-push_distinct-clause-rows
-returns-in_err-push_distinct-clause-rows g c = λ steady on has.
+returns-in_err-push_distinct-clause-rows g c = λ steady on has promised.
     let p = err_from_is_err_and c.from_residual-in_err-push_distinct.result c.from_residual-in_err-push_distinct.ensures.1 in
     let pages = pages_seen c.args.pager.now.state in
     let plan = plan_data c.args.arm.now.plan in
@@ -23,10 +23,10 @@ returns-in_err-push_distinct-clause-rows g c = λ steady on has.
     rw (p.1, p.2)
     (subst (λ columns. IsResultCause over columns c.in_err-push_distinct.field-0.0) c.in_ok-results.ensures.columns
     (c.in_err-push_distinct.ensures.rows steady over _ (work on.w on.db on.sizes plan) (stored_over pages c.args.sources.now on plan has)
-    (c.in_ok-results.ensures.rows pages c.args.sources.now over refl)))
+    (c.in_ok-results.ensures.rows pages c.args.sources.now over refl promised)))
 
 pub returns-clause-rows : goal.returns-clause-rows
-returns-clause-rows g c = λ steady on has.
+returns-clause-rows g c = λ steady on has promised.
     let pages = pages_seen c.args.pager.now.state in
     let arm = c.args.arm.now in
     let plan = plan_data arm.plan in
@@ -35,7 +35,7 @@ returns-clause-rows g c = λ steady on has.
     let rows = rows_data c.in_ok-rows.rows.items in
     let all = result_rows on.w (map term arm.columns.items) (rows_of on.w on.db plan) in
     let pushed = c.in_ok-push_distinct.ensures.rows steady over _ (work on.w on.db on.sizes plan) (stored_over pages c.args.sources.now on plan has)
-    (c.in_ok-results.ensures.rows pages c.args.sources.now over refl) in (
+    (c.in_ok-results.ensures.rows pages c.args.sources.now over refl promised) in (
       subst (λ (distinct : Bool). BeginsAll (comes_before order) c.args.most rows (each_once_if distinct all)) (sym c.requires.once)
           (subst (λ (most : Option ℕ). BeginsAll (comes_before order) most rows (firsts all)) (c.in_ok-push_distinct.ensures.most ∙ c.new-first.ensures.most)
           (c.in_ok-rows.ensures _ (pushed.0 [] (c.new-first.ensures.none order)))),

@@ -27,10 +27,10 @@ returns-clause-step g c = λ query given stands.
     let all = c.as_slice.ensures.value ∙ c.self.invariant.all_are in
     let behind = rw (← c.self.view_is) at stands in
     rw (← c.self.view_is) (record {
-      rows = stepped c.self.inside.pager.state (checked_data c.self.inside.checked).tables (found_data (checked_data c.self.inside.checked)) c.self.invariant.ready query given behind.typed
+      rows = stepped c.self.inside.pager.state (checked_data c.self.inside.checked).tables (checked_data c.self.inside.checked).indexes (checked_data c.self.inside.checked).schema_tree (found_data (checked_data c.self.inside.checked)) c.self.invariant.ready query given behind.typed
           c.args.statement.now.run behind.gave _ c.next.new.self _ c.next.result refl c.next.ensures.reads.image refl (rw all at c.next.ensures.rows) c.next.ensures.ends;
-      pages = stays_within c.self.inside.pager.state (checked_data c.self.inside.checked).tables (found_data (checked_data c.self.inside.checked)) c.self.invariant.ready query given behind.typed
-          (record { pager = c.next.new.pager.state; tables = (checked_data c.self.inside.checked).tables; found = found_data (checked_data c.self.inside.checked) })
+      pages = stays_within c.self.inside.pager.state (checked_data c.self.inside.checked).tables (checked_data c.self.inside.checked).indexes (checked_data c.self.inside.checked).schema_tree (found_data (checked_data c.self.inside.checked)) c.self.invariant.ready query given behind.typed
+          (record { pager = c.next.new.pager.state; tables = (checked_data c.self.inside.checked).tables; indexes = (checked_data c.self.inside.checked).indexes; schema_tree = (checked_data c.self.inside.checked).schema_tree; found = found_data (checked_data c.self.inside.checked) })
           c.next.ensures.reads.image refl _ _ c.args.statement.now.run refl behind.gave c.next.new.self refl c.next.result (rw all at c.next.ensures.pages);
       only = going_only c.args.statement.now.run behind.going c.next.result c.next.ensures.reads.only;
     })

@@ -1,0 +1,16 @@
+pub mod OneLemmas
+pub mod RunLemmas
+pub mod WorkedLemmas
+pub mod ColumnLemmas
+pub mod KeyLemmas
+pub mod PlacedLemmas
+pub mod MovedLemmas
+pub mod WindowLemmas
+pub mod TableLemmas
+pub mod OpeningLemmas
+pub mod LeadingLemmas
+pub mod SourceLemmas
+pub mod QueryLemmas
+pub mod SearchLemmas
+pub mod PushedLemmas
+pub mod TakenLemmas

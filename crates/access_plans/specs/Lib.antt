@@ -1,0 +1,11 @@
+pub mod Choice
+pub mod Keyed
+pub mod KeyView
+pub mod Moved
+pub mod Opening
+pub mod Plans
+pub mod PlanView
+pub mod Runs
+pub mod RunView
+pub mod Worked
+pub mod Calls

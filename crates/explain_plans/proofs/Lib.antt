@@ -1,0 +1,4 @@
+pub mod LineLemmas
+pub mod LookupLemmas
+pub mod SearchLemmas
+pub mod ViewLemmas
