@@ -61,7 +61,7 @@ holds_by : (key : RowKeyData) (pages : Pages) (table : TableData) (levels : ℕ)
 holds_by (RowKeyData.Rowid at) pages table levels rows is = record { places = _; cells = is.cells; rows_are = is.rows_are }
 holds_by (RowKeyData.Primary ats) pages table levels rows is = is.holds
 
--- the element of a list that stands in it
+-- the element of a list that is in it
 in_all : {X : Type 0} (P : X → Type 0) (xs : List X) (x : X) → All P xs → Contains xs x → P x
 in_all P xs x all h = subst P h.2 (all h.0 x h.1)
 

@@ -135,7 +135,7 @@ module _ (pages : Pages) (table : TableData) where
 
 -- ---- the records of an index's tree
 
--- the record at a place has the values that are told of it
+-- the record at a place has the values that are said of it
 pub record_at : (pages : Pages) (values : Place → List Datum) (root : ℕ)
     → ((level : Level) (n : ℕ) → Reaches pages Index root n → IsPageOf pages Index level n → AreValuesOf pages values level n)
     → (place : Place) → IsPlaceOf pages Index root place → HasRecordAt pages place (values place)

@@ -31,7 +31,7 @@ BeginsBy columns entry = take (length columns) entry.values ≡ values_at entry.
 abbrev pub entry_rows : List EntryData → List Row
 entry_rows entries = map (λ entry. entry.row) entries
 
--- A table is stored in a tree that has so many levels of pages below its root, the entries of which lead to its rows, each entry to the
+-- A table is stored in a tree that has a given number of levels of pages below its root, the entries of which lead to its rows, each entry to the
 -- row at its place, whose rowid or PRIMARY KEY it begins with.
 pub record IsSearchedTable (pages : Pages) (table : TableData) (levels : ℕ) : Type 0 where
   pub stored : IsAnyStored pages table
@@ -51,7 +51,7 @@ pub record IsReadAs (table : TableData) (index : IndexData) (read : RowIndex) : 
 abbrev pub covers : IndexData → Row → Bool
 covers index = keeps_row index.condition
 
--- So read, the tree of an index, which has so many levels of pages below its root, has entries that lead to those rows of the table on
+-- So read, the tree of an index, which has a given number of levels of pages below its root, has entries that lead to those rows of the table on
 -- which its condition is true, and begin with the values of its columns.
 pub record IsSearchedIndex (pages : Pages) (table : TableData) (index : IndexData) (levels : ℕ) (read : RowIndex) : Type 0 where
   pub entries : List EntryData

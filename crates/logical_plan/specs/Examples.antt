@@ -106,7 +106,7 @@ emptied_rows = (null ∷ whole 3 ∷ whole 2 ∷ []) ∷ (null ∷ whole 9 ∷ w
 
 -- ---- windows
 
--- sum(qty) OVER (ORDER BY qty) beside each item, in the table's order; qty is read first, and stands behind the other columns
+-- sum(qty) OVER (ORDER BY qty) beside each item, in the table's order; qty is read first, and comes after the other columns
 abbrev pub summed : PlanData
 summed = windowed (joined once (record { table = 0; columns = 2 ∷ 0 ∷ 1 ∷ []; tests = []; padded = false; search = None })) (1 ∷ 2 ∷ 0 ∷ []) (record {
   window = over (column 2) default_frame;

@@ -13,7 +13,7 @@ pub record IsExtended (count : ℕ) (row whole : Row) : Type 0 where
   pub size : length values ≡ count
   pub whole_is : whole ≡ row ++ values
 
--- its rows are those below, in their order: of each the values at these places, and a value behind them for each call
+-- its rows are those below, in their order: of each the values at these places, and a value after them for each call
 abbrev pub WindowedInOrder : Type 0
 WindowedInOrder = (w : Datum) (db : Database) (below : PlanData) (places : List ℕ) (calls : List WindowCall)
     → AllZip (IsExtended (length calls)) (shown_rows places (rows_of w db below)) (rows_of w db (windowed below places calls))

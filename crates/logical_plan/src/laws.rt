@@ -47,7 +47,7 @@ pub fn inner_joins_are_in_turn()
     ensures { InnerInTurn }
 {}
 
-/// The rows of a plan of windows are those of the plan below, in their order: of each the values at the plan's places, and a value behind
+/// The rows of a plan of windows are those of the plan below, in their order: of each the values at the plan's places, and a value after
 /// them for each call.
 pub fn windowed_rows_are_in_order()
     ensures { WindowedInOrder }

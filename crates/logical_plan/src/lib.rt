@@ -7,8 +7,8 @@
 //! query permits.
 //!
 //! The modules, in the order in which data passes them: `plan` (the trees of plans), `copies` (of what is
-//! read of a table), `laws`, and `answers` (what a query answers: result columns over the rows of plans, with DISTINCT, compound operators, ORDER BY,
-//! LIMIT and OFFSET).
+//! read of a table), `laws`, and `answers` (what a query answers: result columns over the rows of plans,
+//! with DISTINCT, compound operators, ORDER BY, LIMIT and OFFSET).
 #![tactic(auto)]
 
 mod answers;

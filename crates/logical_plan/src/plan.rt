@@ -65,6 +65,6 @@ pub enum Plan {
     OuterJoin(Box<Plan>, OuterTable),
     /// A row for each group of rows: what they are gathered by, and then the aggregates.
     Aggregate(Box<Plan>, GroupTerms),
-    /// The values of rows at these places, in their order, with the values of calls over windows behind them. (Window Functions)
+    /// The values of rows at these places, in their order, with the values of calls over windows after them. (Window Functions)
     Window(Box<Plan>, Vec<usize>, Vec<WindowCall>),
 }

@@ -24,7 +24,7 @@ IsOverRows read None below known plan = (known ≡ read) × (plan ≡ below)
 IsOverRows read (Some g) below known plan = (known ≡ group_columns g) × IsGroupedOver read 0 g below plan
 
 -- over such a plan, the plan of the rows that result columns are computed on, and the columns of these: it is the same, or that with
--- the values of calls over windows behind each row, whose columns then stand in the order in which they are written
+-- the values of calls over windows after each row, whose columns then are in the order in which they are written
 abbrev pub IsOverWindows : List WindowCall → List ℕ → PlanData → List ℕ → PlanData → Type 0
 IsOverWindows [] taken below known plan = (known ≡ taken) × (plan ≡ below)
 IsOverWindows (call ∷ calls) taken below known plan =

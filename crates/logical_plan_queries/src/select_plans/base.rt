@@ -77,7 +77,7 @@ fn rows_over(
     Ok(Some(Rows { read, plan }))
 }
 
-/// Where each column stands among these, in the order in which they are written.
+/// Where each column is among these, in the order in which they are written.
 fn places_written(alloc: Global, read: &[usize]) -> Result<Vec<usize>, AllocError>
     ensures { IfOk result (λ places. places.items ≡ written_places read.now) }
 {

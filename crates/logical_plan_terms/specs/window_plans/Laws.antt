@@ -20,7 +20,7 @@ use Rattle.logical_plan_terms.specs.window_plans.Windowed.{IsWindowedOver, windo
 abbrev pub windows_take : Datum → Database → From → Select → List Row
 windows_take w db from s = grouped (values_over w db from) w s.grouping (where_rows w db from s)
 
--- at these places a plan has all values of the rows that windows take, in some order of the rows, beside so many inner queries
+-- at these places a plan has all values of the rows that windows take, in some order of the rows, beside a given number of inner queries
 pub record HasTaken (w : Datum) (db : Database) (from : From) (s : Select) (inner : ℕ) (places : List ℕ) (plan : PlanData) : Type 0 where
   pub few : length (answers_in w db from) ≤ inner
   pub rows_are : IsPermutation (windows_take w db from s) (shown_rows places (rows_of w db plan))

@@ -14,7 +14,7 @@ use Rattle.semantics.specs.Mapped.{mapped_aggregate, mapped_call, mapped_functio
 abbrev pub windowed_columns : ℕ → List WindowCall → List ℕ
 windowed_columns width calls = range_with_len 0 (width + length calls)
 
--- where each column stands among these, in the order in which they are written
+-- where each column is among these, in the order in which they are written
 abbrev pub written_places : List ℕ → List ℕ
 written_places read = map (place_in read) (range_with_len 0 (length read))
 
@@ -47,7 +47,7 @@ CallIsItself inner call whole = (answers : List (List Datum)) → length answers
 abbrev pub CallsAreThemselves : ℕ → List WindowCall → List WindowCall → Type 0
 CallsAreThemselves inner calls wholes = (answers : List (List Datum)) → length answers ≤ inner → calls ≡ map (mapped_call (filled answers)) wholes
 
--- the values of the rows of a plan at these places, with those of these calls behind them
+-- the values of the rows of a plan at these places, with those of these calls after them
 pub record IsWindowedOver (inner : ℕ) (wholes : List WindowCall) (places : List ℕ) (below plan : PlanData) : Type 0 where
   pub calls : List WindowCall
   pub calls_are : CallsAreThemselves inner calls wholes

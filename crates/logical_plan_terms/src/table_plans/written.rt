@@ -24,7 +24,7 @@ pub(crate) fn some_flagged(tables: &[JoinedTable]) -> bool
     tables.iter().any(|table| table.is_flagged())
 }
 
-/// A table behind a plan before which rows of so many values are read, with these columns and these tests; it is read whole.
+/// A table after a plan before which rows of a given number of values are read, with these columns and these tests; it is read whole.
 fn joined(
     alloc: Global,
     last: &JoinedTable,

@@ -33,8 +33,8 @@ fn calls_over(
     Ok(Some(over))
 }
 
-/// The values of the rows of a plan at these places, of which each is known by where it then stands, with the values of calls over windows
-/// behind them, beside so many inner queries. There is none exactly where an expression of a call names another column, or the answer of one of these queries.
+/// The values of the rows of a plan at these places, of which each is known by where it then is, with the values of calls over windows
+/// after them, beside a given number of inner queries. There is none exactly where an expression of a call names another column, or the answer of one of these queries.
 /// (Window Functions)
 pub fn windowed_over(
     alloc: Global,

@@ -54,7 +54,7 @@ pub record IsBase (w : Datum) (db : Database) (from : From) (s : Select) (column
   pub plan_hits : (terms : List Term) → Hits w db plan → FromHits w db (answers_in w db from) from false ⊎ SelectHits w db from s terms
   pub column_hits : (terms es : List Term) → AllZip (StandsOver columns 0) es (s.columns ++ terms) → Any (ReachesOverflow es) (rows_of w db plan) → SelectHits w db from s terms
 
--- A plan has, in some order, the rows that windows take, of so many values, in their places; and what it reaches the SELECT can reach.
+-- A plan has, in some order, the rows that windows take, of a given number of values, in their places; and what it reaches the SELECT can reach.
 record IsInput (w : Datum) (db : Database) (from : From) (s : Select) (width : ℕ) (plan : PlanData) : Type 0 where
   taken : HasTaken w db from s 0 (range_with_len 0 width) plan
   wide : All (λ (row : Row). length row ≡ width) (windows_take w db from s)

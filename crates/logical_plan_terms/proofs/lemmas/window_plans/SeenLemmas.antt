@@ -1,4 +1,4 @@
--- Elements of lists that are made one by one, rows whose values are all read, and where columns stand that all are.
+-- Elements of lists that are made one by one, rows whose values are all read, and the places of columns that all are.
 use Rattle.std.proofs.Common.{◌≡◌, ◌∙◌, ◌<◌, All, Contains, IsPermutation, ℕ, zero, suc, List, [], ◌∷◌, get_or, length, map, refl, sym, ap, subst, arith}
 use Rattle.std.specs.List.{AllZip, range_with_len}
 use Rattle.std.proofs.lemmas.List.{ext_get_or}
@@ -47,13 +47,13 @@ shown_all n (row ∷ rows) wide =
     (λ j. shown_whole n row (All-head (λ (row : Row). length row ≡ n) row rows wide) j
     ∷ shown_all n rows (All-tail (λ (row : Row). length row ≡ n) row rows wide) j)
 
--- where rows in some order are of so many values, reading all of these leaves them
+-- where rows in some order are of a given number of values, reading all of these leaves them
 pub shown_same : (n : ℕ) (whole rows : List Row) → All (λ (row : Row). length row ≡ n) whole → IsPermutation whole rows
     → IsPermutation whole (shown_rows (range_with_len 0 n) rows)
 shown_same n whole rows wide same =
     subst (IsPermutation whole) (sym (shown_all n rows (All-permutation (λ (row : Row). length row ≡ n) whole rows same wide))) same
 
--- columns that all stand in their places are read in their places
+-- columns that are all in their places are read in their places
 pub written_whole : (read : List ℕ) → AreWhole read → written_places read ≡ read
 written_whole read whole =
     ext_get_or 0 (written_places read) read (length-map-range_with_len (place_in read) 0 (length read)) at_place
